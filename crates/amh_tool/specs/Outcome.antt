@@ -1,0 +1,113 @@
+-- What the words and the files ask for.
+use Rattle.std.specs.Prelude.{ℕ, nat_lt, if◌then◌else◌, List, [], ◌∷◌, ◌++◌, length, Option, None, Some, codes, Result, Ok, Err}
+use Rattle.std.specs.Option.{option_map_or}
+use Rattle.std.specs.Fmt.{decimal}
+use Rattle.amh_host.specs.Seen.{Files}
+use Rattle.amh_host.specs.declared.place.Kind.{Kind}
+use Rattle.amh_host.specs.declared.place.Kind.TheVariants.{Text, Subset, Raised, Width, TwoDrivers, DrivenInput, DomainClash, Loop, Limit, Script}
+use Rattle.design_ir.specs.declared.event.Event.{Event}
+use Rattle.design_ir.specs.Circuits.{Circuit}
+use Rattle.amh_tool.specs.declared.form.Component.{Component}
+use Rattle.amh_tool.specs.declared.component.Refusal.{Refusal}
+use Rattle.amh_tool.specs.declared.run.Status.{Status}
+use Rattle.amh_tool.specs.declared.run.Status.TheVariants.{Done, Refused, Usage}
+use Rattle.amh_tool.specs.Trace.{Row, End, Done as EndDone, timed, ◌▸◌, line_feed}
+use Rattle.amh_tool.specs.Plan.{Plan, plan_of}
+use Rattle.amh_tool.specs.Component.{component, refused}
+use Rattle.amh_tool.specs.Elaborated.{circuit_of}
+use Rattle.amh_tool.specs.Boards.{board_of}
+use Rattle.amh_tool.specs.Script.{script_events}
+
+pub data Outcome : Type 0 where
+  -- a file that is to be read is not held
+  Unread : Outcome
+  BadWords : Outcome
+  Refuses : Refusal → Outcome
+  BadLine : (line : ℕ) → Outcome
+  Accepts : (design : Circuit) (rows : List Row) (end : End) → Outcome
+
+abbrev pub with_bytes : Files → List ℕ → (List ℕ → Outcome) → Outcome
+with_bytes files name go = option_map_or go (files name) Unread
+
+-- a script's events take place one after another
+abbrev pub played : Circuit → Result (List Event) ℕ → Outcome
+played c (Ok events) = Accepts c (timed 1 events) EndDone
+played c (Err line) = BadLine line
+
+-- the design is refused, or its script is read
+abbrev pub designed : Plan → Files → Result Component Refusal → Outcome
+designed p files (Err r) = Refuses r
+designed p files (Ok f) = with_bytes files p.script (λ script. played (circuit_of f) (script_events (board_of (circuit_of f)) script))
+
+-- how many bytes a design file may have
+abbrev pub most_design : ℕ
+most_design = 1_048_576
+
+abbrev pub judged : Plan → Files → List ℕ → Outcome
+judged p files bytes = if nat_lt most_design (length bytes) then Refuses (refused Limit 1) else designed p files (component bytes)
+
+unfoldable pub planned : Plan → Files → Outcome
+planned p files = with_bytes files p.design (judged p files)
+
+unfoldable pub outcome : List (List ℕ) → Files → Outcome
+outcome words files = option_map_or (λ p. planned p files) (plan_of words) BadWords
+
+-- ---- the answer
+
+-- there is none where a file is missing
+abbrev pub status_of : Outcome → Option Status
+status_of Unread = None
+status_of BadWords = Some Usage
+status_of (Refuses r) = Some Refused
+status_of (BadLine line) = Some Refused
+status_of (Accepts c rows EndDone) = Some Done
+
+-- ---- the texts
+
+abbrev pub kind_text : Kind → List ℕ
+kind_text Text = codes "text"
+kind_text Subset = codes "subset"
+kind_text Raised = codes "raised"
+kind_text Width = codes "width"
+kind_text TwoDrivers = codes "two drivers"
+kind_text DrivenInput = codes "driven input"
+kind_text DomainClash = codes "domain clash"
+kind_text Loop = codes "loop"
+kind_text Limit = codes "limit"
+kind_text Script = codes "script"
+
+unfoldable pub done_text : ℕ → ℕ → List ℕ
+done_text columns events = codes "done: " ▸ decimal columns ▸ codes " columns, " ▸ decimal events ▸ codes " events" ▸ line_feed
+
+abbrev pub said_of : Outcome → List ℕ
+said_of (Accepts c rows EndDone) = done_text (length c.columns) (length rows)
+said_of Unread = []
+said_of BadWords = []
+said_of (Refuses r) = []
+said_of (BadLine line) = []
+
+unfoldable pub fault_text : List ℕ
+fault_text = codes "host fault" ▸ line_feed
+
+unfoldable pub usage_text : List ℕ
+usage_text = codes "usage: amh_tool DESIGN IL TRACE [--play FILE] [--top NAME] [--budget N] [--make N]" ▸ line_feed
+
+unfoldable pub refusal_text : List ℕ → Refusal → List ℕ
+refusal_text name r = name ▸ codes ":" ▸ decimal r.place.line ▸ codes ":" ▸ decimal r.place.col ▸ codes ": " ▸ kind_text r.kind ▸ line_feed
+
+unfoldable pub bad_line_text : List ℕ → ℕ → List ℕ
+bad_line_text name line = name ▸ codes ":" ▸ decimal line ▸ codes ": script" ▸ line_feed
+
+abbrev pub no_plan : Plan
+no_plan = record { design = []; il = []; trace = []; script = [] }
+
+-- the names, which are empty where the words are bad
+abbrev pub names : List (List ℕ) → Plan
+names words = option_map_or (λ p. p) (plan_of words) no_plan
+
+abbrev pub warned_of : Plan → Outcome → List ℕ
+warned_of p Unread = []
+warned_of p BadWords = usage_text
+warned_of p (Refuses r) = refusal_text p.design r
+warned_of p (BadLine line) = bad_line_text p.script line
+warned_of p (Accepts c rows end) = []

@@ -1,0 +1,77 @@
+-- What the parts of a run do, whatever the host tells.
+use Rattle.std.specs.Prelude.{◌≡◌, ◌⊎◌, ℕ, List, Option, Some, IfSome, MatchOption}
+use Rattle.amh_host.specs.Seen.{Files, Seen, with_file, with_said, with_warned}
+use Rattle.amh_host.specs.Calls.{AddsFront}
+use Rattle.amh_host.specs.Written.{WritesFront}
+use Rattle.design_ir.specs.Circuits.{Circuit}
+use Rattle.amh_tool.specs.Trace.{Row, End}
+use Rattle.amh_tool.specs.Plan.{Plan}
+use Rattle.amh_tool.specs.Outcome.{Outcome, Unread, BadWords, Refuses, BadLine, Accepts, planned, status_of, said_of, warned_of, usage_text, fault_text}
+use Rattle.amh_tool.specs.Headline.{StandsFor, IsTrace}
+use Rattle.amh_tool.specs.declared.run.Status.{Status}
+use Rattle.amh_tool.specs.declared.run.Status.TheVariants.{Usage}
+
+-- the two texts that an accepted design is owed
+pub record Owed (c : Circuit) (rows : List Row) (end : End) : Type 0 where
+  pub il : List ℕ
+  pub trace : List ℕ
+  pub stands : StandsFor il c
+  pub is_trace : IsTrace trace c rows end
+
+-- what the host has once both files are whole
+abbrev pub with_files : Plan → List ℕ → List ℕ → Seen → Seen
+with_files p il trace s = with_file p.trace trace (with_file p.il il s)
+
+-- the host has all that the outcome asks for, and nothing else is changed
+abbrev pub Carries : Plan → Outcome → Seen → Seen → Type 0
+Carries p Unread old new = ⊥
+Carries p BadWords old new = new ≡ with_warned (warned_of p BadWords) old
+Carries p (Refuses r) old new = new ≡ with_warned (warned_of p (Refuses r)) old
+Carries p (BadLine line) old new = new ≡ with_warned (warned_of p (BadLine line)) old
+Carries p (Accepts c rows end) old new = (owed : Owed c rows end) × (new ≡ with_said (said_of (Accepts c rows end)) (with_files p owed.il owed.trace old))
+
+-- the host has a front of RTLIL, or all of it and a front of the trace, or both and a front of the text said
+abbrev pub WritesPart : Plan → List ℕ → List ℕ → List ℕ → Seen → Seen → Type 0
+WritesPart p il trace said old new =
+    WritesFront p.il il old new
+    ⊎ WritesFront p.trace trace (with_file p.il il old) new
+    ⊎ AddsFront with_said said (with_files p il trace old) new
+
+-- the host has a part of what the outcome asks for, in its order
+abbrev pub CarriesPart : Plan → Outcome → Seen → Seen → Type 0
+CarriesPart p Unread old new = new ≡ old
+CarriesPart p BadWords old new = AddsFront with_warned (warned_of p BadWords) old new
+CarriesPart p (Refuses r) old new = AddsFront with_warned (warned_of p (Refuses r)) old new
+CarriesPart p (BadLine line) old new = AddsFront with_warned (warned_of p (BadLine line)) old new
+CarriesPart p (Accepts c rows end) old new = (new ≡ old) ⊎ ((owed : Owed c rows end) × WritesPart p owed.il owed.trace (said_of (Accepts c rows end)) old new)
+
+-- this is what the plan leads to, where the host tells its files
+abbrev pub IsFor : Plan → Outcome → Option Files → Type 0
+IsFor p o told = IfSome told (λ files. planned p files ≡ o)
+
+pub record WorksFor (p : Plan) (answer : Status) (old new : Seen) : Type 0 where
+  pub found : Outcome
+  pub is_for : IsFor p found old.files
+  pub status : status_of found ≡ Some answer
+  pub carries : Carries p found old new
+
+pub record WorksUsage (answer : Status) (old new : Seen) : Type 0 where
+  pub usage : answer ≡ Usage
+  pub warned : new ≡ with_warned usage_text old
+
+-- what was asked for was done
+abbrev pub Works : Option Plan → Status → Seen → Seen → Type 0
+Works plan answer old new = MatchOption plan (WorksUsage answer old new) (λ p. WorksFor p answer old new)
+
+-- nothing was changed, or a part of what the outcome asks for was carried out
+abbrev pub FailsFor : Plan → Seen → Seen → Type 0
+FailsFor p old new = (o : Outcome) × IsFor p o old.files × CarriesPart p o old new
+
+abbrev pub Fails : Option Plan → Seen → Seen → Type 0
+Fails plan old new = (new ≡ old) ⊎ MatchOption plan (AddsFront with_warned usage_text old new) (λ p. FailsFor p old new)
+
+-- a part of it, and then a front of the text that tells of the fault
+pub record FaultsAfter (plan : Option Plan) (old new : Seen) : Type 0 where
+  pub between : Seen
+  pub fails : Fails plan old between
+  pub told : AddsFront with_warned fault_text between new
