@@ -1,0 +1,32 @@
+//! Designs: signals, expressions, statements, memories, domains, ports, and what all of these mean.
+//!
+//! A `Pool` holds signals and expressions by number; each expression names earlier ones alone, so the shape and
+//! the integer of every one of them come from those before it (specs/Pools.antt, specs/Values.antt). Statements
+//! are trees, and the last active assignment wins, bit by bit (specs/Put.antt). A `Fragment` is what one module
+//! gives; a `Design` is the flat whole. Its meaning is the list of settled environments over a list of events
+//! (specs/Settled.antt, specs/Steps.antt, specs/Histories.antt), and a bit that needs itself is a loop
+//! (specs/Loops.antt). What a design keeps to is specs/Designs.antt, and which events it takes is
+//! specs/Legal.antt.
+#![tactic(auto)]
+
+mod domain;
+mod event;
+mod expr;
+mod fragment;
+mod ids;
+mod memory;
+mod port;
+mod process;
+mod signal;
+mod stmt;
+
+pub use domain::{Domain, DomainDef, DomainDefs, Domains};
+pub use event::Event;
+pub use expr::{Expr, Pattern, Patterns};
+pub use fragment::{Fragment, Fragments};
+pub use ids::{Clocks, DomainId, ExprId, Ids, MemId, SigId};
+pub use memory::{Ints, MemRead, MemReads, MemWrite, MemWrites, Memories, Memory};
+pub use port::{Column, Columns, Port, Ports};
+pub use process::{DesignProcess, DesignProcesses, Process, Processes, Side};
+pub use signal::{Sig, Sigs};
+pub use stmt::{Arm, Arms, Stmt, Stmts};
