@@ -1,0 +1,14 @@
+pub mod Lines
+pub mod Ids
+pub mod Grammar
+pub mod Sources
+pub mod CellTables
+pub mod Drivers
+pub mod Cells
+pub mod Meaning
+pub mod Memories
+pub mod History
+pub mod CellRules
+pub mod MemoryRules
+pub mod Rules
+pub mod Reads

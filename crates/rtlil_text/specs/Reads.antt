@@ -1,0 +1,10 @@
+-- When a text stands for a module.
+use Rattle.std.specs.Prelude.{ℕ, List}
+use Rattle.rtlil_text.specs.declared.module.RtlModule.{RtlModule}
+use Rattle.rtlil_text.specs.Grammar.{IsText}
+use Rattle.rtlil_text.specs.Rules.{IsModule}
+
+-- it has the grammar, and the module keeps the rules
+pub record Reads (text : List ℕ) (m : RtlModule) : Type 0 where
+  pub grammar : IsText text m
+  pub rules : IsModule m
