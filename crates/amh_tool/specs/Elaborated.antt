@@ -83,11 +83,11 @@ eq_column = 21
 -- the assignments of one side, the first of which stands in this line
 abbrev pub assigned : Bool → (first operator line : ℕ) → List Assignment → Block
 assigned clocked first operator line [] = done
-assigned clocked first operator line (a ∷ as) =
+assigned clocked first operator line (a ∷ more) =
     if is_of_side clocked a.clocked
     then next (assign (record { 0 = first + a.target }) (value_expr first operator a.right) (record { line = line; col = eq_column }))
-        (assigned clocked first (operator + length (operator_of first a.right)) (suc line) as)
-    else assigned clocked first (operator + length (operator_of first a.right)) (suc line) as
+        (assigned clocked first (operator + length (operator_of first a.right)) (suc line) more)
+    else assigned clocked first (operator + length (operator_of first a.right)) (suc line) more
 
 -- the line of the first assignment: five lines, the members, and three lines before it
 abbrev pub first_line : Component → ℕ
@@ -110,7 +110,7 @@ side_process c clocked = if has_side c clocked then record { domain = side_domai
 -- sides in the order of their first assignments
 abbrev pub processes_of : Component → List Assignment → List DesignProcess
 processes_of c [] = []
-processes_of c (a ∷ as) = if a.clocked then side_process c true ++ side_process c false else side_process c false ++ side_process c true
+processes_of c (a ∷ more) = if a.clocked then side_process c true ++ side_process c false else side_process c false ++ side_process c true
 
 -- ---- the design
 

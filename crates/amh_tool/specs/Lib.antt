@@ -3,3 +3,14 @@ pub mod Form
 pub mod Lines
 pub mod Component
 pub mod Gives
+pub mod Boards
+pub mod Elaborated
+pub mod Corresponds
+pub mod Lowered
+pub mod Script
+pub mod Trace
+pub mod Plan
+pub mod Outcome
+pub mod Headline
+pub mod Work
+pub mod Views

@@ -2,12 +2,12 @@
 use Rattle.std.specs.Prelude.{ℕ, suc, ◌+◌, ◌==◌, Bool, true, false, if◌then◌else◌, List, [], ◌∷◌, ◌++◌, codes, None}
 use Rattle.std.specs.Fmt.{decimal}
 use Rattle.shape_rules.specs.declared.cell.CellKind.TheVariants.{And}
-use Rattle.rtlil_text.specs.declared.module.SigPart.{SigPart}
-use Rattle.rtlil_text.specs.declared.module.SigPart.TheVariants as parts
-use Rattle.rtlil_text.specs.declared.module.RtlValue.TheVariants.{Number}
-use Rattle.rtlil_text.specs.declared.module.RtlParameter.{RtlParameter}
-use Rattle.rtlil_text.specs.declared.module.RtlEnd.{RtlEnd}
-use Rattle.rtlil_text.specs.declared.module.RtlCell.{RtlCell}
+use Rattle.rtlil_text.specs.declared.sig.SigPart.{SigPart}
+use Rattle.rtlil_text.specs.declared.sig.SigPart.TheVariants as parts
+use Rattle.rtlil_text.specs.declared.cell.RtlValue.TheVariants.{Number}
+use Rattle.rtlil_text.specs.declared.cell.RtlParameter.{RtlParameter}
+use Rattle.rtlil_text.specs.declared.cell.RtlEnd.{RtlEnd}
+use Rattle.rtlil_text.specs.declared.cell.RtlCell.{RtlCell}
 use Rattle.rtlil_text.specs.declared.module.RtlLink.{RtlLink}
 use Rattle.rtlil_text.specs.declared.module.RtlWire.{RtlWire}
 use Rattle.rtlil_text.specs.declared.module.RtlModule.{RtlModule}

@@ -113,24 +113,42 @@ most_bytes = 16_777_216
 abbrev pub most_events : ℕ
 most_events = 1_000_000
 
+-- what a line says: nothing, an event, or what no script says
+pub data Saying : Type 0 where
+  Nothing : Saying
+  Asks : Event → Saying
+  Bad : Saying
+
+abbrev pub asking : Option Event → Saying
+asking None = Bad
+asking (Some e) = Asks e
+
+abbrev pub says : Board → List ℕ → Saying
+says b line = if is_passed line then Nothing else asking (event_of b (words_in line))
+
+-- how many events may still come behind it
+abbrev pub left_behind : Saying → ℕ → ℕ
+left_behind Nothing left = left
+left_behind (Asks e) left = left - 1
+left_behind Bad left = left
+
 abbrev pub with_event : Event → Result (List Event) ℕ → Result (List Event) ℕ
 with_event e (Ok es) = Ok (e ∷ es)
 with_event e (Err n) = Err n
 
--- the events of the lines from number n on, where so many bytes and events may still come, or the first bad line:
--- one that passes a limit, or that asks for no event
-abbrev mutual
-  pub events_from : Board → (n room left : ℕ) → List Line → Result (List Event) ℕ
-  events_from b n room left [] = Ok []
-  events_from b n room left (l ∷ ls) =
-      if nat_lt room (length l) then Err n
-      else if is_passed (content l) then events_from b (suc n) (room - length l) left ls
-      else events_behind b n (room - length l) left (event_of b (words_in (content l))) ls
+-- what line n says, before what the lines behind it say
+abbrev pub said_at : ℕ → ℕ → Saying → Result (List Event) ℕ → Result (List Event) ℕ
+said_at n left Nothing rest = rest
+said_at n left (Asks e) rest = if left == 0 then Err n else with_event e rest
+said_at n left Bad rest = Err n
 
-  pub events_behind : Board → (n room left : ℕ) → Option Event → List Line → Result (List Event) ℕ
-  events_behind b n room left None ls = Err n
-  events_behind b n room left (Some e) ls =
-      if left == 0 then Err n else with_event e (events_from b (suc n) room (left - 1) ls)
+-- the events of the lines from number n on, where so many bytes and events may still come, or the first bad line:
+-- one that passes a limit, or that says what no script says
+abbrev pub events_from : Board → (n room left : ℕ) → List Line → Result (List Event) ℕ
+events_from b n room left [] = Ok []
+events_from b n room left (l ∷ ls) =
+    if nat_lt room (length l) then Err n
+    else said_at n left (says b (content l)) (events_from b (suc n) (room - length l) (left_behind (says b (content l)) left) ls)
 
 unfoldable pub script_events : Board → List ℕ → Result (List Event) ℕ
 script_events b text = events_from b 1 most_bytes most_events (lines_in text)

@@ -1,5 +1,5 @@
 -- The text of a trace.
-use Rattle.std.specs.Prelude.{ℕ, suc, Bool, true, false, ◌==◌, ◌+◌, if◌then◌else◌, List, [], ◌∷◌, ◌++◌, map, codes, ℤ, pos, Option, Some, None, unwrap_or}
+use Rattle.std.specs.Prelude.{ℕ, suc, Bool, true, false, ◌==◌, ◌+◌, if◌then◌else◌, List, [], ◌∷◌, ◌++◌, map, codes, ℤ, pos, Option, Some, None, unwrap_or, slice_get}
 use Rattle.std.specs.Option.{option_map}
 use Rattle.std.specs.List.{flat_map, find}
 use Rattle.std.specs.Ordering.{int_eq}
@@ -12,7 +12,7 @@ use Rattle.design_ir.specs.declared.ids.DomainId.{DomainId}
 use Rattle.design_ir.specs.declared.domain.Domain.{Domain}
 use Rattle.design_ir.specs.declared.event.Event.{Event}
 use Rattle.design_ir.specs.declared.event.Event.TheVariants.{Set, Edge}
-use Rattle.design_ir.specs.Circuits.{at, domain_of}
+use Rattle.design_ir.specs.Circuits.{at}
 use Rattle.amh_tool.specs.declared.board.Shown.{Shown}
 use Rattle.amh_tool.specs.declared.board.Board.{Board}
 
@@ -71,13 +71,14 @@ abbrev pub name_of : List Shown → ℕ → List ℕ
 name_of xs s = unwrap_or (option_map (λ (x : Shown). x.name) (find (λ (x : Shown). x.sig.0 == s) xs)) []
 
 -- ` NAME+` for a clock that was 0 and rises, ` NAME-` for one that falls
-abbrev pub edge_field : List ℤ → Domain → List ℕ
-edge_field before d = codes " " ▸ d.name ▸ (if is_zero (at before d.clk.0) then codes "+" else codes "-")
+abbrev pub edge_field : List ℤ → Option Domain → List ℕ
+edge_field before None = []
+edge_field before (Some d) = codes " " ▸ d.name ▸ (if is_zero (at before d.clk.0) then codes "+" else codes "-")
 
 -- what happened, where the signals had these numbers before
 unfoldable pub event_text : Board → List ℤ → Event → List ℕ
 event_text b before (Set s n) = codes "set " ▸ name_of b.columns s.0 ▸ codes " " ▸ int_text n
-event_text b before (Edge ds) = codes "edge" ▸ flat_map (λ (d : DomainId). flat_map (edge_field before) (domain_of b.domains d.0)) ds
+event_text b before (Edge ds) = codes "edge" ▸ flat_map (λ (d : DomainId). edge_field before (slice_get b.domains d.0)) ds
 
 unfoldable pub first_line : Board → List ℤ → List ℕ
 first_line b first = codes "0 init |" ▸ all_fields b.columns first ▸ line_feed

@@ -1,0 +1,6 @@
+-- What the program's values stand for.
+use Rattle.amh_tool.specs.Plan.{Plan}
+use Rattle.amh_tool.specs.declared.plan.Plan.{Plan as CodePlan}
+
+abbrev pub plan_seen : CodePlan → Plan
+plan_seen p = record { design = p.design.now; il = p.il.now; trace = p.trace.now; script = p.script.now }
