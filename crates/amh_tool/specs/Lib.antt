@@ -7,6 +7,7 @@ pub mod Boards
 pub mod Elaborated
 pub mod Corresponds
 pub mod Lowered
+pub mod Gate
 pub mod Script
 pub mod Trace
 pub mod Plan
