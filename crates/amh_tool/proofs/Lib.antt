@@ -1,1 +1,1 @@
-mod Samples
+mod FormSamples

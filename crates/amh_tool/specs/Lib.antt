@@ -1,5 +1,5 @@
-pub mod Names
+pub mod FormNames
 pub mod Form
-pub mod Lines
+pub mod FormLines
 pub mod Component
-pub mod Gives
+pub mod FormGives

@@ -2,7 +2,7 @@
 ghost use Rattle.std.specs.Prelude.{◌≤◌, length, IfOk};
 ghost use Rattle.amh_tool.specs.Component.{component};
 ghost use Rattle.amh_tool.specs.Form.{IsGate};
-ghost use Rattle.amh_tool.specs.Gives.{Gives};
+ghost use Rattle.amh_tool.specs.FormGives.{Gives};
 
 use crate::form::Component;
 use amh_host::{Kind, Place};
