@@ -1,1 +1,2 @@
 mod FormSamples
+pub mod FormLineLaws

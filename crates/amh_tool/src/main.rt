@@ -3,5 +3,8 @@
 
 mod component;
 mod form;
+mod form_lines;
+mod form_names;
+mod form_rules;
 
 fn main() {}
