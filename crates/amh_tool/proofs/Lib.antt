@@ -1,2 +1,3 @@
 mod FormSamples
 pub mod FormLineLaws
+pub mod FormNameLaws
