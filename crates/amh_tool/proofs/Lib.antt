@@ -1,1 +1,3 @@
-mod Samples
+mod FormSamples
+pub mod FormLineLaws
+pub mod FormNameLaws
