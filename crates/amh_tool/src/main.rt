@@ -19,5 +19,6 @@ mod run;
 mod script;
 mod texts;
 mod trace;
+mod writing;
 
 fn main() {}
