@@ -1,6 +1,9 @@
 -- What reading a script gives, beside what the definition says.
-use Rattle.std.specs.Prelude.{◌≡◌, ℕ, List, Result, Ok, Err}
+use Rattle.std.specs.Prelude.{◌≡◌, ℕ, List, Option, Result, Ok, Err, IfSome, MatchOption}
+use Rattle.amh_host.specs.Seen.{Files}
 use Rattle.design_ir.specs.declared.event.Event.{Event}
+use Rattle.amh_tool.specs.declared.board.Board.{Board}
+use Rattle.amh_tool.specs.Script.{script_events}
 use Rattle.amh_tool.specs.declared.script.ScriptStop.{ScriptStop}
 use Rattle.amh_tool.specs.declared.script.ScriptStop.TheVariants.{Line, NoMemory}
 
@@ -9,3 +12,10 @@ abbrev pub ScriptGives : Result (List Event) ScriptStop → Result (List Event) 
 ScriptGives (Ok es) told = told ≡ Ok es
 ScriptGives (Err (Line n)) told = told ≡ Err n
 ScriptGives (Err NoMemory) told = Unit {0}
+
+-- the bytes say what the script says: they are all of it, or a front that passes the most bytes
+abbrev pub SaysAs : List ℕ → List ℕ → Type 0
+SaysAs file bytes = (b : Board) → script_events b file ≡ script_events b bytes
+
+abbrev pub ReadsScript : Option Files → List ℕ → List ℕ → Type 0
+ReadsScript told name bytes = IfSome told (λ files. MatchOption (files name) ⊥ (λ file. SaysAs file bytes))

@@ -30,12 +30,16 @@ Carries p (Refuses r) old new = new ≡ with_warned (warned_of p (Refuses r)) ol
 Carries p (BadLine line) old new = new ≡ with_warned (warned_of p (BadLine line)) old
 Carries p (Accepts c rows end) old new = (owed : Owed c rows end) × (new ≡ with_said (said_of (Accepts c rows end)) (with_files p owed.il owed.trace old))
 
--- the host has a front of RTLIL, or all of it and a front of the trace, or both and a front of the text said
-abbrev pub WritesPart : Plan → List ℕ → List ℕ → List ℕ → Seen → Seen → Type 0
-WritesPart p il trace said old new =
-    WritesFront p.il il old new
-    ⊎ WritesFront p.trace trace (with_file p.il il old) new
-    ⊎ AddsFront with_said said (with_files p il trace old) new
+-- the host has a front of RTLIL
+pub record WritesRtlilPart (p : Plan) (c : Circuit) (old new : Seen) : Type 0 where
+  pub il : List ℕ
+  pub stands : StandsFor il c
+  pub part : WritesFront p.il il old new
+
+-- the host has all of RTLIL and a front of the trace, or both and a front of the text said
+pub record WritesTracePart (p : Plan) (c : Circuit) (rows : List Row) (end : End) (said : List ℕ) (old new : Seen) : Type 0 where
+  pub owed : Owed c rows end
+  pub part : WritesFront p.trace owed.trace (with_file p.il owed.il old) new ⊎ AddsFront with_said said (with_files p owed.il owed.trace old) new
 
 -- the host has a part of what the outcome asks for, in its order
 abbrev pub CarriesPart : Plan → Outcome → Seen → Seen → Type 0
@@ -43,7 +47,8 @@ CarriesPart p Unread old new = new ≡ old
 CarriesPart p BadWords old new = AddsFront with_warned (warned_of p BadWords) old new
 CarriesPart p (Refuses r) old new = AddsFront with_warned (warned_of p (Refuses r)) old new
 CarriesPart p (BadLine line) old new = AddsFront with_warned (warned_of p (BadLine line)) old new
-CarriesPart p (Accepts c rows end) old new = (new ≡ old) ⊎ ((owed : Owed c rows end) × WritesPart p owed.il owed.trace (said_of (Accepts c rows end)) old new)
+CarriesPart p (Accepts c rows end) old new =
+    (new ≡ old) ⊎ WritesRtlilPart p c old new ⊎ WritesTracePart p c rows end (said_of (Accepts c rows end)) old new
 
 -- this is what the plan leads to, where the host tells its files
 abbrev pub IsFor : Plan → Outcome → Option Files → Type 0

@@ -1,10 +1,11 @@
 // What the files ask for: the design is read and judged, then its script.
-ghost use Rattle.std.specs.Prelude.{◌≡◌, IfOk, IfSome, Ok};
+ghost use Rattle.std.specs.Prelude.{◌≡◌, ◌≤◌, length, IfOk, IfSome, Ok};
 ghost use Rattle.amh_host.specs.Causes.{HasCause};
 ghost use Rattle.amh_tool.specs.Outcome.{planned, designed};
 ghost use Rattle.amh_tool.specs.Component.{refused};
 ghost use Rattle.amh_tool.specs.Form.{IsGate};
 ghost use Rattle.amh_tool.specs.Verdicts.{verdict_seen, IsFit};
+ghost use Rattle.amh_tool.specs.ScriptGives.{ReadsScript};
 ghost use Rattle.amh_tool.specs.Views.{plan_seen};
 
 use crate::board::{Board, board_of};
@@ -80,10 +81,7 @@ fn accept_script<H: Host>(
     ensures cause { HasCause (H.faults host.old) (H.faults host.new) result }
 {
     let board = board_of(alloc, &component)?;
-    let text = match read_whole(alloc, host, plan.script, MOST_SCRIPT)? {
-        Whole::Bytes(text) => text,
-        Whole::TooLong(text) => text,
-    };
+    let text = script_text(alloc, host, plan.script)?;
     match read_script(alloc, &board, &text) {
         Ok(events) => Ok(Verdict::Accepted(Accepted {
             component,
@@ -92,5 +90,19 @@ fn accept_script<H: Host>(
         })),
         Err(ScriptStop::Line(line)) => Ok(Verdict::BadLine(line)),
         Err(ScriptStop::NoMemory) => Err(HostStop::NoMemory),
+    }
+}
+
+// The bytes of a script: all of them, or a front that is longer than a script may be, which is enough to tell the
+// line that passes the limit.
+fn script_text<H: Host>(alloc: Global, host: &mut H, name: &str) -> Result<Vec<u8>, HostStop>
+    ensures bound { IfOk result (λ v. length v.items ≤ 16_781_312) }
+    ensures bytes { IfOk result (λ v. ReadsScript (H.seen host.old).files name.now v.items) }
+    ensures same { H.seen host.new ≡ H.seen host.old }
+    ensures cause { HasCause (H.faults host.old) (H.faults host.new) result }
+{
+    match read_whole(alloc, host, name, MOST_SCRIPT)? {
+        Whole::Bytes(text) => Ok(text),
+        Whole::TooLong(front) => Ok(front),
     }
 }

@@ -13,14 +13,15 @@ use std::alloc::Global;
 
 /// Writes the trace of the events.
 pub fn write_trace<H: Host>(
-    _alloc: Global,
-    _host: &mut H,
-    _name: &str,
-    _accepted: &Accepted,
+    alloc: Global,
+    host: &mut H,
+    name: &str,
+    accepted: &Accepted,
 ) -> Result<(), HostStop>
-    requires { IsFitting _accepted.now }
-    ensures text { (text : List ℕ) × IsTrace text (circuit_of _accepted.now.component) (timed 1 _accepted.now.events) Done × Writes _name.now text result (H.seen _host.old) (H.seen _host.new) }
-    ensures cause { HasCause (H.faults _host.old) (H.faults _host.new) result }
+    requires { IsFitting accepted.now }
+    ensures text { (text : List ℕ) × IsTrace text (circuit_of accepted.now.component) (timed 1 accepted.now.events) Done × Writes name.now text result (H.seen host.old) (H.seen host.new) }
+    ensures cause { HasCause (H.faults host.old) (H.faults host.new) result }
 {
+    let _ = (alloc, accepted, name, host);
     Err(HostStop::NoMemory)
 }

@@ -1,0 +1,276 @@
+-- From what the parts of a run did to the clauses of the whole.
+use Rattle.std.proofs.Common.{◌≡◌, ◌≢◌, ◌∙◌, ◌⊎◌, ℕ, suc, length, Bool, true, false, cond, not, ◌&&◌, List, [], ◌∷◌, ◌++◌, refl, ap, sym, subst, inl, inr}
+use Rattle.std.specs.Prelude.{Option, None, Some, IfSome, MatchOption, Result, Ok, Err, OnErr, OnOk}
+use Rattle.std.specs.Option.{option_map, option_map_or}
+use Rattle.std.specs.Str.{bytes_eq}
+use Rattle.std.proofs.lemmas.Slice.Eq.{bytes_eq-Decides}
+use Rattle.std.proofs.lemmas.List.{append-nil}
+use Rattle.amh_host.specs.Seen.{Files, Seen, file_of, holding, with_file, with_said, with_warned}
+use Rattle.amh_host.specs.Calls.{AddsFront, Adds}
+use Rattle.amh_host.proofs.SeenLaws.{file_of-with_file_here, file_of-with_file_apart}
+use Rattle.amh_host.specs.Written.{WritesFront, Writes}
+use Rattle.design_ir.specs.declared.event.Event.{Event}
+use Rattle.design_ir.specs.Circuits.{Circuit}
+use Rattle.amh_tool.specs.Trace.{Row, End, Done as EndDone, timed}
+use Rattle.amh_tool.specs.Plan.{Plan, plan_of, differ, are_distinct, are_plain}
+use Rattle.amh_tool.specs.Outcome.{Outcome, Unread, BadWords, Refuses, BadLine, Accepts, outcome, planned, status_of, said_of, warned_of, names, no_plan, usage_text}
+use Rattle.amh_tool.specs.Headline.{Tells, IfAccepted, IsAccepted, HoldsRtlil, HoldsTrace, IsWritten, grown}
+use Rattle.amh_tool.specs.Work.{Owed, Works, WorksFor, WorksUsage, Fails, FailsFor, Carries, CarriesPart, IsFor, with_files}
+use Rattle.amh_tool.specs.declared.run.Status.{Status}
+use Rattle.amh_tool.specs.declared.run.Status.TheVariants.{Fault, NoMemory}
+
+nothing_more : (o : Option (List ℕ)) → o ≡ grown [] o
+nothing_more None = refl
+nothing_more (Some x) = ap Some (sym (append-nil x))
+
+-- the outcome where the files are told
+found_told : (p : Plan) (o : Outcome) (told : Option Files) (files : Files) → told ≡ Some files → IsFor p o told → planned p files ≡ o
+found_told p o told files e h = subst (λ (t : Option Files). IsFor p o t) e h
+
+-- for a plan
+
+tells_for : (words : List (List ℕ)) (p : Plan) (o : Outcome) (answer : Status) (old new : Seen) → names words ≡ p → status_of o ≡ Some answer → Carries p o old new → Tells words o answer old new
+tells_for words p Unread answer old new n s h = absurd h
+tells_for words p BadWords answer old new n s h = record { status = s; said = ap (λ x. x.said) h ∙ nothing_more old.said; warned = ap (λ x. x.warned) h }
+tells_for words p (Refuses why) answer old new n s h = record { status = s; said = ap (λ x. x.said) h ∙ nothing_more old.said; warned = ap (λ x. x.warned) h ∙ ap (λ q. grown (warned_of q (Refuses why)) old.warned) (sym n) }
+tells_for words p (BadLine line) answer old new n s h = record { status = s; said = ap (λ x. x.said) h ∙ nothing_more old.said; warned = ap (λ x. x.warned) h ∙ ap (λ q. grown (warned_of q (BadLine line)) old.warned) (sym n) }
+tells_for words p (Accepts c rows end) answer old new n s h = record { status = s; said = ap (λ x. x.said) h.1; warned = ap (λ x. x.warned) h.1 ∙ nothing_more old.warned }
+
+rtlil_for : (p : Plan) (o : Outcome) (old new : Seen) (files : Files) → old.files ≡ Some files → p.il ≢ p.trace → Carries p o old new → IfAccepted o (λ c rows end. HoldsRtlil new p.il c)
+rtlil_for p Unread old new files e apart h = tt
+rtlil_for p BadWords old new files e apart h = tt
+rtlil_for p (Refuses why) old new files e apart h = tt
+rtlil_for p (BadLine line) old new files e apart h = tt
+rtlil_for p (Accepts c rows end) old new files e apart h =
+    let owed = h.0 in
+    (owed.il, ap (λ s. file_of s p.il) h.1 ∙ file_of-with_file_apart p.trace owed.trace p.il (with_file p.il owed.il old) apart ∙ file_of-with_file_here p.il owed.il old files e, owed.stands)
+
+trace_for : (p : Plan) (o : Outcome) (old new : Seen) (files : Files) → old.files ≡ Some files → Carries p o old new → IfAccepted o (λ c rows end. HoldsTrace new p.trace c rows end)
+trace_for p Unread old new files e h = tt
+trace_for p BadWords old new files e h = tt
+trace_for p (Refuses why) old new files e h = tt
+trace_for p (BadLine line) old new files e h = tt
+trace_for p (Accepts c rows end) old new files e h =
+    let owed = h.0 in
+    (owed.trace, ap (λ s. file_of s p.trace) h.1 ∙ file_of-with_file_here p.trace owed.trace (with_file p.il owed.il old) (holding p.il owed.il files) (ap (λ (o : Option Files). option_map (holding p.il owed.il) o) e), owed.is_trace)
+
+untouched_for : (p : Plan) (o : Outcome) (old new : Seen) → (IsAccepted o → ⊥) → Carries p o old new → new.files ≡ old.files
+untouched_for p Unread old new not h = absurd h
+untouched_for p BadWords old new not h = ap (λ x. x.files) h
+untouched_for p (Refuses why) old new not h = ap (λ x. x.files) h
+untouched_for p (BadLine line) old new not h = ap (λ x. x.files) h
+untouched_for p (Accepts c rows end) old new not h = absurd (not tt)
+
+untouched_part : (p : Plan) (o : Outcome) (old new : Seen) → (IsAccepted o → ⊥) → CarriesPart p o old new → new.files ≡ old.files
+untouched_part p Unread old new not h = ap (λ x. x.files) h
+untouched_part p BadWords old new not h = ap (λ x. x.files) h.changed
+untouched_part p (Refuses why) old new not h = ap (λ x. x.files) h.changed
+untouched_part p (BadLine line) old new not h = ap (λ x. x.files) h.changed
+untouched_part p (Accepts c rows end) old new not h = absurd (not tt)
+
+-- a name that is neither of the two files
+both_written : (p : Plan) (il trace q : List ℕ) (s : Seen) → q ≢ p.il → q ≢ p.trace → file_of (with_file p.trace trace (with_file p.il il s)) q ≡ file_of s q
+both_written p il trace q s a b = file_of-with_file_apart p.trace trace q (with_file p.il il s) b ∙ file_of-with_file_apart p.il il q s a
+
+others_for : (p : Plan) (o : Outcome) (old new : Seen) (q : List ℕ) → q ≢ p.il → q ≢ p.trace → Carries p o old new → file_of new q ≡ file_of old q
+others_for p Unread old new q a b h = absurd h
+others_for p BadWords old new q a b h = ap (λ s. file_of s q) h
+others_for p (Refuses why) old new q a b h = ap (λ s. file_of s q) h
+others_for p (BadLine line) old new q a b h = ap (λ s. file_of s q) h
+others_for p (Accepts c rows end) old new q a b h = ap (λ s. file_of s q) h.1 ∙ both_written p h.0.il h.0.trace q old a b
+
+front_apart : (name bytes q : List ℕ) (old new : Seen) → q ≢ name → WritesFront name bytes old new → file_of new q ≡ file_of old q
+front_apart name bytes q old new a (inl h) = ap (λ s. file_of s q) h
+front_apart name bytes q old new a (inr h) = ap (λ s. file_of s q) h.changed ∙ file_of-with_file_apart name h.front q old a
+
+others_trace : (p : Plan) (c : Circuit) (rows : List Row) (end : End) (said q : List ℕ) (old new : Seen) → q ≢ p.il → q ≢ p.trace → (owed : Owed c rows end)
+    → WritesFront p.trace owed.trace (with_file p.il owed.il old) new ⊎ AddsFront with_said said (with_files p owed.il owed.trace old) new
+    → file_of new q ≡ file_of old q
+others_trace p c rows end said q old new a b owed (inl h) = front_apart p.trace owed.trace q (with_file p.il owed.il old) new b h ∙ file_of-with_file_apart p.il owed.il q old a
+others_trace p c rows end said q old new a b owed (inr h) = ap (λ s. file_of s q) h.changed ∙ both_written p owed.il owed.trace q old a b
+
+others_part : (p : Plan) (o : Outcome) (old new : Seen) (q : List ℕ) → q ≢ p.il → q ≢ p.trace → CarriesPart p o old new → file_of new q ≡ file_of old q
+others_part p Unread old new q a b h = ap (λ s. file_of s q) h
+others_part p BadWords old new q a b h = ap (λ s. file_of s q) h.changed
+others_part p (Refuses why) old new q a b h = ap (λ s. file_of s q) h.changed
+others_part p (BadLine line) old new q a b h = ap (λ s. file_of s q) h.changed
+others_part p (Accepts c rows end) old new q a b (inl h) = ap (λ s. file_of s q) h
+others_part p (Accepts c rows end) old new q a b (inr (inl h)) = front_apart p.il h.il q old new a h.part
+others_part p (Accepts c rows end) old new q a b (inr (inr h)) = others_trace p c rows end (said_of (Accepts c rows end)) q old new a b h.owed h.part
+
+-- for the words
+
+chosen : {A : Type 0} (b : Bool) (x y : A) → cond b (Some x) None ≡ Some y → (b ≡ true) × (x ≡ y)
+chosen true x y e = (refl, (cc))
+chosen false x y e = absurd ((cc))
+
+left : (a b : Bool) → (a && b) ≡ true → a ≡ true
+left true b e = refl
+left false b e = e
+
+right : (a b : Bool) → (a && b) ≡ true → b ≡ true
+right true b e = e
+right false b e = absurd ((cc))
+
+turned_not : (b : Bool) → not b ≡ true → b ≡ false
+turned_not true e = absurd ((cc))
+turned_not false e = refl
+
+differ_apart : (m n : List ℕ) → differ m n ≡ true → m ≢ n
+differ_apart m n d e = let f = turned_not (bytes_eq m n) d in let t = (bytes_eq-Decides m n).1 e in absurd (cc)
+
+second_apart : (a b c d : List ℕ) → are_distinct a b c d ≡ true → b ≢ c
+second_apart a b c d h = differ_apart b c (right _ _ (left _ _ (left _ _ h)))
+
+plan-apart : (words : List (List ℕ)) (p : Plan) → plan_of words ≡ Some p → p.il ≢ p.trace
+plan-apart [] p e = absurd ((cc))
+plan-apart (a ∷ []) p e = absurd ((cc))
+plan-apart (a ∷ b ∷ []) p e = absurd ((cc))
+plan-apart (a ∷ b ∷ c ∷ []) p e = absurd ((cc))
+plan-apart (a ∷ b ∷ c ∷ d ∷ []) p e = absurd ((cc))
+plan-apart (a ∷ b ∷ c ∷ d ∷ f ∷ []) p e =
+    let k = chosen _ _ p e in
+    subst (λ (q : Plan). q.il ≢ q.trace) k.1 (second_apart a b c f (right _ _ (left _ _ k.0)))
+plan-apart (a ∷ b ∷ c ∷ d ∷ f ∷ g ∷ rest) p e = absurd ((cc))
+
+-- what the words ask for, by their plan
+abbrev outcome_at : Option Plan → Files → Outcome
+outcome_at op files = option_map_or (λ p. planned p files) op BadWords
+
+abbrev names_at : Option Plan → Plan
+names_at op = option_map_or (λ p. p) op no_plan
+
+texts_at : (words : List (List ℕ)) (op : Option Plan) → plan_of words ≡ op → (answer : Status) (old new : Seen) (files : Files) → old.files ≡ Some files → Works op answer old new → Tells words (outcome_at op files) answer old new
+texts_at words None n answer old new files e w = record { status = ap Some (sym w.usage); said = ap (λ x. x.said) w.warned ∙ nothing_more old.said; warned = ap (λ x. x.warned) w.warned }
+texts_at words (Some p) n answer old new files e w =
+    subst (λ (o : Outcome). Tells words o answer old new) (sym (found_told p w.found old.files files e w.is_for)) (tells_for words p w.found answer old new (ap names_at n) w.status w.carries)
+
+pub texts : (words : List (List ℕ)) (answer : Status) (old new : Seen) (files : Files) → old.files ≡ Some files → Works (plan_of words) answer old new → Tells words (outcome words files) answer old new
+unfolding outcome
+texts words answer old new files e w = texts_at words (plan_of words) refl answer old new files e w
+
+rtlil_at : (op : Option Plan) → ((p : Plan) → op ≡ Some p → p.il ≢ p.trace) → (answer : Status) (old new : Seen) (files : Files) → old.files ≡ Some files → Works op answer old new → IfAccepted (outcome_at op files) (λ c rows end. HoldsRtlil new (names_at op).il c)
+rtlil_at None apart answer old new files e w = tt
+rtlil_at (Some p) apart answer old new files e w =
+    subst (λ (o : Outcome). IfAccepted o (λ c rows end. HoldsRtlil new p.il c)) (sym (found_told p w.found old.files files e w.is_for)) (rtlil_for p w.found old new files e (apart p refl) w.carries)
+
+pub rtlil : (words : List (List ℕ)) (answer : Status) (old new : Seen) (files : Files) → old.files ≡ Some files → Works (plan_of words) answer old new → IfAccepted (outcome words files) (λ c rows end. HoldsRtlil new (names words).il c)
+unfolding outcome
+rtlil words answer old new files e w = rtlil_at (plan_of words) (plan-apart words) answer old new files e w
+
+trace_at : (op : Option Plan) (answer : Status) (old new : Seen) (files : Files) → old.files ≡ Some files → Works op answer old new → IfAccepted (outcome_at op files) (λ c rows end. HoldsTrace new (names_at op).trace c rows end)
+trace_at None answer old new files e w = tt
+trace_at (Some p) answer old new files e w =
+    subst (λ (o : Outcome). IfAccepted o (λ c rows end. HoldsTrace new p.trace c rows end)) (sym (found_told p w.found old.files files e w.is_for)) (trace_for p w.found old new files e w.carries)
+
+pub trace : (words : List (List ℕ)) (answer : Status) (old new : Seen) (files : Files) → old.files ≡ Some files → Works (plan_of words) answer old new → IfAccepted (outcome words files) (λ c rows end. HoldsTrace new (names words).trace c rows end)
+unfolding outcome
+trace words answer old new files e w = trace_at (plan_of words) answer old new files e w
+
+untouched_at : (op : Option Plan) (answer : Status) (old new : Seen) (files : Files) → old.files ≡ Some files → (IsAccepted (outcome_at op files) → ⊥) → Works op answer old new → new.files ≡ old.files
+untouched_at None answer old new files e not w = ap (λ x. x.files) w.warned
+untouched_at (Some p) answer old new files e not w =
+    untouched_for p w.found old new (subst (λ (o : Outcome). IsAccepted o → ⊥) (found_told p w.found old.files files e w.is_for) not) w.carries
+
+pub untouched : (words : List (List ℕ)) (answer : Status) (old new : Seen) (files : Files) → old.files ≡ Some files → (IsAccepted (outcome words files) → ⊥) → Works (plan_of words) answer old new → new.files ≡ old.files
+unfolding outcome
+untouched words answer old new files e not w = untouched_at (plan_of words) answer old new files e not w
+
+untouched_fails_at : (op : Option Plan) (old new : Seen) (files : Files) → old.files ≡ Some files → (IsAccepted (outcome_at op files) → ⊥) → Fails op old new → new.files ≡ old.files
+untouched_fails_at op old new files e not (inl h) = ap (λ x. x.files) h
+untouched_fails_at None old new files e not (inr h) = ap (λ x. x.files) h.changed
+untouched_fails_at (Some p) old new files e not (inr h) =
+    untouched_part p h.0 old new (subst (λ (o : Outcome). IsAccepted o → ⊥) (found_told p h.0 old.files files e h.1) not) h.2
+
+pub untouched_fails : (words : List (List ℕ)) (old new : Seen) (files : Files) → old.files ≡ Some files → (IsAccepted (outcome words files) → ⊥) → Fails (plan_of words) old new → new.files ≡ old.files
+unfolding outcome
+untouched_fails words old new files e not w = untouched_fails_at (plan_of words) old new files e not w
+
+abbrev IsWritten_at : Option Plan → List ℕ → Type 0
+IsWritten_at op name = MatchOption op ⊥ (λ p. (name ≡ p.il) ⊎ (name ≡ p.trace))
+
+others_at : (op : Option Plan) (answer : Status) (old new : Seen) (q : List ℕ) → (IsWritten_at op q → ⊥) → Works op answer old new → file_of new q ≡ file_of old q
+others_at None answer old new q not w = ap (λ s. file_of s q) w.warned
+others_at (Some p) answer old new q not w = others_for p w.found old new q (λ e. not (inl e)) (λ e. not (inr e)) w.carries
+
+pub others : (words : List (List ℕ)) (answer : Status) (old new : Seen) (q : List ℕ) → (IsWritten words q → ⊥) → Works (plan_of words) answer old new → file_of new q ≡ file_of old q
+others words answer old new q not w = others_at (plan_of words) answer old new q not w
+
+others_fails_at : (op : Option Plan) (old new : Seen) (q : List ℕ) → (IsWritten_at op q → ⊥) → Fails op old new → file_of new q ≡ file_of old q
+others_fails_at op old new q not (inl h) = ap (λ s. file_of s q) h
+others_fails_at None old new q not (inr h) = ap (λ s. file_of s q) h.changed
+others_fails_at (Some p) old new q not (inr h) = others_part p h.0 old new q (λ e. not (inl e)) (λ e. not (inr e)) h.2
+
+pub others_fails : (words : List (List ℕ)) (old new : Seen) (q : List ℕ) → (IsWritten words q → ⊥) → Fails (plan_of words) old new → file_of new q ≡ file_of old q
+others_fails words old new q not w = others_fails_at (plan_of words) old new q not w
+
+-- a last warning changes no file
+pub files_after_warning : {E : Type 0} (r : Result (Unit {0}) E) (text : List ℕ) (old new : Seen) → Adds with_warned text r old new → new.files ≡ old.files
+files_after_warning (Ok x) text old new h = ap (λ s. s.files) h
+files_after_warning (Err e) text old new h = ap (λ s. s.files) h.changed
+
+pub file_of_by_files : (q : List ℕ) (old new : Seen) → new.files ≡ old.files → file_of new q ≡ file_of old q
+file_of_by_files q old new e = ap (option_map (λ f. f q)) e
+
+-- for the parts of the work
+
+pub on_err : {T E P : Type 0} (r : Result T E) → P → OnErr r P
+on_err (Ok x) p = tt
+on_err (Err e) p = p
+
+-- the plan of the code is the plan of the words
+pub plan_is : {A : Type 0} (view : A → Plan) (o : Option A) (a : A) (op : Option Plan) → o ≡ Some a → option_map view o ≡ op → op ≡ Some (view a)
+plan_is view o a op e h = sym h ∙ ap (option_map view) e
+
+pub works_for : (op : Option Plan) (p : Plan) (answer : Status) (old new : Seen) → op ≡ Some p → WorksFor p answer old new → Works op answer old new
+works_for op p answer old new e w = subst (λ (o : Option Plan). Works o answer old new) (sym e) w
+
+pub fails_for : (op : Option Plan) (p : Plan) (old new : Seen) → op ≡ Some p → FailsFor p old new → Fails op old new
+fails_for op p old new e w = inr (subst (λ (o : Option Plan). MatchOption o (AddsFront with_warned usage_text old new) (λ q. FailsFor q old new)) (sym e) w)
+
+pub said_done : {E : Type 0} (p : Plan) (c : Circuit) (rows : List Row) (owed : Owed c rows EndDone) (old new : Seen) (r : Result (Unit {0}) E) → Adds with_said (said_of (Accepts c rows EndDone)) r (with_files p owed.il owed.trace old) new → OnOk r (Carries p (Accepts c rows EndDone) old new)
+said_done p c rows owed old new (Ok x) h = (owed, h)
+said_done p c rows owed old new (Err e) h = tt
+
+pub said_part : {E : Type 0} (p : Plan) (c : Circuit) (rows : List Row) (owed : Owed c rows EndDone) (old new : Seen) (r : Result (Unit {0}) E) → Adds with_said (said_of (Accepts c rows EndDone)) r (with_files p owed.il owed.trace old) new → OnErr r (CarriesPart p (Accepts c rows EndDone) old new)
+said_part p c rows owed old new (Ok x) h = tt
+said_part p c rows owed old new (Err e) h = inr (inr (record { owed = owed; part = inr h }))
+
+-- no outcome has these two answers
+
+not_fault : (o : Outcome) (answer : Status) → status_of o ≡ Some answer → (answer ≡ Fault) ⊎ (answer ≡ NoMemory) → ⊥
+not_fault Unread answer e (inl f) = cc
+not_fault Unread answer e (inr f) = cc
+not_fault BadWords answer e (inl f) = cc
+not_fault BadWords answer e (inr f) = cc
+not_fault (Refuses why) answer e (inl f) = cc
+not_fault (Refuses why) answer e (inr f) = cc
+not_fault (BadLine line) answer e (inl f) = cc
+not_fault (BadLine line) answer e (inr f) = cc
+not_fault (Accepts c rows EndDone) answer e (inl f) = cc
+not_fault (Accepts c rows EndDone) answer e (inr f) = cc
+
+pub works_plain : (op : Option Plan) (answer : Status) (old new : Seen) → Works op answer old new → (answer ≡ Fault) ⊎ (answer ≡ NoMemory) → ⊥
+works_plain None answer old new w f = not_fault BadWords answer (ap Some (sym w.usage)) f
+works_plain (Some p) answer old new w f = not_fault w.found answer w.status f
+
+-- a warning, whole or in part, is a front of its text
+pub front_of_warning : {E : Type 0} (r : Result (Unit {0}) E) (text : List ℕ) (old new : Seen) → Adds with_warned text r old new → AddsFront with_warned text old new
+front_of_warning (Ok x) text old new h = record { front = text; rest = []; whole = append-nil text; changed = h }
+front_of_warning (Err e) text old new h = h
+
+-- ---- counts
+
+pub length-timed : (n : ℕ) (es : List Event) → length (timed n es) ≡ length es
+length-timed n [] = refl
+length-timed n (e ∷ es) = ap suc (length-timed (suc n) es)
+
+-- ---- a file that was written
+
+-- where the call succeeded, the file is whole
+pub written_whole : {E : Type 0} (r : Result (Unit {0}) E) (name text : List ℕ) (old new : Seen) → {x : Unit {0}} → r ≡ Ok x → Writes name text r old new → new ≡ with_file name text old
+written_whole {E} r name text old new e h = subst (λ (q : Result (Unit {0}) E). Writes name text q old new) e h
+
+-- where it was refused, the file is as before or has a front
+pub written_part : {E : Type 0} (r : Result (Unit {0}) E) (name text : List ℕ) (old new : Seen) → {x : E} → r ≡ Err x → Writes name text r old new → WritesFront name text old new
+written_part {E} r name text old new e h = subst (λ (q : Result (Unit {0}) E). Writes name text q old new) e h
