@@ -1,1 +1,4 @@
 mod Samples
+pub mod GateFacts
+pub mod GateCircuit
+pub mod GateBoard
