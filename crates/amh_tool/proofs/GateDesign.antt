@@ -141,7 +141,7 @@ module _ (ms : List Member) (g : Gate) (h : IsSoundGate ms g) where
         bit_of_form n (subst (λ (f : Form). IsOf f.signed f.width n) (signal_form_of ms s.0 (input_held ms s.0 side)) legal.2),
       )
 
-  no_edge : (ds : List DomainId) → IsLegal (gate_circuit ms g) (Edge ds) → ⊥
+  pub no_edge : (ds : List DomainId) → IsLegal (gate_circuit ms g) (Edge ds) → ⊥
   no_edge [] legal = legal.0 refl
   no_edge (d ∷ ds) legal = absurd (omega (arith, legal.1.0))
 

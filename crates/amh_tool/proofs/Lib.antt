@@ -4,3 +4,6 @@ pub mod GateCircuit
 pub mod GateBoard
 pub mod GateValues
 pub mod GateDesign
+pub mod GateWires
+pub mod GateBits
+pub mod GateNetlist
