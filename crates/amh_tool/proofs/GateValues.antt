@@ -17,7 +17,7 @@ use Rattle.amh_tool.proofs.GateCircuit.{gate_signals, gate_operator, gate_pool}
 
 -- ---- a pool of signals, and one expression behind them
 
-length_range : (a n : ℕ) → length (range_with_len a n) ≡ n
+pub length_range : (a n : ℕ) → length (range_with_len a n) ≡ n
 length_range a zero = omega arith
 length_range a (suc n) = ap suc (length_range (a + 1) n)
 

@@ -7,3 +7,4 @@ pub mod GateDesign
 pub mod GateWires
 pub mod GateBits
 pub mod GateNetlist
+pub mod GateColumns
