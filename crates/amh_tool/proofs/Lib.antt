@@ -8,3 +8,5 @@ pub mod GateWires
 pub mod GateBits
 pub mod GateNetlist
 pub mod GateColumns
+pub mod GateNames
+pub mod GateRules
