@@ -1,3 +1,18 @@
 mod FormSamples
 pub mod FormLineLaws
 pub mod FormNameLaws
+pub mod GateFacts
+pub mod GateCircuit
+pub mod GateBoard
+pub mod GateValues
+pub mod GateDesign
+pub mod GateWires
+pub mod GateBits
+pub mod GateNetlist
+pub mod GateColumns
+pub mod GateNames
+pub mod GateRules
+pub mod ScriptFronts
+pub mod ScriptLegal
+pub mod AcceptLaws
+pub mod RunLaws

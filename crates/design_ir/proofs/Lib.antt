@@ -1,2 +1,13 @@
 pub mod Lists
 pub mod Sizes
+pub mod SanityParts
+pub mod SanityValues
+pub mod SanityRuns
+pub mod SanityMemories
+pub mod Answers
+pub mod Looks
+pub mod Shapes
+pub mod GuardLaws
+pub mod Whole
+pub mod Runs
+pub mod Needs
