@@ -1,3 +1,4 @@
 mod FormSamples
 pub mod FormLineLaws
 pub mod FormNameLaws
+pub mod FormRuleLaws

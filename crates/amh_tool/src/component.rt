@@ -15,8 +15,9 @@ use std::str;
 
 const IMPORT_LINES: &[u8] =
     b"from amaranth import *\nfrom amaranth.lib import wiring\nfrom amaranth.lib.wiring import In, Out\n\n";
-const ELABORATE_LINES: &[u8] =
-    b"\n    def elaborate(self, platform):\n        m = Module()\n";
+
+const ELABORATE_LINES: &[u8] = b"\n    def elaborate(self, platform):\n        m = Module()\n";
+
 const RETURN_LINES: &[u8] = b"        return m\n\n";
 
 /// How many members a component may have.
@@ -252,7 +253,8 @@ mod tests {
     use std::alloc::Global;
     use std::test::Fail;
 
-    const GATE: &str = "from amaranth import *\nfrom amaranth.lib import wiring\nfrom amaranth.lib.wiring import In, Out\n\nclass Gate(wiring.Component):\n    a: In(1)\n    b: In(1)\n    y: Out(1)\n\n    def elaborate(self, platform):\n        m = Module()\n        m.d.comb += self.y.eq(self.a & self.b)\n        return m\n\ntop = Gate()\n";
+    const GATE: &str =
+        "from amaranth import *\nfrom amaranth.lib import wiring\nfrom amaranth.lib.wiring import In, Out\n\nclass Gate(wiring.Component):\n    a: In(1)\n    b: In(1)\n    y: Out(1)\n\n    def elaborate(self, platform):\n        m = Module()\n        m.d.comb += self.y.eq(self.a & self.b)\n        return m\n\ntop = Gate()\n";
 
     fn stop_of(alloc: Global, text: &[u8]) -> Option<(Kind, u32)> {
         match parse(alloc, text) {
@@ -269,7 +271,15 @@ mod tests {
             return Err("refused".into());
         };
         assert_eq!(rt; gate.members.len(), 3);
-        assert_eq!(rt; gate.assignments.as_slice(), [Assignment { clocked: false, target: 2, right: Right::And(0, 1) }].as_slice());
+        assert_eq!(rt;
+            gate.assignments.as_slice(),
+            [Assignment {
+                clocked: false,
+                target: 2,
+                right: Right::And(0, 1)
+            }]
+            .as_slice()
+        );
         Ok(())
     }
 }
