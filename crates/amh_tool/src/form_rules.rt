@@ -1,8 +1,8 @@
 // What a line of the component form says.
-ghost use Rattle.std.specs.Prelude.{◌≡◌, ℕ, List, IfOk, None, bytes_eq};
+ghost use Rattle.std.specs.Prelude.{◌≡◌, IfOk, bytes_eq};
 ghost use Rattle.std.specs.Option.{option_map};
-ghost use Rattle.std.specs.BTreeMap.{get_by_text};
-ghost use Rattle.amh_tool.specs.FormLines.{class_in, side_in, member_in, number_of, number_on_side, names_in, assignment_in, top_line};
+ghost use Rattle.amh_tool.specs.FormLines.{class_in, side_in, member_in, number_on_side, names_in, assignment_in, top_line};
+ghost use Rattle.amh_tool.specs.FormGives.{Numbers};
 
 use crate::form::{Assignment, Member, Right};
 use crate::form_names::{behind, name_behind};
@@ -63,7 +63,7 @@ pub fn assignment_in(
     numbers: &BTreeMap<String, usize>,
     line: &[u8],
 ) -> Option<Assignment>
-    requires { (name : List ℕ) → get_by_text numbers.now name ≡ number_of members.now name }
+    requires { Numbers numbers.now members.now }
     ensures { result ≡ assignment_in members.now line.now }
 {
     let (target, left, right) = names_in(line)?;
@@ -100,7 +100,7 @@ fn number_on_side(
     numbers: &BTreeMap<String, usize>,
     name: &str,
 ) -> Option<usize>
-    requires { (name : List ℕ) → get_by_text numbers.now name ≡ number_of members.now name }
+    requires { Numbers numbers.now members.now }
     ensures { result ≡ number_on_side is_input members.now name.now }
 {
     let number = *numbers.get(name)?;
