@@ -2,3 +2,4 @@ mod FormSamples
 pub mod FormLineLaws
 pub mod FormNameLaws
 pub mod FormRuleLaws
+pub mod FormLaws
