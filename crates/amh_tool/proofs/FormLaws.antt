@@ -43,9 +43,9 @@ some_or_none (Some x) = refl
 
 -- a map that has the number of each name has it of one name more
 pub number_of-more : (ms : List Member) (m : Member) (old new : List ℕ → Option ℕ) (i : ℕ)
-  → ((name : List ℕ) → old name ≡ number_of ms name) → old m.name ≡ None → i ≡ length ms
-  → ((name : List ℕ) → new name ≡ cond (bytes_eq m.name name) (Some i) (old name))
-  → (name : List ℕ) → new name ≡ number_of (ms ++ m ∷ []) name
+    → ((name : List ℕ) → old name ≡ number_of ms name) → old m.name ≡ None → i ≡ length ms
+    → ((name : List ℕ) → new name ≡ cond (bytes_eq m.name name) (Some i) (old name))
+    → (name : List ℕ) → new name ≡ number_of (ms ++ m ∷ []) name
 number_of-more ms m old new i had fresh place made name = made name ∙ here (bytes_eq m.name name) refl ∙ sym (number_of-push ms m name)
   where
     here : (t : Bool) → bytes_eq m.name name ≡ t → cond t (Some i) (old name) ≡ cond (is_some (number_of ms name)) (number_of ms name) (cond (bytes_eq name m.name) (Some (length ms)) None)
@@ -68,17 +68,17 @@ none_from_absent (Some x) h = absurd (false≢true (sym h))
 
 -- one member more is numbered
 pub numbered_more : (ms : List Member) (i : ℕ) (m : Member) (old new : List ℕ → Option ℕ)
-  → i < length ms → m ≡ get_or ms i m → ((name : List ℕ) → old name ≡ number_of (take i ms) name) → is_some (old m.name) ≡ false
-  → ((name : List ℕ) → new name ≡ cond (bytes_eq m.name name) (Some i) (old name))
-  → (name : List ℕ) → new name ≡ number_of (take (i + 1) ms) name
+    → i < length ms → m ≡ get_or ms i m → ((name : List ℕ) → old name ≡ number_of (take i ms) name) → is_some (old m.name) ≡ false
+    → ((name : List ℕ) → new name ≡ cond (bytes_eq m.name name) (Some i) (old name))
+    → (name : List ℕ) → new name ≡ number_of (take (i + 1) ms) name
 numbered_more ms i m old new held is had absent made name =
     let front : take (i + 1) ms ≡ take i ms ++ m ∷ [] = take_more ms i m held ∙ ap (λ (k : Member). take i ms ++ k ∷ []) (sym is) in
     let len : i ≡ length (take i ms) = omega (arith, length-take-le i ms (omega arith)) in
     rw front (number_of-more (take i ms) m old new i had (none_from_absent (old m.name) absent) len made name)
 
 pub twins_more : (ms : List Member) (i : ℕ) (m : Member) (all : Option ℕ)
-  → i < length ms → m ≡ get_or ms i m → is_some (number_of (take i ms) m.name) ≡ false
-  → first_twin (take i ms) (drop i ms) ≡ all → first_twin (take (i + 1) ms) (drop (i + 1) ms) ≡ all
+    → i < length ms → m ≡ get_or ms i m → is_some (number_of (take i ms) m.name) ≡ false
+    → first_twin (take i ms) (drop i ms) ≡ all → first_twin (take (i + 1) ms) (drop (i + 1) ms) ≡ all
 twins_more ms i m all held is absent before =
     let front : take (i + 1) ms ≡ take i ms ++ m ∷ [] = take_more ms i m held ∙ ap (λ (k : Member). take i ms ++ k ∷ []) (sym is) in
     let rest : drop i ms ≡ m ∷ drop (i + 1) ms = drop_more ms i m held ∙ ap (λ (k : Member). k ∷ drop (i + 1) ms) (sym is) in
@@ -87,7 +87,7 @@ twins_more ms i m all held is absent before =
 
 -- one more line declares one member more
 pub declared_more : (members new all : List Member) (ls rest : List Line) (line : Line) (m : Member)
-  → ls ≡ line ∷ rest → member_in line ≡ Some m → new ≡ members ++ m ∷ [] → members ++ declared_in ls ≡ all → new ++ declared_in rest ≡ all
+    → ls ≡ line ∷ rest → member_in line ≡ Some m → new ≡ members ++ m ∷ [] → members ++ declared_in ls ≡ all → new ++ declared_in rest ≡ all
 declared_more members new all ls rest line m cut says pushed before =
     let declared : declared_in ls ≡ m ∷ declared_in rest = rw (cut, says) refl in
     rw (pushed, append_assoc) (sym (ap (λ (ms : List Member). members ++ ms) declared) ∙ before)

@@ -3,3 +3,4 @@ pub mod FormLineLaws
 pub mod FormNameLaws
 pub mod FormRuleLaws
 pub mod FormLaws
+pub mod FormExits

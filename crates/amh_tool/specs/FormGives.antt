@@ -26,11 +26,15 @@ abbrev pub Reads : {X A : Type 0} → (X → A) → Result X Left → Result A �
 Reads view (Ok x) told = told ≡ Ok (view x)
 Reads view (Err left) told = told ≡ Err left.0
 
--- the same of a part that takes memory
+-- a line is left as the definition says, or memory ran out
+abbrev pub Stops : {A : Type 0} → Stop → Result A ℕ → Type 0
+Stops (Here left) told = told ≡ Err left
+Stops NoRoom told = Unit {0}
+
+-- a part of the form that takes memory is as the definition says
 abbrev pub ReadsInMemory : {X A : Type 0} → (X → A) → Result X Stop → Result A ℕ → Type 0
 ReadsInMemory view (Ok x) told = told ≡ Ok (view x)
-ReadsInMemory view (Err (Here left)) told = told ≡ Err left
-ReadsInMemory view (Err NoRoom) told = Unit {0}
+ReadsInMemory view (Err stop) told = Stops stop told
 
 -- the map has the number of each name
 abbrev pub Numbers : BTreeMap (String Global) ℕ → List Member → Type 0

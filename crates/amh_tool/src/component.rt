@@ -113,16 +113,15 @@ impl From<NoMemory> for Stop {
 }
 
 // The parts of the form, in order.
-#[tactic(auto, unfolding(crate::specs::Component::form))]
 fn form(alloc: Global, text: &[u8]) -> Result<Component, Stop>
     ensures { ReadsInMemory (λ c. c) result (form (lines_in text.now)) }
 {
-    let rest = fixed(IMPORT_LINES, text)?;
+    let rest = import_part(text)?;
     let (class, rest) = class_part(rest)?;
     let (members, numbers, rest) = members_part(alloc, rest)?;
-    let rest = fixed(ELABORATE_LINES, rest)?;
+    let rest = elaborate_part(rest)?;
     let (assignment, rest) = assignment_part(members.as_slice(), &numbers, rest)?;
-    let rest = fixed(RETURN_LINES, rest)?;
+    let rest = return_part(rest)?;
     let rest = top_part(class, rest)?;
     at_end(rest)?;
     let mut assignments = Items::new(alloc);
@@ -131,6 +130,30 @@ fn form(alloc: Global, text: &[u8]) -> Result<Component, Stop>
         members,
         assignments,
     })
+}
+
+// What stands behind the imports.
+#[tactic(auto, unfolding(crate::specs::Component::import_lines))]
+fn import_part(text: &[u8]) -> Result<&[u8], Left>
+    ensures { Reads (λ rest. lines_in rest.now) result (fixed import_lines (lines_in text.now)) }
+{
+    fixed(IMPORT_LINES, text)
+}
+
+// What stands behind the head of `elaborate`.
+#[tactic(auto, unfolding(crate::specs::Component::elaborate_lines))]
+fn elaborate_part(text: &[u8]) -> Result<&[u8], Left>
+    ensures { Reads (λ rest. lines_in rest.now) result (fixed elaborate_lines (lines_in text.now)) }
+{
+    fixed(ELABORATE_LINES, text)
+}
+
+// What stands behind the end of `elaborate`.
+#[tactic(auto, unfolding(crate::specs::Component::return_lines))]
+fn return_part(text: &[u8]) -> Result<&[u8], Left>
+    ensures { Reads (λ rest. lines_in rest.now) result (fixed return_lines (lines_in text.now)) }
+{
+    fixed(RETURN_LINES, text)
 }
 
 // What stands behind these lines.

@@ -17,6 +17,6 @@ loop-number-preserved c =
     let put = btree_map_updates_text (string_bytes c.in_ok-from_str.field-0) numbers c.insert.new.self _ c.in_ok-insert.ensures.updates in
     record {
       numbers = numbered_more ms i m (get_by_text numbers) (get_by_text c.insert.new.self) held c.index-members-number.is c.loop-number.invariant.numbers absent
-        (λ q. put q ∙ ap (λ (bs : List ℕ). cond (bytes_eq bs q) (Some i) (get_by_text numbers q)) key);
+          (λ q. put q ∙ ap (λ (bs : List ℕ). cond (bytes_eq bs q) (Some i) (get_by_text numbers q)) key);
       twins = twins_more ms i m _ held c.index-members-number.is (ap (λ (o : Option ℕ). is_some o) (sym (c.loop-number.invariant.numbers m.name)) ∙ absent) c.loop-number.invariant.twins;
     }
