@@ -20,8 +20,8 @@ behind-take (x ∷ xs) (y ∷ ys) = let e = behind-take xs ys in grind (arith, c
 
 -- what `strip_prefix` says of a front
 pub behind-stripped : (f s : List ℕ) (r : Option (Bor (List ℕ)))
-  → MatchOption r (pointwise nat_eq (take (length f) s) f ≡ false) (λ x. (pointwise nat_eq (take (length f) s) f ≡ true) × (x.now ≡ drop (length f) s) × (length x.now + length f ≡ length s))
-  → option_map (λ x. x.now) r ≡ behind f s
+    → MatchOption r (pointwise nat_eq (take (length f) s) f ≡ false) (λ x. (pointwise nat_eq (take (length f) s) f ≡ true) × (x.now ≡ drop (length f) s) × (length x.now + length f ≡ length s))
+    → option_map (λ x. x.now) r ≡ behind f s
 behind-stripped f s None h = rw (behind-take f s, h) refl
 behind-stripped f s (Some x) h = rw (behind-take f s, h.0) (ap Some h.1)
 

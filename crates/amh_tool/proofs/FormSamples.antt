@@ -1,7 +1,7 @@
 -- The definition at literal texts.
 use Rattle.std.specs.Prelude.{◌≡◌, refl, ℕ, true, false, List, [], ◌∷◌, ◌++◌, Ok, Err, codes}
 use Rattle.amh_tool.specs.FormNames.{keywords, taken_names, is_name}
-use Rattle.amh_tool.specs.FormLines.{lines_in, name_behind, class_in, side_in, member_in, number_on_side, assignment_in, top_line}
+use Rattle.amh_tool.specs.FormLines.{lines_in, name_behind, class_in, side_in, member_in, number_on_side, names_in, assignment_in, top_line}
 use Rattle.amh_tool.specs.Component.{form, members_part, import_lines, elaborate_lines, return_lines}
 use Rattle.amh_tool.specs.declared.form.Right.TheVariants.{And}
 use Rattle.amh_tool.specs.declared.form.Component.{Component}
@@ -20,15 +20,15 @@ gate = record {
 
 -- the gate's file is read
 form-gate : form (lines_in (head_text ++ gate_text)) ≡ Ok gate
-unfolding head_text gate_text gate form members_part import_lines elaborate_lines return_lines name_behind class_in side_in member_in number_on_side assignment_in top_line keywords taken_names is_name
+unfolding head_text gate_text gate form members_part import_lines elaborate_lines return_lines name_behind class_in side_in member_in number_on_side names_in assignment_in top_line keywords taken_names is_name
 form-gate = refl
 
 -- a second member of one name is refused, with nine lines behind it
 form-twin : form (lines_in (head_text ++ (codes "    a: Out(1)\n" ++ gate_text))) ≡ Err 10
-unfolding head_text gate_text gate form members_part import_lines elaborate_lines return_lines name_behind class_in side_in member_in number_on_side assignment_in top_line keywords taken_names is_name
+unfolding head_text gate_text gate form members_part import_lines elaborate_lines return_lines name_behind class_in side_in member_in number_on_side names_in assignment_in top_line keywords taken_names is_name
 form-twin = refl
 
 -- a file that ends too early is refused with no line left
 form-early : form (lines_in head_text) ≡ Err 0
-unfolding head_text gate_text gate form members_part import_lines elaborate_lines return_lines name_behind class_in side_in member_in number_on_side assignment_in top_line keywords taken_names is_name
+unfolding head_text gate_text gate form members_part import_lines elaborate_lines return_lines name_behind class_in side_in member_in number_on_side names_in assignment_in top_line keywords taken_names is_name
 form-early = refl

@@ -16,3 +16,6 @@ pub mod ScriptFronts
 pub mod ScriptLegal
 pub mod AcceptLaws
 pub mod RunLaws
+pub mod FormRuleLaws
+pub mod FormLaws
+pub mod FormExits

@@ -34,9 +34,9 @@ one_line says [] = Err 0
 one_line says (l ∷ ls) = passed ls (says l)
 
 -- nothing more
-abbrev pub at_end : {A : Type 0} → A → List Line → Result A ℕ
-at_end a [] = Ok a
-at_end a (l ∷ ls) = Err (length (l ∷ ls))
+abbrev pub at_end : List Line → Result (Unit {0}) ℕ
+at_end [] = Ok tt
+at_end (l ∷ ls) = Err (length (l ∷ ls))
 
 unfoldable pub import_lines : List Line
 import_lines =
@@ -83,7 +83,8 @@ form ls = do
   assignment ← one_line (assignment_in members.0) begun
   returned ← fixed return_lines assignment.1
   rest ← fixed (top_line class.0 ∷ []) returned
-  at_end (record { members = members.0; assignments = assignment.0 ∷ [] }) rest
+  nothing ← at_end rest
+  Ok (record { members = members.0; assignments = assignment.0 ∷ [] })
 
 -- a refusal at a line, which has the column 1
 abbrev pub refused : Kind → ℕ → Refusal

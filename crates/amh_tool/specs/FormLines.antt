@@ -75,17 +75,23 @@ number_on_side is_input members name = do
     on_side false true = false
     on_side false false = true
 
--- `        m.d.comb += self.Y.eq(self.A & self.B)` assigns the conjunction of two inputs to an output
-unfoldable pub assignment_in : List Member → Line → Option Assignment
-assignment_in members line = do
+-- `        m.d.comb += self.Y.eq(self.A & self.B)` has the names of a target and of two operands
+unfoldable pub names_in : Line → Option (List ℕ × List ℕ × List ℕ)
+names_in line = do
   target ← name_behind (codes "        m.d.comb += self.") line
   left ← name_behind (codes ".eq(self.") target.1
   right ← name_behind (codes " & self.") left.1
-  y ← number_on_side false members target.0
-  a ← number_on_side true members left.0
-  b ← number_on_side true members right.0
-  if bytes_eq right.1 (codes ")\n") then Some (record { clocked = false; target = y; right = And a b }) else None
+  if bytes_eq right.1 (codes ")\n") then Some (target.0, left.0, right.0) else None
+
+-- an output is given the conjunction of two inputs
+unfoldable pub assignment_in : List Member → Line → Option Assignment
+assignment_in members line = do
+  names ← names_in line
+  target ← number_on_side false members names.0
+  left ← number_on_side true members names.1
+  right ← number_on_side true members names.2
+  Some (record { clocked = false; target = target; right = And left right })
 
 -- `top = NAME()` names the class
 unfoldable pub top_line : List ℕ → Line
-top_line class = codes "top = " ++ class ++ codes "()\n"
+top_line class = codes "top = " ++ (class ++ codes "()\n")

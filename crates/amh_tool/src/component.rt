@@ -1,9 +1,9 @@
 // Reads a design file of the component form.
-ghost use Rattle.std.specs.Prelude.{◌≡◌, ◌≤◌, ◌+◌, [], ◌∷◌, ◌↔◌, ℕ, List, length, take, count_by, IfOk, IsTrue, ◌==◌};
-ghost use Rattle.amh_tool.specs.FormLines.{lines_in, number_of, top_line, class_in, assignment_in};
-ghost use Rattle.amh_tool.specs.Component.{component, form, fixed, one_line, at_end, declared_in, first_twin, members_part, import_lines, elaborate_lines, return_lines, refused};
+ghost use Rattle.std.specs.Prelude.{◌≡◌, ◌≤◌, ◌+◌, ◌==◌, ◌∷◌, [], length, drop, count_by, IfOk};
+ghost use Rattle.amh_tool.specs.FormLines.{lines_in, class_in, assignment_in, top_line};
+ghost use Rattle.amh_tool.specs.Component.{component, form, fixed, one_line, at_end, declared_in, members_part, refused, import_lines, elaborate_lines, return_lines};
 ghost use Rattle.amh_tool.specs.Form.{IsGate};
-ghost use Rattle.amh_tool.specs.FormGives.{Gives};
+ghost use Rattle.amh_tool.specs.FormGives.{Gives, Reads, ReadsInMemory, Numbers, IsNumbering};
 
 use crate::form::{Assignment, Component, Member};
 use crate::form_lines::{first_line, line_count};
@@ -15,8 +15,9 @@ use std::str;
 
 const IMPORT_LINES: &[u8] =
     b"from amaranth import *\nfrom amaranth.lib import wiring\nfrom amaranth.lib.wiring import In, Out\n\n";
-const ELABORATE_LINES: &[u8] =
-    b"\n    def elaborate(self, platform):\n        m = Module()\n";
+
+const ELABORATE_LINES: &[u8] = b"\n    def elaborate(self, platform):\n        m = Module()\n";
+
 const RETURN_LINES: &[u8] = b"        return m\n\n";
 
 /// How many members a component may have.
@@ -92,25 +93,35 @@ enum Stop {
 }
 
 impl From<Left> for Stop {
+    ghost use Rattle.amh_tool.specs.declared.component.Stop.TheVariants.{Here};
+
+    ghost from_gives = { λ left stop. stop ≡ Here left.0 };
+
     fn from(left: Left) -> Self {
         Stop::Here(left.0)
     }
 }
 
 impl From<NoMemory> for Stop {
+    ghost use Rattle.amh_tool.specs.declared.component.Stop.TheVariants.{NoMemory};
+
+    ghost from_gives = { λ _ stop. stop ≡ NoMemory };
+
     fn from(_: NoMemory) -> Self {
         Stop::NoMemory
     }
 }
 
 // The parts of the form, in order.
-fn form(alloc: Global, text: &[u8]) -> Result<Component, Stop> {
-    let rest = fixed(IMPORT_LINES, text)?;
+fn form(alloc: Global, text: &[u8]) -> Result<Component, Stop>
+    ensures { ReadsInMemory (λ c. c) result (form (lines_in text.now)) }
+{
+    let rest = import_part(text)?;
     let (class, rest) = class_part(rest)?;
     let (members, numbers, rest) = members_part(alloc, rest)?;
-    let rest = fixed(ELABORATE_LINES, rest)?;
+    let rest = elaborate_part(rest)?;
     let (assignment, rest) = assignment_part(members.as_slice(), &numbers, rest)?;
-    let rest = fixed(RETURN_LINES, rest)?;
+    let rest = return_part(rest)?;
     let rest = top_part(class, rest)?;
     at_end(rest)?;
     let mut assignments = Items::new(alloc);
@@ -121,8 +132,34 @@ fn form(alloc: Global, text: &[u8]) -> Result<Component, Stop> {
     })
 }
 
+// What stands behind the imports.
+#[tactic(auto, unfolding(crate::specs::Component::import_lines))]
+fn import_part(text: &[u8]) -> Result<&[u8], Left>
+    ensures { Reads (λ rest. lines_in rest.now) result (fixed import_lines (lines_in text.now)) }
+{
+    fixed(IMPORT_LINES, text)
+}
+
+// What stands behind the head of `elaborate`.
+#[tactic(auto, unfolding(crate::specs::Component::elaborate_lines))]
+fn elaborate_part(text: &[u8]) -> Result<&[u8], Left>
+    ensures { Reads (λ rest. lines_in rest.now) result (fixed elaborate_lines (lines_in text.now)) }
+{
+    fixed(ELABORATE_LINES, text)
+}
+
+// What stands behind the end of `elaborate`.
+#[tactic(auto, unfolding(crate::specs::Component::return_lines))]
+fn return_part(text: &[u8]) -> Result<&[u8], Left>
+    ensures { Reads (λ rest. lines_in rest.now) result (fixed return_lines (lines_in text.now)) }
+{
+    fixed(RETURN_LINES, text)
+}
+
 // What stands behind these lines.
-fn fixed<'a>(wanted: &[u8], text: &'a [u8]) -> Result<&'a [u8], Left> {
+fn fixed<'a>(wanted: &[u8], text: &'a [u8]) -> Result<&'a [u8], Left>
+    ensures { Reads (λ rest. lines_in rest.now) result (fixed (lines_in wanted.now) (lines_in text.now)) }
+{
     let mut wanted = wanted;
     let mut rest = text;
     while !wanted.is_empty() {
@@ -141,7 +178,9 @@ fn fixed<'a>(wanted: &[u8], text: &'a [u8]) -> Result<&'a [u8], Left> {
 }
 
 // The class's name, and what stands behind its line.
-fn class_part(text: &[u8]) -> Result<(&str, &[u8]), Left> {
+fn class_part(text: &[u8]) -> Result<(&str, &[u8]), Left>
+    ensures { Reads (λ r. (r.0.now, lines_in r.1.now)) result (one_line class_in (lines_in text.now)) }
+{
     if text.is_empty() {
         return Err(Left(0));
     }
@@ -153,10 +192,14 @@ fn class_part(text: &[u8]) -> Result<(&str, &[u8]), Left> {
 }
 
 // The members, the number of each by its name, and what stands behind their lines.
+#[tactic(auto, unfolding(crate::specs::Component::members_part))]
 fn members_part(
     alloc: Global,
     text: &[u8],
-) -> Result<(Items<Member>, BTreeMap<String, usize>, &[u8]), Stop> {
+) -> Result<(Items<Member>, BTreeMap<String, usize>, &[u8]), Stop>
+    ensures part { ReadsInMemory (λ r. (r.0, lines_in r.2.now)) result (members_part (lines_in text.now)) }
+    ensures numbers { IfOk result (λ r. Numbers r.1 r.0) }
+{
     let (members, rest) = declared_in(alloc, text)?;
     if members.len() == 0 {
         return Err(Stop::Here(line_count(text)));
@@ -168,13 +211,16 @@ fn members_part(
 }
 
 // The members that the lines declare, up to the first line that declares none, and what stands behind them.
-fn declared_in(alloc: Global, text: &[u8]) -> Result<(Items<Member>, &[u8]), NoMemory> {
+fn declared_in(alloc: Global, text: &[u8]) -> Result<(Items<Member>, &[u8]), NoMemory>
+    ensures members { IfOk result (λ r. r.0 ≡ declared_in (lines_in text.now)) }
+    ensures rest { IfOk result (λ r. lines_in r.1.now ≡ drop (length r.0) (lines_in text.now)) }
+{
     let mut members = Items::new(alloc);
     let mut rest = text;
     while !rest.is_empty() {
         let (line, behind) = first_line(rest);
         let Some(member) = member_in(alloc, line)? else {
-            break;
+            return Ok((members, rest));
         };
         members.push(member)?;
         rest = behind;
@@ -192,7 +238,9 @@ enum Numbering {
 }
 
 // Numbers the members by their names.
-fn numbered(alloc: Global, members: &[Member]) -> Result<Numbering, NoMemory> {
+fn numbered(alloc: Global, members: &[Member]) -> Result<Numbering, NoMemory>
+    ensures { IfOk result (IsNumbering members.now) }
+{
     let mut numbers = BTreeMap::new(alloc);
     for (number, member) in members.iter().enumerate() {
         let name = member.name.as_str();
@@ -210,7 +258,8 @@ fn assignment_part<'a>(
     numbers: &BTreeMap<String, usize>,
     text: &'a [u8],
 ) -> Result<(Assignment, &'a [u8]), Left>
-    requires { (name : List ℕ) → get_by_text numbers.now name ≡ number_of members.now name }
+    requires { Numbers numbers.now members.now }
+    ensures { Reads (λ r. (r.0, lines_in r.1.now)) result (one_line (assignment_in members.now) (lines_in text.now)) }
 {
     if text.is_empty() {
         return Err(Left(0));
@@ -223,7 +272,9 @@ fn assignment_part<'a>(
 }
 
 // What stands behind the line that names the class.
-fn top_part<'a>(class: &str, text: &'a [u8]) -> Result<&'a [u8], Left> {
+fn top_part<'a>(class: &str, text: &'a [u8]) -> Result<&'a [u8], Left>
+    ensures { Reads (λ rest. lines_in rest.now) result (fixed (top_line class.now ∷ []) (lines_in text.now)) }
+{
     if text.is_empty() {
         return Err(Left(0));
     }
@@ -236,7 +287,9 @@ fn top_part<'a>(class: &str, text: &'a [u8]) -> Result<&'a [u8], Left> {
 }
 
 // Nothing more.
-fn at_end(text: &[u8]) -> Result<(), Left> {
+fn at_end(text: &[u8]) -> Result<(), Left>
+    ensures { Reads (λ nothing. nothing) result (at_end (lines_in text.now)) }
+{
     if text.is_empty() {
         Ok(())
     } else {
@@ -252,7 +305,8 @@ mod tests {
     use std::alloc::Global;
     use std::test::Fail;
 
-    const GATE: &str = "from amaranth import *\nfrom amaranth.lib import wiring\nfrom amaranth.lib.wiring import In, Out\n\nclass Gate(wiring.Component):\n    a: In(1)\n    b: In(1)\n    y: Out(1)\n\n    def elaborate(self, platform):\n        m = Module()\n        m.d.comb += self.y.eq(self.a & self.b)\n        return m\n\ntop = Gate()\n";
+    const GATE: &str =
+        "from amaranth import *\nfrom amaranth.lib import wiring\nfrom amaranth.lib.wiring import In, Out\n\nclass Gate(wiring.Component):\n    a: In(1)\n    b: In(1)\n    y: Out(1)\n\n    def elaborate(self, platform):\n        m = Module()\n        m.d.comb += self.y.eq(self.a & self.b)\n        return m\n\ntop = Gate()\n";
 
     fn stop_of(alloc: Global, text: &[u8]) -> Option<(Kind, u32)> {
         match parse(alloc, text) {
@@ -269,7 +323,15 @@ mod tests {
             return Err("refused".into());
         };
         assert_eq!(rt; gate.members.len(), 3);
-        assert_eq!(rt; gate.assignments.as_slice(), [Assignment { clocked: false, target: 2, right: Right::And(0, 1) }].as_slice());
+        assert_eq!(rt;
+            gate.assignments.as_slice(),
+            [Assignment {
+                clocked: false,
+                target: 2,
+                right: Right::And(0, 1)
+            }]
+            .as_slice()
+        );
         Ok(())
     }
 }

@@ -1,16 +1,17 @@
 // What a line of the component form says.
-ghost use Rattle.std.specs.Prelude.{◌≡◌, ℕ, List, IfOk, None, bytes_eq};
+ghost use Rattle.std.specs.Prelude.{◌≡◌, IfOk, bytes_eq};
 ghost use Rattle.std.specs.Option.{option_map};
-ghost use Rattle.std.specs.BTreeMap.{get_by_text};
-ghost use Rattle.amh_tool.specs.FormLines.{class_in, side_in, member_in, number_of, number_on_side, assignment_in, top_line};
+ghost use Rattle.amh_tool.specs.FormLines.{class_in, side_in, member_in, number_on_side, names_in, assignment_in, top_line};
+ghost use Rattle.amh_tool.specs.FormGives.{Numbers};
 
 use crate::form::{Assignment, Member, Right};
-use crate::form_names::name_behind;
+use crate::form_names::{behind, name_behind};
 use amh_host::{NoMemory, Text};
 use std::alloc::Global;
 use std::collections::BTreeMap;
 
 /// The name of the class whose first line this is.
+#[tactic(auto, unfolding(crate::specs::FormLines::class_in))]
 pub fn class_in(line: &[u8]) -> Option<&str>
     ensures { option_map (λ class. class.now) result ≡ class_in line.now }
 {
@@ -23,6 +24,7 @@ pub fn class_in(line: &[u8]) -> Option<&str>
 }
 
 /// The member that the line declares.
+#[tactic(auto, unfolding(crate::specs::FormLines::member_in))]
 pub fn member_in(alloc: Global, line: &[u8]) -> Result<Option<Member>, NoMemory>
     ensures { IfOk result (λ found. found ≡ member_in line.now) }
 {
@@ -41,6 +43,7 @@ pub fn member_in(alloc: Global, line: &[u8]) -> Result<Option<Member>, NoMemory>
 }
 
 // Whether a member is an input, by the text behind its name.
+#[tactic(auto, unfolding(crate::specs::FormLines::side_in))]
 fn side_in(text: &[u8]) -> Option<bool>
     ensures { result ≡ side_in text.now }
 {
@@ -54,23 +57,19 @@ fn side_in(text: &[u8]) -> Option<bool>
 }
 
 /// The assignment of the line, by the members and the number of each name.
+#[tactic(auto, unfolding(crate::specs::FormLines::assignment_in))]
 pub fn assignment_in(
     members: &[Member],
     numbers: &BTreeMap<String, usize>,
     line: &[u8],
 ) -> Option<Assignment>
-    requires { (name : List ℕ) → get_by_text numbers.now name ≡ number_of members.now name }
+    requires { Numbers numbers.now members.now }
     ensures { result ≡ assignment_in members.now line.now }
 {
-    let (target, rest) = name_behind(b"        m.d.comb += self.", line)?;
-    let (left, rest) = name_behind(b".eq(self.", rest)?;
-    let (right, rest) = name_behind(b" & self.", rest)?;
+    let (target, left, right) = names_in(line)?;
     let target = number_on_side(false, members, numbers, target)?;
     let left = number_on_side(true, members, numbers, left)?;
     let right = number_on_side(true, members, numbers, right)?;
-    if rest != b")\n".as_slice() {
-        return None;
-    }
     Some(Assignment {
         clocked: false,
         target,
@@ -78,14 +77,30 @@ pub fn assignment_in(
     })
 }
 
+// The names of an assignment's target and of its two operands.
+#[tactic(auto, unfolding(crate::specs::FormLines::names_in))]
+fn names_in(line: &[u8]) -> Option<(&str, &str, &str)>
+    ensures { option_map (λ names. (names.0.now, names.1.now, names.2.now)) result ≡ names_in line.now }
+{
+    let (target, rest) = name_behind(b"        m.d.comb += self.", line)?;
+    let (left, rest) = name_behind(b".eq(self.", rest)?;
+    let (right, rest) = name_behind(b" & self.", rest)?;
+    if rest == b")\n".as_slice() {
+        Some((target, left, right))
+    } else {
+        None
+    }
+}
+
 // The number of the member of this name, where it is an input, or is none.
+#[tactic(auto, unfolding(crate::specs::FormLines::number_on_side))]
 fn number_on_side(
     is_input: bool,
     members: &[Member],
     numbers: &BTreeMap<String, usize>,
     name: &str,
 ) -> Option<usize>
-    requires { (name : List ℕ) → get_by_text numbers.now name ≡ number_of members.now name }
+    requires { Numbers numbers.now members.now }
     ensures { result ≡ number_on_side is_input members.now name.now }
 {
     let number = *numbers.get(name)?;
@@ -100,10 +115,10 @@ fn number_on_side(
 pub fn is_top(class: &str, line: &[u8]) -> bool
     ensures { result ≡ bytes_eq line.now (top_line class.now) }
 {
-    let Some(rest) = line.strip_prefix(b"top = ".as_slice()) else {
+    let Some(rest) = behind(b"top = ", line) else {
         return false;
     };
-    match rest.strip_prefix(class.as_bytes()) {
+    match behind(class.as_bytes(), rest) {
         Some(rest) => rest == b"()\n".as_slice(),
         None => false,
     }
