@@ -12,3 +12,5 @@ pub mod CellRules
 pub mod MemoryRules
 pub mod Rules
 pub mod Reads
+pub mod Written
+pub mod Widths

@@ -6,11 +6,17 @@
 #![tactic(auto)]
 
 mod cell;
+mod line;
 mod module;
+mod page;
 mod sig;
+mod spell;
+mod text;
+mod widths;
 
 pub use cell::{RtlCell, RtlCells, RtlEnd, RtlEnds, RtlParameter, RtlParameters, RtlValue};
 pub use module::{
     RtlLink, RtlLinks, RtlMemories, RtlMemory, RtlModule, RtlWire, RtlWires, WirePort,
 };
 pub use sig::{RtlBits, SigPart, SigSpec};
+pub use text::write;

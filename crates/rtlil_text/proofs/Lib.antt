@@ -1,0 +1,5 @@
+pub mod Turns
+pub mod Puts
+pub mod WidthLaws
+pub mod Spelled
+pub mod WriteLaws
