@@ -1,5 +1,5 @@
 -- A loop that puts a text for each element of a list.
-use Rattle.std.proofs.Common.{◌≡◌, ◌∙◌, ◌<◌, ◌≤◌, ◌+◌, ℕ, List, ◌++◌, length, get_or, take, drop, ap, sym, subst, arith}
+use Rattle.std.proofs.Common.{◌≡◌, ◌∙◌, ◌<◌, ◌≤◌, ◌+◌, ℕ, List, length, get_or, take, drop, ap, sym, subst}
 use Rattle.std.specs.List.{flat_map}
 use Rattle.amh_host.specs.Seen.{Seen, written}
 use Rattle.amh_host.specs.Calls.{AddsFront}

@@ -1,5 +1,5 @@
 -- What is written of a module is in the grammar.
-use Rattle.std.proofs.Common.{◌≡◌, ◌∙◌, ℕ, ◌+◌, ◌-◌, ◌<◌, ◌≤◌, ◌==◌, ◌&&◌, Bool, true, false, List, [], ◌∷◌, ◌++◌, refl, sym, ap, arith, All, append_assoc, codes, if◌then◌else◌}
+use Rattle.std.proofs.Common.{◌≡◌, ◌∙◌, ℕ, ◌+◌, ◌-◌, ◌≤◌, ◌==◌, ◌&&◌, Bool, true, false, List, [], ◌∷◌, ◌++◌, refl, sym, ap, arith, All, append_assoc, codes, if◌then◌else◌}
 use Rattle.std.specs.Prelude.{Option, Some, None}
 use Rattle.std.specs.List.{flat_map}
 use Rattle.std.specs.Fmt.{decimal}
@@ -13,10 +13,10 @@ use Rattle.rtlil_text.specs.declared.module.RtlWire.{RtlWire}
 use Rattle.rtlil_text.specs.declared.module.RtlLink.{RtlLink}
 use Rattle.rtlil_text.specs.declared.module.RtlModule.{RtlModule}
 use Rattle.rtlil_text.specs.Lines.{◌▸◌, memory_text, wire_text, head_text, module_end}
-use Rattle.rtlil_text.specs.Grammar.{IsWhole, IsSpec, AreSpecs, Each, IsEnd, IsLink, IsCell, IsText}
-use Rattle.rtlil_text.specs.Rules.{IsModule, PartFits, SpecFits, IsSlice, CellFits, LinkFits}
+use Rattle.rtlil_text.specs.Grammar.{IsWhole, IsSpec, AreSpecs, Each, IsEnd, IsLink, IsCell}
+use Rattle.rtlil_text.specs.Rules.{IsModule, PartFits, SpecFits, CellFits, LinkFits}
 use Rattle.rtlil_text.specs.Reads.{Reads}
-use Rattle.rtlil_text.specs.Written.{AreWidths, is_whole, part_text, spec_text, braced_text, end_text, link_text, cell_text, module_text}
+use Rattle.rtlil_text.specs.Written.{AreWidths, is_whole, part_text, spec_text, end_text, link_text, cell_text, module_text}
 
 and-split : (a b : Bool) → (a && b) ≡ true → (a ≡ true) × (b ≡ true)
 and-split true b e = (refl, e)

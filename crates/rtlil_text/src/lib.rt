@@ -9,6 +9,7 @@ mod cell;
 mod line;
 mod module;
 mod page;
+mod read;
 mod sig;
 mod spell;
 mod text;

@@ -1,8 +1,8 @@
-use Rattle.std.proofs.Common.{◌≡◌, ◌∙◌, ap, sym, subst, refl, inl, inr, append_assoc, ℕ, List, [], ◌++◌}
+use Rattle.std.proofs.Common.{◌∙◌, ap, subst, refl, inl, inr, append_assoc, ℕ, List, [], ◌++◌}
 use Rattle.std.specs.Prelude.{None}
 use Rattle.std.specs.List.{flat_map}
 use Rattle.std.proofs.lemmas.Result.{err_from_is_err_and}
-use Rattle.amh_host.specs.Seen.{Seen, written}
+use Rattle.amh_host.specs.Seen.{written}
 use Rattle.amh_host.specs.Calls.{Adds, AddsFront}
 use Rattle.amh_host.proofs.SeenLaws.{IsAt, IsAt-put, IsAt-refused}
 use Rattle.rtlil_text.specs.Widths.{width_in}

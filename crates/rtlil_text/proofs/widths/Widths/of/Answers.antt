@@ -1,5 +1,4 @@
-use Rattle.std.proofs.Common.{◌≡◌, ◌∙◌, ap, sym, rules}
-use Rattle.std.proofs.lemmas.List.Elements.{Contains-get_or}
+use Rattle.std.proofs.Common.{◌∙◌, sym}
 use Rattle.rtlil_text.proofs.WidthLaws.{AreWidths-more}
 use Rattle.rtlil_text.proofs.widths.Widths.of.Goals as goal
 

@@ -1,5 +1,3 @@
-use Rattle.std.proofs.Common.{◌≡◌, take, ℕ, List}
-use Rattle.std.specs.Prelude.{Some}
 use Rattle.std.specs.BTreeMap.{get_by_text}
 use Rattle.rtlil_text.specs.Written.{AreWidths}
 use Rattle.rtlil_text.proofs.widths.Widths.of.Given as goal
