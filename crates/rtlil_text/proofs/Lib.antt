@@ -5,3 +5,6 @@ pub mod Spelled
 pub mod WriteLaws
 pub mod Builders
 pub mod CellSanity
+pub mod Distinct
+pub mod Found
+pub mod GateSanity

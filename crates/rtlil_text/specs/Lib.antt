@@ -14,3 +14,4 @@ pub mod Rules
 pub mod Reads
 pub mod Written
 pub mod Widths
+pub mod Gate
