@@ -12,6 +12,8 @@ mod page;
 mod read;
 mod sig;
 mod spell;
+#[cfg(test)]
+mod tests;
 mod text;
 mod widths;
 
