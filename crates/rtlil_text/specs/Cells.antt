@@ -46,6 +46,11 @@ abbrev pub xor : Bool → Bool → Bool
 xor true b = not b
 xor false b = b
 
+-- whether the number of bits that are set is odd
+abbrev pub parity : List Bool → Bool
+parity [] = false
+parity (b ∷ bs) = xor b (parity bs)
+
 -- ---- the cells that take their operands whole
 
 abbrev pub truth : Bool → ℤ
@@ -82,7 +87,7 @@ result_bits c width a b =
 abbrev pub reduced : CellKind → List Bool → Option Bool
 reduced ReduceOr bits = Some (list_any (λ b. b) bits)
 reduced ReduceAnd bits = Some (list_all (λ b. b) bits)
-reduced ReduceXor bits = Some (bits_number bits % 2 == 1)
+reduced ReduceXor bits = Some (parity bits)
 reduced kind bits = None
 
 -- ---- bit k of the output

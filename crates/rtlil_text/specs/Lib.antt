@@ -12,3 +12,6 @@ pub mod CellRules
 pub mod MemoryRules
 pub mod Rules
 pub mod Reads
+pub mod Written
+pub mod Widths
+pub mod Gate

@@ -32,9 +32,12 @@ port_text Inner = []
 port_text (Input n) = codes " input " ▸ decimal n
 port_text (Output n) = codes " output " ▸ decimal n
 
+abbrev pub init_line : List Bool → List ℕ
+init_line bits = codes "  attribute \\init " ▸ const_text bits ▸ end_line
+
 abbrev pub init_text : Option (List Bool) → List ℕ
 init_text None = []
-init_text (Some bits) = codes "  attribute \\init " ▸ const_text bits ▸ end_line
+init_text (Some bits) = init_line bits
 
 abbrev pub wire_line : RtlWire → List ℕ
 wire_line w = codes "  wire width " ▸ decimal w.width ▸ port_text w.port ▸ codes " " ▸ w.id ▸ end_line

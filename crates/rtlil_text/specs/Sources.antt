@@ -1,6 +1,7 @@
 -- What stands in a module under a name, and the bits that its specs name.
-use Rattle.std.specs.Prelude.{ℕ, ◌&&◌, Bool, true, false, List, [], ◌∷◌, ◌++◌, map, length, Option, option_map, unwrap_or, codes}
+use Rattle.std.specs.Prelude.{ℕ, ◌&&◌, Bool, true, false, if◌then◌else◌, List, [], ◌∷◌, ◌++◌, map, length, Option, Some, None, option_map, unwrap_or, codes}
 use Rattle.std.specs.List.{find, range_with_len, list_any}
+use Rattle.std.specs.Str.{bytes_eq}
 use Rattle.lists.specs.Texts.{text_eq}
 use Rattle.rtlil_text.specs.declared.sig.SigPart.{SigPart}
 use Rattle.rtlil_text.specs.declared.sig.SigPart.TheVariants as parts
@@ -93,3 +94,13 @@ abbrev pub port_number : WirePort → List ℕ
 port_number Inner = []
 port_number (Input n) = n ∷ []
 port_number (Output n) = n ∷ []
+
+-- the field `input` or `output` of a port
+abbrev pub port_field : WirePort → List ℕ → Option ℕ
+port_field Inner name = None
+port_field (Input n) name = if bytes_eq name (codes "input") then Some n else None
+port_field (Output n) name = if bytes_eq name (codes "output") then Some n else None
+
+-- the number in a field of a wire
+abbrev pub field_of : RtlWire → List ℕ → Option ℕ
+field_of w name = if bytes_eq name (codes "width") then Some w.width else port_field w.port name

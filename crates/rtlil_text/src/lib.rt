@@ -6,11 +6,20 @@
 #![tactic(auto)]
 
 mod cell;
+mod line;
 mod module;
+mod page;
+mod read;
 mod sig;
+mod spell;
+#[cfg(test)]
+mod tests;
+mod text;
+mod widths;
 
 pub use cell::{RtlCell, RtlCells, RtlEnd, RtlEnds, RtlParameter, RtlParameters, RtlValue};
 pub use module::{
     RtlLink, RtlLinks, RtlMemories, RtlMemory, RtlModule, RtlWire, RtlWires, WirePort,
 };
 pub use sig::{RtlBits, SigPart, SigSpec};
+pub use text::write;

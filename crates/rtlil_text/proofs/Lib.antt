@@ -1,0 +1,10 @@
+pub mod Turns
+pub mod Puts
+pub mod WidthLaws
+pub mod Spelled
+pub mod WriteLaws
+pub mod Builders
+pub mod CellSanity
+pub mod Distinct
+pub mod Found
+pub mod GateSanity
