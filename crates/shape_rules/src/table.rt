@@ -14,6 +14,7 @@ pub struct OpRow {
 }
 
 /// The operators, a row for each.
+#[derive(Clone, Copy, Debug)]
 pub struct OpTable<const N: usize> {
     pub rows: [OpRow; N],
 }
