@@ -1,5 +1,5 @@
 -- Integers, endless in both directions, and the part of them that the tool keeps.
-use Rattle.std.specs.Prelude.{◌≡◌, refl, unsigned_abs, ℕ, zero, suc, ◌+◌, ◌-◌, ◌*◌, ◌/◌, ◌%◌, ◌^◌, ◌<◌, ◌≤◌, Bool, true, false, ℤ, pos, negsuc, neg_ℤ, ◌-ℤ◌, ◌*ℤ◌, bit_and, bit_or, bit_xor}
+use Rattle.std.specs.Prelude.{◌≡◌, refl, unsigned_abs, ℕ, zero, suc, ◌/◌, ◌^◌, ◌<◌, ◌≤◌, Bool, true, false, ℤ, pos, negsuc, neg_ℤ, ◌-ℤ◌, ◌*ℤ◌, bit_and, bit_or, bit_xor}
 use Rattle.std.proofs.Common.{arith}
 
 -- an integer from a sign and a size
