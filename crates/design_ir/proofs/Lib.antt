@@ -7,6 +7,8 @@ pub mod SanityMemories
 pub mod Answers
 pub mod Looks
 pub mod Shapes
+pub mod Growth
+pub mod Counts
 pub mod GuardLaws
 pub mod Whole
 pub mod Runs

@@ -1,6 +1,6 @@
 -- A history goes on at its end.
-use Rattle.std.specs.Prelude.{◌≡◌, refl, ℕ, List, [], ◌∷◌, ◌++◌, ℤ}
-use Rattle.std.proofs.Common.{sym, ◌∙◌, ap}
+use Rattle.std.specs.Prelude.{◌≡◌, refl, List, [], ◌∷◌, ◌++◌, ℤ}
+use Rattle.std.proofs.Common.{◌∙◌, ap}
 use Rattle.design_ir.specs.declared.event.Event.{Event}
 use Rattle.design_ir.specs.Circuits.{Circuit, State}
 use Rattle.design_ir.specs.Settled.{Settled}

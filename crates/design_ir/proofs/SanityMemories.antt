@@ -33,16 +33,19 @@ rows : Circuit
 rows = record {
   pool = record {
     signals =
-      signal (unsigned 1) (pos 0) ∷ signal (unsigned 1) (pos 0)
-      ∷ signal (unsigned 2) (pos 0) ∷ signal (unsigned 4) (pos 0) ∷ signal (unsigned 2) (pos 0)
-      ∷ signal (unsigned 2) (pos 0) ∷ signal (unsigned 4) (pos 0) ∷ signal (unsigned 2) (pos 0)
-      ∷ signal (unsigned 2) (pos 0) ∷ signal (unsigned 1) (pos 1)
-      ∷ signal (unsigned 4) (pos 0) ∷ signal (unsigned 4) (pos 0) ∷ signal (unsigned 4) (pos 0) ∷ [];
+        signal (unsigned 1) (pos 0) ∷ signal (unsigned 1) (pos 0)
+        ∷ signal (unsigned 2) (pos 0) ∷ signal (unsigned 4) (pos 0) ∷ signal (unsigned 2) (pos 0)
+        ∷ signal (unsigned 2) (pos 0) ∷ signal (unsigned 4) (pos 0) ∷ signal (unsigned 2) (pos 0)
+        ∷ signal (unsigned 2) (pos 0) ∷ signal (unsigned 1) (pos 1)
+        ∷ signal (unsigned 4) (pos 0) ∷ signal (unsigned 4) (pos 0) ∷ signal (unsigned 4) (pos 0) ∷ [];
     exprs = s 2 ∷ s 3 ∷ s 4 ∷ s 5 ∷ s 6 ∷ s 7 ∷ s 8 ∷ s 9 ∷ [];
   };
   processes = [];
   memories = record {
-    name = codes "rows"; shape = unsigned 4; depth = 3; rows = pos 1 ∷ pos 2 ∷ pos 3 ∷ [];
+    name = codes "rows";
+    shape = unsigned 4;
+    depth = 3;
+    rows = pos 1 ∷ pos 2 ∷ pos 3 ∷ [];
     writes = write 0 1 2 ∷ write 3 4 5 ∷ [];
     reads = clocked_port 10 (0 ∷ 1 ∷ []) ∷ clocked_port 11 [] ∷ comb_port 12 ∷ [];
   } ∷ [];
@@ -115,7 +118,10 @@ round = chain (next (set 3 2) (next (set 2 3) done))
 -- bit 1 of s needs bit 0 of s, and that one needs bit 1
 round_loops : Loop round (bit 1 1)
 unfolding round chain form needed needed_indices aims
-round_loops =
-    (bit 1 0 ∷ [],
-     (inl record { process = _; among = (0, omega arith, refl); comb = refl; assignment = _; stands = (0, omega arith, refl); needs = record { aim = record { bit = bit 1 1; source = Some 0 }; may = (0, omega arith, refl); writes = refl; reads = (0, omega arith, refl) } },
-      inl record { process = _; among = (0, omega arith, refl); comb = refl; assignment = _; stands = (1, omega arith, refl); needs = record { aim = record { bit = bit 1 0; source = Some 0 }; may = (0, omega arith, refl); writes = refl; reads = (0, omega arith, refl) } }))
+round_loops = (
+  bit 1 0 ∷ [],
+  (
+    inl record { process = _; among = (0, omega arith, refl); comb = refl; assignment = _; stands = (0, omega arith, refl); needs = record { aim = record { bit = bit 1 1; source = Some 0 }; may = (0, omega arith, refl); writes = refl; reads = (0, omega arith, refl) } },
+    inl record { process = _; among = (0, omega arith, refl); comb = refl; assignment = _; stands = (1, omega arith, refl); needs = record { aim = record { bit = bit 1 0; source = Some 0 }; may = (0, omega arith, refl); writes = refl; reads = (0, omega arith, refl) } },
+  ),
+)

@@ -50,17 +50,17 @@ mixed : Pooled
 mixed = record {
   signals = signal (signed_form 4) (pos 0) ∷ signal (unsigned 3) (pos 0) ∷ [];
   exprs = s 0 ∷ s 1
-    ∷ Slice (e 0) 1 3
-    ∷ Cat (e 1 ∷ e 0 ∷ [])
-    ∷ Part (e 0) (e 1) 4 1
-    ∷ Part (e 0) (e 1) 2 2
-    ∷ Pick (e 1) (e 0 ∷ e 1 ∷ [])
-    ∷ Cast (e 0) false
-    ∷ Mux (e 1) (e 0) (e 1)
-    ∷ Matches (e 0) (record { mask = 12; bits = 12 } ∷ record { mask = 15; bits = 2 } ∷ [])
-    ∷ Matches (e 0) []
-    ∷ Unary Not (e 1)
-    ∷ [];
+      ∷ Slice (e 0) 1 3
+      ∷ Cat (e 1 ∷ e 0 ∷ [])
+      ∷ Part (e 0) (e 1) 4 1
+      ∷ Part (e 0) (e 1) 2 2
+      ∷ Pick (e 1) (e 0 ∷ e 1 ∷ [])
+      ∷ Cast (e 0) false
+      ∷ Mux (e 1) (e 0) (e 1)
+      ∷ Matches (e 0) (record { mask = 12; bits = 12 } ∷ record { mask = 15; bits = 2 } ∷ [])
+      ∷ Matches (e 0) []
+      ∷ Unary Not (e 1)
+      ∷ [];
 }
 
 mixed_forms : (form mixed 2 ≡ unsigned 3) × (form mixed 3 ≡ unsigned 7) × (form mixed 4 ≡ unsigned 4) × (form mixed 6 ≡ signed_form 4) × (form mixed 7 ≡ unsigned 4) × (form mixed 8 ≡ signed_form 4)
@@ -109,15 +109,15 @@ targets : Pooled
 targets = record {
   signals = signal (unsigned 4) (pos 0) ∷ signal (unsigned 4) (pos 0) ∷ signal (unsigned 3) (pos 0) ∷ [];
   exprs = s 0 ∷ s 1 ∷ s 2
-    ∷ Const (pos 181) (unsigned 8)
-    ∷ Cat (e 0 ∷ e 1 ∷ [])
-    ∷ Part (e 0) (e 2) 4 1
-    ∷ Cat (e 5 ∷ e 1 ∷ [])
-    ∷ Slice (e 0) 1 2
-    ∷ Pick (e 2) (e 7 ∷ e 1 ∷ [])
-    ∷ Cat (e 8 ∷ e 0 ∷ [])
-    ∷ Cast (e 0) true
-    ∷ [];
+      ∷ Const (pos 181) (unsigned 8)
+      ∷ Cat (e 0 ∷ e 1 ∷ [])
+      ∷ Part (e 0) (e 2) 4 1
+      ∷ Cat (e 5 ∷ e 1 ∷ [])
+      ∷ Slice (e 0) 1 2
+      ∷ Pick (e 2) (e 7 ∷ e 1 ∷ [])
+      ∷ Cat (e 8 ∷ e 0 ∷ [])
+      ∷ Cast (e 0) true
+      ∷ [];
 }
 
 from : ℕ → ℕ → ℕ → List ℤ

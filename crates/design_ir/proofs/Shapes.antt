@@ -1,9 +1,9 @@
 -- The shapes that a pool keeps.
-use Rattle.std.proofs.Common.{◌≡◌, ℕ, suc, ◌+◌, ◌<◌, List, [], ◌∷◌, ◌++◌, length, get_or, refl, sym, ap, ◌∙◌, arith, slice_index_or}
+use Rattle.std.proofs.Common.{◌≡◌, ℕ, List, [], ◌∷◌, ◌++◌, length, get_or, sym, ap, ◌∙◌}
 use Rattle.shape_rules.specs.Forms.{Form, unsigned}
 use Rattle.design_ir.specs.declared.expr.Expr.{Expr}
 use Rattle.design_ir.specs.declared.signal.Sig.{Sig}
-use Rattle.design_ir.specs.Pools.{Pooled, answers, answer}
+use Rattle.design_ir.specs.Pools.{Pooled, answers}
 use Rattle.design_ir.specs.Values.{form, form_step}
 use Rattle.design_ir.proofs.Answers.{answers_append, answers_begin}
 

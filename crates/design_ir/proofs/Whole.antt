@@ -1,16 +1,15 @@
 -- A number put into all bits of a signal is the number of the signal's shape.
-use Rattle.std.proofs.Common.{◌≡◌, ℕ, zero, suc, ◌+◌, ◌-◌, ◌*◌, ◌<◌, ◌≤◌, ◌^◌, ◌/◌, ◌%◌, ℤ, pos, Bool, List, [], ◌∷◌, map, length, get_or, set, refl, sym, ap, ◌∙◌, arith, slice_index_or, slice_set, Some}
+use Rattle.std.proofs.Common.{◌≡◌, ℕ, zero, suc, ◌+◌, ◌-◌, ◌*◌, ◌<◌, ◌^◌, ◌/◌, ◌%◌, ℤ, pos, List, [], ◌∷◌, map, length, get_or, set, refl, sym, ap, ◌∙◌, arith, slice_index_or, slice_set, Some}
 use Rattle.std.specs.List.{range_with_len}
-use Rattle.std.proofs.lemmas.Nat.{pow_pos, mod_below, mod-pow-add, mod-mul-add, pow-add, shr_split, shr_below, mul-add-lt, mul-le}
+use Rattle.std.proofs.lemmas.Nat.{pow_pos, mod_below, mod-pow-add, mod-mul-add, pow-add, shr_below, mul-add-lt, mul-le}
 use Rattle.std.proofs.lemmas.List.{get_or-set_same, set-get_or}
 use Rattle.std.proofs.Math.Nat.{mod-eq_of_lt}
-use Rattle.std.proofs.Math.ListN.{length-set}
 use Rattle.amh_bits.proofs.Wraps.{pattern_number, number_pattern, pattern_below}
 use Rattle.amh_bits.specs.Patterns.{pattern, number, nat_bit, IsOf, wrap}
 use Rattle.shape_rules.specs.Forms.{Form}
 use Rattle.design_ir.specs.Pools.{Pooled}
 use Rattle.design_ir.specs.Values.{signal_form}
-use Rattle.design_ir.specs.Targets.{Bit, bits_of}
+use Rattle.design_ir.specs.Targets.{bits_of}
 use Rattle.design_ir.specs.Put.{with_bit, put_bit, put_bits, put_number}
 
 low_small : (i b bits : ℕ) → b < 2 → b * 2 ^ i + bits % 2 ^ i < 2 ^ (i + 1)

@@ -8,6 +8,7 @@ pub mod FragmentSizes
 pub mod Pools
 pub mod Named
 pub mod Values
+pub mod PoolRules
 pub mod Targets
 pub mod Put
 pub mod Guards

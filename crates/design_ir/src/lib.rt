@@ -9,24 +9,32 @@
 //! specs/Legal.antt.
 #![tactic(auto)]
 
+mod design;
 mod domain;
 mod event;
 mod expr;
+mod exprs;
 mod fragment;
 mod ids;
 mod memory;
+mod pool;
 mod port;
 mod process;
+mod refusal;
 mod signal;
 mod stmt;
 
+pub use design::Design;
 pub use domain::{Domain, DomainDef, DomainDefs, Domains};
 pub use event::Event;
 pub use expr::{Expr, Pattern, Patterns};
+pub use exprs::Exprs;
 pub use fragment::{Fragment, Fragments};
 pub use ids::{Clocks, DomainId, ExprId, Ids, MemId, SigId};
 pub use memory::{Ints, MemRead, MemReads, MemWrite, MemWrites, Memories, Memory};
+pub use pool::Pool;
 pub use port::{Column, Columns, Port, Ports};
 pub use process::{DesignProcess, DesignProcesses, Process, Processes, Side};
+pub use refusal::PoolStop;
 pub use signal::{Sig, Sigs};
 pub use stmt::{Arm, Arms, Stmt, Stmts};

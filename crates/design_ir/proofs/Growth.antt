@@ -1,0 +1,90 @@
+-- A pool that grows keeps what it has.
+use Rattle.std.specs.Prelude.{◌≡◌, refl, ℕ, zero, suc, ◌+◌, ◌<◌, ◌≤◌, List, [], ◌∷◌, ◌++◌, length, slice_get, slice_index_or, option_map, unwrap_or}
+use Rattle.std.specs.List.{AllByRecursion}
+use Rattle.std.proofs.Common.{sym, ◌∙◌, ap, arith}
+use Rattle.shape_rules.specs.Forms.{Form, unsigned}
+use Rattle.design_ir.specs.declared.signal.Sig.{Sig}
+use Rattle.design_ir.specs.declared.expr.Expr as expr
+use Rattle.design_ir.specs.declared.expr.Expr.{Expr}
+use Rattle.design_ir.specs.declared.expr.Expr.TheVariants.{Const, Unary, Binary, Mux, Slice, Cat, Part, Pick, Cast, Matches, Reset}
+use Rattle.design_ir.specs.Pools.{Pooled, answers}
+use Rattle.design_ir.specs.PoolRules.{AreExprs, IsInRange, IsCached, HasInit, signal_bits, signal_added}
+use Rattle.design_ir.specs.Values.{form_step, signal_form}
+
+pub all_append : {A : Type 0} (P : A → Type 0) (xs : List A) (y : A) → AllByRecursion P xs → P y → AllByRecursion P (xs ++ y ∷ [])
+all_append P [] y h p = (p, tt)
+all_append P (x ∷ xs) y h p = (h.0, all_append P xs y h.1 p)
+
+length_more : {A : Type 0} (xs : List A) (y : A) → length (xs ++ y ∷ []) ≡ suc (length xs)
+length_more [] y = refl
+length_more (x ∷ xs) y = ap suc (length_more xs y)
+
+pub signal_bits_more : (xs : List Sig) (y : Sig) → signal_bits (xs ++ y ∷ []) ≡ signal_bits xs + y.shape.width
+signal_bits_more [] y = omega arith
+signal_bits_more (x ∷ xs) y = omega (arith, signal_bits_more xs y)
+
+get_more : {A : Type 0} (xs : List A) (y : A) (i : ℕ) → i < length xs → slice_get (xs ++ y ∷ []) i ≡ slice_get xs i
+get_more [] y i h = absurd (omega (arith, h))
+get_more (x ∷ xs) y zero h = refl
+get_more (x ∷ xs) y (suc i) h = get_more xs y i (omega (arith, h))
+
+-- ---- one signal more
+
+-- the shapes of other signals stay
+signal_form_more : (sigs : List Sig) (x : Sig) (s : ℕ) → s < length sigs → signal_form (sigs ++ x ∷ []) s ≡ signal_form sigs s
+signal_form_more sigs x s h = ap (λ o. unwrap_or (option_map (λ (y : Sig). y.shape) o) (unsigned 0)) (get_more sigs x s h)
+
+form_step_more : (sigs : List Sig) (x : Sig) (form : ℕ → Form) (e : Expr) → IsInRange sigs form e → form_step (sigs ++ x ∷ []) form e ≡ form_step sigs form e
+form_step_more sigs x form (Const n s) h = refl
+form_step_more sigs x form (expr.TheVariants.Sig s) h = signal_form_more sigs x s.0 h
+form_step_more sigs x form (Unary op a) h = refl
+form_step_more sigs x form (Binary op a b) h = refl
+form_step_more sigs x form (Mux s a b) h = refl
+form_step_more sigs x form (Slice a low width) h = refl
+form_step_more sigs x form (Cat es) h = refl
+form_step_more sigs x form (Part a offset width stride) h = refl
+form_step_more sigs x form (Pick index es) h = refl
+form_step_more sigs x form (Cast a signed) h = refl
+form_step_more sigs x form (Matches a patterns) h = refl
+form_step_more sigs x form (Reset domain place) h = refl
+
+in_range_more : (sigs : List Sig) (x : Sig) (form : ℕ → Form) (e : Expr) → IsInRange sigs form e → IsInRange (sigs ++ x ∷ []) form e
+in_range_more sigs x form (Const n s) h = h
+in_range_more sigs x form (expr.TheVariants.Sig s) h = omega (arith, h, length_more sigs x)
+in_range_more sigs x form (Unary op a) h = h
+in_range_more sigs x form (Binary op a b) h = h
+in_range_more sigs x form (Mux s a b) h = h
+in_range_more sigs x form (Slice a low width) h = h
+in_range_more sigs x form (Cat es) h = h
+in_range_more sigs x form (Part a offset width stride) h = h
+in_range_more sigs x form (Pick index es) h = h
+in_range_more sigs x form (Cast a signed) h = h
+in_range_more sigs x form (Matches a patterns) h = h
+in_range_more sigs x form (Reset domain place) h = h
+
+-- the shapes of all expressions stay
+pub forms_more : (sigs : List Sig) (x : Sig) (known : List Form) (es : List Expr) → AreExprs sigs known es → answers (unsigned 0) (form_step (sigs ++ x ∷ [])) known es ≡ answers (unsigned 0) (form_step sigs) known es
+forms_more sigs x known [] h = refl
+forms_more sigs x known (e ∷ es) h =
+    ap (λ f. answers (unsigned 0) (form_step (sigs ++ x ∷ [])) (known ++ f ∷ []) es) (form_step_more sigs x _ e h.0.parts)
+    ∙ forms_more sigs x (known ++ form_step sigs (λ k. slice_index_or known k (unsigned 0)) e ∷ []) es h.1
+
+pub exprs_more : (sigs : List Sig) (x : Sig) (known : List Form) (es : List Expr) → AreExprs sigs known es → AreExprs (sigs ++ x ∷ []) known es
+exprs_more sigs x known [] h = tt
+exprs_more sigs x known (e ∷ es) h = (
+  record { names = h.0.names; parts = in_range_more sigs x (λ k. slice_index_or known k (unsigned 0)) e h.0.parts },
+  rw (form_step_more sigs x (λ k. slice_index_or known k (unsigned 0)) e h.0.parts) (exprs_more sigs x (known ++ form_step sigs (λ k. slice_index_or known k (unsigned 0)) e ∷ []) es h.1),
+)
+
+pub cached_signal : (p : Pooled) (shapes : List Form) (bits : ℕ) (x : Sig) → IsCached p shapes bits → HasInit x → length p.signals < 16384 → bits + x.shape.width ≤ 262144 → IsCached (signal_added p x) shapes (bits + x.shape.width)
+cached_signal p shapes bits x h init few narrow = record {
+  rules = record {
+    few_signals = omega (arith, few, length_more p.signals x);
+    few_bits = omega (arith, narrow, h.bits_are, signal_bits_more p.signals x);
+    few_exprs = h.rules.few_exprs;
+    inits = all_append HasInit p.signals x h.rules.inits init;
+    exprs = exprs_more p.signals x [] p.exprs h.rules.exprs;
+  };
+  shapes_are = h.shapes_are ∙ sym (forms_more p.signals x [] p.exprs h.rules.exprs);
+  bits_are = omega (arith, h.bits_are, signal_bits_more p.signals x);
+}

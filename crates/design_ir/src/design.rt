@@ -1,0 +1,199 @@
+// Designs.
+ghost use Rattle.std.specs.Prelude.{◌≡◌, ◌<◌, ◌↔◌, length, IsTrue, Some, None, slice_get, option_map, position};
+ghost use Rattle.lists.specs.Texts.{text_eq};
+ghost use Rattle.design_ir.specs.Circuits.{Circuit, is_input, domain_named};
+ghost use Rattle.design_ir.specs.Designs.{IsDesign};
+ghost use Rattle.design_ir.specs.Legal.{IsLegal};
+
+use crate::domain::{Domain, Domains};
+use crate::expr::Expr;
+use crate::exprs::Exprs;
+use crate::ids::{DomainId, ExprId, SigId};
+use crate::memory::Memories;
+use crate::pool::Pool;
+use crate::port::{Column, Columns, Port, Ports};
+use crate::process::DesignProcesses;
+use crate::signal::Sig;
+use shape_rules::Shape;
+use std::marker::Model;
+
+/// A whole design: its pool, its processes, memories and domains, its ports, and the columns of its trace.
+///
+/// Each signal is driven once at most, and every number that stands in it names something (`IsDesign` of
+/// specs/Designs.antt).
+#[derive(Drop)]
+pub struct Design {
+    pool: Pool,
+    processes: DesignProcesses,
+    memories: Memories,
+    domains: Domains,
+    ports: Ports,
+    columns: Columns,
+}
+
+impl Model for Design {
+    ghost use Rattle.std.specs.Coded.{codes};
+    ghost use Rattle.design_ir.specs.TreeCodes.{block_code};
+    ghost use Rattle.design_ir.specs.Circuits.{Circuit};
+    ghost use Rattle.design_ir.specs.Designs.{IsDesign};
+
+    ghost Value = { Circuit };
+
+    ghost coded = { Prim.hlevel (codes, block_code) };
+
+    ghost view = { λ a. record { pool = a.pool; processes = a.processes; memories = a.memories; domains = a.domains; ports = a.ports; columns = a.columns } };
+
+    ghost use Rattle.design_ir.specs.PoolRules.{IsPool};
+
+    ghost invariant = { λ a. IsPool a.pool × IsDesign record { pool = a.pool; processes = a.processes; memories = a.memories; domains = a.domains; ports = a.ports; columns = a.columns } };
+}
+
+impl Design {
+    /// The design of these parts, which takes no memory.
+    pub fn new(
+        pool: Pool,
+        processes: DesignProcesses,
+        memories: Memories,
+        domains: Domains,
+        ports: Ports,
+        columns: Columns,
+    ) -> Design
+        requires { IsDesign record { pool = pool; processes = processes; memories = memories; domains = domains; ports = ports; columns = columns } }
+        ensures { result ≡ record { pool = pool; processes = processes; memories = memories; domains = domains; ports = ports; columns = columns } }
+    {
+        pool.known();
+        Design {
+            pool,
+            processes,
+            memories,
+            domains,
+            ports,
+            columns,
+        }
+    }
+
+    /// A signal of the design.
+    pub fn sig_at(&self, s: SigId) -> &Sig
+        requires { s.0 < length self.now.pool.signals }
+        ensures { slice_get self.now.pool.signals s.0 ≡ Some result.now }
+    {
+        self.pool.sig_at(s)
+    }
+
+    /// The processes of the design. Every design keeps to `IsDesign`.
+    pub fn processes(&self) -> &DesignProcesses
+        ensures value { result.now ≡ self.now.processes }
+        ensures rules { IsDesign self.now }
+    {
+        &self.processes
+    }
+
+    /// The memories of the design.
+    pub fn memories(&self) -> &Memories
+        ensures { result.now ≡ self.now.memories }
+    {
+        &self.memories
+    }
+
+    /// How many ports there are.
+    pub fn ports(&self) -> u32
+        ensures { result ≡ length self.now.ports }
+    {
+        self.ports.len() as u32
+    }
+
+    /// A port by its number.
+    pub fn port(&self, i: u32) -> &Port
+        requires { i < length self.now.ports }
+        ensures { slice_get self.now.ports i ≡ Some result.now }
+    {
+        self.ports.get(i as usize)
+    }
+
+    /// How many columns there are.
+    pub fn columns(&self) -> u32
+        ensures { result ≡ length self.now.columns }
+    {
+        self.columns.len() as u32
+    }
+
+    /// A column by its number.
+    pub fn column(&self, i: u32) -> &Column
+        requires { i < length self.now.columns }
+        ensures { slice_get self.now.columns i ≡ Some result.now }
+    {
+        self.columns.get(i as usize)
+    }
+
+    /// How many domains there are.
+    pub fn domains(&self) -> u16
+        ensures { result ≡ length self.now.domains }
+    {
+        self.domains.len() as u16
+    }
+
+    /// A domain by its number.
+    pub fn domain(&self, d: DomainId) -> &Domain
+        requires { d.0 < length self.now.domains }
+        ensures { slice_get self.now.domains d.0 ≡ Some result.now }
+    {
+        self.domains.get(d.0 as usize)
+    }
+
+    /// The domain with a name; `None` exactly for a name that no domain has.
+    pub fn domain_named(&self, name: &str) -> Option<DomainId>
+        ensures { option_map (λ d. d.0) result ≡ domain_named self.now name.now }
+    {
+        match position_named(self.domains.as_slice(), name) {
+            Some(place) => Some(DomainId(place as u16)),
+            None => None,
+        }
+    }
+
+    /// Whether a signal is an input.
+    pub fn is_input(&self, s: SigId) -> bool
+        ensures { result ≡ is_input self.now s.0 }
+    {
+        self.ports
+            .as_slice()
+            .iter()
+            .any(|p| p.is_input && p.sig.0 == s.0)
+    }
+
+    /// How many signals there are.
+    pub fn signals(&self) -> u32
+        ensures { result ≡ length self.now.pool.signals }
+    {
+        self.pool.signals()
+    }
+
+    /// How many expressions there are.
+    pub fn exprs(&self) -> u32
+        ensures { result ≡ length self.now.pool.exprs }
+    {
+        self.pool.count()
+    }
+}
+
+impl Exprs for Design {
+    ghost pooled = { λ d. d.pool };
+
+    fn count(&self) -> u32 {
+        self.pool.count()
+    }
+
+    fn shape(&self, e: ExprId) -> Shape {
+        self.pool.shape(e)
+    }
+
+    fn at(&self, e: ExprId) -> &Expr {
+        self.pool.at(e)
+    }
+}
+
+// The place of the domain with a name.
+fn position_named(domains: &[Domain], name: &str) -> Option<usize>
+    ensures { result ≡ position (λ d. text_eq d.name name.now) domains.now }
+{
+    domains.iter().position(|d| d.name.is(name))
+}
