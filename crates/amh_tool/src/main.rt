@@ -19,6 +19,5 @@ mod run;
 mod script;
 mod texts;
 mod trace;
-mod writing;
 
 fn main() {}

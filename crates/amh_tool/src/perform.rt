@@ -11,7 +11,8 @@ use crate::plan::Plan;
 use crate::texts::done_text;
 use crate::trace::write_trace;
 use amh_host::{Host, HostStop};
-use crate::writing::write;
+use rtlil_text::write;
+
 use std::alloc::Global;
 
 /// Writes RTLIL whole, then the trace line by line, and says that both are done.
