@@ -13,7 +13,7 @@ use Rattle.rtlil_text.specs.declared.module.RtlWire.{RtlWire}
 use Rattle.rtlil_text.specs.Ids.{AreDistinct, starts_name, continues_name, IsName, IsPublicName, IsId}
 use Rattle.rtlil_text.specs.Rules.{module_ids}
 use Rattle.amh_tool.specs.declared.form.Member.{Member}
-use Rattle.amh_tool.specs.Names.{is_name, is_name_byte, has_name_bytes, keywords, taken_names}
+use Rattle.amh_tool.specs.FormNames.{is_name, is_name_byte, has_name_bytes, keywords, taken_names}
 use Rattle.amh_tool.specs.Form.{member_at, no_member, HasDistinctNames}
 use Rattle.amh_tool.specs.Corresponds.{public_id}
 use Rattle.amh_tool.specs.Lowered.{inner_id, inner_wire, port_wires}

@@ -7,6 +7,7 @@
 
 mod accept;
 mod board;
+mod cells;
 mod component;
 mod form;
 mod form_lines;
