@@ -1,4 +1,6 @@
-mod Samples
+mod FormSamples
+pub mod FormLineLaws
+pub mod FormNameLaws
 pub mod GateFacts
 pub mod GateCircuit
 pub mod GateBoard

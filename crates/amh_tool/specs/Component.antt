@@ -1,11 +1,10 @@
 -- The component form of a design file: its parts, one after the other.
-use Rattle.std.specs.Prelude.{ℕ, suc, nat_le, Bool, ◌==◌, ◌+◌, ◌-◌, if◌then◌else◌, List, [], ◌∷◌, ◌++◌, length, take, drop, Option, None, Some, Result, Ok, Err, codes, count_by, is_some, bytes_eq}
+use Rattle.std.specs.Prelude.{ℕ, suc, nat_le, ◌==◌, ◌+◌, ◌-◌, if◌then◌else◌, List, [], ◌∷◌, ◌++◌, length, take, drop, Option, None, Some, Result, Ok, Err, codes, count_by, is_some, bytes_eq}
 use Rattle.std.specs.Str.Lossy.{utf8_valid_len}
 use Rattle.amh_host.specs.declared.place.Kind.{Kind}
 use Rattle.amh_host.specs.declared.place.Kind.TheVariants.{Text, Subset, Limit}
-use Rattle.amh_tool.specs.Lines.{Line, lines_in, class_in, member_in, number_of, assignment_in, top_line}
+use Rattle.amh_tool.specs.FormLines.{Line, lines_in, class_in, member_in, number_of, assignment_in, top_line}
 use Rattle.amh_tool.specs.declared.form.Member.{Member}
-use Rattle.amh_tool.specs.declared.form.Assignment.{Assignment}
 use Rattle.amh_tool.specs.declared.form.Component.{Component}
 use Rattle.amh_tool.specs.declared.component.Refusal.{Refusal}
 

@@ -1,6 +1,6 @@
 -- What callers know of a component that was read.
-use Rattle.std.specs.Prelude.{◌≡◌, ◌<◌, ◌≤◌, ℕ, Bool, true, false, List, [], ◌∷◌, length, get_or, map, IsTrue, All}
-use Rattle.amh_tool.specs.Names.{is_name}
+use Rattle.std.specs.Prelude.{◌≡◌, ◌<◌, ◌≤◌, ℕ, Bool, true, false, List, [], ◌∷◌, length, get_or, IsTrue}
+use Rattle.amh_tool.specs.FormNames.{is_name}
 use Rattle.amh_tool.specs.declared.form.Member.{Member}
 use Rattle.amh_tool.specs.declared.form.Right.{Right}
 use Rattle.amh_tool.specs.declared.form.Right.TheVariants.{Copy, Not, And, Or}

@@ -10,7 +10,7 @@ use Rattle.design_ir.specs.Circuits.{Circuit}
 use Rattle.amh_tool.specs.declared.form.Component.{Component}
 use Rattle.amh_tool.specs.declared.component.Refusal.{Refusal}
 use Rattle.amh_tool.specs.declared.run.Status.{Status}
-use Rattle.amh_tool.specs.declared.run.Status.TheVariants.{Done, Refused, Usage}
+use Rattle.amh_tool.specs.declared.run.Status.TheVariants.{Done, Refused, AssertFailed, Usage, Spent, Fault, NoMemory}
 use Rattle.amh_tool.specs.Trace.{Row, End, Done as EndDone, timed, ◌▸◌, line_feed}
 use Rattle.amh_tool.specs.Plan.{Plan, plan_of}
 use Rattle.amh_tool.specs.Component.{component, refused}
@@ -111,3 +111,13 @@ warned_of p BadWords = usage_text
 warned_of p (Refuses r) = refusal_text p.design r
 warned_of p (BadLine line) = bad_line_text p.script line
 warned_of p (Accepts c rows end) = []
+
+-- the exit code of an answer
+abbrev pub code_of : Status → ℕ
+code_of Done = 0
+code_of Refused = 1
+code_of AssertFailed = 2
+code_of Usage = 3
+code_of Spent = 4
+code_of Fault = 5
+code_of NoMemory = 6

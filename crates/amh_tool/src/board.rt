@@ -1,8 +1,15 @@
 // What the trace and the script see of a design.
+ghost use Rattle.std.specs.Prelude.{◌≡◌, IfOk};
+ghost use Rattle.amh_tool.specs.Form.{IsGate};
+ghost use Rattle.amh_tool.specs.Elaborated.{circuit_of};
+ghost use Rattle.amh_tool.specs.Boards.{board_of};
+ghost use Rattle.shape_rules.specs.Forms.{unsigned};
 
-use amh_host::{Items, Text};
+use crate::form::Component;
+use amh_host::{Items, NoMemory, Text};
 use design_ir::{Domain, SigId};
 use shape_rules::Shape;
+use std::alloc::Global;
 
 /// A column of the trace: its name, the signal whose number it shows, the shape of that number, and whether a
 /// script may set it, as it may an input that is no clock.
@@ -19,4 +26,38 @@ pub struct Shown {
 pub struct Board {
     pub columns: Items<Shown>,
     pub domains: Items<Domain>,
+}
+
+/// The columns and domains of the design that the component stands for.
+pub fn board_of(alloc: Global, component: &Component) -> Result<Board, NoMemory>
+    requires { IsGate component.now }
+    ensures { IfOk result (λ b. b ≡ board_of (circuit_of component.now)) }
+{
+    let mut columns = Items::new(alloc);
+    let members = &component.members;
+    for i in 0..members.len() {
+        let member = members.get(i);
+        let mut name = Text::new(alloc);
+        name.push(member.name.as_str())?;
+        columns.push(Shown {
+            name,
+            sig: SigId(i as u32),
+            shape: one_bit(),
+            is_settable: member.is_input,
+        })?;
+    }
+    Ok(Board {
+        columns,
+        domains: Items::new(alloc),
+    })
+}
+
+// The shape of every member.
+fn one_bit() -> Shape
+    ensures { result ≡ unsigned 1 }
+{
+    Shape {
+        width: 1,
+        signed: false,
+    }
 }

@@ -1,5 +1,5 @@
 -- The names that a design file may give to its class and members.
-use Rattle.std.specs.Prelude.{ℕ, Bool, true, false, not, ◌&&◌, ◌||◌, ◌==◌, List, [], ◌∷◌, bytes_eq, codes}
+use Rattle.std.specs.Prelude.{ℕ, Bool, false, not, ◌&&◌, ◌||◌, ◌==◌, List, [], ◌∷◌, bytes_eq, codes}
 use Rattle.std.specs.List.{list_all, list_any}
 use Rattle.std.specs.Char.{is_ascii_alphabetic, is_ascii_alphanumeric}
 
@@ -20,10 +20,14 @@ keywords =
 unfoldable pub taken_names : List (List ℕ)
 taken_names = codes "elaborate" ∷ codes "signature" ∷ codes "m" ∷ []
 
+-- the first byte is a letter
+abbrev pub begins_with_letter : List ℕ → Bool
+begins_with_letter [] = false
+begins_with_letter (b ∷ bs) = is_ascii_alphabetic b
+
 -- a letter, then letters, digits and `_`
 abbrev pub has_name_bytes : List ℕ → Bool
-has_name_bytes [] = false
-has_name_bytes (b ∷ bs) = is_ascii_alphabetic b && list_all is_name_byte bs
+has_name_bytes text = begins_with_letter text && list_all is_name_byte text
 
 -- the name may be given
 unfoldable pub is_name : List ℕ → Bool

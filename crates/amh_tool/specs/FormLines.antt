@@ -1,6 +1,6 @@
 -- The lines of a design file, and what a line of the component form says.
 use Rattle.std.specs.Prelude.{ℕ, Bool, true, false, ◌==◌, ◌++◌, if◌then◌else◌, List, [], ◌∷◌, length, drop, Option, None, Some, codes, position, take_while, option_and_then, bytes_eq}
-use Rattle.amh_tool.specs.Names.{is_name_byte, is_name}
+use Rattle.amh_tool.specs.FormNames.{is_name_byte, is_name}
 use Rattle.amh_tool.specs.Form.{member_at}
 use Rattle.amh_tool.specs.declared.form.Member.{Member}
 use Rattle.amh_tool.specs.declared.form.Right.TheVariants.{And}

@@ -1,0 +1,70 @@
+// What the program says and warns.
+ghost use Rattle.std.specs.Prelude.{◌≡◌, IfOk, string_bytes};
+ghost use Rattle.amh_tool.specs.Outcome.{kind_text, refusal_text, bad_line_text, done_text, fault_text, usage_text};
+
+use crate::component::Refusal;
+use amh_host::Kind;
+use std::alloc::{AllocError, Global};
+
+const USAGE: &str =
+    "usage: amh_tool DESIGN IL TRACE [--play FILE] [--top NAME] [--budget N] [--make N]\n";
+
+/// How the words go.
+#[tactic(auto, unfolding(crate::specs::Outcome::usage_text))]
+pub fn usage_text() -> &'static str
+    ensures { result.now ≡ usage_text }
+{
+    USAGE
+}
+
+/// Where and why a design is refused.
+#[tactic(auto, unfolding(crate::specs::Outcome::refusal_text))]
+pub fn refusal(alloc: Global, name: &str, why: Refusal) -> Result<String, AllocError>
+    ensures { IfOk result (λ text. string_bytes text ≡ refusal_text name.now why) }
+{
+    let line = why.place.line;
+    let col = why.place.col;
+    let kind = kind_text(why.kind);
+    format!(in alloc; "{name}:{line}:{col}: {kind}\n")
+}
+
+/// Which line of a script is bad.
+#[tactic(auto, unfolding(crate::specs::Outcome::bad_line_text))]
+pub fn bad_line(alloc: Global, name: &str, line: u32) -> Result<String, AllocError>
+    ensures { IfOk result (λ text. string_bytes text ≡ bad_line_text name.now line) }
+{
+    format!(in alloc; "{name}:{line}: script\n")
+}
+
+/// That the files are whole.
+#[tactic(auto, unfolding(crate::specs::Outcome::done_text))]
+pub fn done_text(alloc: Global, columns: usize, events: usize) -> Result<String, AllocError>
+    ensures { IfOk result (λ text. string_bytes text ≡ done_text columns events) }
+{
+    format!(in alloc; "done: {columns} columns, {events} events\n")
+}
+
+/// That the host failed.
+#[tactic(auto, unfolding(crate::specs::Outcome::fault_text))]
+pub fn fault_text() -> &'static str
+    ensures { result.now ≡ fault_text }
+{
+    "host fault\n"
+}
+
+fn kind_text(kind: Kind) -> &'static str
+    ensures { result.now ≡ kind_text kind }
+{
+    match kind {
+        Kind::Text => "text",
+        Kind::Subset => "subset",
+        Kind::Raised => "raised",
+        Kind::Width => "width",
+        Kind::TwoDrivers => "two drivers",
+        Kind::DrivenInput => "driven input",
+        Kind::DomainClash => "domain clash",
+        Kind::Loop => "loop",
+        Kind::Limit => "limit",
+        Kind::Script => "script",
+    }
+}
