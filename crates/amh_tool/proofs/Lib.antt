@@ -1,6 +1,7 @@
 mod FormSamples
 pub mod FormLineLaws
 pub mod FormNameLaws
+mod GateSamples
 pub mod GateFacts
 pub mod GateCircuit
 pub mod GateBoard
