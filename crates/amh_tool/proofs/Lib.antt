@@ -20,3 +20,4 @@ pub mod RunLaws
 pub mod FormRuleLaws
 pub mod FormLaws
 pub mod FormExits
+pub mod LowerLaws
