@@ -9,7 +9,7 @@ use Rattle.amh_tool.specs.declared.form.Right.{Right}
 use Rattle.amh_tool.specs.declared.form.Right.TheVariants.{Copy, Not, And, Or}
 use Rattle.amh_tool.specs.declared.form.Assignment.{Assignment}
 use Rattle.amh_tool.specs.declared.form.Component.{Component}
-use Rattle.amh_tool.specs.Names.{is_name}
+use Rattle.amh_tool.specs.FormNames.{is_name}
 use Rattle.amh_tool.specs.Form.{member_at, IsInput, IsOutput, IsAndOfInputs, IsOneConjunction, HasDistinctNames, IsGate}
 use Rattle.amh_tool.specs.Gate.{Gate, gate_component}
 

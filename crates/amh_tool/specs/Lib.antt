@@ -8,6 +8,7 @@ pub mod Elaborated
 pub mod Corresponds
 pub mod Lowered
 pub mod Gate
+pub mod GateStates
 pub mod Script
 pub mod ScriptGives
 pub mod Trace

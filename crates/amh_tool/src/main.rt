@@ -12,6 +12,7 @@ mod form;
 mod form_lines;
 mod form_names;
 mod form_rules;
+mod gate;
 mod lower;
 mod perform;
 mod plan;
@@ -19,5 +20,7 @@ mod run;
 mod script;
 mod texts;
 mod trace;
+mod trace_events;
+mod trace_lines;
 
 fn main() {}
