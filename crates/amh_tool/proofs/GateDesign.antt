@@ -45,7 +45,7 @@ two_bits P x y h k p q r s = bit_is (λ x. P x y) x h (bit_is (P (pos 0)) y k p 
 wrap_and : (x y : ℤ) → IsBit x → IsBit y → wrap false 1 (int_and x y) ≡ int_and x y
 wrap_and x y h k = two_bits (λ x y. wrap false 1 (int_and x y) ≡ int_and x y) x y h k refl refl refl refl
 
-bit_of_form : (n : ℤ) → IsOf false 1 n → IsBit n
+pub bit_of_form : (n : ℤ) → IsOf false 1 n → IsBit n
 bit_of_form (pos zero) h = inl refl
 bit_of_form (pos (suc zero)) h = inr refl
 bit_of_form (pos (suc (suc n))) h = absurd (omega arith)
@@ -134,7 +134,7 @@ module _ (ms : List Member) (g : Gate) (h : IsSoundGate ms g) where
 
   -- ---- events: each gives an input a bit
 
-  set_legal : (s : SigId) (n : ℤ) → IsLegal (gate_circuit ms g) (Set s n) → ((member_at ms s.0).is_input ≡ true) × IsBit n
+  pub set_legal : (s : SigId) (n : ℤ) → IsLegal (gate_circuit ms g) (Set s n) → ((member_at ms s.0).is_input ≡ true) × IsBit n
   set_legal s n legal =
       let side = sym (input_of ms g s.0) ∙ legal.0 in (
         side,

@@ -7,6 +7,8 @@ pub mod GateCircuit
 pub mod GateBoard
 pub mod GateValues
 pub mod GateDesign
+pub mod GateRun
+pub mod TraceLaws
 pub mod GateWires
 pub mod GateBits
 pub mod GateNetlist

@@ -9,6 +9,7 @@ pub mod Corresponds
 pub mod Lowered
 pub mod Gate
 pub mod GateMembers
+pub mod GateStates
 pub mod Script
 pub mod ScriptGives
 pub mod Trace

@@ -13,6 +13,7 @@ mod form;
 mod form_lines;
 mod form_names;
 mod form_rules;
+mod gate;
 mod lower;
 mod perform;
 mod plan;
@@ -23,6 +24,8 @@ mod script;
 mod tests;
 mod texts;
 mod trace;
+mod trace_events;
+mod trace_lines;
 
 use amh_host::{NoMemory, RealHost, Words};
 use play::play;
