@@ -4,3 +4,7 @@ pub mod FormNameLaws
 pub mod FormRuleLaws
 pub mod FormLaws
 pub mod FormExits
+pub mod FormBinds
+pub mod FormPlaces
+pub mod ComponentLaws
+pub mod FormSound
