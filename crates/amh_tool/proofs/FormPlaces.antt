@@ -1,11 +1,10 @@
 -- A part of the component form leaves no more lines than there are, whether it is read or refused.
-use Rattle.std.proofs.Common.{◌≡◌, refl, ℕ, zero, suc, ◌<◌, ◌≤◌, ◌+◌, ◌-◌, List, [], ◌∷◌, ◌++◌, length, drop, Bool, true, false, cond, ap, sym, ◌∙◌, arith}
-use Rattle.std.specs.Prelude.{Option, Some, None, Result, Ok, Err, bytes_eq}
+use Rattle.std.proofs.Common.{◌≡◌, ℕ, suc, ◌≤◌, ◌-◌, List, [], ◌∷◌, length, drop, Bool, true, false, cond, ap, arith}
+use Rattle.std.specs.Prelude.{Option, Some, None, Ok, Err, bytes_eq}
 use Rattle.std.proofs.lemmas.List.{length-drop}
 use Rattle.amh_tool.specs.FormLines.{Line, class_in, assignment_in, top_line}
-use Rattle.amh_tool.specs.Component.{Reading, passed, one_line, fixed, at_end, declared_in, first_twin, distinct_of, members_part, form, import_lines, elaborate_lines, return_lines}
+use Rattle.amh_tool.specs.Component.{passed, one_line, fixed, at_end, declared_in, first_twin, distinct_of, members_part, form, import_lines, elaborate_lines, return_lines}
 use Rattle.amh_tool.specs.declared.form.Member.{Member}
-use Rattle.amh_tool.specs.declared.form.Component.{Component}
 use Rattle.amh_tool.proofs.FormBinds.{bind-err}
 
 fixed-rest : (ws ls rest : List Line) → fixed ws ls ≡ Ok rest → length rest ≤ length ls

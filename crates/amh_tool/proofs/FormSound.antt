@@ -1,14 +1,14 @@
 -- A component that is read is one AND gate.
-use Rattle.std.proofs.Common.{◌≡◌, refl, ℕ, zero, suc, ◌<◌, ◌≤◌, ◌+◌, ◌-◌, List, [], ◌∷◌, ◌++◌, length, take, drop, get_or, Bool, true, false, cond, not, ◌&&◌, ltb, ap, sym, ◌∙◌, subst, arith}
+use Rattle.std.proofs.Common.{◌≡◌, refl, ℕ, zero, suc, ◌<◌, ◌≤◌, ◌+◌, List, [], ◌∷◌, ◌++◌, length, take, drop, get_or, Bool, true, false, cond, not, ap, sym, ◌∙◌, subst, arith}
 use Rattle.std.specs.Prelude.{Option, Some, None, Result, Ok, Err, bytes_eq, codes, position, is_some, IsTrue, nat_lt, nat_le, option_and_then, count_by, ◌==◌}
-use Rattle.std.specs.List.{prefix_len, list_all}
-use Rattle.std.proofs.lemmas.Bool.{false≢true, false_from_ne_true}
+use Rattle.std.specs.List.{prefix_len}
+use Rattle.std.proofs.lemmas.Bool.{false≢true}
 use Rattle.std.proofs.lemmas.Bool.Decides.{nat_tests}
 use Rattle.std.proofs.lemmas.List.{append-nil, append_assoc, get_or-take, length-take-le}
 use Rattle.std.proofs.lemmas.List.Sums.{prefix_len_passes, prefix_len-le-length}
 use Rattle.std.proofs.lemmas.Slice.Eq.{bytes_eq-Decides}
 use Rattle.amh_tool.specs.FormNames.{is_name, is_name_byte}
-use Rattle.amh_tool.specs.Form.{IsOf, IsInput, IsOutput, IsConjunction, IsOneConjunction, HasDistinctNames, IsGate, member_at, no_member}
+use Rattle.amh_tool.specs.Form.{IsOf, IsConjunction, HasDistinctNames, IsGate, member_at, no_member}
 use Rattle.amh_tool.specs.FormLines.{Line, behind, cut_name, name_behind, lines_in, class_in, side_in, member_in, number_of, same_side, number_on_side, names_in, assignment_in, top_line}
 use Rattle.amh_tool.specs.Component.{passed, one_line, fixed, at_end, declared_in, with_member, first_twin, distinct_of, members_part, form, import_lines, elaborate_lines, return_lines, refused, within_limit, placed, component}
 use Rattle.amh_tool.specs.declared.form.Member.{Member}
@@ -53,7 +53,7 @@ member_in-name line m h = here (name_behind (codes "    ") line) refl h
     here (Some r) e k = sym (ap is_name (declared-name (side_in r.1) r.0 m k)) ∙ name_behind-name (codes "    ") line r e
 
 declared-names : (o : Option Member) (ms : List Member) → ((m : Member) → o ≡ Some m → is_name m.name ≡ true)
-  → ((i : ℕ) → i < length ms → is_name (member_at ms i).name ≡ true) → (i : ℕ) → i < length (with_member o ms) → is_name (member_at (with_member o ms) i).name ≡ true
+    → ((i : ℕ) → i < length ms → is_name (member_at ms i).name ≡ true) → (i : ℕ) → i < length (with_member o ms) → is_name (member_at (with_member o ms) i).name ≡ true
 declared-names None ms first others i held = absurd (omega arith)
 declared-names (Some m) ms first others zero held = first m refl
 declared-names (Some m) ms first others (suc i) held = others i (omega arith)
@@ -117,7 +117,7 @@ first_twin-distinct ms h i j held_i held_j same = here (nat_lt i j) refl (nat_lt
 
 -- what follows where two steps find something
 bind-some : {A B : Type 0} (o : Option A) (k : A → Option B) (b : B) (P : Type 0)
-  → ((a : A) → o ≡ Some a → k a ≡ Some b → P) → option_and_then k o ≡ Some b → P
+    → ((a : A) → o ≡ Some a → k a ≡ Some b → P) → option_and_then k o ≡ Some b → P
 bind-some None k b P both h = absurd (cc)
 bind-some (Some a) k b P both h = both a refl h
 
@@ -206,7 +206,7 @@ form-gate ls c few h =
     gate members.0 assignment.0 c same one (members_part-names class.1 members e_members) (members_part-distinct class.1 members e_members) few)))))))) h
   where
     gate : (ms : List Member) (a : Assignment) (c : Component) → ◌≡◌ {A = Component} (record { members = ms; assignments = a ∷ [] }) c → IsConjunction ms a
-      → ((i : ℕ) → i < length ms → is_name (member_at ms i).name ≡ true) → HasDistinctNames ms → length c.members ≤ 16384 → IsGate c
+        → ((i : ℕ) → i < length ms → is_name (member_at ms i).name ≡ true) → HasDistinctNames ms → length c.members ≤ 16384 → IsGate c
     gate ms a c same one names distinct few =
         let count : length ms ≤ 16384 = omega (arith, ap (λ (x : Component). length x.members) same) in
         subst (λ (x : Component). IsGate x) same (record { assignment = one; names = names; distinct = distinct; few = count })

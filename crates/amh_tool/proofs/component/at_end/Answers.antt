@@ -1,5 +1,5 @@
-use Rattle.std.proofs.Common.{◌≡◌, ◌∙◌, sym, ap, ◌<◌, ℕ, length, rules}
-use Rattle.std.specs.Prelude.{Result, Err}
+use Rattle.std.proofs.Common.{◌∙◌, sym, ap, ◌<◌, ℕ, length, rules}
+use Rattle.std.specs.Prelude.{Err}
 use Rattle.amh_tool.proofs.FormLaws.{at_end-lines}
 use Rattle.amh_tool.proofs.component.at_end.Goals as goal
 

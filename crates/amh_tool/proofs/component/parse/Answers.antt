@@ -1,10 +1,9 @@
-use Rattle.std.proofs.Common.{◌≡◌, ◌∙◌, ◌≤◌, ◌+◌, ◌-◌, sym, ap, refl, subst, arith, List, ℕ, length}
+use Rattle.std.proofs.Common.{◌≡◌, ◌∙◌, ◌≤◌, ap, refl, subst, arith, length}
 use Rattle.std.proofs.Common.{◌<◌}
-use Rattle.std.specs.Prelude.{Result, Ok, Err}
-use Rattle.amh_host.specs.declared.place.Kind.TheVariants.{Subset, Text}
+use Rattle.std.specs.Prelude.{Result, Err}
 use Rattle.amh_tool.specs.FormLines.{lines_in}
-use Rattle.amh_tool.specs.FormGives.{ReadsInMemory, Stops}
-use Rattle.amh_tool.specs.Component.{component, form, refused}
+use Rattle.amh_tool.specs.FormGives.{ReadsInMemory}
+use Rattle.amh_tool.specs.Component.{form}
 use Rattle.amh_tool.specs.declared.component.Stop.{Stop}
 use Rattle.amh_tool.specs.declared.component.Stop.TheVariants.{Here}
 use Rattle.amh_tool.specs.declared.form.Component.{Component}
