@@ -17,7 +17,7 @@ use Rattle.amh_tool.specs.declared.form.Assignment.{Assignment}
 use Rattle.amh_host.specs.declared.place.Kind.TheVariants.{Text, Limit}
 use Rattle.std.specs.Str.Lossy.{utf8_valid_len}
 use Rattle.amh_tool.specs.declared.form.Component.{Component}
-use Rattle.amh_tool.proofs.FormBinds.{bind-ok}
+use Rattle.amh_tool.proofs.FormBinds.{bind-ok, bind-some}
 use Rattle.amh_tool.proofs.FormRuleLaws.{number_of-within}
 
 -- ---- names
@@ -114,12 +114,6 @@ first_twin-distinct ms h i j held_i held_j same = here (nat_lt i j) refl (nat_lt
     here false e false f = grind (arith, nat_tests)
 
 -- ---- the assignment
-
--- what follows where two steps find something
-bind-some : {A B : Type 0} (o : Option A) (k : A → Option B) (b : B) (P : Type 0)
-    → ((a : A) → o ≡ Some a → k a ≡ Some b → P) → option_and_then k o ≡ Some b → P
-bind-some None k b P both h = absurd (cc)
-bind-some (Some a) k b P both h = both a refl h
 
 same_side-is : (side is : Bool) → same_side side is ≡ true → is ≡ side
 same_side-is true is h = h

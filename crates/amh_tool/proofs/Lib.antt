@@ -8,3 +8,4 @@ pub mod FormBinds
 pub mod FormPlaces
 pub mod ComponentLaws
 pub mod FormSound
+pub mod FormSpelling

@@ -3,3 +3,4 @@ pub mod Form
 pub mod FormLines
 pub mod Component
 pub mod FormGives
+pub mod FormText

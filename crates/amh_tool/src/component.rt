@@ -3,6 +3,7 @@ ghost use Rattle.std.specs.Prelude.{◌≡◌, ◌≤◌, ◌+◌, ◌==◌, ◌
 ghost use Rattle.amh_tool.specs.FormLines.{lines_in, class_in, assignment_in, top_line};
 ghost use Rattle.amh_tool.specs.Component.{component, form, fixed, one_line, at_end, declared_in, members_part, refused, import_lines, elaborate_lines, return_lines};
 ghost use Rattle.amh_tool.specs.Form.{IsGate};
+ghost use Rattle.amh_tool.specs.FormText.{IsSpelling};
 ghost use Rattle.amh_tool.specs.FormGives.{Gives, Reads, ReadsInMemory, Numbers, IsNumbering};
 
 use crate::form::{Assignment, Component, Member};
@@ -49,6 +50,7 @@ pub fn parse(alloc: Global, text: &[u8]) -> Result<Component, FormStop>
     requires { length text.now ≤ 1048576 }
     ensures given { Gives result (component text.now) }
     ensures sound { IfOk result IsGate }
+    ensures spelled { IfOk result (IsSpelling text.now) }
 {
     if let Err(fault) = str::from_utf8(text) {
         let line = line_feeds(&text[..fault.valid_up_to()]) + 1;
@@ -290,11 +292,8 @@ fn top_part<'a>(class: &str, text: &'a [u8]) -> Result<&'a [u8], Left>
 fn at_end(text: &[u8]) -> Result<(), Left>
     ensures { Reads (λ nothing. nothing) result (at_end (lines_in text.now)) }
 {
-    if text.is_empty() {
-        Ok(())
-    } else {
-        Err(Left(line_count(text)))
-    }
+    let lines = line_count(text);
+    if lines == 0 { Ok(()) } else { Err(Left(lines)) }
 }
 
 #[cfg(test)]

@@ -9,6 +9,7 @@ use Rattle.amh_tool.specs.declared.component.Stop.TheVariants.{Here}
 use Rattle.amh_tool.specs.declared.form.Component.{Component}
 use Rattle.amh_tool.proofs.FormPlaces.{form-left}
 use Rattle.amh_tool.proofs.ComponentLaws.{component-text, component-bytes, within_limit-few, within_limit-many}
+use Rattle.amh_tool.proofs.FormSpelling.{form-spelling}
 use Rattle.amh_tool.proofs.FormSound.{form-gate}
 use Rattle.amh_tool.proofs.component.parse.Goals as goal
 
@@ -30,6 +31,9 @@ returns-in-Ok-clause-given c =
 pub returns-in-Ok-clause-sound : goal.returns-in-Ok-clause-sound
 returns-in-Ok-clause-sound c =
     form-gate (lines_in c.args.text.now) c.in-Ok.component (omega (arith, c.len.ensures)) c.in-Ok.ensures
+
+pub returns-in-Ok-clause-spelled : goal.returns-in-Ok-clause-spelled
+returns-in-Ok-clause-spelled c = form-spelling c.args.text.now c.in-Ok.component c.in-Ok.ensures
 
 pub returns-in-Ok-2-clause-given : goal.returns-in-Ok-2-clause-given
 returns-in-Ok-2-clause-given c =
