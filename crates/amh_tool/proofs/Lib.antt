@@ -23,3 +23,8 @@ pub mod FormRuleLaws
 pub mod FormLaws
 pub mod FormExits
 pub mod LowerLaws
+pub mod FormBinds
+pub mod FormPlaces
+pub mod ComponentLaws
+pub mod FormSound
+pub mod FormSpelling

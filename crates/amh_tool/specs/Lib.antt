@@ -19,3 +19,4 @@ pub mod Headline
 pub mod Work
 pub mod Views
 pub mod Verdicts
+pub mod FormText
