@@ -8,3 +8,5 @@ pub mod CellSanity
 pub mod Distinct
 pub mod Found
 pub mod GateSanity
+pub mod HistorySanity
+pub mod MemorySanity
