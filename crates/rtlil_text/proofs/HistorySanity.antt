@@ -6,7 +6,7 @@ use Rattle.rtlil_text.specs.declared.module.RtlWire.{RtlWire}
 use Rattle.rtlil_text.specs.declared.module.RtlModule.{RtlModule}
 use Rattle.rtlil_text.specs.Meaning.{Inputs}
 use Rattle.rtlil_text.specs.History.{Wires, rtl_history, wire_bit}
-use Rattle.rtlil_text.proofs.Builders.{wire, whole, number, mask, to, bits, unary, register}
+use Rattle.rtlil_text.proofs.Builders.{wire, whole, number, mask, to, unary, register}
 
 -- the bits of q after each event
 abbrev q_after : RtlModule → Inputs → List Inputs → List (Option Bool)
