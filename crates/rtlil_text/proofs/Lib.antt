@@ -10,3 +10,4 @@ pub mod Found
 pub mod GateSanity
 pub mod HistorySanity
 pub mod MemorySanity
+pub mod Depth
