@@ -11,3 +11,5 @@ pub mod GateSanity
 pub mod HistorySanity
 pub mod MemorySanity
 pub mod Depth
+pub mod Among
+pub mod Driven
