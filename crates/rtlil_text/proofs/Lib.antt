@@ -13,3 +13,4 @@ pub mod MemorySanity
 pub mod Depth
 pub mod Among
 pub mod Driven
+pub mod Enough
