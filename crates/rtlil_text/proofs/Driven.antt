@@ -160,6 +160,7 @@ no_input (w ∷ ws) wire i d h = ⊎_elim here (there (no_input ws wire i d.1)) 
         let o = own_bit w wire i (is_input_port w.port) refl own in
         let rest = others wire ws (rw o.0 at d.0) in
         rw (o.1, and-false (text_eq w.id wire)) rest
+
     there : (Among (flat_map free_bits ws) (Net wire i) → list_any (λ (x : RtlWire). text_eq x.id wire && is_input_port x.port) ws ≡ false) → Among (flat_map free_bits ws) (Net wire i)
         → list_any (λ (x : RtlWire). text_eq x.id wire && is_input_port x.port) (w ∷ ws) ≡ false
     there rest later =
@@ -198,6 +199,7 @@ found wire i d ((s, e) ∷ ds) h k = ⊎_elim here (there (found wire i d ds h.1
     here p =
         let t : is_bit wire i s ≡ true = is_bit-same wire i s ∙ ap (λ x. same x (Net wire i)) (ap (λ (q : Source × Driver). q.0) p) ∙ same-itself wire i in
         rw t (ap (λ (q : Source × Driver). q.1) p)
+
     there : (Among ds (Net wire i, d) → driver_in wire i ds ≡ d) → Among ds (Net wire i, d) → driver_in wire i ((s, e) ∷ ds) ≡ d
     there rest later =
         let f : is_bit wire i s ≡ false = is_bit-same wire i s ∙ AllByRecursion-among (λ y. same s y ≡ false) (map (λ (p : Source × Driver). p.0) ds) (Net wire i) h.0 (Among-map (λ (p : Source × Driver). p.0) ds (Net wire i, d) later) in
@@ -213,7 +215,7 @@ numbered-at by j (suc k) n (x ∷ ss) s e h = inr (numbered-at by (suc j) k n ss
 pub driver-among : (m : RtlModule) (wire : List ℕ) (i : ℕ) (d : Driver) → IsModule m → Among (drivers m) (Net wire i, d) → driver m wire i ≡ d
 driver-among m wire i d rules h =
     let ids : IsDistinct text_eq (wire_ids m.wires) = distinct_left (wire_ids m.wires) (map (λ (r : RtlMemory). r.id) m.memories)
-        (distinct_left (wire_ids m.wires ++ map (λ (r : RtlMemory). r.id) m.memories) (map (λ (c : RtlCell). c.id) m.cells) (apart (module_ids m) rules.distinct)) in
+    (distinct_left (wire_ids m.wires ++ map (λ (r : RtlMemory). r.id) m.memories) (map (λ (c : RtlCell). c.id) m.cells) (apart (module_ids m) rules.distinct)) in
     let distinct : IsDistinct same (driven_bits m) = IsDistinct-IsPermutation same same-flips (inner_bits m) (driven_bits m) (IsPermutation-sym (driven_bits m) (inner_bits m) rules.drivers) (inner_distinct m.wires ids) in
     let key : Among (driven_bits m) (Net wire i) = rw (keys-drivers m) at (Among-map (λ (p : Source × Driver). p.0) (drivers m) (Net wire i, d) h) in
     let inner : Among (inner_bits m) (Net wire i) = Among-contains (inner_bits m) (Net wire i) (Contains-permutation (driven_bits m) (inner_bits m) (Net wire i) rules.drivers (Contains-among (driven_bits m) (Net wire i) key)) in
@@ -238,6 +240,7 @@ driver-input m w i among e = rw (some_input m.wires (Among-contains m.wires w am
     or-true : (b : Bool) → (b || true) ≡ true
     or-true true = refl
     or-true false = refl
+
     some_input : (ws : List RtlWire) → Among ws w → list_any (λ (x : RtlWire). text_eq x.id w.id && is_input_port x.port) ws ≡ true
     some_input [] h = absurd h
     some_input (x ∷ ws) h = ⊎_elim (λ p. rw p (rw (text_eq_same w.id, e) refl)) (λ later. rw (some_input ws later) (or-true (text_eq x.id w.id && is_input_port x.port))) h

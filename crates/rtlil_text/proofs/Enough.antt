@@ -1,16 +1,16 @@
 -- A bit that has a value at some depth has it at a depth of one more than the number of driven bits.
-use Rattle.std.specs.Prelude.{◌≡◌, refl, ℕ, zero, suc, ◌+◌, ◌-◌, ◌≤◌, ◌&&◌, ◌==◌, Bool, true, false, cond, if◌then◌else◌, ◌⊎◌, List, [], ◌∷◌, map, length, Option, Some, None, is_some}
+use Rattle.std.specs.Prelude.{◌≡◌, refl, ℕ, zero, suc, ◌+◌, ◌-◌, ◌≤◌, ◌&&◌, ◌==◌, Bool, true, false, cond, ◌⊎◌, List, [], ◌∷◌, map, length, Option, Some, None, is_some}
 use Rattle.std.proofs.Common.{sym, ◌∙◌, ap, arith, inl, inr, ⊎_elim}
 use Rattle.std.proofs.lemmas.Bool.{cases_lt, false≢true, eqb-true}
 use Rattle.lists.specs.Texts.{text_eq}
 use Rattle.lists.proofs.TextLaws.{text_eq_true}
 use Rattle.rtlil_text.specs.declared.module.RtlModule.{RtlModule}
 use Rattle.rtlil_text.specs.Sources.{Source, Constant, Net, is_input}
-use Rattle.rtlil_text.specs.Drivers.{Driver, ByInput, ByNone, driven_bits, drivers, is_bit, driver_in, driver}
+use Rattle.rtlil_text.specs.Drivers.{Driver, ByNone, driven_bits, drivers, is_bit, driver_in, driver}
 use Rattle.rtlil_text.specs.Meaning.{State, Inputs, source_value, driven_bit, bit}
 use Rattle.rtlil_text.specs.History.{depth, wire_bit}
 use Rattle.rtlil_text.proofs.Among.{Among}
-use Rattle.rtlil_text.proofs.Depth.{Grows, Grows-none, Grows-same, Grows-trans, Grows-driven, Grows-source, bit-deeper}
+use Rattle.rtlil_text.proofs.Depth.{Grows, Grows-same, Grows-trans, Grows-driven, Grows-source, bit-deeper}
 use Rattle.rtlil_text.proofs.Driven.{keys-drivers}
 
 -- how many pass: std's count_by folds from the left, and does not compute at a cons

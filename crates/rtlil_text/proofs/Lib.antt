@@ -14,3 +14,4 @@ pub mod Depth
 pub mod Among
 pub mod Driven
 pub mod Enough
+pub mod Added
