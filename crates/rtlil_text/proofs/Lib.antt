@@ -15,3 +15,4 @@ pub mod Among
 pub mod Driven
 pub mod Enough
 pub mod Added
+pub mod CellLaws
