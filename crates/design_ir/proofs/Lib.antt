@@ -9,6 +9,8 @@ pub mod Looks
 pub mod Shapes
 pub mod Growth
 pub mod Counts
+pub mod Commons
+pub mod DesignGrowth
 pub mod GuardLaws
 pub mod Whole
 pub mod Runs

@@ -13,6 +13,7 @@ use crate::memory::Memories;
 use crate::pool::Pool;
 use crate::port::{Column, Columns, Port, Ports};
 use crate::process::DesignProcesses;
+use crate::refusal::PoolStop;
 use crate::signal::Sig;
 use shape_rules::Shape;
 use std::marker::Model;
@@ -177,6 +178,12 @@ impl Design {
 
 impl Exprs for Design {
     ghost pooled = { λ d. d.pool };
+
+    ghost grown = { λ d q. record d { pool = q } };
+
+    fn expr(&mut self, e: Expr) -> Result<ExprId, PoolStop> {
+        self.pool.expr(e)
+    }
 
     fn count(&self) -> u32 {
         self.pool.count()
