@@ -11,6 +11,7 @@ pub mod Growth
 pub mod Counts
 pub mod Commons
 pub mod DesignGrowth
+pub mod Events
 pub mod GuardLaws
 pub mod Whole
 pub mod Runs
