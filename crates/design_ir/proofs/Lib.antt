@@ -12,6 +12,9 @@ pub mod Counts
 pub mod Commons
 pub mod DesignGrowth
 pub mod Events
+pub mod Unique
+pub mod Related
+pub mod PutLaws
 pub mod GuardLaws
 pub mod Whole
 pub mod Runs
