@@ -15,6 +15,8 @@ pub mod Events
 pub mod Unique
 pub mod Related
 pub mod PutLaws
+pub mod Congruence
+pub mod Equations
 pub mod GuardLaws
 pub mod Whole
 pub mod Runs
