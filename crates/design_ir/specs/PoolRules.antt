@@ -2,7 +2,7 @@
 use Rattle.std.specs.Prelude.{◌≡◌, ◌≢◌, ℕ, ◌+◌, ◌≤◌, ◌<◌, nat_lt, nat_le, ◌||◌, Bool, false, IsTrue, ⊤, bit_and, if◌then◌else◌, List, [], ◌∷◌, ◌++◌, length, slice_index_or, Option, Some, None, Result, MatchResult}
 use Rattle.std.specs.List.{AllByRecursion}
 use Rattle.amh_bits.specs.Patterns.{IsOf}
-use Rattle.shape_rules.specs.Forms.{Form, unsigned}
+use Rattle.shape_rules.specs.Forms.{Form, IsForm, unsigned}
 use Rattle.shape_rules.specs.Rows.{operand_count}
 use Rattle.shape_rules.specs.Stops.{is_bad_operand, widest}
 use Rattle.design_ir.specs.declared.signal.Sig.{Sig}
@@ -101,9 +101,15 @@ expr_refusal p e =
 abbrev pub expr_added : Pooled → Expr → Pooled
 expr_added p e = record p { exprs = p.exprs ++ e ∷ [] }
 
+-- a constant has a shape
+abbrev pub IsFormed : Expr → Type 0
+IsFormed (Const n s) = IsForm s.width s.signed
+IsFormed e = ⊤
+
 -- an expression that a pool may have after those whose shapes are known
 pub record IsExpr (sigs : List Sig) (known : List Form) (e : Expr) : Type 0 where
   pub names : AllBelow (length known) (named e)
+  pub formed : IsFormed e
   pub parts : IsInRange sigs (λ k. slice_index_or known k (unsigned 0)) e
   pub accepted : shape_stop (bad_operand (λ k. slice_index_or known k (unsigned 0)) e) (greatest_width sigs (λ k. slice_index_or known k (unsigned 0)) e) ≡ None
 
@@ -119,6 +125,7 @@ pub record IsPool (p : Pooled) : Type 0 where
   pub few_signals : length p.signals ≤ 16384
   pub few_bits : signal_bits p.signals ≤ 262144
   pub few_exprs : length p.exprs ≤ 262144
+  pub shapes : AllByRecursion (λ (x : Sig). IsForm x.shape.width x.shape.signed) p.signals
   pub inits : AllByRecursion HasInit p.signals
   pub exprs : AreExprs p.signals [] p.exprs
 

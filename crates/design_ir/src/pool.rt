@@ -1,11 +1,11 @@
 // The pool: signals and expressions by number.
 ghost use Rattle.std.specs.Prelude.{◌≡◌, ◌≢◌, ◌++◌, ◌∷◌, [], ◌<◌, ◌≤◌, length, false, IfOk, IfErr, None, Some, slice_get};
-ghost use Rattle.shape_rules.specs.Forms.{unsigned, common};
+ghost use Rattle.shape_rules.specs.Forms.{IsForm, unsigned, common};
 ghost use Rattle.shape_rules.specs.Operators.{form_of};
 ghost use Rattle.shape_rules.specs.Stops.{is_bad_operand, widest};
 ghost use Rattle.design_ir.specs.Pools.{Pooled};
 ghost use Rattle.design_ir.specs.Named.{AllBelow};
-ghost use Rattle.design_ir.specs.PoolRules.{IsPool, IsRefusal, HasInit, IsAskable, IsShaped, bad_operand, greatest_width, shape_stop, signal_added, signal_refusal, expr_added};
+ghost use Rattle.design_ir.specs.PoolRules.{IsPool, IsRefusal, HasInit, IsAskable, IsFormed, IsShaped, bad_operand, greatest_width, shape_stop, signal_added, signal_refusal, expr_added};
 ghost use Rattle.design_ir.specs.Values.{form, form_step, total_width, common_of_all};
 
 use crate::expr::Expr;
@@ -128,6 +128,7 @@ impl Exprs for Pool {
 impl Pool {
     // Puts an expression of a shape at the end.
     fn put(&mut self, e: Expr, shape: Shape) -> Result<ExprId, PoolStop>
+        requires formed { IsFormed e }
         requires askable { IsAskable self.old e }
         requires accepted { shape_stop (bad_operand (form self.old) e) (greatest_width self.old.signals (form self.old) e) ≡ None }
         requires shape { shape ≡ form_step self.old.signals (form self.old) e }
@@ -151,7 +152,8 @@ impl Pool {
     // The shape of an expression that is not there yet.
     fn shape_of_new(&self, e: &Expr) -> Result<Shape, PoolStop>
         requires { IsAskable self.now e.now }
-        ensures { IsShaped result (bad_operand (form self.now) e.now) (greatest_width self.now.signals (form self.now) e.now) (form_step self.now.signals (form self.now) e.now) }
+        ensures shaped { IsShaped result (bad_operand (form self.now) e.now) (greatest_width self.now.signals (form self.now) e.now) (form_step self.now.signals (form self.now) e.now) }
+        ensures formed { IfOk result (λ _. IsFormed e.now) }
     {
         match e {
             Expr::Const { shape, .. } => kept(*shape),
@@ -216,7 +218,8 @@ impl Pool {
 
 // A shape as it is: it has at most 128 bits.
 fn kept(shape: Shape) -> Result<Shape, PoolStop>
-    ensures { IsShaped result false shape.width shape }
+    ensures shaped { IsShaped result false shape.width shape }
+    ensures formed { IsForm shape.width shape.signed }
 {
     let _ = shape.width;
     Ok(shape)
