@@ -8,7 +8,7 @@ use Rattle.design_ir.specs.declared.signal.Sig.{Sig}
 use Rattle.design_ir.specs.declared.expr.Expr.{Expr}
 use Rattle.design_ir.specs.Named.{named, AllBelow}
 use Rattle.design_ir.specs.Pools.{Pooled, answers, answer}
-use Rattle.design_ir.specs.PoolRules.{IsExpr, AreExprs, IsPool, IsAskable, bad_operand, greatest_width, shape_stop}
+use Rattle.design_ir.specs.PoolRules.{IsExpr, AreExprs, IsPool, IsAskable, IsFormed, bad_operand, greatest_width, shape_stop}
 use Rattle.design_ir.specs.Values.{form, form_step, num, value_step}
 use Rattle.design_ir.proofs.Answers.{answer_is, answers_append, answers_begin, LooksBelow}
 use Rattle.design_ir.proofs.Congruence.{form_same, range_same, operand_same, width_same, same_below, AreSame}
@@ -44,6 +44,7 @@ prefix_same d step before after j h =
 -- an expression of a pool, by the shapes of the whole pool
 pub record IsStanding (p : Pooled) (k : ℕ) (e : Expr) : Type 0 where
   pub names : AllBelow k (named e)
+  pub formed : IsFormed e
   pub askable : IsAskable p e
   pub accepted : shape_stop (bad_operand (form p) e) (greatest_width p.signals (form p) e) ≡ None
 
@@ -71,6 +72,7 @@ standing p k e h is =
     let same : AreSame (λ j. slice_index_or known j (unsigned 0)) (form p) (named e) = same_below (λ j. slice_index_or known j (unsigned 0)) (form p) k (named e) agree names in
     record {
       names = names;
+      formed = x.formed;
       askable = record { names = below_more k (length p.exprs) (named e) (omega (arith, place_below p.exprs k e is)) names; parts = range_same (λ j. slice_index_or known j (unsigned 0)) (form p) p.signals e same x.parts };
       accepted = ap (λ b. shape_stop b (greatest_width p.signals (form p) e)) (sym (operand_same (λ j. slice_index_or known j (unsigned 0)) (form p) e same)) ∙ ap (shape_stop (bad_operand (λ j. slice_index_or known j (unsigned 0)) e)) (sym (width_same (λ j. slice_index_or known j (unsigned 0)) (form p) p.signals e same)) ∙ x.accepted;
     }

@@ -17,6 +17,7 @@ pub mod Related
 pub mod PutLaws
 pub mod Congruence
 pub mod Equations
+pub mod NumbersFit
 pub mod GuardLaws
 pub mod Whole
 pub mod Runs
