@@ -9,6 +9,7 @@ pub mod Corresponds
 pub mod Lowered
 pub mod Gate
 pub mod Script
+pub mod ScriptParts
 pub mod ScriptGives
 pub mod Trace
 pub mod Plan

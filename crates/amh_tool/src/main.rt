@@ -17,6 +17,12 @@ mod perform;
 mod plan;
 mod run;
 mod script;
+mod script_edge;
+mod script_line;
+mod script_names;
+mod script_numbers;
+mod script_saying;
+mod script_words;
 mod texts;
 mod trace;
 
