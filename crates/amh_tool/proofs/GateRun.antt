@@ -1,5 +1,5 @@
 -- An AND gate that keeps one list of numbers: the gate's output is written last, so what it was before is of no account.
-use Rattle.std.specs.Prelude.{◌≡◌, ◌≢◌, ◌<◌, ℕ, zero, suc, false, List, [], ◌∷◌, length, slice_set, ℤ, pos}
+use Rattle.std.specs.Prelude.{◌≡◌, ◌≢◌, ℕ, zero, suc, false, List, [], ◌∷◌, length, slice_set, ℤ, pos}
 use Rattle.std.proofs.Common.{refl, sym, ap, ◌∙◌, subst, arith, ⊎_elim}
 use Rattle.std.proofs.lemmas.List.{length-set, get_or-set_other}
 use Rattle.amh_bits.specs.Integers.{int_and}

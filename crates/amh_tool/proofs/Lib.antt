@@ -1,4 +1,5 @@
 mod FormSamples
+mod TraceSamples
 pub mod FormLineLaws
 pub mod FormNameLaws
 mod GateSamples

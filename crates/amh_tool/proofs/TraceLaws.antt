@@ -9,10 +9,9 @@ use Rattle.amh_tool.specs.declared.board.Board.{Board}
 use Rattle.amh_tool.specs.declared.form.Component.{Component}
 use Rattle.amh_tool.specs.declared.accept.Accepted.{Accepted}
 use Rattle.amh_tool.specs.Elaborated.{circuit_of}
-use Rattle.amh_tool.specs.Boards.{board_of}
 use Rattle.amh_tool.specs.Corresponds.{IsHistory}
 use Rattle.amh_tool.specs.Headline.{IsTrace}
-use Rattle.amh_tool.specs.Trace.{Row, Done, timed, events_in, head_line, done_line, column_line, first_line, row_line, row_lines, rows_text, trace_text}
+use Rattle.amh_tool.specs.Trace.{Row, Done, timed, events_in, head_line, done_line, column_line, first_line, row_line, row_lines, trace_text}
 use Rattle.amh_tool.specs.Gate.{Gate, gate_component, gate_settled, gate_after, gate_first, gate_later, gate_history}
 use Rattle.amh_tool.specs.GateStates.{GateState, IsFirst, GivesBit}
 use Rattle.amh_tool.specs.Form.{IsGate}

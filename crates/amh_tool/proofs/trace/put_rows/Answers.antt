@@ -3,7 +3,6 @@ use Rattle.std.proofs.lemmas.Result.{err_from_is_err_and}
 use Rattle.amh_host.specs.Seen.{Seen, written}
 use Rattle.amh_host.specs.Calls.{AddsFront}
 use Rattle.amh_host.proofs.SeenLaws.{AddsFront-before, AddsFront-behind, written-nil, written-written}
-use Rattle.design_ir.specs.declared.event.Event.{Event}
 use Rattle.design_ir.specs.Legal.{AllLegal}
 use Rattle.amh_tool.specs.Elaborated.{circuit_of}
 use Rattle.amh_tool.specs.Gate.{gate_settled, gate_after, gate_first, gate_later}

@@ -1,5 +1,5 @@
 use Rattle.std.proofs.Common.{◌≡◌, ◌++◌, drop, string_bytes}
-use Rattle.std.specs.Prelude.{List, ℕ, slice_get}
+use Rattle.std.specs.Prelude.{slice_get}
 use Rattle.std.specs.List.{flat_map}
 use Rattle.design_ir.specs.declared.ids.DomainId.{DomainId}
 use Rattle.amh_tool.specs.Trace.{edge_field}

@@ -1,0 +1,60 @@
+-- The text of traces at literal boards and numbers.
+use Rattle.std.specs.Prelude.{◌≡◌, refl, ℕ, true, false, List, [], ◌∷◌, codes, pos, negsuc, None}
+use Rattle.std.specs.Fmt.{digits}
+use Rattle.shape_rules.specs.Forms.{Form}
+use Rattle.design_ir.specs.declared.event.Event.{Event}
+use Rattle.design_ir.specs.declared.event.Event.TheVariants.{Set, Edge}
+use Rattle.amh_tool.specs.declared.board.Shown.{Shown}
+use Rattle.amh_tool.specs.declared.board.Board.{Board}
+use Rattle.amh_tool.specs.declared.form.Member.{Member}
+use Rattle.amh_tool.specs.Gate.{Gate, gate_board, gate_history}
+use Rattle.amh_tool.specs.Trace.{Done, timed, head_line, column_line, shape_text, field, event_text, first_line, row_line, done_line, trace_text}
+
+-- ---- an AND gate
+
+members : List Member
+members = record { name = codes "a"; is_input = true } ∷ record { name = codes "b"; is_input = true } ∷ record { name = codes "y"; is_input = false } ∷ []
+
+gate : Gate
+gate = record { a = 0; b = 1; y = 2 }
+
+set : ℕ → ℕ → Event
+set s n = Set (record { 0 = s }) (pos n)
+
+events : List Event
+events = set 0 1 ∷ set 1 1 ∷ set 0 0 ∷ set 1 0 ∷ []
+
+-- a and b rise, and then fall
+trace-gate : trace_text (gate_board members) (timed 1 events) (gate_history members gate events) Done
+    ≡ codes "amh-trace 1\ncol a u1\ncol b u1\ncol y u1\n0 init | a=0 b=0 y=0\n1 set a 1 | a=1\n2 set b 1 | b=1 y=1\n3 set a 0 | a=0 y=0\n4 set b 0 | b=0\nend done\n"
+unfolding members gate set events head_line column_line shape_text field event_text first_line row_line done_line trace_text digits
+trace-gate = refl
+
+-- ---- signed numbers: y is a - b
+
+column : List ℕ → ℕ → Form → Shown
+column name s shape = record { name = name; sig = record { 0 = s }; shape = shape; is_settable = false }
+
+difference : Board
+difference = record {
+  columns = column (codes "a") 0 (record { width = 4; signed = true }) ∷ column (codes "b") 1 (record { width = 4; signed = false }) ∷ column (codes "y") 2 (record { width = 6; signed = true }) ∷ [];
+  domains = [];
+}
+
+trace-signed : trace_text difference (timed 1 (Set (record { 0 = 0 }) (negsuc 7) ∷ set 1 15 ∷ [])) ((pos 0 ∷ pos 0 ∷ pos 0 ∷ []) ∷ (negsuc 7 ∷ pos 0 ∷ negsuc 7 ∷ []) ∷ (negsuc 7 ∷ pos 15 ∷ negsuc 22 ∷ []) ∷ []) Done
+    ≡ codes "amh-trace 1\ncol a s4\ncol b u4\ncol y s6\n0 init | a=0 b=0 y=0\n1 set a -8 | a=-8 y=-8\n2 set b 15 | b=15 y=-23\nend done\n"
+unfolding difference column set head_line column_line shape_text field event_text first_line row_line done_line trace_text digits
+trace-signed = refl
+
+-- ---- two clocks: one falls as the other rises
+
+clocks : Board
+clocks = record {
+  columns = column (codes "clk") 0 (record { width = 1; signed = false }) ∷ column (codes "fast_clk") 1 (record { width = 1; signed = false }) ∷ [];
+  domains = record { name = codes "sync"; clk = record { 0 = 0 }; rst = None } ∷ record { name = codes "fast"; clk = record { 0 = 1 }; rst = None } ∷ [];
+}
+
+row-edges : row_line clocks (record { time = 1000000000; event = Edge (record { 0 = 0 } ∷ record { 0 = 1 } ∷ []) }) (pos 1 ∷ pos 0 ∷ []) (pos 0 ∷ pos 1 ∷ [])
+    ≡ codes "1000000000 edge sync- fast+ | clk=0 fast_clk=1\n"
+unfolding clocks column field event_text row_line digits
+row-edges = refl
