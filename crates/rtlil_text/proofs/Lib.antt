@@ -16,3 +16,5 @@ pub mod Driven
 pub mod Enough
 pub mod Added
 pub mod CellLaws
+pub mod Words
+pub mod SpecOnce
