@@ -18,3 +18,4 @@ pub mod Added
 pub mod CellLaws
 pub mod Words
 pub mod SpecOnce
+pub mod ModuleOnce

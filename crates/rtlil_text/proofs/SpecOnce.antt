@@ -1,5 +1,5 @@
 -- A spec's text is read in one way.
-use Rattle.std.proofs.Common.{◌≡◌, ◌≢◌, ◌∙◌, ◌⊎◌, ◌<◌, ◌≤◌, ◌+◌, ◌-◌, ◌^◌, ℕ, zero, suc, Bool, true, false, cond, List, [], ◌∷◌, ◌++◌, map, reverse, length, get_or, All, codes, refl, sym, ap, subst, arith, inl, inr, ⊎_elim, append_assoc}
+use Rattle.std.proofs.Common.{◌≡◌, ◌∙◌, ◌⊎◌, ◌<◌, ◌≤◌, ◌+◌, ◌-◌, ◌^◌, ℕ, suc, Bool, true, false, List, [], ◌∷◌, ◌++◌, map, reverse, length, All, codes, refl, sym, ap, subst, arith, inl, inr, ⊎_elim, append_assoc}
 use Rattle.std.specs.Prelude.{Contains}
 use Rattle.std.specs.Fmt.{decimal}
 use Rattle.std.proofs.lemmas.Fmt.{decimal_injective}
@@ -12,7 +12,7 @@ use Rattle.rtlil_text.specs.declared.module.RtlWire.{RtlWire}
 use Rattle.rtlil_text.specs.Lines.{◌▸◌, bit_char, const_text}
 use Rattle.rtlil_text.specs.Grammar.{IsWhole, IsSpec, AreSpecs}
 use Rattle.rtlil_text.specs.Rules.{PartFits, SpecFits, IsSlice}
-use Rattle.rtlil_text.proofs.Words.{IsWord, IsDigits, IsNoDigit, append-cancel, word-cut, digits-cut, IsWord-append, IsWord-decimal, IsDigits-decimal, decimal-first}
+use Rattle.rtlil_text.proofs.Words.{IsWord, append-cancel, word-cut, digits-cut, IsWord-append, IsWord-decimal, IsDigits-decimal, decimal-first}
 
 -- ---- first bytes
 
@@ -251,7 +251,7 @@ module _ (wires : List RtlWire) (ids : (w : RtlWire) → Contains wires w → Is
       let nb = slice_low other b (hb - b + 1) sb in
       let c = indexed_indexed id other (decimal ha ++ (58 ∷ (decimal a ++ (93 ∷ [])))) (decimal hb ++ (58 ∷ (decimal b ++ (93 ∷ [])))) r s (slice_id id a (ha - a + 1) sa).word (slice_id other b (hb - b + 1) sb).word (sym (ap (λ x. x ++ r) e) ∙ same ∙ ap (λ x. x ++ s) f) in
       let d = digits-cut (decimal ha) (decimal hb) 58 58 ((decimal a ++ (93 ∷ [])) ++ r) ((decimal b ++ (93 ∷ [])) ++ s) (IsDigits-decimal ha) (IsDigits-decimal hb) (inr (omega arith)) (inr (omega arith))
-          (sym (append_assoc (decimal ha) (58 ∷ (decimal a ++ (93 ∷ []))) r) ∙ c.1 ∙ append_assoc (decimal hb) (58 ∷ (decimal b ++ (93 ∷ []))) s) in
+      (sym (append_assoc (decimal ha) (58 ∷ (decimal a ++ (93 ∷ []))) r) ∙ c.1 ∙ append_assoc (decimal hb) (58 ∷ (decimal b ++ (93 ∷ []))) s) in
       let d2 = digits-cut (decimal a) (decimal b) 93 93 r s (IsDigits-decimal a) (IsDigits-decimal b) (inr (omega arith)) (inr (omega arith)) (sym (append_assoc (decimal a) (93 ∷ []) r) ∙ d.2 ∙ append_assoc (decimal b) (93 ∷ []) s) in
       let high = decimal_injective ha hb (omega (arith, na, la)) (omega (arith, nb, lb)) d.0 in
       let low = decimal_injective a b (omega (arith, na, la)) (omega (arith, nb, lb)) d2.0 in
@@ -286,6 +286,7 @@ module _ (wires : List RtlWire) (ids : (w : RtlWire) → Contains wires w → Is
 
   mutual
     unfolding Once one_index range_index
+
     pub spec-once : (t u r s : List ℕ) (ps qs : List SigPart) → IsSpec wires t ps → IsSpec wires u qs → SpecFits wires ps → SpecFits wires qs → Stops r → Stops s → t ++ r ≡ u ++ s → (ps ≡ qs) × (r ≡ s)
     spec-once t u r s ps qs (IsSpec.const _ _ bits_a ea fa) (IsSpec.const _ _ bits_b eb fb) hp hq p q same =
         const-const t u r s ps qs bits_a bits_b ea eb fa fb hp hq p q same
@@ -347,6 +348,6 @@ module _ (wires : List RtlWire) (ids : (w : RtlWire) → Contains wires w → Is
         absurd (last_or_more u t first_a others_a s r eb ea (spec-begins first_a qs_a ga (fit_first ps qs_a rs_a fa hp)) (sym same))
     specs-once t u r s ps qs (AreSpecs.more _ first_a others_a _ qs_a rs_a ga gsa ea fa) (AreSpecs.more _ first_b others_b _ qs_b rs_b gb gsb eb fb) hp hq same =
         let c = spec-once first_a first_b (others_a ++ (32 ∷ 125 ∷ r)) (others_b ++ (32 ∷ 125 ∷ s)) qs_a qs_b ga gb (fit_first ps qs_a rs_a fa hp) (fit_first qs qs_b rs_b fb hq)
-            (stops-specs others_a rs_a r gsa (fit_rest ps qs_a rs_a fa hp)) (stops-specs others_b rs_b s gsb (fit_rest qs qs_b rs_b fb hq)) (one_more t u first_a others_a first_b others_b r s ea eb same) in
+        (stops-specs others_a rs_a r gsa (fit_rest ps qs_a rs_a fa hp)) (stops-specs others_b rs_b s gsb (fit_rest qs qs_b rs_b fb hq)) (one_more t u first_a others_a first_b others_b r s ea eb same) in
         let d = specs-once others_a others_b r s rs_a rs_b gsa gsb (fit_rest ps qs_a rs_a fa hp) (fit_rest qs qs_b rs_b fb hq) c.1 in
         (fa ∙ (λ i. c.0 i ++ d.0 i) ∙ sym fb, d.1)
