@@ -20,17 +20,14 @@ mod plan;
 mod play;
 mod run;
 mod script;
-<<<<<<< HEAD
 #[cfg(test)]
 mod tests;
-=======
 mod script_edge;
 mod script_line;
 mod script_names;
 mod script_numbers;
 mod script_saying;
 mod script_words;
->>>>>>> 9ca2aa455159f4f2a3e895e167d3f6ce85c09fa6
 mod texts;
 mod trace;
 mod trace_events;
