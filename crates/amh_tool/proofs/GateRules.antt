@@ -1,5 +1,5 @@
 -- The module of an AND gate keeps the rules of the text.
-use Rattle.std.specs.Prelude.{◌≡◌, ◌<◌, ◌+◌, ◌==◌, if◌then◌else◌, ℕ, suc, Bool, true, false, List, [], ◌∷◌, ◌++◌, length, All, Contains, IsPermutation, codes}
+use Rattle.std.specs.Prelude.{◌≡◌, ◌<◌, ◌+◌, ◌==◌, if◌then◌else◌, ℕ, suc, Bool, true, false, List, [], ◌∷◌, ◌++◌, length, map, All, Contains, IsPermutation, codes}
 use Rattle.std.specs.List.{flat_map, range_with_len}
 use Rattle.std.proofs.Common.{refl, sym, ap, ◌∙◌, arith, subst}
 use Rattle.std.proofs.lemmas.List.Elements.{All-nil, All-cons, All-append, Contains-append_left, Contains-push}
@@ -11,11 +11,12 @@ use Rattle.rtlil_text.specs.declared.module.RtlWire.{RtlWire}
 use Rattle.rtlil_text.specs.Sources.{Source, Net, is_input_port, port_number}
 use Rattle.rtlil_text.specs.Drivers.{driven_bits, wire_bits, inner_bits}
 use Rattle.rtlil_text.specs.MemoryRules.{MemoryFits}
-use Rattle.rtlil_text.specs.Rules.{WireFits, PartFits, SpecFits, CellFits, LinkFits, IsModule, port_numbers}
+use Rattle.rtlil_text.specs.declared.cell.RtlParameter.{RtlParameter}
+use Rattle.rtlil_text.specs.Rules.{ValueFits, WireFits, PartFits, SpecFits, CellFits, LinkFits, IsModule, port_numbers}
 use Rattle.amh_tool.specs.declared.form.Member.{Member}
 use Rattle.amh_tool.specs.Form.{member_at}
 use Rattle.amh_tool.specs.Corresponds.{public_id}
-use Rattle.amh_tool.specs.Lowered.{inner_id, whole_bit, end_at, port_side, port_wire, port_wires, inner_wire, output_link, output_links, gate_module}
+use Rattle.amh_tool.specs.Lowered.{inner_id, number_parameter, whole_bit, end_at, port_side, port_wire, port_wires, inner_wire, output_link, output_links, gate_module}
 use Rattle.amh_tool.specs.Gate.{Gate}
 use Rattle.amh_tool.proofs.GateFacts.{IsSoundGate}
 use Rattle.amh_tool.proofs.GateBoard.{AreFrom, from_first, from_next, from_here}
@@ -51,6 +52,11 @@ inner_fits ms g = whole_fits (gate_netlist ms g).wires (inner_wire 1) refl (Cont
 
 -- ---- the cell
 
+-- parameters that are numbers fit
+numbers_fit : (named : List (List ℕ × ℕ)) → All (λ (p : RtlParameter). ValueFits p.value) (map (λ (n : List ℕ × ℕ). number_parameter n.0 n.1) named)
+numbers_fit [] = All-nil (λ (p : RtlParameter). ValueFits p.value)
+numbers_fit (n ∷ named) = All-cons (λ (p : RtlParameter). ValueFits p.value) (number_parameter n.0 n.1) (map (λ (n : List ℕ × ℕ). number_parameter n.0 n.1) named) tt (numbers_fit named)
+
 cell_fits : (ms : List Member) (g : Gate) → IsSoundGate ms g → CellFits (gate_netlist ms g) (gate_cell ms g)
 cell_fits ms g h =
     let fits : RtlEnd → Type 0 = (λ (e : RtlEnd). SpecFits (gate_netlist ms g).wires e.spec) in
@@ -59,6 +65,7 @@ cell_fits ms g h =
     let y = end_at (codes "\\Y") (whole_bit (inner_id 1)) in
     record {
       parameters = refl;
+      values = numbers_fit ((codes "\\A_SIGNED", 0) ∷ (codes "\\A_WIDTH", 1) ∷ (codes "\\B_SIGNED", 0) ∷ (codes "\\B_WIDTH", 1) ∷ (codes "\\Y_WIDTH", 1) ∷ []);
       ends = refl;
       specs = All-cons fits a (b ∷ y ∷ []) (public_fits ms g g.a h.a.held) (All-cons fits b (y ∷ []) (public_fits ms g g.b h.b.held) (All-cons fits y [] (inner_fits ms g) (All-nil fits)));
       rules = record { widths = record { a = refl; b = refl; y = refl; sign_a = omega arith; sign_b = omega arith }; equal_b = refl; equal_y = refl; same_sign = refl };

@@ -116,25 +116,13 @@ named_within ws n most (d ∷ ds) h = here (is_word ws d.name) (named_within ws 
     here true rest = (omega arith, rest)
     here false rest = rest
 
-named_behind : (ws : List (List ℕ)) (n least : ℕ) (ds : List Domain) → least ≤ n → AllByRecursion (λ (k : DomainId). least ≤ k.0) (named_from ws n ds)
-named_behind ws n least [] h = tt
-named_behind ws n least (d ∷ ds) h = here (is_word ws d.name) (named_behind ws (n + 1) least ds (omega arith))
+named_ascending : (ws : List (List ℕ)) (n least : ℕ) (ds : List Domain) → least ≤ n → Ascending least (named_from ws n ds)
+named_ascending ws n least [] h = tt
+named_ascending ws n least (d ∷ ds) h = here (is_word ws d.name) (named_ascending ws (n + 1) (suc n) ds (omega arith)) (named_ascending ws (n + 1) least ds (omega arith))
   where
-    here : (t : Bool) → AllByRecursion (λ (k : DomainId). least ≤ k.0) (named_from ws (n + 1) ds) → AllByRecursion (λ (k : DomainId). least ≤ k.0) (cons_option (cond t (Some (record { 0 = n })) None) (named_from ws (n + 1) ds))
-    here true rest = (h, rest)
-    here false rest = rest
-
-ascending_behind : (d : DomainId) (ids : List DomainId) → AllByRecursion (λ (k : DomainId). d.0 + 1 ≤ k.0) ids → Ascending ids → Ascending (d ∷ ids)
-ascending_behind d [] h up = tt
-ascending_behind d (k ∷ ks) h up = (omega (arith, h.0), up)
-
-named_ascending : (ws : List (List ℕ)) (n : ℕ) (ds : List Domain) → Ascending (named_from ws n ds)
-named_ascending ws n [] = tt
-named_ascending ws n (d ∷ ds) = here (is_word ws d.name) (named_ascending ws (n + 1) ds)
-  where
-    here : (t : Bool) → Ascending (named_from ws (n + 1) ds) → Ascending (cons_option (cond t (Some (record { 0 = n })) None) (named_from ws (n + 1) ds))
-    here true rest = ascending_behind (record { 0 = n }) (named_from ws (n + 1) ds) (named_behind ws (n + 1) (n + 1) ds (omega arith)) rest
-    here false rest = rest
+    here : (t : Bool) → Ascending (suc n) (named_from ws (n + 1) ds) → Ascending least (named_from ws (n + 1) ds) → Ascending least (cons_option (cond t (Some (record { 0 = n })) None) (named_from ws (n + 1) ds))
+    here true past rest = (h, past)
+    here false past rest = rest
 
 -- a domain of the first word is among them
 named_some : (w : List ℕ) (ws : List (List ℕ)) (n : ℕ) (ds : List Domain) → list_any (λ (d : Domain). bytes_eq d.name w) ds ≡ true → named_from (w ∷ ws) n ds ≢ []
@@ -159,7 +147,7 @@ edge_event-legal c (w ∷ ws) e h = here (list_all (is_domain (board_of c)) (w �
     here true q true j =
         let same : Edge (named_domains (board_of c) (w ∷ ws)) ≡ e = cc in
         let known : is_domain (board_of c) w ≡ true = left_of (is_domain (board_of c) w) (list_all (is_domain (board_of c)) ws) q in
-        let legal : IsLegal c (Edge (named_domains (board_of c) (w ∷ ws))) = (named_some w ws 0 c.domains known, named_within (w ∷ ws) 0 (length c.domains) c.domains (omega arith), named_ascending (w ∷ ws) 0 c.domains) in
+        let legal : IsLegal c (Edge (named_domains (board_of c) (w ∷ ws))) = (named_some w ws 0 c.domains known, named_within (w ∷ ws) 0 (length c.domains) c.domains (omega arith), named_ascending (w ∷ ws) 0 0 c.domains (omega arith)) in
         subst (λ (y : Event). IsLegal c y) same legal
 
 -- ---- lines
