@@ -1,6 +1,6 @@
 // Bit vectors of at most 128 bits.
 
-ghost use Rattle.std.specs.Prelude.{◌≡◌, ℕ, ◌+◌, ◌≤◌, ◌^◌, IsTrue, OkIff};
+ghost use Rattle.std.specs.Prelude.{◌≡◌, ◌+◌, ◌≤◌, ◌^◌, OkIff};
 ghost use Rattle.amh_bits.specs.BitVectors.{joined, sliced, extended};
 
 use crate::int::{Int, TooWide};

@@ -1,6 +1,6 @@
 // Integers from -2^127 to 2^128 - 1, by sign and size.
 
-ghost use Rattle.std.specs.Prelude.{◌≡◌, ℕ, ◌+◌, ◌≤◌, ◌<◌, ◌^◌, ℤ, pos, ◌+ℤ◌, ◌-ℤ◌, ◌*ℤ◌, ◌<ℤ◌, ◌↔◌, IsTrue, OkIff, not};
+ghost use Rattle.std.specs.Prelude.{◌≡◌, ◌+◌, ◌≤◌, ◌^◌, pos, ◌+ℤ◌, ◌-ℤ◌, ◌*ℤ◌, ◌<ℤ◌, ◌↔◌, IsTrue, OkIff};
 ghost use Rattle.amh_bits.specs.Integers.{IsKept, int_and, int_or, int_xor, int_not, sign_of, with_sign, with_turned, floor_quotient, floor_div, floor_rem};
 ghost use Rattle.amh_bits.specs.Patterns.{wrap, pattern, number};
 ghost use Rattle.amh_bits.specs.BitVectors.{bits_of};

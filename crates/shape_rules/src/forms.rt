@@ -1,7 +1,7 @@
 // The shape of each operator's result, and the shape at which it is worked.
 
-ghost use Rattle.std.specs.Prelude.{◌≡◌, ◌+◌, ◌≤◌, ◌<◌, ◌^◌, IsTrue, true, false, ◌||◌, IfOk, IfErr, MatchResult};
-ghost use Rattle.shape_rules.specs.Forms.{Form, common, unsigned, signed_form};
+ghost use Rattle.std.specs.Prelude.{◌≡◌, ◌+◌, ◌≤◌, IsTrue, true, false, ◌||◌, IfOk, IfErr, MatchResult};
+ghost use Rattle.shape_rules.specs.Forms.{common, unsigned, signed_form};
 ghost use Rattle.shape_rules.specs.Operators.{form_of, work_form};
 ghost use Rattle.shape_rules.specs.Stops.{IsTaken, IsStop, IsNarrowed, is_bad_operand};
 

@@ -1,6 +1,6 @@
 // The integer that each operator gives.
 
-ghost use Rattle.std.specs.Prelude.{◌≡◌, ℕ, ◌≤◌, ◌^◌, ℤ, pos, neg_ℤ, ◌+ℤ◌, ◌-ℤ◌, ◌*ℤ◌, int_lt, int_le, not, unsigned_abs, ◌==◌, ◌-◌, count_ones, ◌%◌};
+ghost use Rattle.std.specs.Prelude.{◌≡◌, ◌≤◌, ◌^◌, pos, neg_ℤ, ◌+ℤ◌, ◌-ℤ◌, ◌*ℤ◌, int_lt, int_le, not, unsigned_abs, ◌==◌, ◌-◌, count_ones, ◌%◌};
 ghost use Rattle.amh_bits.specs.Integers.{IsKept, int_and, int_or, int_xor, floor_div, floor_rem, floor_quotient};
 ghost use Rattle.amh_bits.specs.Patterns.{IsOf, pattern};
 ghost use Rattle.shape_rules.specs.Operators.{form_of, integer_of, turned, truth, is_zero, int_same};
