@@ -16,6 +16,8 @@ pub mod BoardLaws
 pub mod ScriptLaws
 pub mod ScriptEdgeLaws
 pub mod ScriptEvents
+pub mod ScriptNumbers
+mod ScriptSamples
 pub mod ScriptFronts
 pub mod ScriptLegal
 pub mod AcceptLaws
