@@ -1,18 +1,17 @@
 -- Numerals: the integer that a text stands for has this text, and no other.
-use Rattle.std.proofs.Common.{◌≡◌, refl, ℕ, zero, suc, ◌+◌, ◌-◌, ◌*◌, ◌/◌, ◌%◌, ◌^◌, ◌≤◌, ◌<◌, Bool, true, false, cond, List, [], ◌∷◌, ◌++◌, length, sym, ap, ◌∙◌, subst, arith, append_assoc}
+use Rattle.std.proofs.Common.{◌≡◌, refl, ℕ, zero, suc, ◌+◌, ◌-◌, ◌*◌, ◌/◌, ◌%◌, ◌^◌, ◌≤◌, ◌<◌, Bool, true, false, cond, List, [], ◌∷◌, ◌++◌, sym, ap, ◌∙◌, subst, arith, append_assoc}
 use Rattle.std.specs.Prelude.{Option, Some, None, option_and_then, option_map, ℤ, pos, negsuc, unsigned_abs, ◌==◌}
 use Rattle.std.specs.Char.{is_ascii_digit}
 use Rattle.std.specs.Fmt.{decimal}
 use Rattle.std.proofs.lemmas.List.{append-nil}
 use Rattle.std.proofs.lemmas.Fmt.{decimal_by_steps_wide, decimal_step_wide, decimal_digit}
-use Rattle.std.proofs.lemmas.Bool.{false≢true}
 use Rattle.std.proofs.lemmas.Bool.Decides.{nat_tests}
 use Rattle.amh_bits.specs.Decimals.{int_text}
 use Rattle.amh_tool.specs.Script.{digits_from, natural_of, integer_of, opposite}
 
 -- ---- digits
 
-digit_low : (b : ℕ) → is_ascii_digit b ≡ true → (48 ≤ b) × (b ≤ 57)
+pub digit_low : (b : ℕ) → is_ascii_digit b ≡ true → (48 ≤ b) × (b ≤ 57)
 digit_low b h = (grind (arith, nat_tests), grind (arith, nat_tests))
 
 digit_of : (d : ℕ) → d < 10 → is_ascii_digit (48 + d) ≡ true
@@ -73,6 +72,7 @@ numeral_more n ds h k =
   where
     whole : (m : ℕ) → 10 * (m / 10) + (48 + m % 10 - 48) ≡ m
     whole m = omega arith
+
     long : (b : ℕ) (bs : List ℕ) → (b == 48) ≡ false → natural_of (b ∷ bs) ≡ digits_from 0 (b ∷ bs)
     long b [] e = refl
     long b (c ∷ bs) e = rw e refl
@@ -97,6 +97,7 @@ decimal-more n m front (d ∷ ds) some is h small =
         let quotient : n ≡ (10 * n + (d - 48)) / 10 = omega (arith, low) in
         let last : d ≡ 48 + (10 * n + (d - 48)) % 10 = omega (arith, low) in
         (λ i. is i ++ d ∷ []) ∙ (λ i. decimal (quotient i) ++ last i ∷ []) ∙ sym (decimal_step_wide (10 * n + (d - 48)) (omega arith) fits)
+
     here : (t : Bool) → is_ascii_digit d ≡ t → cond t (digits_from (10 * n + (d - 48)) ds) None ≡ Some m
         → ((front' : List ℕ) → front' ≡ decimal (10 * n + (d - 48)) → digits_from (10 * n + (d - 48)) ds ≡ Some m → front' ++ ds ≡ decimal m) → front ++ d ∷ ds ≡ decimal m
     here true digit e more =
@@ -127,6 +128,7 @@ natural_of-unique (b ∷ c ∷ bs) n small h = first (b == 48) refl h
         above : (b == 48) ≡ false → (48 ≤ b) × (b ≤ 57) → 0 < 10 * 0 + (b - 48)
         above other' low' = grind (arith, nat_tests)
     here other false digit e = absurd (cc)
+
     first : (t : Bool) → (b == 48) ≡ t → cond t None (digits_from 0 (b ∷ c ∷ bs)) ≡ Some n → b ∷ c ∷ bs ≡ decimal n
     first true q e = absurd (cc)
     first false q e = here q (is_ascii_digit b) refl e
