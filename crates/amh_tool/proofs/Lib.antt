@@ -17,9 +17,15 @@ pub mod GateColumns
 pub mod GateNames
 pub mod GateRules
 pub mod BoardLaws
-pub mod ScriptLaws
+pub mod ScriptWordLaws
+pub mod ScriptNameLaws
+pub mod ScriptNumerals
+pub mod ScriptNumberLaws
+pub mod ScriptSetLaws
 pub mod ScriptEdgeLaws
 pub mod ScriptEvents
+pub mod ScriptTexts
+mod ScriptSamples
 pub mod ScriptFronts
 pub mod ScriptLegal
 pub mod AcceptLaws

@@ -1,12 +1,12 @@
 -- Laws of the words behind `edge`.
-use Rattle.std.proofs.Common.{◌≡◌, refl, ℕ, zero, suc, ◌+◌, ◌≤◌, ◌<◌, Bool, true, false, cond, List, [], ◌∷◌, ◌++◌, length, take, get_or, sym, ap, ◌∙◌, subst, arith}
-use Rattle.std.specs.Prelude.{Option, Some, None, nat_lt, not, if◌then◌else◌, ◌&&◌, ◌||◌, ◌==◌, bytes_eq, count_by, option_map}
+use Rattle.std.proofs.Common.{◌≡◌, refl, ℕ, ◌+◌, ◌≤◌, ◌<◌, Bool, true, false, cond, List, [], ◌∷◌, ◌++◌, length, take, get_or, sym, ap, ◌∙◌, subst, arith}
+use Rattle.std.specs.Prelude.{Option, Some, None, nat_lt, not, if◌then◌else◌, ◌||◌, ◌==◌, bytes_eq, count_by, option_map}
 use Rattle.std.specs.List.{list_any, list_all, filter_map, enumerate_from, cons_option}
 use Rattle.std.proofs.lemmas.List.{take_more, length-take-le, take_all}
 use Rattle.std.proofs.lemmas.List.Elements.{filter_map-append}
 use Rattle.std.proofs.lemmas.List.Folds.{list_all_at, list_all_more}
 use Rattle.std.proofs.lemmas.List.Sums.{sum_by-cons}
-use Rattle.std.proofs.lemmas.Bool.{false≢true}
+use Rattle.std.proofs.lemmas.Bool.{false≢true, and_parts, or_right}
 use Rattle.std.proofs.lemmas.Bool.Decides.{nat_tests}
 use Rattle.std.proofs.lemmas.Slice.Eq.{bytes_eq-Decides}
 use Rattle.design_ir.specs.declared.ids.DomainId.{DomainId}
@@ -95,31 +95,19 @@ once_more ws ds i d held is few before =
 
 -- ---- words that stand once each
 
-left_of : (s t : Bool) → (s && t) ≡ true → s ≡ true
-left_of true t e = refl
-left_of false t e = e
-
-right_of : (s t : Bool) → (s && t) ≡ true → t ≡ true
-right_of true t e = e
-right_of false t e = absurd (false≢true e)
-
-not_true : (t : Bool) → not t ≡ true → t ≡ false
+pub not_true : (t : Bool) → not t ≡ true → t ≡ false
 not_true true e = absurd (false≢true e)
 not_true false e = refl
-
-or_right : (s t : Bool) → t ≡ true → (s || t) ≡ true
-or_right true t e = refl
-or_right false t e = e
 
 -- of words that are apart each stands at most once
 apart-once : (ws : List (List ℕ)) (n : List ℕ) → all_apart ws ≡ true → count_by (bytes_eq n) ws < 2
 apart-once [] n h = omega arith
-apart-once (w ∷ ws) n h = rw (count_by-cons (bytes_eq n) w ws) (here (bytes_eq n w) refl (apart-once ws n (right_of (not (is_word ws w)) (all_apart ws) h)))
+apart-once (w ∷ ws) n h = rw (count_by-cons (bytes_eq n) w ws) (here (bytes_eq n w) refl (apart-once ws n ((and_parts (not (is_word ws w)) (all_apart ws) h).1)))
   where
     here : (t : Bool) → bytes_eq n w ≡ t → count_by (bytes_eq n) ws < 2 → cond t 1 0 + count_by (bytes_eq n) ws < 2
     here true e k =
         let same : n ≡ w = (bytes_eq-Decides n w).0 e in
-        let apart : is_word ws n ≡ false = subst (λ (m : List ℕ). is_word ws m ≡ false) (sym same) (not_true (is_word ws w) (left_of (not (is_word ws w)) (all_apart ws) h)) in
+        let apart : is_word ws n ≡ false = subst (λ (m : List ℕ). is_word ws m ≡ false) (sym same) (not_true (is_word ws w) ((and_parts (not (is_word ws w)) (all_apart ws) h).0)) in
         let none : nat_lt 0 (count_by (bytes_eq n) ws) ≡ false = sym (list_any-count_by (bytes_eq n) ws) ∙ apart in
         grind (arith, nat_tests)
     here false e k = omega arith
@@ -149,23 +137,23 @@ once-apart (w ∷ ws) h =
 -- a name of domains alone is one of a domain
 domain_of_word : (b : Board) (ws : List (List ℕ)) (n : List ℕ) → list_all (is_domain b) ws ≡ true → is_word ws n ≡ true → is_domain b n ≡ true
 domain_of_word b [] n h k = absurd (false≢true k)
-domain_of_word b (w ∷ ws) n h k = here (bytes_eq n w) refl k (λ j. domain_of_word b ws n (right_of (is_domain b w) (list_all (is_domain b) ws) h) j)
+domain_of_word b (w ∷ ws) n h k = here (bytes_eq n w) refl k (λ j. domain_of_word b ws n ((and_parts (is_domain b w) (list_all (is_domain b) ws) h).1) j)
   where
     here : (t : Bool) → bytes_eq n w ≡ t → (t || is_word ws n) ≡ true → (is_word ws n ≡ true → is_domain b n ≡ true) → is_domain b n ≡ true
-    here true e j more = subst (λ (m : List ℕ). is_domain b m ≡ true) (sym ((bytes_eq-Decides n w).0 e)) (left_of (is_domain b w) (list_all (is_domain b) ws) h)
+    here true e j more = subst (λ (m : List ℕ). is_domain b m ≡ true) (sym ((bytes_eq-Decides n w).0 e)) ((and_parts (is_domain b w) (list_all (is_domain b) ws) h).0)
     here false e j more = more j
 
 -- where the words name each of these domains at most once, a name of one of them stands at most once
 named_once_of : (ws : List (List ℕ)) (ds : List Domain) (n : List ℕ) → list_all (is_named_once ws) ds ≡ true → list_any (λ (d : Domain). bytes_eq d.name n) ds ≡ true → count_by (bytes_eq n) ws < 2
 named_once_of ws [] n h k = absurd (false≢true k)
-named_once_of ws (d ∷ ds) n h k = here (bytes_eq d.name n) refl k (λ j. named_once_of ws ds n (right_of (is_named_once ws d) (list_all (is_named_once ws) ds) h) j)
+named_once_of ws (d ∷ ds) n h k = here (bytes_eq d.name n) refl k (λ j. named_once_of ws ds n ((and_parts (is_named_once ws d) (list_all (is_named_once ws) ds) h).1) j)
   where
     less : (m : ℕ) → nat_lt m 2 ≡ true → m < 2
     less m e = grind (arith, nat_tests)
 
     here : (t : Bool) → bytes_eq d.name n ≡ t → (t || list_any (λ (x : Domain). bytes_eq x.name n) ds) ≡ true → (list_any (λ (x : Domain). bytes_eq x.name n) ds ≡ true → count_by (bytes_eq n) ws < 2) → count_by (bytes_eq n) ws < 2
     here true e j more =
-        subst (λ (m : List ℕ). count_by (bytes_eq m) ws < 2) ((bytes_eq-Decides d.name n).0 e) (less (count_by (bytes_eq d.name) ws) (left_of (is_named_once ws d) (list_all (is_named_once ws) ds) h))
+        subst (λ (m : List ℕ). count_by (bytes_eq m) ws < 2) ((bytes_eq-Decides d.name n).0 e) (less (count_by (bytes_eq d.name) ws) ((and_parts (is_named_once ws d) (list_all (is_named_once ws) ds) h).0))
     here false e j more = more j
 
 all_named_once : (ws : List (List ℕ)) (ds : List Domain) → ((n : List ℕ) → count_by (bytes_eq n) ws < 2) → list_all (is_named_once ws) ds ≡ true

@@ -70,13 +70,14 @@ fronts (suc fuel) b n room left (c ∷ cs) one two small past =
         → events_from b n room left (l ∷ ls) ≡ events_from b n room left (l ∷ ms)
     step l ls ms true e same = rw e refl
     step l ls ms false e same = rw e (ap (said_at n left (says b (content l))) (same (grind (arith, nat_tests))))
+
     here : Cut (c ∷ cs) ⊎ ((rest : List ℕ) → Open (c ∷ cs) rest)
         → ((m r k : ℕ) (bs : List ℕ) → length bs ≤ fuel → r < length bs → events_from b m r k (lines_in (bs ++ one)) ≡ events_from b m r k (lines_in (bs ++ two)))
         → events_from b n room left (lines_in ((c ∷ cs) ++ one)) ≡ events_from b n room left (lines_in ((c ∷ cs) ++ two))
     here (inl k) same =
         rw (k.lines one, k.lines two)
         (step k.line (lines_in (k.behind ++ one)) (lines_in (k.behind ++ two)) (nat_lt room (length k.line)) refl
-            (λ fits. same (suc n) (room - length k.line) (left_behind (says b (content k.line)) left) k.behind (omega (arith, k.size, k.some, small)) (omega (arith, k.size, past, fits))))
+        (λ fits. same (suc n) (room - length k.line) (left_behind (says b (content k.line)) left) k.behind (omega (arith, k.size, k.some, small)) (omega (arith, k.size, past, fits))))
     here (inr k) same =
         let o = k one in
         let t = k two in

@@ -2,7 +2,7 @@
 use Rattle.std.proofs.Common.{◌≡◌, ◌≢◌, refl, ℕ, zero, suc, ◌+◌, ◌-◌, ◌*◌, ◌^◌, ◌≤◌, ◌<◌, Bool, true, false, cond, List, [], ◌∷◌, length, sym, ap, ◌∙◌, subst, arith}
 use Rattle.std.specs.Prelude.{◌==◌, Result, Ok, Err, Option, Some, None, ℤ, pos, negsuc, nat_lt, not, ◌&&◌, ◌||◌, map, codes, bytes_eq, option_and_then, IsTrue}
 use Rattle.std.specs.List.{find, list_any, list_all, filter_map, enumerate_from, cons_option, AllByRecursion}
-use Rattle.std.proofs.lemmas.Bool.{false≢true}
+use Rattle.std.proofs.lemmas.Bool.{false≢true, and_parts}
 use Rattle.std.proofs.lemmas.Bool.Decides.{nat_tests}
 use Rattle.amh_bits.specs.Patterns.{IsOf}
 use Rattle.shape_rules.specs.Forms.{Form}
@@ -21,19 +21,7 @@ use Rattle.amh_tool.specs.FormLines.{Line, lines_in}
 use Rattle.amh_tool.specs.Boards.{board_of, shown_of, is_clock}
 use Rattle.amh_tool.specs.Script.{script_events, events_from, most_bytes, most_events, says, asking, event_of, said_at, with_event, left_behind, content, is_passed, words_in, set_event, set_to, settable, integer_of, holds, edge_event, is_word, is_domain, all_apart, named_domains}
 use Rattle.amh_tool.specs.ScriptParts.{is_settable_as}
-use Rattle.amh_tool.proofs.ScriptEdgeLaws.{named}
-
-left_of : (s t : Bool) → (s && t) ≡ true → s ≡ true
-left_of true t e = refl
-left_of false t e = e
-
-right_of : (s t : Bool) → (s && t) ≡ true → t ≡ true
-right_of true t e = e
-right_of false t e = absurd (false≢true e)
-
-not_true : (t : Bool) → not t ≡ true → t ≡ false
-not_true true e = absurd (false≢true e)
-not_true false e = refl
+use Rattle.amh_tool.proofs.ScriptEdgeLaws.{named, not_true}
 
 -- what an option goes on with
 record Goes {T U : Type 0} (f : T → Option U) (o : Option T) (y : U) : Type 0 where
@@ -82,15 +70,16 @@ set_to-legal c name x z e f h = here (holds x.shape z) refl h
   where
     of_column : (k : Column) → is_settable_as name (shown_of c k) ≡ true → holds (shown_of c k).shape z ≡ true → IsLegal c (Set k.sig z)
     of_column k may fits =
-        let both = left_of (is_input c k.sig.0 && not (is_clock c k.sig.0)) (bytes_eq k.name name) may in
-        (left_of (is_input c k.sig.0) (not (is_clock c k.sig.0)) both, not_true (is_clock c k.sig.0) (right_of (is_input c k.sig.0) (not (is_clock c k.sig.0)) both), holds-IsOf (shown_of c k).shape z fits)
+        let both = (and_parts (is_input c k.sig.0 && not (is_clock c k.sig.0)) (bytes_eq k.name name) may).0 in
+        ((and_parts (is_input c k.sig.0) (not (is_clock c k.sig.0)) both).0, not_true (is_clock c k.sig.0) ((and_parts (is_input c k.sig.0) (not (is_clock c k.sig.0)) both).1), holds-IsOf (shown_of c k).shape z fits)
+
     here : (t : Bool) → holds x.shape z ≡ t → cond t (Some (Set x.sig z)) None ≡ Some e → IsLegal c e
     here false q j = absurd (cc)
     here true q j =
         let same : Set x.sig z ≡ e = cc in
         let legal : IsLegal c (Set x.sig z) =
-            subst (λ (y : Shown). IsLegal c (Set y.sig z)) (sym f.is)
-            (of_column f.column (ap (is_settable_as name) (sym f.is) ∙ f.passes) (ap (λ (y : Shown). holds y.shape z) (sym f.is) ∙ q)) in
+        subst (λ (y : Shown). IsLegal c (Set y.sig z)) (sym f.is)
+        (of_column f.column (ap (is_settable_as name) (sym f.is) ∙ f.passes) (ap (λ (y : Shown). holds y.shape z) (sym f.is) ∙ q)) in
         subst (λ (y : Event). IsLegal c y) same legal
 
 set_event-legal : (c : Circuit) (ws : List (List ℕ)) (e : Event) → set_event (board_of c) ws ≡ Some e → IsLegal c e
@@ -132,6 +121,7 @@ named_some w ws n (d ∷ ds) h = here (bytes_eq d.name w) h (λ j. named_some w 
     later : (t : Bool) → named_from (w ∷ ws) (n + 1) ds ≢ [] → cons_option (cond t (Some (record { 0 = n })) None) (named_from (w ∷ ws) (n + 1) ds) ≢ []
     later true some e = absurd (cc)
     later false some e = some e
+
     here : (t : Bool) → (t || list_any (λ (x : Domain). bytes_eq x.name w) ds) ≡ true → (list_any (λ (x : Domain). bytes_eq x.name w) ds ≡ true → named_from (w ∷ ws) (n + 1) ds ≢ [])
         → cons_option (cond (t || list_any (bytes_eq d.name) ws) (Some (record { 0 = n })) None) (named_from (w ∷ ws) (n + 1) ds) ≢ []
     here true j more = λ e. absurd (cc)
@@ -146,8 +136,13 @@ edge_event-legal c (w ∷ ws) e h = here (list_all (is_domain (board_of c)) (w �
     here true q false j = absurd (cc)
     here true q true j =
         let same : Edge (named_domains (board_of c) (w ∷ ws)) ≡ e = cc in
+<<<<<<< HEAD
         let known : is_domain (board_of c) w ≡ true = left_of (is_domain (board_of c) w) (list_all (is_domain (board_of c)) ws) q in
         let legal : IsLegal c (Edge (named_domains (board_of c) (w ∷ ws))) = (named_some w ws 0 c.domains known, named_within (w ∷ ws) 0 (length c.domains) c.domains (omega arith), named_ascending (w ∷ ws) 0 0 c.domains (omega arith)) in
+=======
+        let known : is_domain (board_of c) w ≡ true = (and_parts (is_domain (board_of c) w) (list_all (is_domain (board_of c)) ws) q).0 in
+        let legal : IsLegal c (Edge (named_domains (board_of c) (w ∷ ws))) = (named_some w ws 0 c.domains known, named_within (w ∷ ws) 0 (length c.domains) c.domains (omega arith), named_ascending (w ∷ ws) 0 c.domains) in
+>>>>>>> 5090f7686e7636b8a05960af9c8b99b5847b65b0
         subst (λ (y : Event). IsLegal c y) same legal
 
 -- ---- lines

@@ -79,3 +79,150 @@ pub fn read_script<'a>(
     }
     Ok(events)
 }
+
+#[cfg(test)]
+mod tests {
+    use super::{ScriptStop, read_script};
+    use crate::board::{Board, Shown};
+    use amh_bits::Int;
+    use amh_host::{Items, NoMemory, Text};
+    use design_ir::{Domain, DomainId, Event, SigId};
+    use shape_rules::Shape;
+    use std::alloc::Global;
+    use std::test::Fail;
+
+    fn shown(
+        alloc: Global,
+        name: &str,
+        sig: u32,
+        shape: Shape,
+        is_settable: bool,
+    ) -> Result<Shown, NoMemory> {
+        let mut text = Text::new(alloc);
+        text.push(name)?;
+        Ok(Shown {
+            name: text,
+            sig: SigId(sig),
+            shape,
+            is_settable,
+        })
+    }
+
+    fn domain(alloc: Global, name: &str, clk: u32) -> Result<Domain, NoMemory> {
+        let mut text = Text::new(alloc);
+        text.push(name)?;
+        Ok(Domain {
+            name: text,
+            clk: SigId(clk),
+            rst: None,
+        })
+    }
+
+    // An input `a` of four bits with a sign, an input `w` of 128 bits, an output `y`, and two domains.
+    fn board(alloc: Global) -> Result<Board, NoMemory> {
+        let mut columns = Items::new(alloc);
+        columns.push(shown(
+            alloc,
+            "a",
+            2,
+            Shape {
+                width: 4,
+                signed: true,
+            },
+            true,
+        )?)?;
+        columns.push(shown(
+            alloc,
+            "w",
+            3,
+            Shape {
+                width: 128,
+                signed: false,
+            },
+            true,
+        )?)?;
+        columns.push(shown(
+            alloc,
+            "y",
+            4,
+            Shape {
+                width: 4,
+                signed: true,
+            },
+            false,
+        )?)?;
+        let mut domains = Items::new(alloc);
+        domains.push(domain(alloc, "sync", 0)?)?;
+        domains.push(domain(alloc, "slow", 1)?)?;
+        Ok(Board { columns, domains })
+    }
+
+    // How many events a text has, or its first bad line.
+    fn told(alloc: Global, text: &str) -> Result<usize, u32> {
+        let Ok(board) = board(alloc) else {
+            return Err(0);
+        };
+        if board.domains.len() > 2 || text.len() > 100 {
+            return Err(0);
+        }
+        match read_script(alloc, &board, text.as_bytes()) {
+            Ok(events) => Ok(events.len()),
+            Err(ScriptStop::Line(line)) => Err(line),
+            Err(ScriptStop::NoMemory) => Err(0),
+        }
+    }
+
+    #[test]
+    fn lines_are_taken_or_refused(rt: HostRuntime) -> Result<(), Fail> {
+        let alloc = rt.alloc();
+        let rows: [(&str, Result<usize, u32>); 20] = [
+            ("", Ok(0)),
+            ("# nothing\n\n", Ok(0)),
+            ("set a -8\nset a 7", Ok(2)),
+            ("set a 8\n", Err(1)),
+            ("set a -9\n", Err(1)),
+            ("set a 07\n", Err(1)),
+            ("set a -0\n", Err(1)),
+            ("set w 340282366920938463463374607431768211455\n", Ok(1)),
+            ("set w 340282366920938463463374607431768211456\n", Err(1)),
+            ("set a 1\nset q 1\n", Err(2)),
+            ("set y 1\n", Err(1)),
+            ("set  a 1\n", Err(1)),
+            ("set a 1 \n", Err(1)),
+            ("set a 1\r\n", Err(1)),
+            ("edge slow sync\nedge sync\n", Ok(2)),
+            ("edge sync sync\n", Err(1)),
+            ("edge\n", Err(1)),
+            ("edge \n", Err(1)),
+            ("edge fast\n", Err(1)),
+            ("\n#\nwait\n", Err(3)),
+        ];
+        for (text, wanted) in &rows {
+            assert_eq!(rt; told(alloc, text), *wanted);
+        }
+        Ok(())
+    }
+
+    #[test]
+    fn events_are_those_of_the_lines(rt: HostRuntime) -> Result<(), Fail> {
+        let alloc = rt.alloc();
+        let Ok(board) = board(alloc) else {
+            return Err("no memory".into());
+        };
+        if board.domains.len() > 2 {
+            return Err("more domains".into());
+        }
+        let Ok(events) = read_script(alloc, &board, b"set a -3\nedge slow sync\n".as_slice()) else {
+            return Err("refused".into());
+        };
+        match events.as_slice() {
+            [Event::Set { sig, value }, Event::Edge(clocks)] => {
+                assert_eq!(rt; *sig, SigId(2));
+                assert_eq!(rt; *value, Int::of_i128(-3));
+                assert_eq!(rt; clocks.as_slice(), [DomainId(0), DomainId(1)].as_slice());
+                Ok(())
+            }
+            _ => Err("other events".into()),
+        }
+    }
+}

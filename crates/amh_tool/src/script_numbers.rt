@@ -1,14 +1,16 @@
 // The numbers of a script.
-ghost use Rattle.std.specs.Prelude.{◌≡◌, ◌+◌, ◌*◌, option_and_then};
+ghost use Rattle.std.specs.Prelude.{◌≡◌, ◌+◌, ◌*◌, ◌↔◌, ℤ, true, Some, option_and_then};
+ghost use Rattle.amh_bits.specs.Decimals.{int_text};
 ghost use Rattle.amh_tool.specs.Script.{digits_from, natural_of, integer_of, opposite, holds};
 ghost use Rattle.amh_tool.specs.ScriptParts.{as_u128, as_int, in_shape};
 
 use amh_bits::Int;
 use shape_rules::Shape;
 
-/// The integer of the shape that a text stands for.
+/// The integer of the shape that a text stands for: the one whose numeral it is.
 pub fn number_in(shape: Shape, text: &[u8]) -> Option<Int>
-    ensures { result ≡ option_and_then (in_shape shape) (integer_of text.now) }
+    ensures value { result ≡ option_and_then (in_shape shape) (integer_of text.now) }
+    ensures numeral { (z : ℤ) → (result ≡ Some z) ↔ ((holds shape z ≡ true) × (text.now ≡ int_text z)) }
 {
     // The proof learns here that a shape has at most 128 bits, so an integer that `Int` has not is in none.
     let _ = &shape.width;

@@ -1,5 +1,5 @@
-use Rattle.std.proofs.Common.{◌≡◌, ◌∙◌, sym, ap}
-use Rattle.std.specs.Prelude.{Option, option_map}
+use Rattle.std.proofs.Common.{◌∙◌, sym, ap}
+use Rattle.std.specs.Prelude.{option_map}
 use Rattle.design_ir.specs.declared.event.Event.TheVariants.{Edge}
 use Rattle.amh_tool.proofs.ScriptEdgeLaws.{edge_event-once}
 use Rattle.amh_tool.proofs.script_edge.edge_event.Goals as goal

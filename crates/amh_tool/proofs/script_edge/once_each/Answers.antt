@@ -1,13 +1,8 @@
-use Rattle.std.proofs.Common.{◌≡◌, ◌≤◌, ◌<◌, ◌+◌, ◌∙◌, sym, ap, subst, refl, ℕ, List, ◌∷◌, [], ◌++◌, length, take, cond, arith, true, false, Bool}
-use Rattle.std.specs.Prelude.{nat_lt, bytes_eq, count_by, Some, None}
-use Rattle.std.specs.List.{list_all}
+use Rattle.std.proofs.Common.{◌≡◌, ◌≤◌, ◌<◌, ◌∙◌, sym, ap, subst, ℕ, List, ◌∷◌, [], ◌++◌, take, true, false}
+use Rattle.std.specs.Prelude.{nat_lt, bytes_eq, count_by}
 use Rattle.std.proofs.lemmas.List.{append-nil}
-use Rattle.std.proofs.lemmas.Bool.Decides.{nat_tests}
 use Rattle.design_ir.specs.declared.ids.DomainId.{DomainId}
-use Rattle.design_ir.specs.declared.domain.Domain.{Domain}
-use Rattle.amh_tool.specs.declared.board.Board.{Board}
 use Rattle.amh_tool.specs.Script.{words_in}
-use Rattle.amh_tool.specs.ScriptParts.{is_named_once, once_each}
 use Rattle.amh_tool.proofs.ScriptEdgeLaws.{named_among, named_more, once_more, once_each-twice, once_each-whole, zero_times}
 use Rattle.amh_tool.proofs.script_edge.once_each.Goals as goal
 use Rattle.amh_tool.proofs.script_edge.once_each.Goals.{then-times-eq1+in_ok-push, else-times-eq1}

@@ -1,10 +1,8 @@
-use Rattle.std.proofs.Common.{◌≡◌, ◌∙◌, sym, ap, refl, ℕ, List}
+use Rattle.std.proofs.Common.{◌≡◌, ◌∙◌, sym, ap, ℕ, List}
 use Rattle.std.specs.Prelude.{Option, None, Some, position, option_and_then, slice_get}
-use Rattle.std.specs.Option.{option_map}
 use Rattle.amh_tool.specs.declared.board.Shown.{Shown}
-use Rattle.amh_tool.specs.Script.{settable}
 use Rattle.amh_tool.specs.ScriptParts.{is_settable_as}
-use Rattle.amh_tool.proofs.ScriptLaws.{find_position, got_is}
+use Rattle.amh_tool.proofs.ScriptNameLaws.{find_position, got_is}
 use Rattle.amh_tool.proofs.script_names.settable.Goals as goal
 
 pub returns-in_err-number : goal.returns-in_err-number

@@ -1,11 +1,10 @@
-use Rattle.std.proofs.Common.{◌≡◌, ◌∙◌, sym, ap, refl, ℕ, List, cond, false, BTreeMap, nat_cmp, take}
-use Rattle.std.specs.Prelude.{Option, Some, is_some, bytes_eq, position}
+use Rattle.std.proofs.Common.{◌≡◌, ◌∙◌, sym, ap, ℕ, List, cond, false, BTreeMap, nat_cmp}
+use Rattle.std.specs.Prelude.{Option, Some, is_some, bytes_eq}
 use Rattle.std.specs.BTreeMap.{get_by}
 use Rattle.std.specs.Cmp.Lexicographic.{slice_cmp}
 use Rattle.std.proofs.lemmas.Map.Text.{btree_map_updates_str}
 use denote.Ref.{Bor}
-use Rattle.amh_tool.specs.ScriptParts.{is_settable_as}
-use Rattle.amh_tool.proofs.ScriptLaws.{numbered_same, numbered_new, not_settable, known_twin}
+use Rattle.amh_tool.proofs.ScriptNameLaws.{numbered_same, numbered_new, not_settable, known_twin}
 use Rattle.amh_tool.proofs.script_names.settable_numbers.Goals as goal
 use Rattle.amh_tool.proofs.script_names.settable_numbers.Goals.{then-column+then-not-contains_key+in_ok-insert, else-column, else-column-via-then-column+else-not-contains_key, else-column-via-else-column}
 

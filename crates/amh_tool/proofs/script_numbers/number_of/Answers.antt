@@ -1,8 +1,8 @@
-use Rattle.std.proofs.Common.{◌≡◌, refl, ◌≤◌, ◌<◌, ◌∙◌, sym, ap, drop, rules, arith, length, ℕ, get_or}
+use Rattle.std.proofs.Common.{◌≡◌, refl, ◌≤◌, ◌∙◌, sym, ap, drop, arith, length, ℕ, get_or}
 use Rattle.std.specs.Prelude.{Option, option_and_then}
 use Rattle.amh_tool.specs.ScriptParts.{as_u128}
 use Rattle.std.proofs.lemmas.List.{length-drop}
-use Rattle.amh_tool.proofs.ScriptLaws.{digits_from-past, digits_from-end}
+use Rattle.amh_tool.proofs.ScriptNumberLaws.{digits_from-past, digits_from-end}
 use Rattle.amh_tool.proofs.script_numbers.number_of.Goals as goal
 
 pub returns-in_err-number : goal.returns-in_err-number

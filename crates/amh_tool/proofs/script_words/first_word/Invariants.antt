@@ -1,6 +1,6 @@
 use Rattle.std.proofs.Common.{◌≡◌, take, drop}
 use Rattle.amh_tool.specs.Script.{words_in}
-use Rattle.amh_tool.proofs.ScriptLaws.{joined_word}
+use Rattle.amh_tool.proofs.ScriptWordLaws.{joined_word}
 use Rattle.amh_tool.proofs.script_words.first_word.Given as goal
 
 abbrev pub invariant-loop-b : goal.invariant-loop-b

@@ -1,6 +1,6 @@
 use Rattle.std.proofs.Common.{sym, ap, ◌∙◌}
 use Rattle.amh_tool.specs.Script.{words_in}
-use Rattle.amh_tool.proofs.ScriptLaws.{two_words-past}
+use Rattle.amh_tool.proofs.ScriptWordLaws.{two_words-past}
 use Rattle.amh_tool.proofs.script_words.two_words.Goals as goal
 
 pub returns-in_default-Some-first_word : goal.returns-in_default-Some-first_word
