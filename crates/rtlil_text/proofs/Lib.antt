@@ -19,3 +19,4 @@ pub mod CellLaws
 pub mod Words
 pub mod SpecOnce
 pub mod ModuleOnce
+pub mod IdText
