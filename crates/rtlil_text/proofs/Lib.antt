@@ -20,3 +20,6 @@ pub mod Words
 pub mod SpecOnce
 pub mod ModuleOnce
 pub mod IdText
+pub mod KindTexts
+pub mod CellOnce
+pub mod TextOnce
