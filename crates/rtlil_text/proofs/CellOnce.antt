@@ -1,5 +1,5 @@
 -- The lines of a cell and of a link are read in one way.
-use Rattle.std.proofs.Common.{◌≡◌, ◌∙◌, ◌⊎◌, ◌<◌, ◌≤◌, ◌^◌, ◌==◌, ◌&&◌, ℕ, Bool, true, false, List, [], ◌∷◌, ◌++◌, map, reverse, length, All, codes, refl, sym, ap, subst, arith, inl, inr, ⊎_elim, append_assoc}
+use Rattle.std.proofs.Common.{◌≡◌, ◌∙◌, ◌<◌, ◌≤◌, ◌^◌, ◌==◌, ◌&&◌, ℕ, Bool, true, false, List, [], ◌∷◌, ◌++◌, map, reverse, length, codes, refl, sym, ap, arith, inl, append_assoc}
 use Rattle.std.specs.Prelude.{Contains}
 use Rattle.std.specs.List.{flat_map, AllByRecursion}
 use Rattle.std.specs.Fmt.{decimal}
@@ -12,11 +12,11 @@ use Rattle.rtlil_text.specs.declared.cell.RtlEnd.{RtlEnd}
 use Rattle.rtlil_text.specs.declared.cell.RtlCell.{RtlCell}
 use Rattle.rtlil_text.specs.declared.module.RtlWire.{RtlWire}
 use Rattle.rtlil_text.specs.declared.module.RtlLink.{RtlLink}
-use Rattle.rtlil_text.specs.Lines.{bit_char, const_text, kind_text, value_text, parameter_text, cell_line, cell_end}
+use Rattle.rtlil_text.specs.Lines.{bit_char, const_text, kind_text, value_text, parameter_text, cell_end}
 use Rattle.rtlil_text.specs.Grammar.{Each, IsSpec, IsEnd, IsLink, IsCell}
 use Rattle.rtlil_text.specs.Rules.{SpecFits}
 use Rattle.rtlil_text.proofs.Words.{IsWord, append-cancel, word-cut, digits-cut, IsWord-decimal, IsDigits-decimal, IsWord-append, decimal-first}
-use Rattle.rtlil_text.proofs.SpecOnce.{Begins, IsIdText, Stops, IsWord-const_text, const-begins, const_text-injective, spec-once, spec-begins, IsStart, no_start}
+use Rattle.rtlil_text.proofs.SpecOnce.{IsIdText, Stops, IsWord-const_text, const-begins, const_text-injective, spec-once, spec-begins, no_start}
 use Rattle.rtlil_text.proofs.ModuleOnce.{each-once, each-flat_map, is_third}
 use Rattle.rtlil_text.proofs.KindTexts.{IsWord-kind_text, kind_text-injective}
 
@@ -137,7 +137,7 @@ module _ (wires : List RtlWire) (ids : (w : RtlWire) → Contains wires w → Is
       let p = codes "    connect " in
       let w = codes " " in
       let e = append-cancel p (a.name ++ (w ++ (x.spec ++ (10 ∷ r)))) (b.name ++ (w ++ (y.spec ++ (10 ∷ s))))
-          (sym (end_spread p a.name w x.spec r) ∙ ap (λ z. z ++ r) (sym x.whole) ∙ same ∙ ap (λ z. z ++ s) y.whole ∙ end_spread p b.name w y.spec s) in
+      (sym (end_spread p a.name w x.spec r) ∙ ap (λ z. z ++ r) (sym x.whole) ∙ same ∙ ap (λ z. z ++ s) y.whole ∙ end_spread p b.name w y.spec s) in
       let c = word-cut a.name b.name 32 32 (x.spec ++ (10 ∷ r)) (y.spec ++ (10 ∷ s)) h.name k.name (omega arith) (omega arith) e in
       let d = spec-once wires ids narrow agree x.spec y.spec (10 ∷ r) (10 ∷ s) a.spec b.spec x.spells y.spells h.spec k.spec (stops-line r) (stops-line s) c.2 in
       ((λ i. record { name = c.0 i; spec = d.0 i }), append-cancel (10 ∷ []) r s d.1)
@@ -164,9 +164,9 @@ module _ (wires : List RtlWire) (ids : (w : RtlWire) → Contains wires w → Is
       let p = codes "  connect " in
       let w = codes " " in
       let e = append-cancel p (x.left ++ (w ++ (x.right ++ (10 ∷ r)))) (y.left ++ (w ++ (y.right ++ (10 ∷ s))))
-          (sym (link_spread p x.left w x.right r) ∙ ap (λ z. z ++ r) (sym x.whole) ∙ same ∙ ap (λ z. z ++ s) y.whole ∙ link_spread p y.left w y.right s) in
+      (sym (link_spread p x.left w x.right r) ∙ ap (λ z. z ++ r) (sym x.whole) ∙ same ∙ ap (λ z. z ++ s) y.whole ∙ link_spread p y.left w y.right s) in
       let c = spec-once wires ids narrow agree x.left y.left (32 ∷ (x.right ++ (10 ∷ r))) (32 ∷ (y.right ++ (10 ∷ s))) a.left b.left x.spells_left y.spells_left h.left k.left
-          (stops-spec x.right a.right (10 ∷ r) x.spells_right h.right) (stops-spec y.right b.right (10 ∷ s) y.spells_right k.right) e in
+      (stops-spec x.right a.right (10 ∷ r) x.spells_right h.right) (stops-spec y.right b.right (10 ∷ s) y.spells_right k.right) e in
       let d = spec-once wires ids narrow agree x.right y.right (10 ∷ r) (10 ∷ s) a.right b.right x.spells_right y.spells_right h.right k.right (stops-line r) (stops-line s) (append-cancel (32 ∷ []) (x.right ++ (10 ∷ r)) (y.right ++ (10 ∷ s)) c.1) in
       ((λ i. record { left = c.0 i; right = d.0 i }), append-cancel (10 ∷ []) r s d.1)
 
@@ -201,7 +201,7 @@ module _ (wires : List RtlWire) (ids : (w : RtlWire) → Contains wires w → Is
       let pa = flat_map parameter_text a.parameters in
       let pb = flat_map parameter_text b.parameters in
       let e = append-cancel p (kind_text a.kind ++ (w ++ (a.id ++ (10 ∷ (pa ++ (x.ends ++ (cell_end ++ r))))))) (kind_text b.kind ++ (w ++ (b.id ++ (10 ∷ (pb ++ (y.ends ++ (cell_end ++ s)))))))
-          (sym (cell_spread p (kind_text a.kind) w a.id pa x.ends cell_end r) ∙ ap (λ z. z ++ r) (sym x.whole) ∙ same ∙ ap (λ z. z ++ s) y.whole ∙ cell_spread p (kind_text b.kind) w b.id pb y.ends cell_end s) in
+      (sym (cell_spread p (kind_text a.kind) w a.id pa x.ends cell_end r) ∙ ap (λ z. z ++ r) (sym x.whole) ∙ same ∙ ap (λ z. z ++ s) y.whole ∙ cell_spread p (kind_text b.kind) w b.id pb y.ends cell_end s) in
       let c = word-cut (kind_text a.kind) (kind_text b.kind) 32 32 (a.id ++ (10 ∷ (pa ++ (x.ends ++ (cell_end ++ r))))) (b.id ++ (10 ∷ (pb ++ (y.ends ++ (cell_end ++ s))))) (IsWord-kind_text a.kind) (IsWord-kind_text b.kind) (omega arith) (omega arith) e in
       let d = word-cut a.id b.id 10 10 (pa ++ (x.ends ++ (cell_end ++ r))) (pb ++ (y.ends ++ (cell_end ++ s))) h.id k.id (omega arith) (omega arith) c.2 in
       let f = parameters-once a.parameters b.parameters (x.ends ++ (cell_end ++ r)) (y.ends ++ (cell_end ++ s)) h.parameters k.parameters (ends-fifth x.ends a.ends r x.spells) (ends-fifth y.ends b.ends s y.spells) d.2 in

@@ -1,14 +1,13 @@
 -- Ids are words, which begin with `\` or `$`.
-use Rattle.std.proofs.Common.{◌≡◌, ◌∙◌, ◌⊎◌, ◌≤◌, ◌++◌, ◌∷◌, [], ◌||◌, ◌&&◌, ◌==◌, ℕ, Bool, true, false, List, All, codes, refl, sym, ap, subst, arith, inl, inr, ⊎_elim, IsTrue}
+use Rattle.std.proofs.Common.{◌≡◌, ◌⊎◌, ◌≤◌, ◌∷◌, [], ◌||◌, ◌&&◌, ◌==◌, ℕ, Bool, true, false, List, refl, sym, subst, arith, inl, inr, ⊎_elim, IsTrue}
 use Rattle.std.specs.Prelude.{nat_le}
 use Rattle.std.specs.List.{AllByRecursion}
 use Rattle.std.specs.Fmt.{decimal}
 use Rattle.std.proofs.lemmas.Bool.{eqb-true, leb-true, false≢true}
 use Rattle.std.proofs.lemmas.List.Elements.{recursion_from_All}
-use Rattle.rtlil_text.specs.Lines.{◌▸◌}
 use Rattle.rtlil_text.specs.Ids.{is_between, starts_name, continues_name, IsName, dotted, IsSuffix, IsPublicName, IsPublicId, IsInnerId, IsId}
 use Rattle.rtlil_text.proofs.Words.{IsWord, IsWord-append, IsWord-decimal}
-use Rattle.rtlil_text.proofs.SpecOnce.{Begins, IsIdByte, IsIdText}
+use Rattle.rtlil_text.proofs.SpecOnce.{IsIdText}
 
 bool_or : (a b : Bool) → (a || b) ≡ true → (a ≡ true) ⊎ (b ≡ true)
 bool_or true b e = inl refl
