@@ -79,7 +79,7 @@ distinct_left (x ∷ xs) ys h = (all_left (λ y. text_eq x y ≡ false) xs ys h.
     all_left P [] ys h = tt
     all_left P (x ∷ xs) ys h = (h.0, all_left P xs ys h.1)
 
-abbrev wire_ids : List RtlWire → List (List ℕ)
+abbrev pub wire_ids : List RtlWire → List (List ℕ)
 wire_ids ws = map (λ (w : RtlWire). w.id) ws
 
 abbrev free_bits : RtlWire → List Source
@@ -212,10 +212,13 @@ numbered-at by j (suc k) n (x ∷ ss) s e h = inr (numbered-at by (suc j) k n ss
 
 -- ---- where the module keeps the rules
 
+pub wire_ids-distinct : (m : RtlModule) → IsModule m → IsDistinct text_eq (wire_ids m.wires)
+wire_ids-distinct m rules =
+    distinct_left (wire_ids m.wires) (map (λ (r : RtlMemory). r.id) m.memories) (distinct_left (wire_ids m.wires ++ map (λ (r : RtlMemory). r.id) m.memories) (map (λ (c : RtlCell). c.id) m.cells) (apart (module_ids m) rules.distinct))
+
 pub driver-among : (m : RtlModule) (wire : List ℕ) (i : ℕ) (d : Driver) → IsModule m → Among (drivers m) (Net wire i, d) → driver m wire i ≡ d
 driver-among m wire i d rules h =
-    let ids : IsDistinct text_eq (wire_ids m.wires) = distinct_left (wire_ids m.wires) (map (λ (r : RtlMemory). r.id) m.memories)
-    (distinct_left (wire_ids m.wires ++ map (λ (r : RtlMemory). r.id) m.memories) (map (λ (c : RtlCell). c.id) m.cells) (apart (module_ids m) rules.distinct)) in
+    let ids = wire_ids-distinct m rules in
     let distinct : IsDistinct same (driven_bits m) = IsDistinct-IsPermutation same same-flips (inner_bits m) (driven_bits m) (IsPermutation-sym (driven_bits m) (inner_bits m) rules.drivers) (inner_distinct m.wires ids) in
     let key : Among (driven_bits m) (Net wire i) = rw (keys-drivers m) at (Among-map (λ (p : Source × Driver). p.0) (drivers m) (Net wire i, d) h) in
     let inner : Among (inner_bits m) (Net wire i) = Among-contains (inner_bits m) (Net wire i) (Contains-permutation (driven_bits m) (inner_bits m) (Net wire i) rules.drivers (Contains-among (driven_bits m) (Net wire i) key)) in

@@ -19,3 +19,7 @@ pub mod CellLaws
 pub mod Words
 pub mod SpecOnce
 pub mod ModuleOnce
+pub mod IdText
+pub mod KindTexts
+pub mod CellOnce
+pub mod TextOnce

@@ -41,7 +41,7 @@ each-flat_map f (x ∷ xs) = (f x, flat_map f xs, refl, each-flat_map f xs, refl
 -- ---- memories
 
 -- byte k, from 0 on, is c
-pub is_third : ℕ → List ℕ → Bool
+unfoldable pub is_third : ℕ → List ℕ → Bool
 is_third c (x ∷ y ∷ z ∷ rest) = z == c
 is_third c (x ∷ y ∷ []) = false
 is_third c (x ∷ []) = false
@@ -165,7 +165,7 @@ wire-once a b r s h k same =
     let l = wire_line-once a b r s h k i.1 in
     ((λ j. record { id = l.0 j; width = l.1 j; port = l.2 j; init = i.0 j }), l.3)
 
-pub is_wire_start : List ℕ → Bool
+unfoldable pub is_wire_start : List ℕ → Bool
 is_wire_start t = is_third 97 t || is_third 119 t
 
 wire-begins : (r : List ℕ) (a : RtlWire) (o : Option (List Bool)) → is_wire_start ((init_text o ++ wire_line a) ++ r) ≡ true

@@ -122,10 +122,10 @@ left : {A : Type 0} (P : A → Type 0) (xs ys : List A) → AllByRecursion P (xs
 left P [] ys h = tt
 left P (x ∷ xs) ys h = (h.0, left P xs ys h.1)
 
-All-left : {A : Type 0} (P : A → Type 0) (xs ys : List A) → All P (xs ++ ys) → All P xs
+pub All-left : {A : Type 0} (P : A → Type 0) (xs ys : List A) → All P (xs ++ ys) → All P xs
 All-left P xs ys h = All-from_recursion P xs (left P xs ys (recursion_from_All P (xs ++ ys) h))
 
-All-right : {A : Type 0} (P : A → Type 0) (xs ys : List A) → All P (xs ++ ys) → All P ys
+pub All-right : {A : Type 0} (P : A → Type 0) (xs ys : List A) → All P (xs ++ ys) → All P ys
 All-right P [] ys h = h
 All-right P (x ∷ xs) ys h = All-right P xs ys (λ k d lt. h (suc k) d (omega arith))
 
@@ -158,10 +158,10 @@ module _ (wires : List RtlWire) (ids : (w : RtlWire) → Contains wires w → Is
   from_braces : (t inner : List ℕ) → t ≡ 123 ∷ inner → Begins (λ x. x ≡ 123) t
   from_braces t inner e = record { first = 123; rest = inner; such = refl; is = e }
 
-  IsStart : ℕ → Type 0
+  pub IsStart : ℕ → Type 0
   IsStart x = (IsDigitByte x ⊎ IsIdByte x) ⊎ (x ≡ 123)
 
-  spec-begins : (t : List ℕ) (ps : List SigPart) → IsSpec wires t ps → SpecFits wires ps → Begins IsStart t
+  pub spec-begins : (t : List ℕ) (ps : List SigPart) → IsSpec wires t ps → SpecFits wires ps → Begins IsStart t
   unfolding IsStart
   spec-begins t ps (IsSpec.const _ _ bits e f) h = let b = from_const t bits e in record { first = b.first; rest = b.rest; such = inl (inl b.such); is = b.is }
   spec-begins t ps (IsSpec.whole _ _ width w f) h = let b = (whole_id t width w).begins in record { first = b.first; rest = b.rest; such = inl (inr b.such); is = b.is }
@@ -171,7 +171,7 @@ module _ (wires : List RtlWire) (ids : (w : RtlWire) → Contains wires w → Is
       let b = from_slice t id (codes " [" ▸ decimal high ▸ codes ":" ▸ decimal low ▸ codes "]") e (slice_id id low (high - low + 1) (slice_of id low (high - low + 1) ps f h)) in record { first = b.first; rest = b.rest; such = inl (inr b.such); is = b.is }
   spec-begins t ps (IsSpec.braces _ inner _ hs e) h = record { first = 123; rest = inner ▸ codes " }"; such = inr refl; is = e }
 
-  no_start : (x c : ℕ) → (c ≡ 91) ⊎ (c ≡ 125) → IsStart x → x ≡ c → ⊥
+  pub no_start : (x c : ℕ) → (c ≡ 91) ⊎ (c ≡ 125) → IsStart x → x ≡ c → ⊥
   unfolding IsStart
   no_start x c (inl k) (inl (inl d)) e = omega (arith, k, d.1, e)
   no_start x c (inl k) (inl (inr (inl i))) e = omega (arith, k, i, e)
