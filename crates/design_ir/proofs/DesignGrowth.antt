@@ -177,6 +177,7 @@ module _ (c : Circuit) (e : Expr) where
   memory : (m : Memory) → IsMemory c m → IsMemory d m
   unfolding d
   memory m h = record {
+    path = h.path;
     depth = h.depth;
     rows = h.rows;
     row_shapes = h.row_shapes;
@@ -210,6 +211,7 @@ module _ (c : Circuit) (e : Expr) where
     there = h.there;
     some_width = h.some_width;
     names = h.names;
+    name_forms = h.name_forms;
   }
 
   pub design_more : IsDesign c → IsDesign (record c { pool = expr_added c.pool e })

@@ -4,6 +4,7 @@ pub mod SanityParts
 pub mod SanityValues
 pub mod SanityRuns
 pub mod SanityMemories
+pub mod SanityNeeds
 pub mod Answers
 pub mod Looks
 pub mod Shapes
@@ -19,6 +20,7 @@ pub mod Congruence
 pub mod Equations
 pub mod NumbersFit
 pub mod SettlingLaws
+pub mod TargetLaws
 pub mod GuardLaws
 pub mod Whole
 pub mod Runs

@@ -107,3 +107,22 @@ swap_runs = (refl, (refl, (refl, refl)))
 swap_legal : AllLegal swap (both ∷ fast ∷ [])
 unfolding swap both fast
 swap_legal = (((λ eq. cc), (omega arith, (omega arith, tt)), (omega arith, (omega arith, tt))), (((λ eq. cc), (omega arith, tt), (omega arith, tt)), tt))
+
+-- ---- a clock begins at 0, whatever its init; each other signal at its init
+
+late_clock : Circuit
+late_clock = record {
+  pool = record {
+    signals = signal (unsigned 1) (pos 1) ∷ signal (unsigned 1) (pos 1) ∷ [];
+    exprs = [];
+  };
+  processes = [];
+  memories = [];
+  domains = domain (codes "sync") 0 1 ∷ [];
+  ports = input 0 ∷ input 1 ∷ [];
+  columns = [];
+}
+
+clock_begins_low : History late_clock (edge ∷ []) ((pos 0 ∷ pos 1 ∷ []) ∷ (pos 1 ∷ pos 1 ∷ []) ∷ [])
+unfolding late_clock edge form num
+clock_begins_low = (refl, refl)

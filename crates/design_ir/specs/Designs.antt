@@ -1,6 +1,7 @@
 -- What a pool and a design keep to.
 use Rattle.std.specs.Prelude.{◌≡◌, ℕ, ◌+◌, ◌*◌, ◌^◌, ◌<◌, ◌≤◌, ◌==◌, ◌⊎◌, Bool, true, false, IsTrue, IsSome, IsSomeAnd, ⊤, nat_eq, List, [], ◌∷◌, ◌++◌, map, length, slice_get, pos, Option, Some, None, option_map}
 use Rattle.std.specs.List.{flat_map, filter_map, list_any, AllByRecursion, IsDistinct}
+use Rattle.lists.specs.Names.{IsPath, IsPublicName}
 use Rattle.lists.specs.Texts.{text_eq}
 use Rattle.amh_bits.specs.Patterns.{IsOf}
 use Rattle.shape_rules.specs.Forms.{Form, unsigned}
@@ -123,6 +124,7 @@ pub record IsReadPort (c : Circuit) (m : Memory) (r : MemRead) : Type 0 where
   pub transparent : AllByRecursion (IsTransparent m r.domain) r.transparent
 
 pub record IsMemory (c : Circuit) (m : Memory) : Type 0 where
+  pub path : IsPath m.name
   pub depth : m.depth ≤ 65536
   pub rows : length m.rows ≡ m.depth
   pub row_shapes : AllByRecursion (IsOf m.shape.signed m.shape.width) m.rows
@@ -158,6 +160,7 @@ pub record AreColumns (c : Circuit) : Type 0 where
   pub there : AllByRecursion (λ (x : Column). x.sig.0 < length c.pool.signals) c.columns
   pub some_width : AllByRecursion (λ (x : Column). 1 ≤ (signal_form c.pool.signals x.sig.0).width) c.columns
   pub names : IsDistinct text_eq (map (λ (x : Column). x.name) c.columns)
+  pub name_forms : AllByRecursion (λ (x : Column). IsPublicName x.name) c.columns
 
 -- ---- designs
 
