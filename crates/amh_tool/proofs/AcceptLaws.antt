@@ -1,16 +1,13 @@
 -- From what was read to the outcome of a plan.
-use Rattle.std.proofs.Common.{◌≡◌, ◌∙◌, ◌<◌, ◌≤◌, ℕ, Bool, true, false, cond, List, length, length-append, refl, ap, sym, subst, arith}
+use Rattle.std.proofs.Common.{◌≡◌, ◌∙◌, ◌<◌, ◌≤◌, ℕ, cond, List, length, length-append, refl, ap, sym, arith}
 use Rattle.std.specs.Prelude.{Option, None, Some, IfSome, MatchOption, Result, Ok, Err, nat_lt, Vec}
 use Rattle.std.specs.Option.{option_map_or}
 use Rattle.std.specs.declared.alloc.Global.{Global}
 use Rattle.std.proofs.lemmas.Bool.Decides.{nat_tests}
 use Rattle.amh_host.specs.Seen.{Files}
 use Rattle.amh_host.specs.Whole.{ReadsWhole, IsWhole}
-use Rattle.amh_host.specs.declared.whole.Whole.{Whole}
 use Rattle.amh_host.specs.declared.whole.Whole.TheVariants.{Bytes, TooLong}
 use Rattle.amh_host.specs.declared.place.Kind.TheVariants.{Limit}
-use Rattle.design_ir.specs.declared.event.Event.{Event}
-use Rattle.design_ir.specs.Circuits.{Circuit}
 use Rattle.amh_tool.specs.declared.form.Component.{Component}
 use Rattle.amh_tool.specs.declared.component.Refusal.{Refusal}
 use Rattle.amh_tool.specs.Plan.{Plan}

@@ -1,15 +1,14 @@
 -- The module of a component that is one gate, and its columns.
-use Rattle.std.proofs.Common.{◌≡◌, ◌∙◌, List, sym, subst, ap}
+use Rattle.std.proofs.Common.{◌≡◌, ◌∙◌, sym, subst, ap}
 use Rattle.rtlil_text.specs.declared.module.RtlModule.{RtlModule}
 use Rattle.rtlil_text.specs.Rules.{IsModule}
 use Rattle.amh_tool.specs.declared.form.Component.{Component}
 use Rattle.amh_tool.specs.declared.lower.GateMembers.{GateMembers}
-use Rattle.amh_tool.specs.declared.board.Board.{Board}
 use Rattle.amh_tool.specs.Form.{IsGate}
 use Rattle.amh_tool.specs.Elaborated.{circuit_of}
 use Rattle.amh_tool.specs.Boards.{board_of}
 use Rattle.amh_tool.specs.Corresponds.{Corresponds, SameHistory}
-use Rattle.amh_tool.specs.Gate.{Gate, gate_board}
+use Rattle.amh_tool.specs.Gate.{gate_board}
 use Rattle.amh_tool.specs.GateMembers.{IsGateOf, gate_seen}
 use Rattle.amh_tool.specs.Lowered.{gate_module}
 use Rattle.amh_tool.proofs.GateFacts.{IsSoundGate, gate_of}

@@ -1,6 +1,6 @@
 -- From what the parts of a run did to the clauses of the whole.
-use Rattle.std.proofs.Common.{◌≡◌, ◌≢◌, ◌∙◌, ◌⊎◌, ℕ, suc, length, Bool, true, false, cond, not, ◌&&◌, List, [], ◌∷◌, ◌++◌, refl, ap, sym, subst, inl, inr}
-use Rattle.std.specs.Prelude.{Option, None, Some, IfSome, MatchOption, Result, Ok, Err, OnErr, OnOk}
+use Rattle.std.proofs.Common.{◌≡◌, ◌≢◌, ◌∙◌, ◌⊎◌, ℕ, suc, length, Bool, true, false, cond, not, ◌&&◌, List, [], ◌∷◌, refl, ap, sym, subst, inl, inr}
+use Rattle.std.specs.Prelude.{Option, None, Some, MatchOption, Result, Ok, Err, OnErr, OnOk}
 use Rattle.std.specs.Option.{option_map, option_map_or}
 use Rattle.std.specs.Str.{bytes_eq}
 use Rattle.std.proofs.lemmas.Slice.Eq.{bytes_eq-Decides}
@@ -12,10 +12,10 @@ use Rattle.amh_host.specs.Written.{WritesFront, Writes}
 use Rattle.design_ir.specs.declared.event.Event.{Event}
 use Rattle.design_ir.specs.Circuits.{Circuit}
 use Rattle.amh_tool.specs.Trace.{Row, End, Done as EndDone, timed}
-use Rattle.amh_tool.specs.Plan.{Plan, plan_of, differ, are_distinct, are_plain}
+use Rattle.amh_tool.specs.Plan.{Plan, plan_of, differ, are_distinct}
 use Rattle.amh_tool.specs.Outcome.{Outcome, Unread, BadWords, Refuses, BadLine, Accepts, outcome, planned, status_of, said_of, warned_of, names, no_plan, usage_text}
 use Rattle.amh_tool.specs.Headline.{Tells, IfAccepted, IsAccepted, HoldsRtlil, HoldsTrace, IsWritten, grown}
-use Rattle.amh_tool.specs.Work.{Owed, Works, WorksFor, WorksUsage, Fails, FailsFor, Carries, CarriesPart, IsFor, with_files}
+use Rattle.amh_tool.specs.Work.{Owed, Works, WorksFor, Fails, FailsFor, Carries, CarriesPart, IsFor, with_files}
 use Rattle.amh_tool.specs.declared.run.Status.{Status}
 use Rattle.amh_tool.specs.declared.run.Status.TheVariants.{Fault, NoMemory}
 

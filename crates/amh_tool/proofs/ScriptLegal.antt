@@ -1,6 +1,6 @@
 -- What a script says is legal for its design.
-use Rattle.std.proofs.Common.{◌≡◌, ◌≢◌, refl, ℕ, zero, suc, ◌+◌, ◌-◌, ◌*◌, ◌^◌, ◌≤◌, ◌<◌, Bool, true, false, cond, List, [], ◌∷◌, length, sym, ap, ◌∙◌, subst, arith}
-use Rattle.std.specs.Prelude.{◌==◌, Result, Ok, Err, Option, Some, None, ℤ, pos, negsuc, nat_lt, not, ◌&&◌, ◌||◌, map, codes, bytes_eq, option_and_then, IsTrue}
+use Rattle.std.proofs.Common.{◌≡◌, ◌≢◌, refl, ℕ, suc, ◌+◌, ◌-◌, ◌*◌, ◌^◌, ◌≤◌, ◌<◌, Bool, true, false, cond, List, [], ◌∷◌, length, sym, ap, ◌∙◌, subst, arith}
+use Rattle.std.specs.Prelude.{◌==◌, Result, Ok, Err, Option, Some, None, ℤ, pos, negsuc, nat_lt, not, ◌&&◌, ◌||◌, map, codes, bytes_eq, option_and_then}
 use Rattle.std.specs.List.{find, list_any, list_all, filter_map, enumerate_from, cons_option, AllByRecursion}
 use Rattle.std.proofs.lemmas.Bool.{false≢true, and_parts}
 use Rattle.std.proofs.lemmas.Bool.Decides.{nat_tests}
@@ -14,7 +14,6 @@ use Rattle.design_ir.specs.declared.event.Event.TheVariants.{Set, Edge}
 use Rattle.design_ir.specs.Circuits.{Circuit, is_input}
 use Rattle.design_ir.specs.Legal.{IsLegal, AllLegal, Ascending}
 use Rattle.amh_tool.specs.declared.board.Shown.{Shown}
-use Rattle.amh_tool.specs.declared.board.Board.{Board}
 use Rattle.amh_tool.specs.declared.script_saying.Saying.{Saying}
 use Rattle.amh_tool.specs.declared.script_saying.Saying.TheVariants.{Nothing, Asks, Bad}
 use Rattle.amh_tool.specs.FormLines.{Line, lines_in}
@@ -136,13 +135,8 @@ edge_event-legal c (w ∷ ws) e h = here (list_all (is_domain (board_of c)) (w �
     here true q false j = absurd (cc)
     here true q true j =
         let same : Edge (named_domains (board_of c) (w ∷ ws)) ≡ e = cc in
-<<<<<<< HEAD
-        let known : is_domain (board_of c) w ≡ true = left_of (is_domain (board_of c) w) (list_all (is_domain (board_of c)) ws) q in
-        let legal : IsLegal c (Edge (named_domains (board_of c) (w ∷ ws))) = (named_some w ws 0 c.domains known, named_within (w ∷ ws) 0 (length c.domains) c.domains (omega arith), named_ascending (w ∷ ws) 0 0 c.domains (omega arith)) in
-=======
         let known : is_domain (board_of c) w ≡ true = (and_parts (is_domain (board_of c) w) (list_all (is_domain (board_of c)) ws) q).0 in
-        let legal : IsLegal c (Edge (named_domains (board_of c) (w ∷ ws))) = (named_some w ws 0 c.domains known, named_within (w ∷ ws) 0 (length c.domains) c.domains (omega arith), named_ascending (w ∷ ws) 0 c.domains) in
->>>>>>> 5090f7686e7636b8a05960af9c8b99b5847b65b0
+        let legal : IsLegal c (Edge (named_domains (board_of c) (w ∷ ws))) = (named_some w ws 0 c.domains known, named_within (w ∷ ws) 0 (length c.domains) c.domains (omega arith), named_ascending (w ∷ ws) 0 0 c.domains (omega arith)) in
         subst (λ (y : Event). IsLegal c y) same legal
 
 -- ---- lines

@@ -1,5 +1,5 @@
 -- What the trace and the script see of a design: its columns with their shapes, and its domains.
-use Rattle.std.specs.Prelude.{ℕ, Bool, not, ◌&&◌, ◌==◌, List, map}
+use Rattle.std.specs.Prelude.{ℕ, Bool, not, ◌&&◌, ◌==◌, map}
 use Rattle.std.specs.List.{list_any}
 use Rattle.design_ir.specs.declared.domain.Domain.{Domain}
 use Rattle.design_ir.specs.declared.port.Column.{Column}

@@ -1,9 +1,7 @@
 -- A design and a module that stand for the same histories.
-use Rattle.std.specs.Prelude.{◌≡◌, ℕ, suc, ◌+◌, ◌<◌, ◌==◌, Bool, true, false, not, if◌then◌else◌, ◌&&◌, List, [], ◌∷◌, ◌++◌, map, length, fold, slice_get, slice_set, Option, Some, None, unwrap_or, ℤ, All}
-use Rattle.std.specs.Option.{option_map}
+use Rattle.std.specs.Prelude.{◌≡◌, ℕ, suc, ◌<◌, ◌==◌, Bool, if◌then◌else◌, List, [], ◌∷◌, ◌++◌, map, fold, slice_get, slice_set, Option, Some, None, ℤ, All}
 use Rattle.std.specs.List.{find, filter_map, enumerate_from}
 use Rattle.amh_bits.specs.Patterns.{pattern}
-use Rattle.design_ir.specs.declared.ids.SigId.{SigId}
 use Rattle.design_ir.specs.declared.port.Column.{Column}
 use Rattle.design_ir.specs.declared.port.Port.{Port}
 use Rattle.design_ir.specs.declared.event.Event.{Event}

@@ -1,10 +1,8 @@
 -- The design that a component form stands for.
-use Rattle.std.specs.Prelude.{ℕ, suc, ◌+◌, Bool, true, false, ◌==◌, if◌then◌else◌, List, [], ◌∷◌, ◌++◌, length, map, codes, pos, Option, Some, None}
+use Rattle.std.specs.Prelude.{ℕ, suc, ◌+◌, Bool, true, false, if◌then◌else◌, List, [], ◌∷◌, ◌++◌, length, map, codes, pos, Option, Some, None}
 use Rattle.std.specs.List.{flat_map, list_any, range_with_len}
-use Rattle.amh_host.specs.declared.place.Place.{Place}
 use Rattle.shape_rules.specs.Forms.{unsigned}
 use Rattle.shape_rules.specs.declared.op.Op.TheVariants as op
-use Rattle.design_ir.specs.declared.ids.SigId.{SigId}
 use Rattle.design_ir.specs.declared.ids.ExprId.{ExprId}
 use Rattle.design_ir.specs.declared.ids.DomainId.{DomainId}
 use Rattle.design_ir.specs.declared.signal.Sig.{Sig}
@@ -86,7 +84,7 @@ assigned clocked first operator line [] = done
 assigned clocked first operator line (a ∷ more) =
     if is_of_side clocked a.clocked
     then next (assign (record { 0 = first + a.target }) (value_expr first operator a.right) (record { line = line; col = eq_column }))
-        (assigned clocked first (operator + length (operator_of first a.right)) (suc line) more)
+    (assigned clocked first (operator + length (operator_of first a.right)) (suc line) more)
     else assigned clocked first (operator + length (operator_of first a.right)) (suc line) more
 
 -- the line of the first assignment: five lines, the members, and three lines before it

@@ -1,5 +1,5 @@
 -- What an AND gate does, from the numbers of its inputs on.
-use Rattle.std.specs.Prelude.{ℕ, suc, false, List, [], ◌∷◌, length, map, replicate, slice_set, ℤ, pos}
+use Rattle.std.specs.Prelude.{ℕ, suc, false, List, [], ◌∷◌, length, replicate, slice_set, ℤ, pos}
 use Rattle.amh_bits.specs.Integers.{int_and}
 use Rattle.shape_rules.specs.Forms.{unsigned}
 use Rattle.design_ir.specs.declared.event.Event.{Event}

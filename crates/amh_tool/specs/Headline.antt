@@ -1,5 +1,5 @@
 -- What is proved of the whole program.
-use Rattle.std.specs.Prelude.{◌≡◌, ◌≢◌, ◌⊎◌, ℕ, List, ◌++◌, Option, None, Some, MatchOption, ℤ}
+use Rattle.std.specs.Prelude.{◌≡◌, ◌≢◌, ◌⊎◌, ℕ, List, ◌++◌, Option, Some, MatchOption, ℤ}
 use Rattle.std.specs.Option.{option_map}
 use Rattle.amh_host.specs.Seen.{Seen, file_of}
 use Rattle.amh_host.specs.Causes.{Stood}

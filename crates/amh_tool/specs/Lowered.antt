@@ -1,5 +1,5 @@
 -- The module of RTLIL that an AND gate is lowered to.
-use Rattle.std.specs.Prelude.{ℕ, suc, ◌+◌, ◌==◌, Bool, true, false, if◌then◌else◌, List, [], ◌∷◌, ◌++◌, codes, None}
+use Rattle.std.specs.Prelude.{ℕ, suc, ◌==◌, Bool, true, false, if◌then◌else◌, List, [], ◌∷◌, ◌++◌, codes, None}
 use Rattle.std.specs.Fmt.{decimal}
 use Rattle.shape_rules.specs.declared.cell.CellKind.TheVariants.{And}
 use Rattle.rtlil_text.specs.declared.sig.SigPart.{SigPart}

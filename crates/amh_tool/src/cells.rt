@@ -4,7 +4,9 @@ ghost use Rattle.amh_tool.specs.Corresponds.{public_id};
 ghost use Rattle.amh_tool.specs.Lowered.{inner_id, whole_bit, constant_bit, number_parameter, end_at, one_bit_parameters, and_cell};
 
 use amh_host::{Items, NoMemory, Text};
-use rtlil_text::{RtlBits, RtlCell, RtlEnd, RtlParameter, RtlParameters, RtlValue, SigPart, SigSpec};
+use rtlil_text::{
+    RtlBits, RtlCell, RtlEnd, RtlParameter, RtlParameters, RtlValue, SigPart, SigSpec,
+};
 use shape_rules::CellKind;
 use std::alloc::Global;
 

@@ -20,14 +20,14 @@ mod plan;
 mod play;
 mod run;
 mod script;
-#[cfg(test)]
-mod tests;
 mod script_edge;
 mod script_line;
 mod script_names;
 mod script_numbers;
 mod script_saying;
 mod script_words;
+#[cfg(test)]
+mod tests;
 mod texts;
 mod trace;
 mod trace_events;

@@ -12,7 +12,6 @@ use crate::texts::done_text;
 use crate::trace::write_trace;
 use amh_host::{Host, HostStop};
 use rtlil_text::write;
-
 use std::alloc::Global;
 
 /// Writes RTLIL whole, then the trace line by line, and says that both are done.

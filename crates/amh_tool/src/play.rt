@@ -13,12 +13,7 @@ pub fn play<H: Host>(alloc: Global, host: &mut H, words: &Words) -> Status {
 }
 
 // The ledger of the counter is picked at the call, so the counter is made below it.
-fn counted<H: Host, L: Ledger>(
-    alloc: Global,
-    host: &mut H,
-    words: &Words,
-    blank: Blank,
-) -> Status
+fn counted<H: Host, L: Ledger>(alloc: Global, host: &mut H, words: &Words, blank: Blank) -> Status
     requires { (blank.name ≡ L.name) × (blank.parts ≡ L.parts) × (0 < L.parts) }
 {
     let mut steps = Steps::<L>::new(blank);

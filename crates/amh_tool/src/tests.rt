@@ -23,15 +23,17 @@ const SCRIPT: &str = "set a 1\nset b 1\nset a 0\nset b 0\n";
 const RTLIL: &str =
     "attribute \\top 1\nmodule \\top\n  wire width 1 input 1 \\a\n  wire width 1 input 2 \\b\n  wire width 1 output 3 \\y\n  wire width 1 $1\n  cell $and $2\n    parameter \\A_SIGNED 0\n    parameter \\A_WIDTH 1\n    parameter \\B_SIGNED 0\n    parameter \\B_WIDTH 1\n    parameter \\Y_WIDTH 1\n    connect \\A \\a\n    connect \\B \\b\n    connect \\Y $1\n  end\n  connect \\y $1\nend\n";
 
-const FIRST_ROWS: &str =
-    "amh-trace 1\ncol a u1\ncol b u1\ncol y u1\n0 init | a=0 b=0 y=0\n";
+const FIRST_ROWS: &str = "amh-trace 1\ncol a u1\ncol b u1\ncol y u1\n0 init | a=0 b=0 y=0\n";
 
 const LATER_ROWS: &str =
     "1 set a 1 | a=1\n2 set b 1 | b=1 y=1\n3 set a 0 | a=0 y=0\n4 set b 0 | b=0\nend done\n";
 
 // The words that read gate.py and gate.stim and write gate.il and gate.tr.
 fn gate_words(alloc: Global) -> Result<Words, Fail> {
-    words_of(alloc, &["gate.py", "gate.il", "gate.tr", "--play", "gate.stim"])
+    words_of(
+        alloc,
+        &["gate.py", "gate.il", "gate.tr", "--play", "gate.stim"],
+    )
 }
 
 fn words_of(alloc: Global, all: &[&str]) -> Result<Words, Fail> {
@@ -101,15 +103,72 @@ fn designs_outside_the_form_are_refused(rt: HostRuntime) -> Result<(), Fail> {
     let swapped = "        m.d.comb += self.a.eq(self.b & self.b)\n";
     let read_back = "        m.d.comb += self.y.eq(self.a & self.y)\n";
     let table: [(&[&str], &str); 9] = [
-        (&[IMPORTS, "    a: In(1)\n    b: In(2)\n    y: Out(1)\n", ELABORATE, ASSIGNMENT, END], "gate.py:7:1: subset\n"),
-        (&[IMPORTS, "    if: In(1)\n    b: In(1)\n    y: Out(1)\n", ELABORATE, ASSIGNMENT, END], "gate.py:6:1: subset\n"),
-        (&[IMPORTS, "    a: In(1)\n    a: In(1)\n    y: Out(1)\n", ELABORATE, ASSIGNMENT, END], "gate.py:7:1: subset\n"),
-        (&[IMPORTS, "    \u{e9}: In(1)\n    b: In(1)\n    y: Out(1)\n", ELABORATE, ASSIGNMENT, END], "gate.py:6:1: subset\n"),
-        (&[IMPORTS, MEMBERS, ELABORATE, read_back, END], "gate.py:12:1: subset\n"),
-        (&[IMPORTS, MEMBERS, ELABORATE, swapped, END], "gate.py:12:1: subset\n"),
-        (&[IMPORTS, MEMBERS, ELABORATE, ASSIGNMENT, "        return m\n\ntop = Gate()"], "gate.py:15:1: subset\n"),
-        (&[IMPORTS, MEMBERS, ELABORATE, ASSIGNMENT, END, "\n"], "gate.py:16:1: subset\n"),
-        (&["from amaranth import *\r\n", MEMBERS], "gate.py:1:1: subset\n"),
+        (
+            &[
+                IMPORTS,
+                "    a: In(1)\n    b: In(2)\n    y: Out(1)\n",
+                ELABORATE,
+                ASSIGNMENT,
+                END,
+            ],
+            "gate.py:7:1: subset\n",
+        ),
+        (
+            &[
+                IMPORTS,
+                "    if: In(1)\n    b: In(1)\n    y: Out(1)\n",
+                ELABORATE,
+                ASSIGNMENT,
+                END,
+            ],
+            "gate.py:6:1: subset\n",
+        ),
+        (
+            &[
+                IMPORTS,
+                "    a: In(1)\n    a: In(1)\n    y: Out(1)\n",
+                ELABORATE,
+                ASSIGNMENT,
+                END,
+            ],
+            "gate.py:7:1: subset\n",
+        ),
+        (
+            &[
+                IMPORTS,
+                "    \u{e9}: In(1)\n    b: In(1)\n    y: Out(1)\n",
+                ELABORATE,
+                ASSIGNMENT,
+                END,
+            ],
+            "gate.py:6:1: subset\n",
+        ),
+        (
+            &[IMPORTS, MEMBERS, ELABORATE, read_back, END],
+            "gate.py:12:1: subset\n",
+        ),
+        (
+            &[IMPORTS, MEMBERS, ELABORATE, swapped, END],
+            "gate.py:12:1: subset\n",
+        ),
+        (
+            &[
+                IMPORTS,
+                MEMBERS,
+                ELABORATE,
+                ASSIGNMENT,
+                "        return m\n\ntop = Gate()",
+            ],
+            "gate.py:15:1: subset\n",
+        ),
+        (
+            &[IMPORTS, MEMBERS, ELABORATE, ASSIGNMENT, END, "\n"],
+            "gate.py:16:1: subset\n",
+        ),
+        (
+            &["from amaranth import *\r\n", MEMBERS],
+            "gate.py:1:1: subset\n",
+        ),
     ];
     for (parts, warned) in table {
         let design = file_of(alloc, parts)?;
@@ -139,7 +198,13 @@ fn a_design_that_is_too_long_is_refused(rt: HostRuntime) -> Result<(), Fail> {
     let alloc = rt.alloc();
     let bytes = vec![in alloc; b'\n'; 1_048_577]?;
     assert_refused(&rt, alloc, &bytes, b"", "gate.py:1:1: limit\n")?;
-    assert_refused(&rt, alloc, &bytes[..1_048_576], b"", "gate.py:1:1: subset\n")
+    assert_refused(
+        &rt,
+        alloc,
+        &bytes[..1_048_576],
+        b"",
+        "gate.py:1:1: subset\n",
+    )
 }
 
 #[test]
@@ -153,7 +218,10 @@ fn scripts_are_read(rt: HostRuntime) -> Result<(), Fail> {
         ("set a -1\n", "gate.stim:1: script\n"),
         ("set a -0\n", "gate.stim:1: script\n"),
         ("set a 01\n", "gate.stim:1: script\n"),
-        ("set a 340282366920938463463374607431768211456\n", "gate.stim:1: script\n"),
+        (
+            "set a 340282366920938463463374607431768211456\n",
+            "gate.stim:1: script\n",
+        ),
         ("set a\n", "gate.stim:1: script\n"),
         ("set a  1\n", "gate.stim:1: script\n"),
         ("set a 1 \n", "gate.stim:1: script\n"),
@@ -168,7 +236,10 @@ fn scripts_are_read(rt: HostRuntime) -> Result<(), Fail> {
     let status = play(alloc, &mut host, &gate_words(alloc)?);
     assert_eq!(rt; status, Status::Done);
     assert_eq!(rt; host.said(), "done: 3 columns, 2 events\n");
-    let trace = file_of(alloc, &[FIRST_ROWS, "1 set a 1 | a=1\n2 set a 1 |\nend done\n"])?;
+    let trace = file_of(
+        alloc,
+        &[FIRST_ROWS, "1 set a 1 | a=1\n2 set a 1 |\nend done\n"],
+    )?;
     assert_eq!(rt; host.bytes("gate.tr").ok_or("no trace")?, trace.as_bytes());
     Ok(())
 }
@@ -180,7 +251,14 @@ fn other_words_are_told_the_usage(rt: HostRuntime) -> Result<(), Fail> {
         &[],
         &["gate.py", "gate.il", "gate.tr"],
         &["gate.py", "gate.il", "gate.tr", "--play"],
-        &["gate.py", "gate.il", "gate.tr", "--play", "gate.stim", "more"],
+        &[
+            "gate.py",
+            "gate.il",
+            "gate.tr",
+            "--play",
+            "gate.stim",
+            "more",
+        ],
         &["gate.py", "gate.il", "gate.tr", "--plays", "gate.stim"],
         &["gate.py", "gate.il", "gate.py", "--play", "gate.stim"],
         &["gate.py", "gate.il", "gate.tr", "--play", "gate.il"],
@@ -191,7 +269,10 @@ fn other_words_are_told_the_usage(rt: HostRuntime) -> Result<(), Fail> {
         let status = play(alloc, &mut host, &words_of(alloc, all)?);
         assert_eq!(rt; status, Status::Usage);
         assert_eq!(rt; status.code(), 3);
-        assert_eq!(rt; host.warned(), "usage: amh_tool DESIGN IL TRACE [--play FILE] [--top NAME] [--budget N] [--make N]\n");
+        assert_eq!(rt;
+            host.warned(),
+            "usage: amh_tool DESIGN IL TRACE [--play FILE] [--top NAME] [--budget N] [--make N]\n"
+        );
         assert!(rt; host.bytes("gate.il").is_none());
     }
     Ok(())

@@ -1,16 +1,13 @@
 use Rattle.std.proofs.Common.{◌≡◌, ◌∙◌, ap, sym, subst}
 use Rattle.std.specs.Prelude.{Ok, Err}
-use Rattle.amh_host.specs.Seen.{Seen}
 use Rattle.amh_tool.specs.declared.board.Board.{Board}
 use Rattle.amh_tool.specs.declared.script.ScriptStop.{ScriptStop}
-use Rattle.amh_tool.specs.ScriptGives.{ScriptGives, ReadsScript}
+use Rattle.amh_tool.specs.ScriptGives.{ScriptGives}
 use Rattle.amh_tool.specs.Elaborated.{circuit_of}
 use Rattle.amh_tool.specs.Boards.{board_of}
 use Rattle.amh_tool.specs.Script.{script_events}
 use Rattle.amh_tool.specs.Outcome.{played, BadLine}
 use Rattle.amh_tool.specs.Views.{plan_seen}
-use Rattle.amh_tool.specs.Verdicts.{verdict_seen}
-use Rattle.amh_tool.specs.declared.accept.Verdict.TheVariants.{Accepted}
 use Rattle.amh_tool.proofs.AcceptLaws.{read_script_of}
 use Rattle.amh_tool.proofs.BoardLaws.{board_of-few_domains}
 use Rattle.amh_tool.proofs.ScriptLegal.{script_events-legal}
@@ -25,14 +22,14 @@ returns-in-Ok-clause-given g c =
     let told = (g.H.Host.seen c.args.host.now).files in
     let f = c.args.component in
     let e : script_events (board_of (circuit_of f)) c.in_ok-text.text.items ≡ Ok c.in-Ok.events =
-        (λ i. script_events ((sym c.in_ok-board.ensures) i) ((sym c.deref.ensures.value) i)) ∙ c.in-Ok.ensures in
+    (λ i. script_events ((sym c.in_ok-board.ensures) i) ((sym c.deref.ensures.value) i)) ∙ c.in-Ok.ensures in
     read_script_of p told f c.in_ok-text.text.items _ c.in_ok-text.ensures.bytes (ap (played (circuit_of f)) e)
 
 pub returns-in-Ok-clause-fit : goal.returns-in-Ok-clause-fit
 returns-in-Ok-clause-fit g c =
     let f = c.args.component in
     let e : script_events (board_of (circuit_of f)) c.deref.result.now ≡ Ok c.in-Ok.events =
-        ap (λ (b : Board). script_events b c.deref.result.now) (sym c.in_ok-board.ensures) ∙ c.in-Ok.ensures in
+    ap (λ (b : Board). script_events b c.deref.result.now) (sym c.in_ok-board.ensures) ∙ c.in-Ok.ensures in
     record { gate = c.requires; board = c.in_ok-board.ensures; legal = script_events-legal (circuit_of f) c.deref.result.now c.in-Ok.events e }
 
 pub returns-in-Err-Line-clause-given : goal.returns-in-Err-Line-clause-given
@@ -44,5 +41,5 @@ returns-in-Err-Line-clause-given g c =
     let given : ScriptGives (Err c.in-Err-Line.field-0) (script_events c.in_ok-board.board c.deref.result.now) = c.in-Err-Line.ensures in
     let said = subst (λ (x : ScriptStop). ScriptGives (Err x) (script_events c.in_ok-board.board c.deref.result.now)) c.in-Err-Line.field-0-is given in
     let e : script_events (board_of (circuit_of f)) c.in_ok-text.text.items ≡ Err line =
-        (λ i. script_events ((sym c.in_ok-board.ensures) i) ((sym c.deref.ensures.value) i)) ∙ said in
+    (λ i. script_events ((sym c.in_ok-board.ensures) i) ((sym c.deref.ensures.value) i)) ∙ said in
     read_script_of p told f c.in_ok-text.text.items (BadLine line) c.in_ok-text.ensures.bytes (ap (played (circuit_of f)) e)

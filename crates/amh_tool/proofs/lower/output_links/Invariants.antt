@@ -1,4 +1,4 @@
-use Rattle.std.proofs.Common.{◌≡◌, ◌+◌, ◌++◌, drop}
+use Rattle.std.proofs.Common.{◌≡◌, ◌++◌, drop}
 use Rattle.amh_tool.specs.Lowered.{output_links}
 use Rattle.amh_tool.proofs.lower.output_links.Given as goal
 

@@ -1,4 +1,4 @@
-use Rattle.std.proofs.Common.{◌≡◌, ◌∙◌, ap, sym, subst, refl, ℕ, List}
+use Rattle.std.proofs.Common.{◌≡◌, ◌∙◌, ap, subst, refl, ℕ, List}
 use Rattle.std.specs.Prelude.{Some, IfSome}
 use Rattle.amh_host.specs.Seen.{Seen, with_warned}
 use Rattle.amh_host.specs.Calls.{AddsFront}
