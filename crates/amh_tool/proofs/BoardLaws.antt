@@ -1,10 +1,10 @@
 -- What the board of a component's design has.
-use Rattle.std.proofs.Common.{◌≡◌, ℕ, ◌≤◌, Bool, true, false, cond, List, [], ◌∷◌, length, subst, sym, arith}
+use Rattle.std.proofs.Common.{◌≡◌, ◌≤◌, Bool, true, false, cond, [], ◌∷◌, length, subst, sym, arith}
 use Rattle.std.specs.Prelude.{Some, codes}
 use Rattle.design_ir.specs.declared.domain.Domain.{Domain}
 use Rattle.amh_tool.specs.declared.board.Board.{Board}
 use Rattle.amh_tool.specs.declared.form.Component.{Component}
-use Rattle.amh_tool.specs.Elaborated.{circuit_of, sync_domain, uses_sync}
+use Rattle.amh_tool.specs.Elaborated.{circuit_of, uses_sync}
 use Rattle.amh_tool.specs.Boards.{board_of}
 
 -- a component has at most one domain

@@ -1,11 +1,10 @@
 -- A front of a script that is longer than a script may be.
-use Rattle.std.proofs.Common.{◌≡◌, refl, ℕ, zero, suc, ◌+◌, ◌-◌, ◌≤◌, ◌<◌, Bool, true, false, cond, List, [], ◌∷◌, ◌++◌, length, sym, ap, ◌∙◌, subst, arith, ◌⊎◌, inl, inr}
-use Rattle.std.specs.Prelude.{Result, Ok, Err, nat_lt, ◌==◌}
+use Rattle.std.proofs.Common.{◌≡◌, refl, ℕ, zero, suc, ◌+◌, ◌-◌, ◌≤◌, ◌<◌, Bool, true, false, List, [], ◌∷◌, ◌++◌, length, sym, ap, ◌∙◌, arith, ◌⊎◌, inl, inr}
+use Rattle.std.specs.Prelude.{Err, nat_lt, ◌==◌}
 use Rattle.std.proofs.lemmas.List.{append-nil}
 use Rattle.std.proofs.lemmas.Bool.Decides.{nat_tests}
-use Rattle.design_ir.specs.declared.event.Event.{Event}
 use Rattle.amh_tool.specs.declared.board.Board.{Board}
-use Rattle.amh_tool.specs.FormLines.{Line, lines_in, with_byte}
+use Rattle.amh_tool.specs.FormLines.{Line, lines_in}
 use Rattle.amh_tool.specs.Script.{script_events, most_bytes, most_events, events_from, says, content, said_at, left_behind}
 
 -- the first line of a text ends in this front of it

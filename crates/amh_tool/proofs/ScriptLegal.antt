@@ -1,6 +1,6 @@
 -- What a script says is legal for its design.
-use Rattle.std.proofs.Common.{◌≡◌, ◌≢◌, refl, ℕ, zero, suc, ◌+◌, ◌-◌, ◌*◌, ◌^◌, ◌≤◌, ◌<◌, Bool, true, false, cond, List, [], ◌∷◌, length, sym, ap, ◌∙◌, subst, arith}
-use Rattle.std.specs.Prelude.{◌==◌, Result, Ok, Err, Option, Some, None, ℤ, pos, negsuc, nat_lt, not, ◌&&◌, ◌||◌, map, codes, bytes_eq, option_and_then, IsTrue}
+use Rattle.std.proofs.Common.{◌≡◌, ◌≢◌, refl, ℕ, suc, ◌+◌, ◌-◌, ◌*◌, ◌^◌, ◌≤◌, ◌<◌, Bool, true, false, cond, List, [], ◌∷◌, length, sym, ap, ◌∙◌, subst, arith}
+use Rattle.std.specs.Prelude.{◌==◌, Result, Ok, Err, Option, Some, None, ℤ, pos, negsuc, nat_lt, not, ◌&&◌, ◌||◌, map, codes, bytes_eq, option_and_then}
 use Rattle.std.specs.List.{find, list_any, list_all, filter_map, enumerate_from, cons_option, AllByRecursion}
 use Rattle.std.proofs.lemmas.Bool.{false≢true, and_parts}
 use Rattle.std.proofs.lemmas.Bool.Decides.{nat_tests}
@@ -14,7 +14,6 @@ use Rattle.design_ir.specs.declared.event.Event.TheVariants.{Set, Edge}
 use Rattle.design_ir.specs.Circuits.{Circuit, is_input}
 use Rattle.design_ir.specs.Legal.{IsLegal, AllLegal, Ascending}
 use Rattle.amh_tool.specs.declared.board.Shown.{Shown}
-use Rattle.amh_tool.specs.declared.board.Board.{Board}
 use Rattle.amh_tool.specs.declared.script_saying.Saying.{Saying}
 use Rattle.amh_tool.specs.declared.script_saying.Saying.TheVariants.{Nothing, Asks, Bad}
 use Rattle.amh_tool.specs.FormLines.{Line, lines_in}

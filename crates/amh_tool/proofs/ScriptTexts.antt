@@ -1,6 +1,6 @@
 -- The text that a trace gives a `set` event says that event in a script.
-use Rattle.std.proofs.Common.{◌≡◌, refl, ℕ, ◌+◌, ◌-◌, ◌*◌, ◌≤◌, ◌<◌, Bool, true, false, cond, List, [], ◌∷◌, ◌++◌, sym, ap, ◌∙◌, subst, arith}
-use Rattle.std.specs.Prelude.{Option, Some, None, option_and_then, option_map, ℤ, pos, codes, ◌==◌}
+use Rattle.std.proofs.Common.{◌≡◌, refl, ℕ, ◌+◌, ◌-◌, ◌*◌, ◌≤◌, Bool, true, false, cond, List, [], ◌∷◌, ◌++◌, ap, ◌∙◌, arith}
+use Rattle.std.specs.Prelude.{Option, Some, None, option_and_then, option_map, ℤ, pos, ◌==◌}
 use Rattle.std.specs.List.{list_any}
 use Rattle.std.proofs.lemmas.Bool.{or_parts, or_from}
 use Rattle.std.proofs.lemmas.Bool.Decides.{nat_tests}
@@ -12,7 +12,7 @@ use Rattle.amh_tool.specs.declared.board.Shown.{Shown}
 use Rattle.amh_tool.specs.declared.board.Board.{Board}
 use Rattle.amh_tool.specs.declared.script_saying.Saying.TheVariants.{Asks}
 use Rattle.amh_tool.specs.Trace.{event_text, name_of}
-use Rattle.amh_tool.specs.Script.{says, settable, set_event, set_to, digits_from, natural_of, opposite, integer_of, holds, words_in, in_word}
+use Rattle.amh_tool.specs.Script.{says, settable, digits_from, natural_of, opposite, integer_of, holds, words_in}
 use Rattle.amh_tool.proofs.ScriptNumberLaws.{integer_of-held}
 use Rattle.amh_tool.proofs.ScriptNumerals.{digit_low}
 
