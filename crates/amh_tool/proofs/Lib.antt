@@ -9,3 +9,4 @@ pub mod FormPlaces
 pub mod ComponentLaws
 pub mod FormSound
 pub mod FormSpelling
+pub mod FormComplete
