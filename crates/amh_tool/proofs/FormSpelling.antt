@@ -161,10 +161,10 @@ number_on_side-name side ms name n h =
     here k false e f = absurd (cc)
 
 -- the line of a conjunction, by three names
-conjunction_line : List ℕ → List ℕ → List ℕ → Line
+unfoldable pub conjunction_line : List ℕ → List ℕ → List ℕ → Line
 conjunction_line target left right = codes "        m.d.comb += self." ++ (target ++ (codes ".eq(self." ++ (left ++ (codes " & self." ++ (right ++ codes ")\n")))))
 
-assignment_line-and : (ms : List Member) (t l r : ℕ) → assignment_line ms (record { clocked = false; target = t; right = And l r }) ≡ conjunction_line (member_at ms t).name (member_at ms l).name (member_at ms r).name
+pub assignment_line-and : (ms : List Member) (t l r : ℕ) → assignment_line ms (record { clocked = false; target = t; right = And l r }) ≡ conjunction_line (member_at ms t).name (member_at ms l).name (member_at ms r).name
 unfolding conjunction_line
 assignment_line-and ms t l r =
     ap (λ (z : List ℕ). codes "        m.d.comb += self." ++ ((member_at ms t).name ++ (codes ".eq(self." ++ z))) (append_assoc (member_at ms l).name (codes " & self." ++ (member_at ms r).name) (codes ")\n"))

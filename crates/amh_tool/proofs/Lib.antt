@@ -39,3 +39,4 @@ pub mod FormPlaces
 pub mod ComponentLaws
 pub mod FormSound
 pub mod FormSpelling
+pub mod FormComplete

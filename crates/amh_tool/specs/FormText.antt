@@ -1,10 +1,10 @@
 -- The text of a design file, as the component that it declares is spelled.
-use Rattle.std.specs.Prelude.{◌≡◌, ℕ, true, if◌then◌else◌, List, [], ◌∷◌, ◌++◌, map, codes}
+use Rattle.std.specs.Prelude.{◌≡◌, ℕ, true, if◌then◌else◌, List, [], ◌∷◌, ◌++◌, map, codes, Ok}
 use Rattle.std.specs.List.{flat_map}
 use Rattle.amh_tool.specs.FormNames.{is_name}
-use Rattle.amh_tool.specs.Form.{member_at}
+use Rattle.amh_tool.specs.Form.{member_at, IsGate}
 use Rattle.amh_tool.specs.FormLines.{Line, top_line}
-use Rattle.amh_tool.specs.Component.{import_lines, elaborate_lines, return_lines}
+use Rattle.amh_tool.specs.Component.{component, import_lines, elaborate_lines, return_lines}
 use Rattle.amh_tool.specs.declared.form.Member.{Member}
 use Rattle.amh_tool.specs.declared.form.Right.{Right}
 use Rattle.amh_tool.specs.declared.form.Right.TheVariants.{Copy, Not, And, Or}
@@ -47,3 +47,7 @@ pub record IsSpelling (text : List ℕ) (c : Component) : Type 0 where
   pub class : List ℕ
   pub name : is_name class ≡ true
   pub lines : text ≡ flat_map (λ (l : Line). l) (spelled_lines class c)
+
+-- a gate that the text spells is its component
+abbrev pub ReadsEachGate : List ℕ → Type 0
+ReadsEachGate text = (c : Component) → IsGate c → IsSpelling text c → component text ≡ Ok c

@@ -9,6 +9,7 @@ use Rattle.amh_tool.specs.declared.component.Stop.TheVariants.{Here}
 use Rattle.amh_tool.specs.declared.form.Component.{Component}
 use Rattle.amh_tool.proofs.FormPlaces.{form-left}
 use Rattle.amh_tool.proofs.ComponentLaws.{component-text, component-bytes, within_limit-few, within_limit-many}
+use Rattle.amh_tool.proofs.FormComplete.{reads_each_gate}
 use Rattle.amh_tool.proofs.FormSpelling.{form-spelling}
 use Rattle.amh_tool.proofs.FormSound.{form-gate}
 use Rattle.amh_tool.proofs.component.parse.Goals as goal
@@ -46,3 +47,18 @@ returns-in-Err-Here-clause-given c =
     let stop : c.form.result ≡ Err (Here c.in-Err-Here.left) = c.in-Err-Here.is ∙ ap (λ (s : Stop). Err s) c.in-Err-Here.field-0-is in
     let left : form (lines_in c.args.text.now) ≡ Err c.in-Err-Here.left = subst (λ (r : Result Component Stop). ReadsInMemory (λ x. x) r (form (lines_in c.args.text.now))) stop c.form.ensures in
     rw (component-text c.args.text.now c.in_default.ensures.cases.1, left, c.refused-in-Err-Here.ensures, c.line_count.ensures.count) refl
+
+pub returns-in-Err-clause-complete : goal.returns-in-Err-clause-complete
+returns-in-Err-clause-complete c = reads_each_gate c.args.text.now
+
+pub returns-in-Ok-clause-complete : goal.returns-in-Ok-clause-complete
+returns-in-Ok-clause-complete c = reads_each_gate c.args.text.now
+
+pub returns-in-Ok-2-clause-complete : goal.returns-in-Ok-2-clause-complete
+returns-in-Ok-2-clause-complete c = reads_each_gate c.args.text.now
+
+pub returns-in-Err-Here-clause-complete : goal.returns-in-Err-Here-clause-complete
+returns-in-Err-Here-clause-complete c = reads_each_gate c.args.text.now
+
+pub returns-in-Err-NoMemory-clause-complete : goal.returns-in-Err-NoMemory-clause-complete
+returns-in-Err-NoMemory-clause-complete c = reads_each_gate c.args.text.now
