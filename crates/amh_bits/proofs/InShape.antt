@@ -1,11 +1,11 @@
 -- Which numbers are of a shape, by their sizes, and the shapes that hold what the operators give.
-use Rattle.std.proofs.Common.{◌≡◌, ℕ, zero, suc, ◌+◌, ◌-◌, ◌*◌, ◌≤◌, ◌<◌, ◌^◌, ◌/◌, ◌%◌, ℤ, pos, negsuc, neg_ℤ, ◌+ℤ◌, ◌-ℤ◌, ◌*ℤ◌, ◌≤ℤ◌, ◌<ℤ◌, Bool, true, false, refl, sym, ◌∙◌, ap, arith, unsigned_abs, bit_and, bit_or, bit_xor}
+use Rattle.std.proofs.Common.{◌≡◌, ℕ, zero, suc, ◌+◌, ◌-◌, ◌*◌, ◌≤◌, ◌<◌, ◌^◌, ◌%◌, ℤ, pos, negsuc, neg_ℤ, ◌+ℤ◌, ◌-ℤ◌, ◌*ℤ◌, ◌≤ℤ◌, ◌<ℤ◌, Bool, true, false, refl, arith, unsigned_abs, bit_and}
 use Rattle.std.proofs.lemmas.Int.{ints, unsigned_abs-mul}
 use Rattle.std.proofs.lemmas.Nat.{pow-add, pow_pos, mul-lt, mul-le, and_le_l, or_lt, xor_lt, mod_below, column_fits, shl_below}
-use Rattle.std.proofs.Math.Nat.{pow-le-pow_right, mul_assoc, div-le_self, div-mul-le_self}
+use Rattle.std.proofs.Math.Nat.{pow-le-pow_right, mul_assoc, div-le_self}
 use Rattle.amh_bits.specs.Integers.{IsKept, int_not, int_and, int_or, int_xor, floor_quotient, floor_div, floor_rem}
 use Rattle.amh_bits.specs.Patterns.{IsOf}
-use Rattle.amh_bits.proofs.Remainders.{floor_rem-pos_pos, floor_rem-negsuc_pos, floor_rem-pos_negsuc, floor_rem-negsuc_negsuc}
+use Rattle.amh_bits.proofs.Remainders.{floor_rem-pos_pos, floor_rem-negsuc_pos, floor_rem-pos_negsuc, floor_rem-negsuc_negsuc, floor_rem-zero_negsuc}
 
 power-more : (w : ℕ) → 2 ^ suc w ≡ 2 * 2 ^ w
 power-more w = omega (arith, pow-add 2 1 w)
@@ -236,9 +236,7 @@ of-floor_rem signed w (pos n) (pos (suc m)) f =
     rw (floor_rem-pos_pos n m) (smaller_pos signed w (suc m) (n % suc m) (omega (arith, mod_below n (suc m) (omega arith))) f)
 of-floor_rem signed w (negsuc n) (pos (suc m)) f =
     rw (floor_rem-negsuc_pos n m) (smaller_pos signed w (suc m) (m - n % suc m) (omega arith) f)
-of-floor_rem signed w (pos zero) (negsuc m) f =
-    let e : 0 / suc m * suc m ≡ 0 = omega (arith, div-mul-le_self 0 (suc m)) in
-    rw e (of_zero signed w)
+of-floor_rem signed w (pos zero) (negsuc m) f = rw (floor_rem-zero_negsuc m) (of_zero signed w)
 of-floor_rem signed w (pos (suc n)) (negsuc m) f =
     rw (floor_rem-pos_negsuc n m) (smaller_neg signed w m (m - n % suc m) (omega arith) f)
 of-floor_rem signed w (negsuc n) (negsuc m) f =

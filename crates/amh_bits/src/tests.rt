@@ -9,45 +9,51 @@ fn int(n: i128) -> Int {
 
 #[test]
 fn arithmetic(rt: HostRuntime) {
-    // a, b, a + b, a - b, a * b, a // b, a % b, a < b
+    // a, b, and a + b, a - b, a * b, a // b, a % b, a & b, a | b, a ^ b
     let rows = [
-        (7, 3, 10, 4, 21, 2, 1, false),
-        (-7, 3, -4, -10, -21, -3, 2, true),
-        (7, -3, 4, 10, -21, -3, -2, false),
-        (-7, -3, -10, -4, 21, 2, -1, true),
-        (-6, 3, -3, -9, -18, -2, 0, true),
-        (0, -5, -5, 5, 0, 0, 0, false),
-        (5, 0, 5, 5, 0, 0, 0, false),
+        (7, 3, [10, 4, 21, 2, 1, 3, 7, 4]),
+        (-7, 3, [-4, -10, -21, -3, 2, 1, -5, -6]),
+        (7, -3, [4, 10, -21, -3, -2, 5, -1, -6]),
+        (-7, -3, [-10, -4, 21, 2, -1, -7, -3, 4]),
+        (-6, 3, [-3, -9, -18, -2, 0, 2, -5, -7]),
+        (0, -5, [-5, 5, 0, 0, 0, 0, -5, -5]),
+        (5, 0, [5, 5, 0, 0, 0, 0, 5, 5]),
     ];
-    for (a, b, sum, difference, product, quotient, remainder, less) in rows {
-        assert_eq!(rt; int(a).add(int(b)), Ok(int(sum)), "{a} + {b}");
-        assert_eq!(rt; int(a).sub(int(b)), Ok(int(difference)), "{a} - {b}");
-        assert_eq!(rt; int(a).mul(int(b)), Ok(int(product)), "{a} * {b}");
-        assert_eq!(rt; int(a).floor_div(int(b)), Ok(int(quotient)), "{a} // {b}");
-        assert_eq!(rt; int(a).floor_rem(int(b)), int(remainder), "{a} % {b}");
-        assert_eq!(rt; int(a).less(int(b)), less, "{a} < {b}");
+    for (a, b, wanted) in rows {
+        let (x, y) = (int(a), int(b));
+        let made = [
+            x.add(y),
+            x.sub(y),
+            x.mul(y),
+            x.floor_div(y),
+            Ok(x.floor_rem(y)),
+            x.and(y),
+            x.or(y),
+            x.xor(y),
+        ];
+        for (made, wanted) in made.iter().zip(&wanted) {
+            assert_eq!(rt; *made, Ok(int(*wanted)), "of {a} and {b}");
+        }
     }
 }
 
 #[test]
-fn bitwise(rt: HostRuntime) {
-    // a, b, a & b, a | b, a ^ b, ~a
-    let rows = [
-        (12, 10, 8, 14, 6, -13),
-        (-6, 10, 10, -6, -16, 5),
-        (10, -6, 10, -6, -16, -11),
-        (-6, -11, -16, -1, 15, 5),
-    ];
-    for (a, b, and, or, xor, not) in rows {
-        assert_eq!(rt; int(a).and(int(b)), Ok(int(and)), "{a} & {b}");
-        assert_eq!(rt; int(a).or(int(b)), Ok(int(or)), "{a} | {b}");
-        assert_eq!(rt; int(a).xor(int(b)), Ok(int(xor)), "{a} ^ {b}");
-        assert_eq!(rt; int(a).not(), Ok(int(not)), "~{a}");
+fn one_operand(rt: HostRuntime) {
+    // a, by, and ~a, a << by, a >> by
+    for (a, by, wanted) in [
+        (-5, 1, [4, -10, -3]),
+        (5, 2, [-6, 20, 1]),
+        (0, 4_000_000_000, [-1, 0, 0]),
+    ] {
+        let made = [int(a).not(), int(a).shl(by), Ok(int(a).shr(by))];
+        for (made, wanted) in made.iter().zip(&wanted) {
+            assert_eq!(rt; *made, Ok(int(*wanted)), "of {a} and {by}");
+        }
     }
-    // a, by, a << by, a >> by
-    for (a, by, left, right) in [(-5, 1, -10, -3), (5, 2, 20, 1), (0, 4_000_000_000, 0, 0)] {
-        assert_eq!(rt; int(a).shl(by), Ok(int(left)), "{a} << {by}");
-        assert_eq!(rt; int(a).shr(by), int(right), "{a} >> {by}");
+    // a, width, and a wrapped where unsigned and where signed
+    for (a, width, unsigned, signed) in [(-6, 5, 26, -6), (19, 5, 19, -13), (300, 8, 44, 44)] {
+        let made = (int(a).wrap(width, false), int(a).wrap(width, true));
+        assert_eq!(rt; made, (int(unsigned), int(signed)), "{a} in {width} bits");
     }
 }
 
@@ -55,37 +61,27 @@ fn bitwise(rt: HostRuntime) {
 fn ends_of_the_range(rt: HostRuntime) {
     let least = int(i128::MIN);
     let greatest = Int::of_u128(u128::MAX);
-    assert_eq!(rt; greatest.add(int(1)), Err(TooWide));
-    assert_eq!(rt; least.sub(int(1)), Err(TooWide));
-    assert_eq!(rt; greatest.sub(greatest), Ok(int(0)));
-    assert_eq!(rt; least.floor_div(int(-1)), Ok(Int::of_u128(1 << 127)));
-    assert_eq!(rt; greatest.floor_div(int(-1)), Err(TooWide));
-    assert_eq!(rt; greatest.not(), Err(TooWide));
-    assert_eq!(rt; greatest.xor(least), Err(TooWide));
-    assert_eq!(rt; int(-1).shl(127), Ok(least));
-    assert_eq!(rt; int(-1).shl(128), Err(TooWide));
-    assert_eq!(rt; int(1).shl(128), Err(TooWide));
-    assert_eq!(rt; least.shr(200), int(-1));
-}
-
-#[test]
-fn shapes(rt: HostRuntime) {
-    // a, width, wrapped where unsigned, wrapped where signed
-    for (a, width, unsigned, signed) in [(-6, 5, 26, -6), (19, 5, 19, -13), (300, 8, 44, 44)] {
-        assert_eq!(rt;
-            int(a).wrap(width, false),
-            int(unsigned),
-            "{a} in {width} bits"
-        );
-        assert_eq!(rt;
-            int(a).wrap(width, true),
-            int(signed),
-            "{a} in {width} bits"
-        );
+    let rows = [
+        (greatest.add(int(1)), Err(TooWide)),
+        (least.sub(int(1)), Err(TooWide)),
+        (greatest.sub(greatest), Ok(int(0))),
+        (least.floor_div(int(-1)), Ok(Int::of_u128(1 << 127))),
+        (greatest.floor_div(int(-1)), Err(TooWide)),
+        (greatest.not(), Err(TooWide)),
+        (greatest.xor(least), Err(TooWide)),
+        (int(-1).shl(127), Ok(least)),
+        (int(-1).shl(128), Err(TooWide)),
+        (int(1).shl(128), Err(TooWide)),
+        (Ok(least.shr(200)), Ok(int(-1))),
+        (Ok(int(-1).wrap(0, false)), Ok(int(0))),
+        (Ok(int(-1).wrap(128, false)), Ok(greatest)),
+        (Ok(Int::of_u128(1 << 127).wrap(128, true)), Ok(least)),
+    ];
+    for (i, (made, wanted)) in rows.iter().enumerate() {
+        assert_eq!(rt; made, wanted, "in row {i}");
     }
-    assert_eq!(rt; int(-1).wrap(0, false), int(0));
-    assert_eq!(rt; int(-1).wrap(128, false), Int::of_u128(u128::MAX));
-    assert_eq!(rt; Int::of_u128(1 << 127).wrap(128, true), int(i128::MIN));
+    assert!(rt; least.less(greatest));
+    assert!(rt; !greatest.less(greatest));
 }
 
 #[test]
@@ -93,18 +89,23 @@ fn bit_vectors(rt: HostRuntime) {
     let low = int(0b011).to_bits(3);
     let high = int(-2).to_bits(2);
     let both = int(0b10_011).to_bits(5);
-    assert_eq!(rt; Bits::concat(low, high), Ok(both));
-    assert_eq!(rt;
-        Bits::concat(int(0).to_bits(128), int(1).to_bits(1)),
-        Err(TooWide)
-    );
-    assert_eq!(rt; both.slice(1, 3), int(0b001).to_bits(3));
-    assert_eq!(rt; both.slice(5, 0), int(0).to_bits(0));
-    assert_eq!(rt; both.extend(8, false), int(0b0001_0011).to_bits(8));
-    assert_eq!(rt; both.extend(8, true), int(0b1111_0011).to_bits(8));
-    assert_eq!(rt; int(0).to_bits(0).extend(4, true), int(0).to_bits(4));
-    assert_eq!(rt; Int::of_bits(both, false), int(19));
-    assert_eq!(rt; Int::of_bits(both, true), int(-13));
+    let rows = [
+        (Bits::concat(low, high), Ok(both)),
+        (
+            Bits::concat(int(0).to_bits(128), int(1).to_bits(1)),
+            Err(TooWide),
+        ),
+        (Ok(both.slice(1, 3)), Ok(int(0b001).to_bits(3))),
+        (Ok(both.slice(5, 0)), Ok(int(0).to_bits(0))),
+        (Ok(both.extend(8, false)), Ok(int(0b0001_0011).to_bits(8))),
+        (Ok(both.extend(8, true)), Ok(int(0b1111_0011).to_bits(8))),
+        (Ok(int(0).to_bits(0).extend(4, true)), Ok(int(0).to_bits(4))),
+    ];
+    for (i, (made, wanted)) in rows.iter().enumerate() {
+        assert_eq!(rt; made, wanted, "in row {i}");
+    }
+    let numbers = (Int::of_bits(both, false), Int::of_bits(both, true));
+    assert_eq!(rt; numbers, (int(19), int(-13)));
 }
 
 #[test]

@@ -1,12 +1,10 @@
 -- Where the reader of the component form stops.
-use Rattle.std.proofs.Common.{◌≡◌, refl, ℕ, List, [], ◌∷◌, sym, ◌∙◌, ap, subst}
+use Rattle.std.proofs.Common.{◌≡◌, refl, ℕ, List, sym, ◌∙◌, ap, subst}
 use Rattle.std.specs.Prelude.{Result, Ok, Err, IsErrAnd}
 use Rattle.std.proofs.lemmas.Result.{err_from_is_err_and}
 use Rattle.amh_tool.specs.FormLines.{Line, class_in}
 use Rattle.amh_tool.specs.Component.{form, fixed, one_line, import_lines, members_part}
 use Rattle.amh_tool.specs.FormGives.{Stops, ReadsInMemory}
-use Rattle.amh_tool.specs.declared.form.Member.{Member}
-use Rattle.amh_tool.specs.declared.form.Component.{Component}
 use Rattle.amh_tool.specs.declared.component.Stop.{Stop}
 use Rattle.amh_tool.specs.declared.component.Stop.TheVariants.{Here, NoMemory}
 

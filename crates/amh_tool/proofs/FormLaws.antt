@@ -1,30 +1,23 @@
 -- Laws of the parts of the component form.
-use Rattle.std.proofs.Common.{◌≡◌, refl, ℕ, zero, suc, ◌<◌, ◌≤◌, ◌+◌, ◌-◌, List, [], ◌∷◌, ◌++◌, length, take, drop, get_or, Bool, true, false, cond, not, ◌&&◌, eqb, ltb, ap, sym, ◌∙◌, arith, rules, subst}
-use Rattle.std.specs.Prelude.{Option, Some, None, Result, Ok, Err, bytes_eq, position, is_some, ◌==◌}
-use Rattle.std.specs.List.{prefix_len, position_or_len}
+use Rattle.std.proofs.Common.{◌≡◌, refl, ℕ, suc, ◌<◌, ◌≤◌, ◌+◌, List, [], ◌∷◌, ◌++◌, length, take, drop, get_or, Bool, true, false, cond, not, ap, sym, ◌∙◌, arith, subst}
+use Rattle.std.specs.Prelude.{Option, Some, None, Ok, Err, bytes_eq, position, is_some}
 use Rattle.std.proofs.lemmas.List.{append_assoc, drop-drop, length-append, take_more, drop_more, length-take-le}
 use Rattle.std.proofs.lemmas.List.Folds.{prefix_len-append}
 use Rattle.std.proofs.lemmas.List.Sums.{prefix_len-le-length}
 use Rattle.std.proofs.lemmas.Slice.Eq.{bytes_eq-Decides}
-use Rattle.std.proofs.lemmas.Grind.{common_steps}
 use Rattle.std.proofs.lemmas.Bool.{false_from_ne_true, false≢true}
 use Rattle.std.proofs.lemmas.Bool.Decides.{nat_tests}
-use Rattle.amh_tool.specs.FormLines.{Line, lines_in, with_byte, member_in, number_of}
+use Rattle.amh_tool.specs.FormLines.{Line, member_in, number_of}
 use Rattle.amh_tool.specs.Component.{at_end, declared_in, with_member, first_twin}
 use Rattle.amh_tool.specs.declared.form.Member.{Member}
 
-at_end-with_byte : (b : ℕ) (ls : List Line) → at_end (with_byte b ls) ≡ Err (length (with_byte b ls))
-at_end-with_byte b [] = refl
-at_end-with_byte b (l ∷ ls) = refl
+pub at_end-none : (ls : List Line) → length ls ≡ 0 → at_end ls ≡ Ok tt
+at_end-none [] h = refl
+at_end-none (l ∷ ls) h = absurd (omega arith)
 
--- a text that is not empty has lines
-pub at_end-lines : (text : List ℕ) → 0 < length text → at_end (lines_in text) ≡ Err (length (lines_in text))
-at_end-lines [] h = absurd (omega arith)
-at_end-lines (b ∷ bs) h = here (b == 10)
-  where
-    here : (t : Bool) → at_end (cond t ((10 ∷ []) ∷ lines_in bs) (with_byte b (lines_in bs))) ≡ Err (length (cond t ((10 ∷ []) ∷ lines_in bs) (with_byte b (lines_in bs))))
-    here true = refl
-    here false = at_end-with_byte b (lines_in bs)
+pub at_end-some : (ls : List Line) → 0 < length ls → at_end ls ≡ Err (length ls)
+at_end-some [] h = absurd (omega arith)
+at_end-some (l ∷ ls) h = refl
 
 -- a member more at the end is found where none before it is
 position-push : {X : Type 0} (p : X → Bool) (xs : List X) (x : X) → position p (xs ++ x ∷ []) ≡ cond (is_some (position p xs)) (position p xs) (cond (p x) (Some (length xs)) None)

@@ -1,7 +1,6 @@
 -- Laws of the lines of a text.
-use Rattle.std.proofs.Common.{◌≡◌, refl, ◌≤◌, ◌<◌, ◌+◌, ℕ, suc, List, [], ◌∷◌, ◌++◌, length, Bool, true, false, cond, ap, sym, ◌∙◌, arith}
-use Rattle.std.specs.Prelude.{◌==◌}
-use Rattle.amh_tool.specs.FormLines.{Line, lines_in, with_byte}
+use Rattle.std.proofs.Common.{ℕ, List, [], ◌∷◌, ◌++◌}
+use Rattle.amh_tool.specs.FormLines.{Line}
 
 -- lines whose first begins with these bytes
 abbrev pub joined_line : List ℕ → List Line → List Line

@@ -1,5 +1,5 @@
 -- Laws of names, and of texts that begin with one.
-use Rattle.std.proofs.Common.{◌≡◌, refl, ℕ, zero, suc, ◌<◌, ◌≤◌, ◌+◌, ◌-◌, List, [], ◌∷◌, ◌++◌, length, take, drop, get_or, Bool, true, false, cond, not, ◌&&◌, eqb, ap, sym, ◌∙◌, arith, rules, subst, Bor}
+use Rattle.std.proofs.Common.{◌≡◌, refl, ℕ, zero, suc, ◌<◌, ◌+◌, ◌-◌, List, [], ◌∷◌, length, take, drop, true, false, cond, not, ◌&&◌, ap, arith, Bor}
 use Rattle.std.specs.Prelude.{Option, Some, None, MatchOption, option_map, bytes_eq, IsAscii, IsUtf8, nat_eq}
 use Rattle.std.specs.List.{list_all, list_any, prefix_len}
 use Rattle.std.specs.Cmp.Lexicographic.{pointwise}

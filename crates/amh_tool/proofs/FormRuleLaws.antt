@@ -1,9 +1,7 @@
 -- Laws of the lines of the component form.
-use Rattle.std.proofs.Common.{◌≡◌, refl, ℕ, zero, suc, ◌<◌, ◌≤◌, ◌+◌, ◌-◌, List, [], ◌∷◌, ◌++◌, length, take, drop, get_or, Bool, true, false, cond, not, ◌&&◌, eqb, ltb, ap, sym, ◌∙◌, arith, rules, subst}
-use Rattle.std.specs.Prelude.{Option, Some, None, MatchOption, bytes_eq, codes, position, ◌==◌}
-use Rattle.std.specs.List.{position_or_len}
+use Rattle.std.proofs.Common.{◌≡◌, refl, ℕ, ◌<◌, List, [], ◌∷◌, ◌++◌, length, Bool, true, false, cond, ◌&&◌, arith}
+use Rattle.std.specs.Prelude.{Some, None, bytes_eq, codes, position, ◌==◌}
 use Rattle.std.specs.Option.{option_map_or}
-use Rattle.std.proofs.lemmas.Grind.{common_steps}
 use Rattle.std.proofs.lemmas.Bool.Decides.{nat_tests}
 use Rattle.amh_tool.specs.FormLines.{behind, number_of, top_line}
 use Rattle.amh_tool.specs.declared.form.Member.{Member}

@@ -13,7 +13,7 @@ use Rattle.rtlil_text.specs.declared.module.RtlWire.{RtlWire}
 use Rattle.rtlil_text.specs.Ids.{AreDistinct, starts_name, continues_name, IsName, IsPublicName, IsId}
 use Rattle.rtlil_text.specs.Rules.{module_ids}
 use Rattle.amh_tool.specs.declared.form.Member.{Member}
-use Rattle.amh_tool.specs.Names.{is_name, is_name_byte, has_name_bytes, keywords, taken_names}
+use Rattle.amh_tool.specs.FormNames.{is_name, is_name_byte, has_name_bytes, keywords, taken_names}
 use Rattle.amh_tool.specs.Form.{member_at, no_member, HasDistinctNames}
 use Rattle.amh_tool.specs.Corresponds.{public_id}
 use Rattle.amh_tool.specs.Lowered.{inner_id, inner_wire, port_wires}
@@ -35,13 +35,14 @@ name_byte_continues b e = grind (arith, or_left, or_right, or_cases)
 name_of_bytes : (name : List ℕ) → has_name_bytes name ≡ true → IsName name
 name_of_bytes [] e = absurd (false≢true e)
 name_of_bytes (b ∷ bs) e =
-    let r = and_parts (is_ascii_alphabetic b) (list_all is_name_byte bs) e in
+    let r = and_parts (is_ascii_alphabetic b) (list_all is_name_byte (b ∷ bs)) e in
+    let rest = and_parts (is_name_byte b) (list_all is_name_byte bs) r.1 in
     record {
       first = b;
       rest = bs;
       whole = refl;
       starts = letter_starts b r.0;
-      continues = all_of_test is_name_byte (λ b. IsTrue (continues_name b)) name_byte_continues bs r.1;
+      continues = all_of_test is_name_byte (λ b. IsTrue (continues_name b)) name_byte_continues bs rest.1;
     }
 
 has_bytes : (name : List ℕ) → is_name name ≡ true → has_name_bytes name ≡ true

@@ -2,6 +2,7 @@ mod FormSamples
 mod TraceSamples
 pub mod FormLineLaws
 pub mod FormNameLaws
+mod GateSamples
 pub mod GateFacts
 pub mod GateCircuit
 pub mod GateBoard
@@ -22,3 +23,9 @@ pub mod RunLaws
 pub mod FormRuleLaws
 pub mod FormLaws
 pub mod FormExits
+pub mod LowerLaws
+pub mod FormBinds
+pub mod FormPlaces
+pub mod ComponentLaws
+pub mod FormSound
+pub mod FormSpelling

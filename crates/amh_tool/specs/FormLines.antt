@@ -64,16 +64,16 @@ member_in line = do
 abbrev pub number_of : List Member → List ℕ → Option ℕ
 number_of members name = position (λ m. bytes_eq name m.name) members
 
+abbrev pub same_side : Bool → Bool → Bool
+same_side true is_input = is_input
+same_side false true = false
+same_side false false = true
+
 -- the number of the member of this name, where it is an input, or is none
 unfoldable pub number_on_side : Bool → List Member → List ℕ → Option ℕ
 number_on_side is_input members name = do
   number ← number_of members name
-  if on_side is_input (member_at members number).is_input then Some number else None
-  where
-    on_side : Bool → Bool → Bool
-    on_side true is = is
-    on_side false true = false
-    on_side false false = true
+  if same_side is_input (member_at members number).is_input then Some number else None
 
 -- `        m.d.comb += self.Y.eq(self.A & self.B)` has the names of a target and of two operands
 unfoldable pub names_in : Line → Option (List ℕ × List ℕ × List ℕ)

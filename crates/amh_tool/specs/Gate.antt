@@ -42,9 +42,12 @@ abbrev pub gate_history : List Member → Gate → List Event → List (List ℤ
 gate_history members g events = gate_settled g (gate_first members) ∷ gate_later g (gate_first members) events
 
 -- the columns: one for each member, unsigned, of one bit
+abbrev pub gate_column : ℕ → Member → Shown
+gate_column s m = record { name = m.name; sig = record { 0 = s }; shape = unsigned 1; is_settable = m.is_input }
+
 abbrev pub gate_columns : ℕ → List Member → List Shown
 gate_columns s [] = []
-gate_columns s (m ∷ ms) = record { name = m.name; sig = record { 0 = s }; shape = unsigned 1; is_settable = m.is_input } ∷ gate_columns (suc s) ms
+gate_columns s (m ∷ ms) = gate_column s m ∷ gate_columns (suc s) ms
 
 abbrev pub gate_board : List Member → Board
 gate_board members = record { columns = gate_columns 0 members; domains = [] }

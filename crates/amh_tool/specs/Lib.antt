@@ -8,6 +8,7 @@ pub mod Elaborated
 pub mod Corresponds
 pub mod Lowered
 pub mod Gate
+pub mod GateMembers
 pub mod GateStates
 pub mod Script
 pub mod ScriptGives
@@ -18,3 +19,4 @@ pub mod Headline
 pub mod Work
 pub mod Views
 pub mod Verdicts
+pub mod FormText

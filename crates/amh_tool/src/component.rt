@@ -3,6 +3,7 @@ ghost use Rattle.std.specs.Prelude.{◌≡◌, ◌≤◌, ◌+◌, ◌==◌, ◌
 ghost use Rattle.amh_tool.specs.FormLines.{lines_in, class_in, assignment_in, top_line};
 ghost use Rattle.amh_tool.specs.Component.{component, form, fixed, one_line, at_end, declared_in, members_part, refused, import_lines, elaborate_lines, return_lines};
 ghost use Rattle.amh_tool.specs.Form.{IsGate};
+ghost use Rattle.amh_tool.specs.FormText.{IsSpelling};
 ghost use Rattle.amh_tool.specs.FormGives.{Gives, Reads, ReadsInMemory, Numbers, IsNumbering};
 
 use crate::form::{Assignment, Component, Member};
@@ -49,6 +50,7 @@ pub fn parse(alloc: Global, text: &[u8]) -> Result<Component, FormStop>
     requires { length text.now ≤ 1048576 }
     ensures given { Gives result (component text.now) }
     ensures sound { IfOk result IsGate }
+    ensures spelled { IfOk result (IsSpelling text.now) }
 {
     if let Err(fault) = str::from_utf8(text) {
         let line = line_feeds(&text[..fault.valid_up_to()]) + 1;
@@ -290,47 +292,160 @@ fn top_part<'a>(class: &str, text: &'a [u8]) -> Result<&'a [u8], Left>
 fn at_end(text: &[u8]) -> Result<(), Left>
     ensures { Reads (λ nothing. nothing) result (at_end (lines_in text.now)) }
 {
-    if text.is_empty() {
-        Ok(())
-    } else {
-        Err(Left(line_count(text)))
-    }
+    let lines = line_count(text);
+    if lines == 0 { Ok(()) } else { Err(Left(lines)) }
 }
 
 #[cfg(test)]
 mod tests {
-    use super::{FormStop, Refusal, parse};
+    use super::{FormStop, parse};
     use crate::form::{Assignment, Right};
-    use amh_host::{Kind, Place};
+    use amh_host::Kind;
     use std::alloc::Global;
     use std::test::Fail;
 
-    const GATE: &str =
-        "from amaranth import *\nfrom amaranth.lib import wiring\nfrom amaranth.lib.wiring import In, Out\n\nclass Gate(wiring.Component):\n    a: In(1)\n    b: In(1)\n    y: Out(1)\n\n    def elaborate(self, platform):\n        m = Module()\n        m.d.comb += self.y.eq(self.a & self.b)\n        return m\n\ntop = Gate()\n";
+    const GATE: [&str; 15] = [
+        "from amaranth import *\n",
+        "from amaranth.lib import wiring\n",
+        "from amaranth.lib.wiring import In, Out\n",
+        "\n",
+        "class Gate(wiring.Component):\n",
+        "    a: In(1)\n",
+        "    b: In(1)\n",
+        "    y: Out(1)\n",
+        "\n",
+        "    def elaborate(self, platform):\n",
+        "        m = Module()\n",
+        "        m.d.comb += self.y.eq(self.a & self.b)\n",
+        "        return m\n",
+        "\n",
+        "top = Gate()\n",
+    ];
 
-    fn stop_of(alloc: Global, text: &[u8]) -> Option<(Kind, u32)> {
+    // The gate's file with another line of this number; number 0 changes nothing.
+    fn gate_with(alloc: Global, number: usize, line: &str) -> Result<String, Fail> {
+        let mut text = String::new(alloc);
+        for (before, old) in GATE.iter().enumerate() {
+            text.push_str(if before + 1 == number { line } else { *old })?;
+        }
+        Ok(text)
+    }
+
+    // The kind and the line of the refusal, if there is one.
+    fn refusal(alloc: Global, text: &[u8]) -> Result<Option<(Kind, u32)>, Fail> {
+        if text.len() > 1048576 {
+            return Err("too long".into());
+        }
         match parse(alloc, text) {
-            Ok(_) => None,
-            Err(FormStop::Refused(Refusal { place, kind })) => Some((kind, place.line)),
-            Err(FormStop::NoMemory) => Some((Kind::Limit, 0)),
+            Ok(_) => Ok(None),
+            Err(FormStop::Refused(refusal)) => Ok(Some((refusal.kind, refusal.place.line))),
+            Err(FormStop::NoMemory) => Err("no memory".into()),
         }
     }
 
     #[test]
     fn a_gate_is_read(rt: HostRuntime) -> Result<(), Fail> {
         let alloc = rt.alloc();
-        let Ok(gate) = parse(alloc, GATE.as_bytes()) else {
+        let text = gate_with(alloc, 0, "")?;
+        let bytes = text.as_bytes();
+        if bytes.len() > 1048576 {
+            return Err("too long".into());
+        }
+        let Ok(gate) = parse(alloc, bytes) else {
             return Err("refused".into());
         };
         assert_eq!(rt; gate.members.len(), 3);
+        let only = Assignment {
+            clocked: false,
+            target: 2,
+            right: Right::And(0, 1),
+        };
+        assert_eq!(rt; gate.assignments.as_slice(), [only].as_slice());
+        Ok(())
+    }
+
+    #[test]
+    fn each_line_has_its_form(rt: HostRuntime) -> Result<(), Fail> {
+        let alloc = rt.alloc();
+        for (number, line, refused_at) in [
+            (12, "        m.d.comb += self.y.eq(self.b & self.b)\n", 0),
+            (8, "    b2_: Out(1)\n    y: Out(1)\n", 0),
+            (1, "from amaranth import *\r\n", 1),
+            (5, "class é(wiring.Component):\n", 5),
+            (5, "class m(wiring.Component):\n", 5),
+            (6, "    if: In(1)\n", 6),
+            (6, "    2a: In(1)\n", 6),
+            (6, "    a: In(1)\n    a: Out(1)\n", 7),
+            (6, "    b: In(1)\n    z: In(2)\n", 7),
+            (7, "    b: In(2)\n", 7),
+            (8, "    y: Out(1) \n", 8),
+            (8, "", 11),
+            (12, "        m.d.comb += self.y.eq(self.a & self.y)\n", 12),
+            (12, "        m.d.comb += self.a.eq(self.a & self.b)\n", 12),
+            (12, "        m.d.comb += self.y.eq(self.a & self.c)\n", 12),
+            (15, "top = Gate1()\n", 15),
+            (15, "top = Gate()", 15),
+            (15, "top = Gate()\n\n", 16),
+            (15, "", 15),
+        ] {
+            let text = gate_with(alloc, number, line)?;
+            let expected = if refused_at == 0 {
+                None
+            } else {
+                Some((Kind::Subset, refused_at))
+            };
+            assert_eq!(rt; refusal(alloc, text.as_bytes())?, expected, "{line}");
+        }
+        Ok(())
+    }
+
+    #[test]
+    fn a_file_that_is_cut_is_refused_at_its_last_line(rt: HostRuntime) -> Result<(), Fail> {
+        let alloc = rt.alloc();
+        let text = gate_with(alloc, 0, "")?;
+        let bytes = text.as_bytes();
+        let mut line = 1u32;
+        for (end, b) in bytes.iter().enumerate() {
+            assert_eq!(rt;
+                refusal(alloc, &bytes[..end])?,
+                Some((Kind::Subset, line)),
+                "{end}"
+            );
+            if *b == b'\n' {
+                line = line.saturating_add(1);
+            }
+        }
+        Ok(())
+    }
+
+    #[test]
+    fn bytes_that_are_no_text_are_told_first(rt: HostRuntime) -> Result<(), Fail> {
+        let alloc = rt.alloc();
+        for (bytes, line) in [
+            (b"\xff".as_slice(), 1),
+            (b"\n\n# \xe2\x82\n".as_slice(), 3),
+            (b"\n\xc3\xa9\xc3\n\xff".as_slice(), 2),
+        ] {
+            assert_eq!(rt; refusal(alloc, bytes)?, Some((Kind::Text, line)), "{line}");
+        }
+        Ok(())
+    }
+
+    #[test]
+    fn members_have_a_limit(rt: HostRuntime) -> Result<(), Fail> {
+        let alloc = rt.alloc();
+        let mut lines = String::new(alloc);
+        for number in 0..16381u32 {
+            lines.push_str(format!(in alloc; "    x{number}: In(1)\n")?.as_str())?;
+        }
+        lines.push_str("    b: In(1)\n")?;
+        let text = gate_with(alloc, 7, lines.as_str())?;
+        assert_eq!(rt; refusal(alloc, text.as_bytes())?, None);
+        lines.push_str("    z: In(1)\n")?;
+        let text = gate_with(alloc, 7, lines.as_str())?;
         assert_eq!(rt;
-            gate.assignments.as_slice(),
-            [Assignment {
-                clocked: false,
-                target: 2,
-                right: Right::And(0, 1)
-            }]
-            .as_slice()
+            refusal(alloc, text.as_bytes())?,
+            Some((Kind::Limit, 16390))
         );
         Ok(())
     }

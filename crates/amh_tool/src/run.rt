@@ -11,8 +11,9 @@ use crate::accept::{Verdict, accept};
 use crate::perform::perform;
 use crate::plan::plan_of;
 use crate::texts::{bad_line, fault_text, refusal, usage_text};
-use amh_host::{Host, HostStop, Words};
+use amh_host::{Host, HostStop, Steps, Words};
 use std::alloc::Global;
+use std::sync::ledger::Ledger;
 
 /// How a run ends.
 #[derive(Clone, Copy, Debug, PartialEq, Eq, Drop)]
@@ -52,7 +53,14 @@ impl Status {
 
 /// Does all that the words ask for: reads the design and the script, writes RTLIL whole, then the trace line by
 /// line, and says how it ended.
-pub fn run<H: Host>(alloc: Global, words: &Words, host: &mut H) -> Status
+///
+/// Steps are counted where a design file is evaluated; nothing is evaluated yet, so the count stays.
+pub fn run<H: Host, L: Ledger>(
+    alloc: Global,
+    words: &Words,
+    host: &mut H,
+    steps: &mut Steps<L>,
+) -> Status
     // The answer and the texts are those that the words and the files ask for.
     ensures texts { (files : Files) → (H.seen host.old).files ≡ Some files → IsPlain result (H.faults host.old) (H.faults host.new)
         → Tells words.now (outcome words.now files) result (H.seen host.old) (H.seen host.new) }
@@ -79,7 +87,9 @@ pub fn run<H: Host>(alloc: Global, words: &Words, host: &mut H) -> Status
     // A fault has its cause, and a cause is answered.
     ensures fault { result ≡ Status.Fault → Rose (H.faults host.old) (H.faults host.new) }
     ensures told { H.faults host.old < H.faults host.new → (result ≡ Status.Fault) ⊎ (result ≡ Status.NoMemory) }
+    ensures counted { steps.new ≡ steps.old }
 {
+    let _ = steps;
     match work(alloc, words, host) {
         Ok(status) => status,
         Err(HostStop::NoMemory) => Status::NoMemory,

@@ -36,7 +36,7 @@ all_map : {A B : Type 0} (P : B → Type 0) (f : A → B) (xs : List A) → AllB
 all_map P f [] h = tt
 all_map P f (x ∷ xs) h = (h.0, all_map P f xs h.1)
 
-all_left : {A : Type 0} (P : A → Type 0) (xs ys : List A) → AllByRecursion P (xs ++ ys) → AllByRecursion P xs
+pub all_left : {A : Type 0} (P : A → Type 0) (xs ys : List A) → AllByRecursion P (xs ++ ys) → AllByRecursion P xs
 all_left P [] ys h = tt
 all_left P (x ∷ xs) ys h = (h.0, all_left P xs ys h.1)
 
@@ -53,7 +53,7 @@ few_domains c p h =
     let n = few_below _ _ h.clocks (clocks_there c c.domains h.domains) in
     omega (arith, n, p.few_signals, length_map (λ (d : Domain). d.clk.0) c.domains)
 
-columns_there : (c : Circuit) (h : IsDesign c) → AllByRecursion (λ s. s < length c.pool.signals) (port_signals c ++ h.columns.registers)
+pub columns_there : (c : Circuit) (h : IsDesign c) → AllByRecursion (λ s. s < length c.pool.signals) (port_signals c ++ h.columns.registers)
 columns_there c h = rw (← h.columns.split) (all_map (λ s. s < length c.pool.signals) (λ (x : Column). x.sig.0) c.columns h.columns.there)
 
 pub few_ports : (c : Circuit) → IsPool c.pool → IsDesign c → length c.ports ≤ 16384

@@ -9,6 +9,15 @@ pub mod Looks
 pub mod Shapes
 pub mod Growth
 pub mod Counts
+pub mod Commons
+pub mod DesignGrowth
+pub mod Events
+pub mod Unique
+pub mod Related
+pub mod PutLaws
+pub mod Congruence
+pub mod Equations
+pub mod NumbersFit
 pub mod GuardLaws
 pub mod Whole
 pub mod Runs

@@ -106,4 +106,4 @@ swap_runs = (refl, (refl, (refl, refl)))
 
 swap_legal : AllLegal swap (both ∷ fast ∷ [])
 unfolding swap both fast
-swap_legal = (((λ eq. cc), (omega arith, (omega arith, tt)), (omega arith, tt)), (((λ eq. cc), (omega arith, tt), tt), tt))
+swap_legal = (((λ eq. cc), (omega arith, (omega arith, tt)), (omega arith, (omega arith, tt))), (((λ eq. cc), (omega arith, tt), (omega arith, tt)), tt))

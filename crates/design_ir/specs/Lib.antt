@@ -18,6 +18,7 @@ pub mod Settled
 pub mod Steps
 pub mod Histories
 pub mod Legal
+pub mod Tests
 pub mod Needed
 pub mod Loops
 pub mod Designs

@@ -1,10 +1,10 @@
 -- What a pool keeps to, and what it refuses.
-use Rattle.std.specs.Prelude.{◌≡◌, ◌≢◌, ℕ, ◌+◌, ◌≤◌, ◌<◌, nat_lt, nat_le, ◌||◌, Bool, true, false, IsTrue, ⊤, bit_and, if◌then◌else◌, List, [], ◌∷◌, ◌++◌, length, slice_index_or, Option, Some, None}
+use Rattle.std.specs.Prelude.{◌≡◌, ◌≢◌, ℕ, ◌+◌, ◌≤◌, ◌<◌, nat_lt, nat_le, ◌||◌, Bool, false, IsTrue, ⊤, bit_and, if◌then◌else◌, List, [], ◌∷◌, ◌++◌, length, slice_index_or, Option, Some, None, Result, MatchResult}
 use Rattle.std.specs.List.{AllByRecursion}
 use Rattle.amh_bits.specs.Patterns.{IsOf}
-use Rattle.shape_rules.specs.Forms.{Form, unsigned}
-use Rattle.shape_rules.specs.declared.op.Op.{Op}
-use Rattle.shape_rules.specs.declared.op.Op.TheVariants.{Neg, Abs, Not, Any, All, Parity}
+use Rattle.shape_rules.specs.Forms.{Form, IsForm, unsigned}
+use Rattle.shape_rules.specs.Rows.{operand_count}
+use Rattle.shape_rules.specs.Stops.{is_bad_operand, widest}
 use Rattle.design_ir.specs.declared.signal.Sig.{Sig}
 use Rattle.design_ir.specs.declared.expr.Expr as expr
 use Rattle.design_ir.specs.declared.expr.Expr.{Expr}
@@ -14,7 +14,7 @@ use Rattle.design_ir.specs.declared.refusal.PoolStop.{PoolStop}
 use Rattle.design_ir.specs.declared.refusal.PoolStop.TheVariants.{Width, BadOperand, Limit, NoMemory}
 use Rattle.design_ir.specs.Pools.{Pooled, answers}
 use Rattle.design_ir.specs.Named.{named, AllBelow}
-use Rattle.design_ir.specs.Values.{form_step}
+use Rattle.design_ir.specs.Values.{form, form_step}
 
 -- ---- refusals
 
@@ -48,21 +48,12 @@ HasInit x = IsOf x.shape.signed x.shape.width x.init
 
 -- ---- expressions
 
-abbrev pub takes_one : Op → Bool
-takes_one Neg = true
-takes_one Abs = true
-takes_one Not = true
-takes_one Any = true
-takes_one All = true
-takes_one Parity = true
-takes_one op = false
-
 -- the parts of an expression are in range; the expressions that it names are of the pool
 abbrev pub IsInRange : List Sig → (ℕ → Form) → Expr → Type 0
 IsInRange sigs form (Const n s) = IsOf s.signed s.width n
 IsInRange sigs form (expr.TheVariants.Sig s) = s.0 < length sigs
-IsInRange sigs form (Unary op a) = IsTrue (takes_one op)
-IsInRange sigs form (Binary op a b) = takes_one op ≡ false
+IsInRange sigs form (Unary op a) = operand_count op ≡ 1
+IsInRange sigs form (Binary op a b) = operand_count op ≡ 2
 IsInRange sigs form (Mux s a b) = ⊤
 IsInRange sigs form (Slice a low width) = low + width ≤ (form a.0).width
 IsInRange sigs form (Cat es) = ⊤
@@ -72,10 +63,55 @@ IsInRange sigs form (Cast a signed) = IsTrue signed → 1 ≤ (form a.0).width
 IsInRange sigs form (Matches a patterns) = AllByRecursion (λ (p : Pattern). bit_and p.bits p.mask ≡ p.bits) patterns
 IsInRange sigs form (Reset domain place) = ⊤
 
--- an expression that a pool may have after so many others, whose shapes are these
+-- what may be asked for: the expressions that it names are of the pool, and its parts are in range
+pub record IsAskable (p : Pooled) (e : Expr) : Type 0 where
+  pub names : AllBelow (length p.exprs) (named e)
+  pub parts : IsInRange p.signals (form p) e
+
+-- a shift amount, an offset or an index is signed
+abbrev pub bad_operand : (ℕ → Form) → Expr → Bool
+bad_operand form (Binary op a b) = is_bad_operand op (form b.0)
+bad_operand form (Part a offset width stride) = (form offset.0).signed
+bad_operand form (Pick index es) = (form index.0).signed
+bad_operand form e = false
+
+-- the greatest width of an expression's shape and of the shape at which its operator is worked
+abbrev pub greatest_width : List Sig → (ℕ → Form) → Expr → ℕ
+greatest_width sigs form (Unary op a) = widest op (form a.0) (unsigned 0)
+greatest_width sigs form (Binary op a b) = widest op (form a.0) (form b.0)
+greatest_width sigs form e = (form_step sigs form e).width
+
+-- an operand is looked at before the width
+abbrev pub shape_stop : Bool → ℕ → Option PoolStop
+shape_stop bad width = if bad then Some BadOperand else (if nat_lt 128 width then Some Width else None)
+
+-- the shape where nothing stops it
+abbrev pub IsShaped : Result Form PoolStop → Bool → ℕ → Form → Type 0
+IsShaped r bad width f = MatchResult r (λ s. (shape_stop bad width ≡ None) × (s ≡ f)) (λ stop. shape_stop bad width ≡ Some stop)
+
+-- of several refusals the first of these is told: an operand, a width, a count
+abbrev pub first_stop : Option PoolStop → Option PoolStop → Option PoolStop
+first_stop None b = b
+first_stop (Some a) b = Some a
+
+abbrev pub expr_refusal : Pooled → Expr → Option PoolStop
+expr_refusal p e =
+    first_stop (shape_stop (bad_operand (form p) e) (greatest_width p.signals (form p) e)) (limit_where (nat_le 262144 (length p.exprs)))
+
+abbrev pub expr_added : Pooled → Expr → Pooled
+expr_added p e = record p { exprs = p.exprs ++ e ∷ [] }
+
+-- a constant has a shape
+abbrev pub IsFormed : Expr → Type 0
+IsFormed (Const n s) = IsForm s.width s.signed
+IsFormed e = ⊤
+
+-- an expression that a pool may have after those whose shapes are known
 pub record IsExpr (sigs : List Sig) (known : List Form) (e : Expr) : Type 0 where
   pub names : AllBelow (length known) (named e)
+  pub formed : IsFormed e
   pub parts : IsInRange sigs (λ k. slice_index_or known k (unsigned 0)) e
+  pub accepted : shape_stop (bad_operand (λ k. slice_index_or known k (unsigned 0)) e) (greatest_width sigs (λ k. slice_index_or known k (unsigned 0)) e) ≡ None
 
 -- expressions after those that have these shapes
 abbrev pub AreExprs : List Sig → List Form → List Expr → Type 0
@@ -89,6 +125,7 @@ pub record IsPool (p : Pooled) : Type 0 where
   pub few_signals : length p.signals ≤ 16384
   pub few_bits : signal_bits p.signals ≤ 262144
   pub few_exprs : length p.exprs ≤ 262144
+  pub shapes : AllByRecursion (λ (x : Sig). IsForm x.shape.width x.shape.signed) p.signals
   pub inits : AllByRecursion HasInit p.signals
   pub exprs : AreExprs p.signals [] p.exprs
 

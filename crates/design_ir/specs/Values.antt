@@ -23,10 +23,15 @@ abbrev pub total_width : (ℕ → Form) → List ExprId → ℕ
 total_width form [] = 0
 total_width form (e ∷ es) = (form e.0).width + total_width form es
 
+-- the shape of all of these and of one more
+abbrev pub common_with : (ℕ → Form) → Form → List ExprId → Form
+common_with form f [] = f
+common_with form f (e ∷ es) = common_with form (common f (form e.0)) es
+
+-- the shape of all of these
 abbrev pub common_of_all : (ℕ → Form) → List ExprId → Form
 common_of_all form [] = unsigned 0
-common_of_all form (e ∷ []) = form e.0
-common_of_all form (e ∷ f ∷ es) = common (form e.0) (common_of_all form (f ∷ es))
+common_of_all form (e ∷ es) = common_with form (form e.0) es
 
 -- the shape of an expression, from those of the expressions that it names
 abbrev pub form_step : List Sig → (ℕ → Form) → Expr → Form

@@ -1,11 +1,15 @@
 // Designs.
 ghost use Rattle.std.specs.Prelude.{◌≡◌, ◌<◌, ◌↔◌, length, IsTrue, Some, None, slice_get, option_map, position};
 ghost use Rattle.lists.specs.Texts.{text_eq};
-ghost use Rattle.design_ir.specs.Circuits.{Circuit, is_input, domain_named};
+ghost use Rattle.design_ir.specs.Circuits.{Circuit, is_input, is_clock, domain_named};
 ghost use Rattle.design_ir.specs.Designs.{IsDesign};
+ghost use Rattle.amh_bits.specs.Patterns.{IsOf};
 ghost use Rattle.design_ir.specs.Legal.{IsLegal};
+ghost use Rattle.design_ir.specs.Tests.{is_settable, ascends};
+ghost use Rattle.design_ir.specs.Values.{signal_form};
 
 use crate::domain::{Domain, Domains};
+use crate::event::Event;
 use crate::expr::Expr;
 use crate::exprs::Exprs;
 use crate::ids::{DomainId, ExprId, SigId};
@@ -13,7 +17,9 @@ use crate::memory::Memories;
 use crate::pool::Pool;
 use crate::port::{Column, Columns, Port, Ports};
 use crate::process::DesignProcesses;
+use crate::refusal::PoolStop;
 use crate::signal::Sig;
+use amh_bits::Int;
 use shape_rules::Shape;
 use std::marker::Model;
 
@@ -160,6 +166,44 @@ impl Design {
             .any(|p| p.is_input && p.sig.0 == s.0)
     }
 
+    /// Whether an event is legal: an input that is no clock takes a number of its shape, or the clocks of at least
+    /// one domain toggle, the domains being distinct and in domain order.
+    pub fn event_ok(&self, e: &Event) -> bool
+        ensures { IsTrue result ↔ IsLegal self.now e.now }
+    {
+        match e {
+            Event::Set { sig, value } => self.is_settable(*sig) && self.holds(*sig, *value),
+            Event::Edge(clocks) => {
+                let domains = clocks.as_slice();
+                domains.len() > 0 && ascend(domains, self.domains.len())
+            }
+        }
+    }
+
+    // Whether a signal is an input that is no clock.
+    fn is_settable(&self, s: SigId) -> bool
+        ensures { result ≡ is_settable self.now s.0 }
+    {
+        self.is_input(s) && !self.is_clock(s)
+    }
+
+    // Whether a signal is the clock of a domain.
+    fn is_clock(&self, s: SigId) -> bool
+        ensures { result ≡ is_clock self.now s.0 }
+    {
+        self.domains.as_slice().iter().any(|d| d.clk.0 == s.0)
+    }
+
+    // Whether a number is of the shape of a signal.
+    #[tactic(auto, using(crate::proofs::Events::of_shape))]
+    fn holds(&self, s: SigId, value: Int) -> bool
+        requires { s.0 < length self.now.pool.signals }
+        ensures { IsTrue result ↔ IsOf (signal_form self.now.pool.signals s.0).signed (signal_form self.now.pool.signals s.0).width value }
+    {
+        let shape = self.sig_at(s).shape;
+        value.wrap(shape.width, shape.signed) == value
+    }
+
     /// How many signals there are.
     pub fn signals(&self) -> u32
         ensures { result ≡ length self.now.pool.signals }
@@ -177,6 +221,12 @@ impl Design {
 
 impl Exprs for Design {
     ghost pooled = { λ d. d.pool };
+
+    ghost grown = { λ d q. record d { pool = q } };
+
+    fn expr(&mut self, e: Expr) -> Result<ExprId, PoolStop> {
+        self.pool.expr(e)
+    }
 
     fn count(&self) -> u32 {
         self.pool.count()
@@ -196,4 +246,19 @@ fn position_named(domains: &[Domain], name: &str) -> Option<usize>
     ensures { result ≡ position (λ d. text_eq d.name name.now) domains.now }
 {
     domains.iter().position(|d| d.name.is(name))
+}
+
+// Whether these are numbers of so many domains, each past the one before it.
+fn ascend(domains: &[DomainId], count: usize) -> bool
+    ensures { result ≡ ascends count 0 domains.now }
+{
+    let mut least = 0;
+    for d in domains {
+        let number = d.0 as usize;
+        if number < least || number >= count {
+            return false;
+        }
+        least = number + 1;
+    }
+    true
 }

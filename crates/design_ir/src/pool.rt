@@ -1,15 +1,19 @@
 // The pool: signals and expressions by number.
-ghost use Rattle.std.specs.Prelude.{◌≡◌, ◌++◌, ◌∷◌, [], ◌<◌, ◌≤◌, length, IfOk, IfErr, None, Some, slice_get};
+ghost use Rattle.std.specs.Prelude.{◌≡◌, ◌≢◌, ◌++◌, ◌∷◌, [], ◌<◌, ◌≤◌, length, false, IfOk, IfErr, None, Some, slice_get};
+ghost use Rattle.shape_rules.specs.Forms.{IsForm, unsigned, common};
+ghost use Rattle.shape_rules.specs.Operators.{form_of};
+ghost use Rattle.shape_rules.specs.Stops.{is_bad_operand, widest};
 ghost use Rattle.design_ir.specs.Pools.{Pooled};
-ghost use Rattle.design_ir.specs.PoolRules.{IsPool, IsRefusal, HasInit, signal_added, signal_refusal};
-ghost use Rattle.design_ir.specs.Values.{form};
+ghost use Rattle.design_ir.specs.Named.{AllBelow};
+ghost use Rattle.design_ir.specs.PoolRules.{IsPool, IsRefusal, HasInit, IsAskable, IsFormed, IsShaped, bad_operand, greatest_width, shape_stop, signal_added, signal_refusal, expr_added};
+ghost use Rattle.design_ir.specs.Values.{form, form_step, total_width, common_of_all};
 
 use crate::expr::Expr;
 use crate::exprs::Exprs;
-use crate::ids::{ExprId, SigId};
+use crate::ids::{ExprId, Ids, SigId};
 use crate::refusal::PoolStop;
 use crate::signal::Sig;
-use shape_rules::Shape;
+use shape_rules::{Op, Shape, ShapeStop, shape_of, work_of};
 use std::alloc::Global;
 use std::marker::Model;
 
@@ -95,16 +99,171 @@ impl Pool {
 impl Exprs for Pool {
     ghost pooled = { λ p. p };
 
+    ghost grown = { λ p q. q };
+
+    #[tactic(auto, unfolding(crate::specs::PoolRules::expr_refusal))]
+    fn expr(&mut self, e: Expr) -> Result<ExprId, PoolStop> {
+        let shape = self.shape_of_new(&e)?;
+        if self.exprs.len() >= 262_144 {
+            return Err(PoolStop::Limit);
+        }
+        let answer = self.put(e, shape);
+        self.known();
+        answer
+    }
+
     fn count(&self) -> u32 {
         self.exprs.len() as u32
     }
 
-    #[tactic(auto, unfolding(crate::specs::Values::form))]
     fn shape(&self, e: ExprId) -> Shape {
         self.shapes[e.0 as usize]
     }
 
     fn at(&self, e: ExprId) -> &Expr {
         &self.exprs[e.0 as usize]
+    }
+}
+
+impl Pool {
+    // Puts an expression of a shape at the end.
+    fn put(&mut self, e: Expr, shape: Shape) -> Result<ExprId, PoolStop>
+        requires formed { IsFormed e }
+        requires askable { IsAskable self.old e }
+        requires accepted { shape_stop (bad_operand (form self.old) e) (greatest_width self.old.signals (form self.old) e) ≡ None }
+        requires shape { shape ≡ form_step self.old.signals (form self.old) e }
+        requires room { length self.old.exprs < 262144 }
+        ensures added { IfOk result (λ id. (id ≡ record { 0 = length self.old.exprs }) × (self.new ≡ expr_added self.old e)) }
+        ensures refused { IfErr result (λ stop. (stop ≡ PoolStop.NoMemory) × (self.new ≡ self.old)) }
+    {
+        let id = ExprId(self.exprs.len() as u32);
+        let Ok(()) = self.shapes.push(shape) else {
+            return Err(PoolStop::NoMemory);
+        };
+        match self.exprs.push(e) {
+            Ok(()) => Ok(id),
+            Err(_) => {
+                self.shapes.pop();
+                Err(PoolStop::NoMemory)
+            }
+        }
+    }
+
+    // The shape of an expression that is not there yet.
+    fn shape_of_new(&self, e: &Expr) -> Result<Shape, PoolStop>
+        requires { IsAskable self.now e.now }
+        ensures shaped { IsShaped result (bad_operand (form self.now) e.now) (greatest_width self.now.signals (form self.now) e.now) (form_step self.now.signals (form self.now) e.now) }
+        ensures formed { IfOk result (λ _. IsFormed e.now) }
+    {
+        match e {
+            Expr::Const { shape, .. } => kept(*shape),
+            Expr::Sig(s) => kept(self.sig_at(*s).shape),
+            Expr::Unary { op, a } => operator_shape(*op, self.shape(*a), bits(0)),
+            Expr::Binary { op, a, b } => operator_shape(*op, self.shape(*a), self.shape(*b)),
+            Expr::Mux { a, b, .. } => common_shape(self.shape(*a), self.shape(*b)),
+            Expr::Slice { width, .. } => narrow(*width as u64),
+            Expr::Cat(items) => self.joined_shape(items),
+            Expr::Part { offset, width, .. } => {
+                if self.shape(*offset).signed {
+                    return Err(PoolStop::BadOperand);
+                }
+                narrow(*width as u64)
+            }
+            Expr::Pick { index, items } => {
+                if self.shape(*index).signed {
+                    return Err(PoolStop::BadOperand);
+                }
+                self.common_shape_of(items)
+            }
+            Expr::Cast { a, signed } => Ok(Shape {
+                width: self.shape(*a).width,
+                signed: *signed,
+            }),
+            Expr::Matches { .. } | Expr::Reset { .. } => Ok(bits(1)),
+        }
+    }
+
+    // The shape of expressions one above the other.
+    fn joined_shape(&self, items: &Ids) -> Result<Shape, PoolStop>
+        requires { AllBelow (length self.now.exprs) items.now }
+        ensures { IsShaped result false (total_width (form self.now) items.now) (unsigned (total_width (form self.now) items.now)) }
+    {
+        let mut width = 0;
+        for e in items.as_slice() {
+            width += self.shape(*e).width as u64;
+            if width > 128 {
+                return Err(PoolStop::Width);
+            }
+        }
+        narrow(width)
+    }
+
+    // The shape of all of these, of which there is at least one.
+    fn common_shape_of(&self, items: &Ids) -> Result<Shape, PoolStop>
+        requires some { items.now ≢ [] }
+        requires there { AllBelow (length self.now.exprs) items.now }
+        ensures { IsShaped result false (common_of_all (form self.now) items.now).width (common_of_all (form self.now) items.now) }
+    {
+        let all = items.as_slice();
+        let mut shape = self.shape(all[0]);
+        for e in &all[1..] {
+            shape = match common_shape(shape, self.shape(*e)) {
+                Ok(wider) => wider,
+                Err(stop) => return Err(stop),
+            };
+        }
+        kept(shape)
+    }
+}
+
+// A shape as it is: it has at most 128 bits.
+fn kept(shape: Shape) -> Result<Shape, PoolStop>
+    ensures shaped { IsShaped result false shape.width shape }
+    ensures formed { IsForm shape.width shape.signed }
+{
+    let _ = shape.width;
+    Ok(shape)
+}
+
+// So many bits without a sign.
+fn bits(width: u8) -> Shape
+    requires { width ≤ 128 }
+    ensures { result ≡ unsigned width }
+{
+    Shape {
+        width,
+        signed: false,
+    }
+}
+
+// So many bits without a sign, where a shape may have them.
+fn narrow(width: u64) -> Result<Shape, PoolStop>
+    ensures { IsShaped result false width (unsigned width) }
+{
+    if width > 128 {
+        Err(PoolStop::Width)
+    } else {
+        Ok(bits(width as u8))
+    }
+}
+
+// The shape of an operator's result.
+fn operator_shape(op: Op, a: Shape, b: Shape) -> Result<Shape, PoolStop>
+    ensures { IsShaped result (is_bad_operand op b) (widest op a b) (form_of op a b) }
+{
+    match shape_of(op, a, b) {
+        Ok(shape) => Ok(shape),
+        Err(ShapeStop::BadOperand) => Err(PoolStop::BadOperand),
+        Err(ShapeStop::Width) => Err(PoolStop::Width),
+    }
+}
+
+// The shape of both: it is the one at which they are compared.
+fn common_shape(a: Shape, b: Shape) -> Result<Shape, PoolStop>
+    ensures { IsShaped result false (common a b).width (common a b) }
+{
+    match work_of(Op::Eq, a, b) {
+        Ok(shape) => Ok(shape),
+        Err(_) => Err(PoolStop::Width),
     }
 }

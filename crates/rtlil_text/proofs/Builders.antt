@@ -1,5 +1,5 @@
 -- Parts of small modules, for the sanity theorems.
-use Rattle.std.specs.Prelude.{ℕ, Bool, List, [], ◌∷◌, length, codes, Option, None}
+use Rattle.std.specs.Prelude.{ℕ, Bool, List, [], ◌∷◌, codes, None}
 use Rattle.shape_rules.specs.declared.cell.CellKind.{CellKind}
 use Rattle.shape_rules.specs.declared.cell.CellKind.TheVariants.{Mux, Dff}
 use Rattle.rtlil_text.specs.declared.sig.SigPart.{SigPart}

@@ -19,7 +19,7 @@ use Rattle.rtlil_text.proofs.Spelled.{Reads-module_text}
 use Rattle.rtlil_text.proofs.Distinct.{AreDistinct-are_distinct}
 use Rattle.rtlil_text.proofs.Found.{width_among, AreWidths-width_among}
 
-public : (letter : ℕ) → IsTrue (starts_name letter) → IsId (92 ∷ letter ∷ [])
+pub public : (letter : ℕ) → IsTrue (starts_name letter) → IsId (92 ∷ letter ∷ [])
 public letter h = inl (letter ∷ [], record { name = letter ∷ []; more = []; suffix = []; first = one_letter; others = All-nil IsName; ends = inl refl; whole = refl }, refl)
   where
     one_letter : IsName (letter ∷ [])

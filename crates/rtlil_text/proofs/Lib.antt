@@ -8,3 +8,11 @@ pub mod CellSanity
 pub mod Distinct
 pub mod Found
 pub mod GateSanity
+pub mod HistorySanity
+pub mod MemorySanity
+pub mod Depth
+pub mod Among
+pub mod Driven
+pub mod Enough
+pub mod Added
+pub mod CellLaws

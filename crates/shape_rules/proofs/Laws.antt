@@ -1,13 +1,13 @@
 -- The integer of each operator is of the shape of its result.
-use Rattle.std.proofs.Common.{◌≡◌, ℕ, zero, suc, ◌+◌, ◌-◌, ◌*◌, ◌≤◌, ◌<◌, ◌^◌, ◌%◌, max, ℤ, pos, negsuc, neg_ℤ, ◌+ℤ◌, ◌-ℤ◌, ◌*ℤ◌, Bool, true, false, ◌||◌, ◌==◌, not, int_lt, int_le, count_ones, unsigned_abs, arith, refl, subst, add-zero, add-one}
+use Rattle.std.proofs.Common.{ℕ, zero, suc, ◌+◌, ◌-◌, ◌^◌, ◌%◌, ℤ, pos, ◌-ℤ◌, ◌*ℤ◌, Bool, true, false, ◌||◌, ◌==◌, not, int_lt, int_le, count_ones, unsigned_abs, arith, subst, add-zero, add-one}
 use Rattle.std.proofs.lemmas.Int.{ints}
 use Rattle.std.proofs.lemmas.Nat.{pow_pos, mod_below}
 use Rattle.std.proofs.Math.IntN.{*ℤ_comm}
 use Rattle.std.proofs.Math.Nat.{add_comm}
-use Rattle.amh_bits.specs.Integers.{IsKept, int_not, floor_quotient, floor_div}
+use Rattle.amh_bits.specs.Integers.{IsKept}
 use Rattle.amh_bits.specs.Patterns.{IsOf, pattern}
-use Rattle.amh_bits.proofs.InShape.{of_wider, of_kept, of_zero, of-add, of-sub, of-neg, of-mul_unsigned, of-mul_signed, of-abs, of-int_not, of-int_and, of-int_or, of-int_xor, of-floor_quotient, of-floor_div_unsigned, of-floor_div_signed, of-floor_rem, of-mul_power, unsigned_size, signed_size, unsigned_low, unsigned_high, unsigned_of}
-use Rattle.shape_rules.specs.Forms.{Form, IsForm, common, common_width}
+use Rattle.amh_bits.proofs.InShape.{of_wider, of_kept, of-add, of-sub, of-neg, of-mul_unsigned, of-mul_signed, of-abs, of-int_not, of-int_and, of-int_or, of-int_xor, of-floor_quotient, of-floor_div_unsigned, of-floor_div_signed, of-floor_rem, of-mul_power, unsigned_size, signed_size, unsigned_low, unsigned_high, unsigned_of}
+use Rattle.shape_rules.specs.Forms.{Form, IsForm, common}
 use Rattle.shape_rules.specs.Operators.{form_of, integer_of, turned, truth, int_same, is_zero}
 use Rattle.shape_rules.specs.Stops.{IsTaken}
 use Rattle.shape_rules.specs.declared.op.Op.{Op}

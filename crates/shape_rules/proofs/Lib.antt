@@ -1,3 +1,4 @@
 pub mod Amounts
 pub mod CommonShape
 pub mod Laws
+pub mod WorkShape

@@ -76,9 +76,9 @@ fn result_shape(op: Op, a: Shape, b: Shape) -> Result<Shape, ShapeStop>
 }
 
 macro_rules! work_arms {
-    (($of:ident $a:ident $b:ident $r:ident) $(($op:ident $operands:tt $cell:ident $result:ident $work:ident $integer:ident))*) => {
+    (($of:ident $a:ident $b:ident $given:ident) $(($op:ident $operands:tt $cell:ident $result:ident $work:ident $integer:ident))*) => {
         match $of {
-            $(Op::$op => work_arm!($operands $work $a $b $r),)*
+            $(Op::$op => work_arm!($operands $work $a $b $given),)*
         }
     };
 }
@@ -98,11 +98,11 @@ macro_rules! work_arm {
     };
 }
 
-fn work_shape(op: Op, a: Shape, b: Shape, of: Shape) -> Result<Shape, ShapeStop>
-    requires { of ≡ form_of op a b }
+fn work_shape(op: Op, a: Shape, b: Shape, of_result: Shape) -> Result<Shape, ShapeStop>
+    requires { of_result ≡ form_of op a b }
     ensures { IsNarrowed result (work_form op a b) }
 {
-    operators!(work_arms(op a b of))
+    operators!(work_arms(op a b of_result))
 }
 
 // The shape of a sum.

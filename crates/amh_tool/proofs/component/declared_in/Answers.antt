@@ -1,6 +1,6 @@
 use Rattle.std.proofs.Common.{◌≡◌, ◌∙◌, ◌+◌, sym, ap, ℕ, List, length, drop, arith}
 use Rattle.std.proofs.lemmas.List.{length-append}
-use Rattle.amh_tool.specs.FormLines.{Line, lines_in}
+use Rattle.amh_tool.specs.FormLines.{lines_in}
 use Rattle.amh_tool.specs.declared.form.Member.{Member}
 use Rattle.amh_tool.proofs.FormLaws.{declared_more, drop_line}
 use Rattle.amh_tool.proofs.component.declared_in.Goals as goal

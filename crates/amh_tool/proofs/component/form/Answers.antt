@@ -1,5 +1,5 @@
-use Rattle.std.proofs.Common.{◌≡◌, ◌∙◌, refl, sym, ap, ℕ, List, ◌++◌, [], ◌∷◌}
-use Rattle.std.specs.Prelude.{Ok, Err}
+use Rattle.std.proofs.Common.{◌≡◌, ◌∙◌, refl, sym, ap, List}
+use Rattle.std.specs.Prelude.{Err}
 use Rattle.amh_tool.specs.FormLines.{lines_in, assignment_in}
 use Rattle.amh_tool.specs.Component.{form, one_line}
 use Rattle.amh_tool.specs.declared.form.Member.{Member}

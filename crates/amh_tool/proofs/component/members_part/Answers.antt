@@ -1,4 +1,4 @@
-use Rattle.std.proofs.Common.{◌≡◌, ◌∙◌, ◌<◌, ◌+◌, sym, ap, subst, ℕ, List, [], length, arith}
+use Rattle.std.proofs.Common.{◌≡◌, ◌∙◌, ap, subst, List, [], length, arith}
 use Rattle.std.specs.Prelude.{Some}
 use Rattle.amh_tool.specs.Component.{first_twin}
 use Rattle.amh_tool.specs.FormLines.{lines_in}

@@ -1,5 +1,4 @@
 use Rattle.std.proofs.Common.{◌≡◌, refl, false, true, sym, ◌∙◌, ap, take}
-use Rattle.std.specs.Prelude.{Some, None}
 use Rattle.std.proofs.lemmas.Bool.{false_from_ne_true}
 use Rattle.amh_tool.specs.FormNames.{is_name}
 use Rattle.amh_tool.proofs.FormNameLaws.{name_behind-none, name_behind-cut, cut_name-none, cut_name-some, is_name-utf8, take-rest}

@@ -1,5 +1,5 @@
 use Rattle.std.proofs.Common.{◌≡◌, sym, ◌∙◌, ap, rules, List, ℕ}
-use Rattle.std.specs.Prelude.{Some, None, bytes_eq, codes}
+use Rattle.std.specs.Prelude.{bytes_eq, codes}
 use Rattle.amh_tool.specs.FormLines.{behind}
 use Rattle.amh_tool.proofs.FormRuleLaws.{top_line-none, top_line-class, top_line-rest}
 use Rattle.amh_tool.proofs.form_rules.is_top.Goals as goal

@@ -1,6 +1,4 @@
-use Rattle.std.proofs.Common.{◌≡◌, sym, ◌∙◌, ◌<◌, length, arith}
-use Rattle.std.specs.Prelude.{Some}
-use Rattle.amh_tool.specs.FormLines.{number_of}
+use Rattle.std.proofs.Common.{sym, ◌∙◌, ◌<◌, length, arith}
 use Rattle.amh_tool.proofs.FormRuleLaws.{number_of-within}
 use Rattle.amh_tool.proofs.form_rules.number_on_side.Goals as goal
 
