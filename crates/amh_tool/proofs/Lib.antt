@@ -16,6 +16,10 @@ pub mod GateNetlist
 pub mod GateColumns
 pub mod GateNames
 pub mod GateRules
+pub mod BoardLaws
+pub mod ScriptLaws
+pub mod ScriptEdgeLaws
+pub mod ScriptEvents
 pub mod ScriptFronts
 pub mod ScriptLegal
 pub mod AcceptLaws

@@ -11,6 +11,7 @@ pub mod Gate
 pub mod GateMembers
 pub mod GateStates
 pub mod Script
+pub mod ScriptParts
 pub mod ScriptGives
 pub mod Trace
 pub mod Plan

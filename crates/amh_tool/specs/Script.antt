@@ -11,6 +11,8 @@ use Rattle.design_ir.specs.declared.event.Event.TheVariants.{Set, Edge}
 use Rattle.amh_tool.specs.FormLines.{Line, lines_in}
 use Rattle.amh_tool.specs.declared.board.Shown.{Shown}
 use Rattle.amh_tool.specs.declared.board.Board.{Board}
+use Rattle.amh_tool.specs.declared.script_saying.Saying.{Saying}
+use Rattle.amh_tool.specs.declared.script_saying.Saying.TheVariants.{Nothing, Asks, Bad}
 
 -- ---- words
 
@@ -113,16 +115,12 @@ most_bytes = 16_777_216
 abbrev pub most_events : ℕ
 most_events = 1_000_000
 
--- what a line says: nothing, an event, or what no script says
-pub data Saying : Type 0 where
-  Nothing : Saying
-  Asks : Event → Saying
-  Bad : Saying
-
+-- an event, or none, that a line asks for
 abbrev pub asking : Option Event → Saying
 asking None = Bad
 asking (Some e) = Asks e
 
+-- what a line without its line feed says
 abbrev pub says : Board → List ℕ → Saying
 says b line = if is_passed line then Nothing else asking (event_of b (words_in line))
 

@@ -22,6 +22,12 @@ mod run;
 mod script;
 #[cfg(test)]
 mod tests;
+mod script_edge;
+mod script_line;
+mod script_names;
+mod script_numbers;
+mod script_saying;
+mod script_words;
 mod texts;
 mod trace;
 mod trace_events;

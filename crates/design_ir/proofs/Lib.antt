@@ -18,6 +18,7 @@ pub mod PutLaws
 pub mod Congruence
 pub mod Equations
 pub mod NumbersFit
+pub mod SettlingLaws
 pub mod GuardLaws
 pub mod Whole
 pub mod Runs

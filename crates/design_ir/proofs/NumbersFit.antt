@@ -182,7 +182,7 @@ all_right : (P Q : ExprId → Type 0) (es : List ExprId) → AllByRecursion (λ 
 all_right P Q [] h = tt
 all_right P Q (e ∷ es) h = (h.0.1, all_right P Q es h.1)
 
-element : {A : Type 0} (xs : List A) (k : ℕ) → k < length xs → (x : A) × (slice_get xs k ≡ Some x)
+pub element : {A : Type 0} (xs : List A) (k : ℕ) → k < length xs → (x : A) × (slice_get xs k ≡ Some x)
 element [] k h = absurd (omega (arith, h))
 element (x ∷ xs) zero h = (x, refl)
 element (x ∷ xs) (suc k) h = element xs k (omega (arith, h))

@@ -9,6 +9,7 @@ pub mod Pools
 pub mod Named
 pub mod Values
 pub mod PoolRules
+pub mod Settling
 pub mod Targets
 pub mod Put
 pub mod Guards

@@ -6,6 +6,8 @@ ghost use Rattle.shape_rules.specs.Stops.{is_bad_operand, widest};
 ghost use Rattle.design_ir.specs.Pools.{Pooled};
 ghost use Rattle.design_ir.specs.Named.{AllBelow};
 ghost use Rattle.design_ir.specs.PoolRules.{IsPool, IsRefusal, HasInit, IsAskable, IsFormed, IsShaped, bad_operand, greatest_width, shape_stop, signal_added, signal_refusal, expr_added};
+ghost use Rattle.amh_bits.specs.Patterns.{IsOf};
+ghost use Rattle.design_ir.specs.Settling.{IsUnsettled, is_signal, reshaped, settle_refusal, signal_settled};
 ghost use Rattle.design_ir.specs.Values.{form, form_step, total_width, common_of_all};
 
 use crate::expr::Expr;
@@ -13,6 +15,7 @@ use crate::exprs::Exprs;
 use crate::ids::{ExprId, Ids, SigId};
 use crate::refusal::PoolStop;
 use crate::signal::Sig;
+use amh_bits::Int;
 use shape_rules::{Op, Shape, ShapeStop, shape_of, work_of};
 use std::alloc::Global;
 use std::marker::Model;
@@ -79,6 +82,26 @@ impl Pool {
         ensures { slice_get self.now.signals s.0 ≡ Some result.now }
     {
         &self.sigs[s.0 as usize]
+    }
+
+    /// Gives a signal that was made without bits its shape and init. Nothing but `Matches` may stand over it, and
+    /// `Limit` comes exactly where all signals would have more than 262,144 bits.
+    pub fn settle(&mut self, s: SigId, shape: Shape, init: Int) -> Result<(), PoolStop>
+        requires unsettled { IsUnsettled self.old s.0 }
+        requires init { IsOf shape.signed shape.width init }
+        ensures settled { IfOk result (λ _. (settle_refusal self.old shape.width ≡ None) × (self.new ≡ signal_settled self.old s.0 shape init)) }
+        ensures refused { IfErr result (λ stop. (stop ≡ PoolStop.Limit) × (settle_refusal self.old shape.width ≡ Some stop) × (self.new ≡ self.old)) }
+    {
+        let width = shape.width as u32;
+        if self.bits + width > 262_144 {
+            return Err(PoolStop::Limit);
+        }
+        reshape(self.exprs.as_slice(), &mut self.shapes, s, shape);
+        let sig = &mut self.sigs[s.0 as usize];
+        sig.shape = shape;
+        sig.init = init;
+        self.bits += width;
+        Ok(())
     }
 
     // Opens the pool, so that a caller knows its rules.
@@ -265,5 +288,27 @@ fn common_shape(a: Shape, b: Shape) -> Result<Shape, PoolStop>
     match work_of(Op::Eq, a, b) {
         Ok(shape) => Ok(shape),
         Err(_) => Err(PoolStop::Width),
+    }
+}
+
+// Gives the expressions of a signal its shape.
+fn reshape(exprs: &[Expr], shapes: &mut Vec<Shape>, s: SigId, shape: Shape)
+    requires { length shapes.old.items ≡ length exprs.now }
+    ensures { shapes.new.items ≡ reshaped s.0 shape exprs.now shapes.old.items }
+{
+    for i in 0..exprs.len() {
+        if names_signal(&exprs[i], s) {
+            shapes[i] = shape;
+        }
+    }
+}
+
+// Whether an expression is this signal.
+fn names_signal(e: &Expr, s: SigId) -> bool
+    ensures { result ≡ is_signal s.0 e.now }
+{
+    match e {
+        Expr::Sig(t) => t.0 == s.0,
+        _ => false,
     }
 }

@@ -3,12 +3,13 @@ use Rattle.std.proofs.Common.{◌≡◌, refl, subst, ℕ, Bool, true, false, Li
 use Rattle.std.specs.Prelude.{Some, None, Contains}
 use Rattle.std.specs.Fmt.{digits}
 use Rattle.std.proofs.lemmas.List.Elements.{All-from_recursion, All-nil}
+use Rattle.rtlil_text.specs.declared.cell.RtlParameter.{RtlParameter}
 use Rattle.rtlil_text.specs.declared.cell.RtlEnd.{RtlEnd}
 use Rattle.rtlil_text.specs.declared.module.WirePort.{WirePort}
 use Rattle.rtlil_text.specs.declared.module.WirePort.TheVariants.{Inner, Input, Output}
 use Rattle.rtlil_text.specs.declared.module.RtlWire.{RtlWire}
-use Rattle.rtlil_text.specs.Ids.{IsId, IsName, starts_name, continues_name}
-use Rattle.rtlil_text.specs.Rules.{IsModule, SpecFits, PartFits, WireFits, CellFits, LinkFits, module_ids}
+use Rattle.rtlil_text.specs.Ids.{IsId, IsPublicId, IsName, starts_name, continues_name}
+use Rattle.rtlil_text.specs.Rules.{IsModule, ValueFits, SpecFits, PartFits, WireFits, CellFits, LinkFits, module_ids}
 use Rattle.rtlil_text.specs.MemoryRules.{MemoryFits}
 use Rattle.rtlil_text.specs.Reads.{Reads}
 use Rattle.rtlil_text.specs.Written.{module_text}
@@ -19,11 +20,14 @@ use Rattle.rtlil_text.proofs.Spelled.{Reads-module_text}
 use Rattle.rtlil_text.proofs.Distinct.{AreDistinct-are_distinct}
 use Rattle.rtlil_text.proofs.Found.{width_among, AreWidths-width_among}
 
-pub public : (letter : ℕ) → IsTrue (starts_name letter) → IsId (92 ∷ letter ∷ [])
-public letter h = inl (letter ∷ [], record { name = letter ∷ []; more = []; suffix = []; first = one_letter; others = All-nil IsName; ends = inl refl; whole = refl }, refl)
+pub public_letter : (letter : ℕ) → IsTrue (starts_name letter) → IsPublicId (92 ∷ letter ∷ [])
+public_letter letter h = (letter ∷ [], record { name = letter ∷ []; more = []; suffix = []; first = one_letter; others = All-nil IsName; ends = inl refl; whole = refl }, refl)
   where
     one_letter : IsName (letter ∷ [])
     one_letter = record { first = letter; rest = []; whole = refl; starts = h; continues = All-nil (λ b. IsTrue (continues_name b)) }
+
+pub public : (letter : ℕ) → IsTrue (starts_name letter) → IsId (92 ∷ letter ∷ [])
+public letter h = inl (public_letter letter h)
 
 gate_ids : All IsId (module_ids gate)
 unfolding gate digits
@@ -37,6 +41,7 @@ gate_cell_fits : CellFits gate gate_cell
 unfolding gate
 gate_cell_fits = record {
   parameters = refl;
+  values = All-from_recursion (λ (p : RtlParameter). ValueFits p.value) gate_cell.parameters (tt, (tt, (tt, (tt, (tt, tt)))));
   ends = refl;
   specs = All-from_recursion (λ (e : RtlEnd). SpecFits gate.wires e.spec) gate_cell.ends
       (one_bit gate.wires (bit_wire (codes "\\a") (Input 1)) (0, omega arith, refl) refl, (one_bit gate.wires (bit_wire (codes "\\b") (Input 2)) (1, omega arith, refl) refl, (one_bit gate.wires (bit_wire (codes "$1") Inner) (3, omega arith, refl) refl, tt)));

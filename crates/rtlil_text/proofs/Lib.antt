@@ -16,3 +16,6 @@ pub mod Driven
 pub mod Enough
 pub mod Added
 pub mod CellLaws
+pub mod Words
+pub mod SpecOnce
+pub mod ModuleOnce

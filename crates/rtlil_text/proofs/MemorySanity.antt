@@ -19,10 +19,10 @@ use Rattle.rtlil_text.specs.Sources.{end_bits, end_width, number_at, memory_id}
 use Rattle.rtlil_text.specs.Meaning.{Inputs}
 use Rattle.rtlil_text.specs.History.{Wires, rtl_history, wire_bit}
 use Rattle.rtlil_text.specs.MemoryRules.{HaveOneClock, FitsMemory, FitsRead, FitsWrite, FitsInit, MemoryFits, IsConstant}
-use Rattle.rtlil_text.specs.Rules.{IsModule, SpecFits, PartFits, WireFits, CellFits, LinkFits, module_ids}
+use Rattle.rtlil_text.specs.Rules.{IsModule, ValueFits, SpecFits, PartFits, WireFits, CellFits, LinkFits, module_ids}
 use Rattle.rtlil_text.proofs.Builders.{wire, whole, bits, number, mask, to}
 use Rattle.rtlil_text.proofs.Distinct.{AreDistinct-are_distinct}
-use Rattle.rtlil_text.proofs.GateSanity.{public}
+use Rattle.rtlil_text.proofs.GateSanity.{public, public_letter}
 
 -- \m of three rows of two bits
 abbrev memory : RtlMemory
@@ -286,17 +286,32 @@ first_rows_fit = record {
   only = refl;
 }
 
+clocked_read_values : All (λ (p : RtlParameter). ValueFits p.value) (clocked_read (two true true)).parameters
+clocked_read_values = All-from_recursion (λ (p : RtlParameter). ValueFits p.value) (clocked_read (two true true)).parameters (public_letter 109 refl, (tt, (tt, (tt, (tt, (tt, (tt, (tt, (tt, (tt, (tt, tt)))))))))))
+
+comb_read_values : All (λ (p : RtlParameter). ValueFits p.value) comb_read.parameters
+comb_read_values = All-from_recursion (λ (p : RtlParameter). ValueFits p.value) comb_read.parameters (public_letter 109 refl, (tt, (tt, (tt, (tt, (tt, (tt, (tt, (tt, (tt, (tt, tt)))))))))))
+
+first_write_values : All (λ (p : RtlParameter). ValueFits p.value) first_write.parameters
+first_write_values = All-from_recursion (λ (p : RtlParameter). ValueFits p.value) first_write.parameters (public_letter 109 refl, (tt, (tt, (tt, (tt, (tt, (tt, tt)))))))
+
+second_write_values : All (λ (p : RtlParameter). ValueFits p.value) second_write.parameters
+second_write_values = All-from_recursion (λ (p : RtlParameter). ValueFits p.value) second_write.parameters (public_letter 109 refl, (tt, (tt, (tt, (tt, (tt, (tt, tt)))))))
+
+first_rows_values : All (λ (p : RtlParameter). ValueFits p.value) first_rows.parameters
+first_rows_values = All-from_recursion (λ (p : RtlParameter). ValueFits p.value) first_rows.parameters (public_letter 109 refl, (tt, (tt, (tt, (tt, tt)))))
+
 ram_cells : All (CellFits ram_of) ram_of.cells
 unfolding ram_of ram ends_fit
 ram_cells = All-from_recursion (CellFits ram_of) ram_of.cells (
-  record { parameters = refl; ends = refl; specs = clocked_read_ends; rules = clocked_read_fits },
+  record { parameters = refl; values = clocked_read_values; ends = refl; specs = clocked_read_ends; rules = clocked_read_fits },
   (
-    record { parameters = refl; ends = refl; specs = comb_read_ends; rules = comb_read_fits },
+    record { parameters = refl; values = comb_read_values; ends = refl; specs = comb_read_ends; rules = comb_read_fits },
     (
-      record { parameters = refl; ends = refl; specs = first_write_ends; rules = write_fits _ _ _ _ _ refl refl },
+      record { parameters = refl; values = first_write_values; ends = refl; specs = first_write_ends; rules = write_fits _ _ _ _ _ refl refl },
       (
-        record { parameters = refl; ends = refl; specs = second_write_ends; rules = write_fits _ _ _ _ _ refl refl },
-        (record { parameters = refl; ends = refl; specs = first_rows_ends; rules = first_rows_fit }, tt),
+        record { parameters = refl; values = second_write_values; ends = refl; specs = second_write_ends; rules = write_fits _ _ _ _ _ refl refl },
+        (record { parameters = refl; values = first_rows_values; ends = refl; specs = first_rows_ends; rules = first_rows_fit }, tt),
       ),
     ),
   ),

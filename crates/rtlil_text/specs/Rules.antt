@@ -5,6 +5,8 @@ use Rattle.shape_rules.specs.declared.cell.CellKind.{CellKind}
 use Rattle.shape_rules.specs.declared.cell.CellKind.TheVariants.{Not, And, Or, Xor, ReduceOr, ReduceAnd, ReduceXor, Add, Sub, Mul, Eq, Lt, Le, Shl, Shr, Sshr, DivFloor, ModFloor, Mux, Dff, Adff, MemoryRead, MemoryWrite, MemoryInit, Many}
 use Rattle.rtlil_text.specs.declared.sig.SigPart.{SigPart}
 use Rattle.rtlil_text.specs.declared.sig.SigPart.TheVariants as parts
+use Rattle.rtlil_text.specs.declared.cell.RtlValue.{RtlValue}
+use Rattle.rtlil_text.specs.declared.cell.RtlValue.TheVariants as values
 use Rattle.rtlil_text.specs.declared.cell.RtlParameter.{RtlParameter}
 use Rattle.rtlil_text.specs.declared.cell.RtlEnd.{RtlEnd}
 use Rattle.rtlil_text.specs.declared.cell.RtlCell.{RtlCell}
@@ -12,7 +14,7 @@ use Rattle.rtlil_text.specs.declared.module.RtlWire.{RtlWire}
 use Rattle.rtlil_text.specs.declared.module.RtlMemory.{RtlMemory}
 use Rattle.rtlil_text.specs.declared.module.RtlLink.{RtlLink}
 use Rattle.rtlil_text.specs.declared.module.RtlModule.{RtlModule}
-use Rattle.rtlil_text.specs.Ids.{AreDistinct, IsId}
+use Rattle.rtlil_text.specs.Ids.{AreDistinct, IsId, IsPublicId}
 use Rattle.rtlil_text.specs.Sources.{spec_bits, port_number}
 use Rattle.rtlil_text.specs.CellTables.{value_form, parameters_of, ends_of}
 use Rattle.rtlil_text.specs.Drivers.{driven_bits, inner_bits}
@@ -46,6 +48,12 @@ PartFits wires (parts.Wire id low width) = IsSlice wires id low width
 abbrev pub SpecFits : List RtlWire → List SigPart → Type 0
 SpecFits wires spec = All (PartFits wires) spec
 
+-- the id of a memory stands under a parameter only where it is public
+abbrev pub ValueFits : RtlValue → Type 0
+ValueFits (values.Number n) = Unit {0}
+ValueFits (values.Bits bits) = Unit {0}
+ValueFits (values.Id id) = IsPublicId id
+
 -- the rules of each kind
 abbrev pub KindFits : RtlModule → RtlCell → CellKind → Type 0
 KindFits m c Not = FitsNot c
@@ -77,6 +85,7 @@ KindFits m c Many = ⊥
 -- a cell has exactly the parameters and the ends of its kind, in order, and keeps its rules
 pub record CellFits (m : RtlModule) (c : RtlCell) : Type 0 where
   pub parameters : map (λ (p : RtlParameter). (p.name, value_form p.value)) c.parameters ≡ parameters_of c.kind
+  pub values : All (λ (p : RtlParameter). ValueFits p.value) c.parameters
   pub ends : map (λ (e : RtlEnd). e.name) c.ends ≡ ends_of c.kind
   pub specs : All (λ (e : RtlEnd). SpecFits m.wires e.spec) c.ends
   pub rules : KindFits m c c.kind

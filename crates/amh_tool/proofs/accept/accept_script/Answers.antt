@@ -12,8 +12,12 @@ use Rattle.amh_tool.specs.Views.{plan_seen}
 use Rattle.amh_tool.specs.Verdicts.{verdict_seen}
 use Rattle.amh_tool.specs.declared.accept.Verdict.TheVariants.{Accepted}
 use Rattle.amh_tool.proofs.AcceptLaws.{read_script_of}
+use Rattle.amh_tool.proofs.BoardLaws.{board_of-few_domains}
 use Rattle.amh_tool.proofs.ScriptLegal.{script_events-legal}
 use Rattle.amh_tool.proofs.accept.accept_script.Goals as goal
+
+pub read_script-requires-clause-domains : goal.read_script-requires-clause-domains
+read_script-requires-clause-domains g c = board_of-few_domains c.args.component c.in_ok-board.board c.in_ok-board.ensures
 
 pub returns-in-Ok-clause-given : goal.returns-in-Ok-clause-given
 returns-in-Ok-clause-given g c =
