@@ -13,7 +13,7 @@ use Rattle.amh_tool.specs.Corresponds.{IsHistory}
 use Rattle.amh_tool.specs.Headline.{IsTrace}
 use Rattle.amh_tool.specs.Trace.{Row, Done, timed, events_in, head_line, done_line, column_line, first_line, row_line, row_lines, trace_text}
 use Rattle.amh_tool.specs.Gate.{Gate, gate_component, gate_settled, gate_after, gate_first, gate_later, gate_history}
-use Rattle.amh_tool.specs.GateStates.{GateState, IsFirst, GivesBit}
+use Rattle.amh_tool.specs.GateStates.{GateState, IsFirst, GivesBit, gate_applied}
 use Rattle.amh_tool.specs.Form.{IsGate}
 use Rattle.amh_tool.specs.Verdicts.{IsFitting}
 use Rattle.amh_tool.proofs.GateFacts.{gate_of}
@@ -38,19 +38,19 @@ drop_at xs i x h e = rw add-one (drop_next xs i x h e)
 pub legal_at : (c : Circuit) (es tail : List Event) (e : Event) → es ≡ e ∷ tail → AllLegal c es → IsLegal c e × AllLegal c tail
 legal_at c es tail e split h = subst (AllLegal c) split h
 
--- one more row
-pub row_lines-next : (b : Board) (g : Gate) (n : ℕ) (es tail : List Event) (e : Event) (before held now : List ℤ) (so_far line all : List ℕ)
-    → es ≡ e ∷ tail → now ≡ gate_settled g (gate_after held e) → line ≡ row_line b (record { time = n; event = e }) before now
-    → so_far ++ row_lines b (timed n es) before (gate_later g held es) ≡ all
-    → (so_far ++ line) ++ row_lines b (timed (suc n) tail) now (gate_later g (gate_after held e) tail) ≡ all
-row_lines-next b g n es tail e before held now so_far line all split is text rest =
-    let r : Row = record { time = n; event = e } in
-    let to_come = gate_later g (gate_after held e) tail in
-    append_assoc so_far line (row_lines b (timed (suc n) tail) now to_come)
-    ∙ ap (λ (x : List ℕ). so_far ++ x)
-    (ap (λ (x : List ℕ). x ++ row_lines b (timed (suc n) tail) now to_come) text
-    ∙ (λ i. row_line b r before (is i) ++ row_lines b (timed (suc n) tail) (is i) to_come)
-    ∙ sym (ap (λ (xs : List Event). row_lines b (timed n xs) before (gate_later g held xs)) split))
+-- one more row, behind what was written so far
+pub row_lines-next : (b : Board) (g : Gate) (time : ℕ) (es tail : List Event) (e : Event) (held before now : List ℤ) (so_far line all : List ℕ)
+    → es ≡ e ∷ tail → before ≡ gate_settled g held → now ≡ gate_settled g (gate_after held e) → line ≡ row_line b (record { time = time + 1; event = e }) before now
+    → so_far ++ row_lines b (timed (suc time) es) (gate_settled g held) (gate_later g held es) ≡ all
+    → (so_far ++ line) ++ row_lines b (timed (suc (time + 1)) tail) (gate_settled g (gate_after held e)) (gate_later g (gate_after held e) tail) ≡ all
+row_lines-next b g time es tail e held before now so_far line all split was is text rest =
+    let r : Row = record { time = time + 1; event = e } in
+    let first = gate_settled g held in
+    let to_come = row_lines b (timed (suc (time + 1)) tail) (gate_settled g (gate_after held e)) (gate_later g (gate_after held e) tail) in
+    let rest : so_far ++ row_lines b (timed (time + 1) es) first (gate_later g held es) ≡ all = rw add-one rest in
+    append_assoc so_far line to_come
+    ∙ ap (λ (x : List ℕ). so_far ++ (x ++ to_come)) (text ∙ (λ i. row_line b r (was i) (is i)))
+    ∙ sym (ap (λ (xs : List Event). so_far ++ row_lines b (timed (time + 1) xs) first (gate_later g held xs)) split)
     ∙ rest
 
 -- ---- the whole
@@ -94,7 +94,7 @@ first_state c h =
 pub record Follows (c : Component) (g : Gate) (held : List ℤ) (e : Event) : Type 0 where
   pub gives : GivesBit (length (gate_settled g held)) e
   pub inputs : AreInputs c.members (gate_after held e)
-  pub settled : gate_settled g (gate_after (gate_settled g held) e) ≡ gate_settled g (gate_after held e)
+  pub applied : gate_applied (record { gate = g; values = gate_settled g held }) e ≡ record { gate = g; values = gate_settled g (gate_after held e) }
 
 pub follows : (c : Component) (g : Gate) → IsGate c → c ≡ gate_component c.members g → (held : List ℤ) (e : Event) → AreInputs c.members held → IsLegal (circuit_of c) e → Follows c g held e
 follows c g h is held e inputs legal =
@@ -103,5 +103,5 @@ follows c g h is held e inputs legal =
     record {
       gives = GivesBit-legal c.members g sound held e inputs takes;
       inputs = AreInputs-after c.members g sound held e inputs takes;
-      settled = gate_settled-after c.members g sound held e;
+      applied = ap (λ (values : List ℤ). record { gate = g; values = values }) (gate_settled-after c.members g sound held e);
     }

@@ -1,4 +1,4 @@
-use Rattle.std.proofs.Common.{◌≡◌, ◌∙◌, ◌+◌, ◌++◌, ◌∷◌, [], ap, sym, subst, refl, suc, ℕ, ℤ, List, length, drop, string_bytes, add-one}
+use Rattle.std.proofs.Common.{◌≡◌, ◌∙◌, ◌+◌, ◌++◌, ◌∷◌, [], ap, sym, subst, refl, suc, ℕ, ℤ, List, length, drop, string_bytes}
 use Rattle.std.proofs.lemmas.Result.{err_from_is_err_and}
 use Rattle.amh_host.specs.Seen.{Seen, written}
 use Rattle.amh_host.specs.Calls.{AddsFront}
@@ -7,7 +7,7 @@ use Rattle.design_ir.specs.Legal.{AllLegal}
 use Rattle.amh_tool.specs.Elaborated.{circuit_of}
 use Rattle.amh_tool.specs.Gate.{gate_settled, gate_after, gate_first, gate_later}
 use Rattle.amh_tool.specs.GateStates.{GateState, GivesBit, gate_applied}
-use Rattle.amh_tool.specs.Trace.{Row, row_line, row_lines, timed}
+use Rattle.amh_tool.specs.Trace.{row_lines, timed}
 use Rattle.amh_tool.proofs.GateDesign.{first_inputs_are}
 use Rattle.amh_tool.proofs.TraceLaws.{drop_at, legal_at, row_lines-next, follows}
 use Rattle.amh_tool.proofs.trace.put_rows.Goals as goal
@@ -55,18 +55,15 @@ returns-in_err-put-clause-done g c =
     let legal = legal_at (circuit_of a.component) (drop i items) tail e split v.legal in
     let next = follows a.component gate c.requires.fitting.gate c.requires.first.gate v.held e v.inputs legal.0 in
     let sim : c.apply.new.self ≡ record { gate = gate; values = gate_settled gate (gate_after v.held e) } =
-    c.apply.ensures ∙ ap (λ (s : GateState). gate_applied s e) v.sim ∙ ap (λ (values : List ℤ). record { gate = gate; values = values }) next.settled in
+    c.apply.ensures ∙ ap (λ (s : GateState). gate_applied s e) v.sim ∙ next.applied in
     let before : c.deref.result.now ≡ gate_settled gate v.held =
     c.deref.ensures.value ∙ c.in_ok-before.ensures.items_if_clones_equal (λ x y h. h) ∙ c.values.ensures ∙ ap (λ (s : GateState). s.values) v.sim in
     let now : c.values-in-loop-event.result.now ≡ gate_settled gate (gate_after v.held e) = c.values-in-loop-event.ensures ∙ ap (λ (s : GateState). s.values) sim in
-    let row : Row = record { time = c.loop-event.time + 1; event = e } in
     let line = string_bytes c.in_ok-line.line in
-    let text : line ≡ row_line a.board row (gate_settled gate v.held) (gate_settled gate (gate_after v.held e)) = c.in_ok-line.ensures ∙ (λ j. row_line a.board row (before j) (now j)) in
     let all = row_lines a.board (timed 1 a.events) c.args.sim.values (gate_later gate (gate_first a.component.members) a.events) in
-    let rest : v.so_far ++ row_lines a.board (timed (c.loop-event.time + 1) (drop i items)) (gate_settled gate v.held) (gate_later gate v.held (drop i items)) ≡ all = rw add-one v.rest in
     let to_come = row_lines a.board (timed (suc (c.loop-event.time + 1)) tail) (gate_settled gate (gate_after v.held e)) (gate_later gate (gate_after v.held e) tail) in
     let whole : (v.so_far ++ line) ++ to_come ≡ all =
-    row_lines-next a.board gate (c.loop-event.time + 1) (drop i items) tail e (gate_settled gate v.held) v.held (gate_settled gate (gate_after v.held e)) v.so_far line all split refl text rest in
+    row_lines-next a.board gate c.loop-event.time (drop i items) tail e v.held c.deref.result.now c.values-in-loop-event.result.now v.so_far line all split before now c.in_ok-line.ensures v.rest in
     let name = c.args.name.now in
     let old = g.H.Host.seen c.args.host.now in
     let new = g.H.Host.seen c.put.new.self in
@@ -87,15 +84,12 @@ loop-event-preserved g c =
     let legal = legal_at (circuit_of a.component) (drop i items) tail e split v.legal in
     let next = follows a.component gate c.requires.fitting.gate c.requires.first.gate v.held e v.inputs legal.0 in
     let sim : c.apply.new.self ≡ record { gate = gate; values = gate_settled gate (gate_after v.held e) } =
-    c.apply.ensures ∙ ap (λ (s : GateState). gate_applied s e) v.sim ∙ ap (λ (values : List ℤ). record { gate = gate; values = values }) next.settled in
+    c.apply.ensures ∙ ap (λ (s : GateState). gate_applied s e) v.sim ∙ next.applied in
     let before : c.deref.result.now ≡ gate_settled gate v.held =
     c.deref.ensures.value ∙ c.in_ok-before.ensures.items_if_clones_equal (λ x y h. h) ∙ c.values.ensures ∙ ap (λ (s : GateState). s.values) v.sim in
     let now : c.values-in-loop-event.result.now ≡ gate_settled gate (gate_after v.held e) = c.values-in-loop-event.ensures ∙ ap (λ (s : GateState). s.values) sim in
-    let row : Row = record { time = c.loop-event.time + 1; event = e } in
     let line = string_bytes c.in_ok-line.line in
-    let text : line ≡ row_line a.board row (gate_settled gate v.held) (gate_settled gate (gate_after v.held e)) = c.in_ok-line.ensures ∙ (λ j. row_line a.board row (before j) (now j)) in
     let all = row_lines a.board (timed 1 a.events) c.args.sim.values (gate_later gate (gate_first a.component.members) a.events) in
-    let rest : v.so_far ++ row_lines a.board (timed (c.loop-event.time + 1) (drop i items)) (gate_settled gate v.held) (gate_later gate v.held (drop i items)) ≡ all = rw add-one v.rest in
     let name = c.args.name.now in
     let old = g.H.Host.seen c.args.host.now in
     record {
@@ -107,5 +101,5 @@ loop-event-preserved g c =
       legal = legal.1;
       so_far = v.so_far ++ line;
       seen = c.in_ok-put.ensures.done ∙ (λ j. written name (c.as_bytes.ensures.value j) (v.seen j)) ∙ written-written name v.so_far line old;
-      rest = row_lines-next a.board gate (c.loop-event.time + 1) (drop i items) tail e (gate_settled gate v.held) v.held (gate_settled gate (gate_after v.held e)) v.so_far line all split refl text rest;
+      rest = row_lines-next a.board gate c.loop-event.time (drop i items) tail e v.held c.deref.result.now c.values-in-loop-event.result.now v.so_far line all split before now c.in_ok-line.ensures v.rest;
     }
