@@ -3,7 +3,9 @@ use Rattle.std.specs.Prelude.{◌≡◌, refl, ℕ, ◌==◌, Bool, true, false,
 use Rattle.std.specs.List.{range_with_len}
 use Rattle.shape_rules.specs.declared.cell.CellKind.{CellKind}
 use Rattle.shape_rules.specs.declared.cell.CellKind.TheVariants.{Not, And, Or, Xor, ReduceOr, ReduceAnd, ReduceXor, Add, Sub, Mul, Eq, Lt, Le, Shl, Shr, Sshr, DivFloor, ModFloor}
+use Rattle.rtlil_text.specs.declared.sig.SigPart.TheVariants as parts
 use Rattle.rtlil_text.specs.declared.cell.RtlCell.{RtlCell}
+use Rattle.rtlil_text.specs.Sources.{Constant, Net, spec_bits}
 use Rattle.rtlil_text.specs.Meaning.{source_value}
 use Rattle.rtlil_text.specs.Cells.{all_of, cell_bit}
 use Rattle.rtlil_text.proofs.Builders.{binary, unary, mux, bits, whole}
@@ -22,6 +24,11 @@ shift kind signed a b = output (length a) (binary kind (codes "$2") signed 0 (le
 
 abbrev of_one : CellKind → List Bool → ℕ → Option (List Bool)
 of_one kind a width = output width (unary kind (codes "$2") (length a) width (bits a) (whole (codes "$1") width))
+
+-- ---- the bits of a spec: its last part is the lowest, and so is the first bit of each list of bits
+
+parts_in_order : spec_bits (parts.Wire (codes "\\a") 2 2 ∷ parts.Const (true ∷ false ∷ []) ∷ []) ≡ Constant true ∷ Constant false ∷ Net (codes "\\a") 2 ∷ Net (codes "\\a") 3 ∷ []
+parts_in_order = refl
 
 -- ---- four bits, as they are written: the highest first
 

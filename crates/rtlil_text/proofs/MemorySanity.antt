@@ -52,7 +52,7 @@ write id port before en row = record {
   ends = to (codes "\\CLK") (whole (codes "\\c") 1) ∷ to (codes "\\EN") en ∷ to (codes "\\ADDR") (whole (codes "\\a") 2) ∷ to (codes "\\DATA") row ∷ [];
 }
 
--- row 0 is 01, row 1 is 10 and row 2 is 11
+-- the rows are 01, 10 and 11
 abbrev first_rows : RtlCell
 first_rows = record {
   kind = MemoryInit;

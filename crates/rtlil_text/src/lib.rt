@@ -1,8 +1,11 @@
 //! RTLIL text of one module: what it says, what it means, and how it is written.
 //!
 //! `RtlModule` is the content of a text: wires, memories, cells and links. specs/Reads.antt says which texts stand
-//! for a module, by the grammar (specs/Grammar.antt) and the rules on a module (specs/Rules.antt). specs/Meaning.antt
-//! gives each bit of a wire its value, and specs/History.antt the values after every event.
+//! for a module, by the grammar (specs/Grammar.antt) and the rules on a module (specs/Rules.antt), after the Yosys
+//! manual; a text stands for one module at most (proofs/TextOnce.antt). specs/Meaning.antt gives each bit of a wire
+//! its value by the cell or link that drives it, and specs/History.antt the values after every event. `write` makes
+//! a file of a text that stands for the module, for every module that keeps the rules, and the readers find what
+//! stands in a module under a name.
 #![tactic(auto)]
 
 mod cell;

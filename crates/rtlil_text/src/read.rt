@@ -8,7 +8,7 @@ use crate::module::{RtlModule, RtlWire, WirePort};
 use crate::sig::SigSpec;
 
 impl RtlModule {
-    /// The wire with this id.
+    /// The wire with this id, or `None` where no wire has it.
     pub fn wire(&self, name: &str) -> Option<&RtlWire>
         ensures { option_copied result ≡ wire_of self.now name.now }
     {
@@ -17,7 +17,7 @@ impl RtlModule {
 }
 
 impl RtlCell {
-    /// The value of the parameter with this name.
+    /// The value of the parameter with this name, or `None` where the cell has no such parameter.
     pub fn parameter(&self, name: &str) -> Option<&RtlValue>
         ensures { option_copied result ≡ parameter_of self.now name.now }
     {
@@ -28,7 +28,7 @@ impl RtlCell {
             .map(|p| &p.value)
     }
 
-    /// What is connected to the end with this name.
+    /// What is connected to the end with this name, or `None` where the cell has no such end.
     pub fn end(&self, name: &str) -> Option<&SigSpec>
         ensures { option_copied result ≡ end_of self.now name.now }
     {
@@ -41,7 +41,8 @@ impl RtlCell {
 }
 
 impl RtlWire {
-    /// The number in a field: `width`, and `input` or `output` where the wire is such a port.
+    /// The number in a field: `width` in bits, and `input` or `output` with the port's number where the wire is such
+    /// a port. No other field has one.
     pub fn field(&self, name: &str) -> Option<u32>
         ensures { result ≡ field_of self.now name.now }
     {

@@ -10,7 +10,7 @@ use crate::{
     RtlModule, RtlParameter, RtlParameters, RtlValue, RtlWire, RtlWires, SigPart, SigSpec,
     WirePort, write,
 };
-use amh_host::{MemoryHost, NoMemory, Text};
+use amh_host::{HostCall, HostStop, MemoryHost, NoMemory, Text};
 use shape_rules::CellKind;
 use std::alloc::Global;
 use std::test::Fail;
@@ -261,6 +261,52 @@ fn lines_are_written(rt: HostRuntime) -> Result<(), Fail> {
             line.as_str(),
             format!(in alloc; "    parameter {name} {want}\n")?.as_str()
         );
+    }
+    Ok(())
+}
+
+#[test]
+fn a_failed_put_leaves_the_lines_before_it(rt: HostRuntime) -> Result<(), Fail> {
+    let alloc = rt.alloc();
+    let Ok(module) = sound_gate(alloc) else {
+        return Err("no memory".into());
+    };
+    let mut host = MemoryHost::new(alloc);
+    host.fail(HostCall::Put, "gate.il", 5)?;
+    assert_eq!(rt;
+        write(alloc, &module, &mut host, "gate.il"),
+        Err(HostStop::Failed)
+    );
+    let lines =
+        "attribute \\top 1\nmodule \\top\n  wire width 1 input 1 \\a\n  wire width 1 input 2 \\b\n";
+    assert_eq!(rt; host.bytes("gate.il"), Some(lines.as_bytes()));
+    Ok(())
+}
+
+#[test]
+fn names_are_found(rt: HostRuntime) -> Result<(), Fail> {
+    let alloc = rt.alloc();
+    let Ok(module) = sound_gate(alloc) else {
+        return Err("no memory".into());
+    };
+    let Some(y) = module.wire("\\y") else {
+        return Err("no wire".into());
+    };
+    assert_eq!(rt; y.field("width"), Some(1));
+    assert_eq!(rt; y.field("output"), Some(3));
+    assert_eq!(rt; y.field("input"), None);
+    assert!(rt; module.wire("\\z").is_none());
+    for cell in module.cells.as_slice() {
+        let Some(RtlValue::Number(width)) = cell.parameter("\\Y_WIDTH") else {
+            return Err("no parameter".into());
+        };
+        assert_eq!(rt; *width, 1);
+        assert!(rt; cell.parameter("\\WIDTH").is_none());
+        let Some(spec) = cell.end("\\B") else {
+            return Err("no end".into());
+        };
+        assert_eq!(rt; spec.len(), 1);
+        assert!(rt; cell.end("\\Q").is_none());
     }
     Ok(())
 }

@@ -21,7 +21,8 @@ use crate::widths::Widths;
 use amh_host::{Host, HostStop};
 use std::alloc::{AllocError, Global};
 
-/// Makes the file anew, with a text that stands for the module. Each line is one `put`.
+/// Makes the file anew, with a text that stands for the module; each line is one `put`. After `Failed`, which comes
+/// only where the host's count of faults rose, and after `NoMemory`, the file is as it was or has a front of the text.
 pub fn write<H: Host>(
     alloc: Global,
     m: &RtlModule,
