@@ -5,6 +5,7 @@ pub mod SanityValues
 pub mod SanityRuns
 pub mod SanityMemories
 pub mod SanityNeeds
+pub mod SanityDesigns
 pub mod Answers
 pub mod Looks
 pub mod Shapes
