@@ -1,0 +1,8 @@
+//! The logical lines of a Python text, each with its indent and its tokens.
+#![tactic(auto)]
+
+mod line;
+mod token;
+
+pub use line::{LexStop, Line, Lines};
+pub use token::{Token, TokenForm, Tokens};
