@@ -6,10 +6,10 @@ pub mod FormGives
 pub mod Boards
 pub mod Elaborated
 pub mod Corresponds
+pub mod Nets
+pub mod Running
+pub mod Simulated
 pub mod Lowered
-pub mod Gate
-pub mod GateMembers
-pub mod GateStates
 pub mod Script
 pub mod ScriptParts
 pub mod ScriptGives

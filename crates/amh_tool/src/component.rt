@@ -2,8 +2,8 @@
 ghost use Rattle.std.specs.Prelude.{◌≡◌, ◌≤◌, ◌+◌, ◌==◌, ◌∷◌, [], length, drop, count_by, IfOk};
 ghost use Rattle.amh_tool.specs.FormLines.{lines_in, class_in, assignment_in, top_line};
 ghost use Rattle.amh_tool.specs.Component.{component, form, fixed, one_line, at_end, declared_in, members_part, refused, import_lines, elaborate_lines, return_lines};
-ghost use Rattle.amh_tool.specs.Form.{IsGate};
-ghost use Rattle.amh_tool.specs.FormText.{IsSpelling, ReadsEachGate};
+ghost use Rattle.amh_tool.specs.Form.{IsSound};
+ghost use Rattle.amh_tool.specs.FormText.{IsSpelling, ReadsEachComponent};
 ghost use Rattle.amh_tool.specs.FormGives.{Gives, Reads, ReadsInMemory, Numbers, IsNumbering};
 
 use crate::form::{Assignment, Component, Member};
@@ -49,9 +49,9 @@ pub enum FormStop {
 pub fn parse(alloc: Global, text: &[u8]) -> Result<Component, FormStop>
     requires { length text.now ≤ 1048576 }
     ensures given { Gives result (component text.now) }
-    ensures sound { IfOk result IsGate }
+    ensures sound { IfOk result IsSound }
     ensures spelled { IfOk result (IsSpelling text.now) }
-    ensures complete { ReadsEachGate text.now }
+    ensures complete { ReadsEachComponent text.now }
 {
     if let Err(fault) = str::from_utf8(text) {
         let line = line_feeds(&text[..fault.valid_up_to()]) + 1;

@@ -13,8 +13,8 @@ mod form;
 mod form_lines;
 mod form_names;
 mod form_rules;
-mod gate;
 mod lower;
+mod nets;
 mod perform;
 mod plan;
 mod play;
@@ -26,6 +26,7 @@ mod script_names;
 mod script_numbers;
 mod script_saying;
 mod script_words;
+mod sim;
 #[cfg(test)]
 mod tests;
 mod texts;
