@@ -25,3 +25,7 @@ pub mod ComponentLaws
 pub mod FormSound
 pub mod FormSpelling
 pub mod FormComplete
+pub mod Gathered
+pub mod NetModule
+pub mod NetIds
+pub mod NetRules
