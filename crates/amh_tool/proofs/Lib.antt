@@ -29,3 +29,8 @@ pub mod Gathered
 pub mod NetModule
 pub mod NetIds
 pub mod NetRules
+pub mod NetDrivers
+pub mod NetInputs
+pub mod NetBits
+pub mod NetColumns
+pub mod NetEvents
