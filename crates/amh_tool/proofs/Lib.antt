@@ -34,3 +34,6 @@ pub mod NetInputs
 pub mod NetBits
 pub mod NetColumns
 pub mod NetEvents
+pub mod NetSteps
+pub mod NetFirst
+pub mod NetHistory

@@ -75,7 +75,7 @@ input_in (x ∷ nets) k (suc n) s e =
     only_rest false c = refl
     only_rest true c = refl
 
-input_held : (nets : List Net) (s : ℕ) → is_input_drive (drive_at nets s) ≡ true → s < length nets
+pub input_held : (nets : List Net) (s : ℕ) → is_input_drive (drive_at nets s) ≡ true → s < length nets
 input_held [] s h = absurd (false≢true h)
 input_held (x ∷ nets) zero h = omega arith
 input_held (x ∷ nets) (suc s) h = let r : s < length nets = input_held nets s h in omega arith
