@@ -25,3 +25,15 @@ pub mod ComponentLaws
 pub mod FormSound
 pub mod FormSpelling
 pub mod FormComplete
+pub mod Gathered
+pub mod NetModule
+pub mod NetIds
+pub mod NetRules
+pub mod NetDrivers
+pub mod NetInputs
+pub mod NetBits
+pub mod NetColumns
+pub mod NetEvents
+pub mod NetSteps
+pub mod NetFirst
+pub mod NetHistory
