@@ -4,7 +4,8 @@ ghost use Rattle.amh_tool.specs.Form.{IsSound};
 ghost use Rattle.amh_tool.specs.Simulated.{IsStarted, FitsNets, applied};
 
 use crate::form::Component;
-use crate::nets::Nets;
+use crate::nets::{Nets, nets_of};
+use crate::running::{happen, settle};
 use amh_bits::Int;
 use amh_host::NoMemory;
 use design_ir::Event;
@@ -35,9 +36,15 @@ impl Sim {
         requires { IsSound component.now }
         ensures { IfOk result (IsStarted component.now) }
     {
-        let _ = alloc;
-        let _ = component;
-        Err(NoMemory)
+        let nets = nets_of(alloc, component)?;
+        let before = vec![in alloc; Int::of_u128(0); nets.len()]?;
+        let mut values = vec![in alloc; Int::of_u128(0); nets.len()]?;
+        settle(nets.as_slice(), &mut values);
+        Ok(Sim {
+            nets,
+            before,
+            values,
+        })
     }
 
     /// What an event does: all registers sample the numbers from before it.
@@ -45,7 +52,9 @@ impl Sim {
         requires { FitsNets self.old.nets event.now }
         ensures { self.new ≡ applied self.old event.now }
     {
-        let _ = event;
+        self.before.copy_from_slice(&self.values);
+        happen(self.nets.as_slice(), &self.before, &mut self.values, event);
+        settle(self.nets.as_slice(), &mut self.values);
     }
 
     /// The numbers before the last event.

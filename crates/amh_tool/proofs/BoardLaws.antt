@@ -1,0 +1,1 @@
+-- What the board of a component's design has.
