@@ -1,5 +1,5 @@
 // The simulation of a component, from event to event.
-ghost use Rattle.std.specs.Prelude.{◌≡◌, IfOk};
+ghost use Rattle.std.specs.Prelude.{◌≡◌, IfOk, replicate, pos};
 ghost use Rattle.amh_tool.specs.Form.{IsSound};
 ghost use Rattle.amh_tool.specs.Simulated.{IsStarted, FitsNets, applied};
 
@@ -37,8 +37,8 @@ impl Sim {
         ensures { IfOk result (IsStarted component.now) }
     {
         let nets = nets_of(alloc, component)?;
-        let before = vec![in alloc; Int::of_u128(0); nets.len()]?;
-        let mut values = vec![in alloc; Int::of_u128(0); nets.len()]?;
+        let before = zeros(alloc, nets.len())?;
+        let mut values = zeros(alloc, nets.len())?;
         settle(nets.as_slice(), &mut values);
         Ok(Sim {
             nets,
@@ -70,4 +70,11 @@ impl Sim {
     {
         self.values.as_slice()
     }
+}
+
+// A number for each net, where every net begins.
+fn zeros(alloc: Global, count: usize) -> Result<Vec<Int>, NoMemory>
+    ensures { IfOk result (λ values. values.items ≡ replicate count (pos 0)) }
+{
+    Ok(vec![in alloc; Int::of_u128(0); count]?)
 }
