@@ -119,10 +119,10 @@ pub settled-agree : (nets : List Net) (x y : List ℤ) → IsWired nets → Agre
 settled-agree nets x y wired agree =
     ext_get_or (pos 0) (settled nets x) (settled nets y) (length-settled_from x 0 nets ∙ sym (length-settled_from y 0 nets))
     (λ i h.
-        let h : i < length nets = omega (arith, length-settled_from x 0 nets) in
-        at-settled nets x i h
-        ∙ settled_number-agree nets x y i (net_at nets i).drive agree h refl (wired.reads i h)
-        ∙ sym (at-settled nets y i h))
+    let h : i < length nets = omega (arith, length-settled_from x 0 nets) in
+    at-settled nets x i h
+    ∙ settled_number-agree nets x y i (net_at nets i).drive agree h refl (wired.reads i h)
+    ∙ sym (at-settled nets y i h))
 
 settled_number-kept : (held : List ℤ) (i : ℕ) (d : Drive) → keeps d ≡ true → settled_number held i d ≡ at held i
 settled_number-kept held i Input h = refl
@@ -144,8 +144,8 @@ set-agree : (nets : List Net) (x y : List ℤ) (s : ℕ) (n : ℤ) → s < lengt
 set-agree nets x y s n h k agree i kept =
     ⊎_elim
     (λ (e : i ≡ s).
-        ap (at (slice_set x s n)) e ∙ get_or-set_same x s n (pos 0) h
-        ∙ sym (ap (at (slice_set y s n)) e ∙ get_or-set_same y s n (pos 0) k))
+    ap (at (slice_set x s n)) e ∙ get_or-set_same x s n (pos 0) h
+    ∙ sym (ap (at (slice_set y s n)) e ∙ get_or-set_same y s n (pos 0) k))
     (λ (apart : i ≡ s → ⊥). get_or-set_other x s i n (pos 0) apart ∙ agree i kept ∙ sym (get_or-set_other y s i n (pos 0) apart))
     (cases_eq i s)
 
@@ -234,9 +234,9 @@ settled_to_next nets held now s n wired h to is bit = record {
   settled = λ i below.
       ⊎_elim
       (λ (e : i ≡ s).
-          ap (at (slice_set now s n)) e ∙ get_or-set_same now s n (pos 0) (omega (arith, to.size))
-          ∙ is ∙ settled_number-agree nets now held s (net_at nets s).drive (settled_to-keeps nets held now s to) h refl (wired.reads s h)
-          ∙ sym (at-settled nets held s h) ∙ ap (at (settled nets held)) (sym e))
+      ap (at (slice_set now s n)) e ∙ get_or-set_same now s n (pos 0) (omega (arith, to.size))
+      ∙ is ∙ settled_number-agree nets now held s (net_at nets s).drive (settled_to-keeps nets held now s to) h refl (wired.reads s h)
+      ∙ sym (at-settled nets held s h) ∙ ap (at (settled nets held)) (sym e))
       (λ (apart : i ≡ s → ⊥). get_or-set_other now s i n (pos 0) apart ∙ to.settled i (omega arith))
       (cases_eq i s);
   rest = λ i past. get_or-set_other now s i n (pos 0) (omega arith) ∙ to.rest i (omega arith);
