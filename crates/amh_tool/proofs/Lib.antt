@@ -2,6 +2,9 @@ mod FormSamples
 mod TraceSamples
 pub mod FormLineLaws
 pub mod FormNameLaws
+pub mod Assumed
+pub mod SimLaws
+pub mod BoardLaws
 pub mod TraceLaws
 pub mod ScriptWordLaws
 pub mod ScriptNameLaws

@@ -9,6 +9,7 @@ pub mod Corresponds
 pub mod Nets
 pub mod Running
 pub mod Simulated
+pub mod NetColumns
 pub mod Lowered
 pub mod Script
 pub mod ScriptParts

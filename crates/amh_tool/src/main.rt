@@ -19,6 +19,7 @@ mod perform;
 mod plan;
 mod play;
 mod run;
+mod running;
 mod script;
 mod script_edge;
 mod script_line;

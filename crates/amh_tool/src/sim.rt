@@ -1,10 +1,11 @@
 // The simulation of a component, from event to event.
-ghost use Rattle.std.specs.Prelude.{◌≡◌, IfOk};
+ghost use Rattle.std.specs.Prelude.{◌≡◌, IfOk, replicate, pos};
 ghost use Rattle.amh_tool.specs.Form.{IsSound};
 ghost use Rattle.amh_tool.specs.Simulated.{IsStarted, FitsNets, applied};
 
 use crate::form::Component;
-use crate::nets::Nets;
+use crate::nets::{Nets, nets_of};
+use crate::running::{happen, settle};
 use amh_bits::Int;
 use amh_host::NoMemory;
 use design_ir::Event;
@@ -35,9 +36,15 @@ impl Sim {
         requires { IsSound component.now }
         ensures { IfOk result (IsStarted component.now) }
     {
-        let _ = alloc;
-        let _ = component;
-        Err(NoMemory)
+        let nets = nets_of(alloc, component)?;
+        let before = zeros(alloc, nets.len())?;
+        let mut values = zeros(alloc, nets.len())?;
+        settle(nets.as_slice(), &mut values);
+        Ok(Sim {
+            nets,
+            before,
+            values,
+        })
     }
 
     /// What an event does: all registers sample the numbers from before it.
@@ -45,7 +52,9 @@ impl Sim {
         requires { FitsNets self.old.nets event.now }
         ensures { self.new ≡ applied self.old event.now }
     {
-        let _ = event;
+        self.before.copy_from_slice(&self.values);
+        happen(self.nets.as_slice(), &self.before, &mut self.values, event);
+        settle(self.nets.as_slice(), &mut self.values);
     }
 
     /// The numbers before the last event.
@@ -61,4 +70,11 @@ impl Sim {
     {
         self.values.as_slice()
     }
+}
+
+// A number for each net, where every net begins.
+fn zeros(alloc: Global, count: usize) -> Result<Vec<Int>, NoMemory>
+    ensures { IfOk result (λ values. values.items ≡ replicate count (pos 0)) }
+{
+    Ok(vec![in alloc; Int::of_u128(0); count]?)
 }

@@ -74,7 +74,14 @@ fn put_rows<H: Host>(
     for event in accepted.events.as_slice() {
         time += 1;
         sim.apply(event);
-        let line = row_line(alloc, &accepted.board, time, event, sim.before(), sim.values())?;
+        let line = row_line(
+            alloc,
+            &accepted.board,
+            time,
+            event,
+            sim.before(),
+            sim.values(),
+        )?;
         host.put(name, line.as_bytes())?;
     }
     Ok(())
