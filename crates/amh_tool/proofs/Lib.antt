@@ -17,6 +17,7 @@ pub mod ScriptLegal
 pub mod AcceptLaws
 pub mod RunLaws
 pub mod FormRuleLaws
+pub mod FormSideLaws
 pub mod FormLaws
 pub mod FormExits
 pub mod FormBinds
