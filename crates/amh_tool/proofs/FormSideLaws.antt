@@ -70,3 +70,10 @@ pub first_wrong-some : (members : List Member) (all : List Assignment) (k : ℕ)
     → AllowedBelow members all k → is_allowed members all (get_or all k d) ≡ false → first_wrong members all ≡ Some k
 first_wrong-some members all k d held passed wrong =
     position-at (λ (b : Assignment). not (is_allowed members all b)) all k d held (λ i before. ap not (passed i d (omega arith) before)) (ap not wrong)
+
+position-within : {X : Type 0} (p : X → Bool) (xs : List X) (n : ℕ) → position p xs ≡ Some n → n < length xs
+position-within p xs n h = grind (arith, nat_tests)
+
+-- the assignment that is told is one of them
+pub first_wrong-within : (members : List Member) (all : List Assignment) (n : ℕ) → first_wrong members all ≡ Some n → n < length all
+first_wrong-within members all n h = position-within (λ (a : Assignment). not (is_allowed members all a)) all n h

@@ -21,6 +21,8 @@ pub mod FormSideLaws
 pub mod FormLaws
 pub mod FormExits
 pub mod FormBinds
+pub mod FormCuts
+pub mod FormAssignments
 pub mod FormPlaces
 pub mod ComponentLaws
 pub mod FormSound
