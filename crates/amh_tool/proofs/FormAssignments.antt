@@ -1,15 +1,15 @@
 -- What is known of an assignment that a line says: its members, and that the line spells it.
-use Rattle.std.proofs.Common.{◌≡◌, refl, ℕ, ◌<◌, ◌≤◌, ◌+◌, suc, List, [], ◌∷◌, ◌++◌, length, drop, Bool, true, false, cond, not, ap, sym, ◌∙◌, subst, arith, All}
-use Rattle.std.specs.Prelude.{Option, Some, None, bytes_eq, codes, is_some, option_and_then}
+use Rattle.std.proofs.Common.{◌≡◌, refl, ℕ, ◌<◌, ◌≤◌, ◌+◌, ◌-◌, suc, List, [], ◌∷◌, ◌++◌, length, drop, map, Bool, true, false, cond, not, ap, sym, ◌∙◌, subst, arith, All}
+use Rattle.std.specs.Prelude.{Option, Some, None, Ok, Err, bytes_eq, codes, is_some, option_and_then}
 use Rattle.std.specs.Option.{option_map}
-use Rattle.std.proofs.lemmas.List.{append_assoc, length-append}
+use Rattle.std.proofs.lemmas.List.{append_assoc, length-drop}
 use Rattle.std.proofs.lemmas.List.Elements.{All-nil, All-cons}
 use Rattle.std.proofs.lemmas.Slice.Eq.{bytes_eq-Decides}
 use Rattle.amh_tool.specs.Form.{IsOutput, member_at, operands}
 use Rattle.amh_tool.specs.FormLines.{Line, behind, cut_name, name_behind, number_of, output_of, side_behind, operand_behind, not_in, ends_with, right_behind, right_in, assignment_in}
 use Rattle.amh_tool.specs.FormText.{operand_text, right_text, assignment_line}
 use Rattle.amh_tool.specs.FormGives.{IsWithin}
-use Rattle.amh_tool.specs.Component.{with_assignment, assigned_in}
+use Rattle.amh_tool.specs.Component.{with_assignment, assigned_in, first_wrong, allowed_of, assignments_part}
 use Rattle.amh_tool.specs.declared.form.Member.{Member}
 use Rattle.amh_tool.specs.declared.form.Right.{Right}
 use Rattle.amh_tool.specs.declared.form.Right.TheVariants.{Copy, Not, And, Or}
@@ -235,3 +235,54 @@ pub assigned_more : (ms : List Member) (old new all : List Assignment) (ls rest 
 assigned_more ms old new all ls rest line a cut says pushed before =
     let said : assigned_in ms ls ≡ a ∷ assigned_in ms rest = rw (cut, says) refl in
     rw (pushed, append_assoc) (sym (ap (λ (others : List Assignment). old ++ others) said) ∙ before)
+
+said_lines : (ms : List Member) (o : Option Assignment) (line : Line) (ls : List Line) (all : List Assignment) → ((a : Assignment) → o ≡ Some a → line ≡ assignment_line ms a)
+    → ls ≡ map (assignment_line ms) all ++ drop (length all) ls
+    → line ∷ ls ≡ map (assignment_line ms) (with_assignment o all) ++ drop (length (with_assignment o all)) (line ∷ ls)
+said_lines ms None line ls all first rest = refl
+said_lines ms (Some a) line ls all first rest = let head = first a refl in ap (λ (l : Line). l ∷ ls) head ∙ ap (λ (k : List Line). assignment_line ms a ∷ k) rest
+
+-- lines are those of their assignments, and the lines behind them
+pub assigned_in-is : (ms : List Member) (ls : List Line) → ls ≡ map (assignment_line ms) (assigned_in ms ls) ++ drop (length (assigned_in ms ls)) ls
+assigned_in-is ms [] = refl
+assigned_in-is ms (l ∷ ls) = said_lines ms (assignment_in ms l) l ls (assigned_in ms ls) (λ a h. (assignment_in-is ms l a h).spelled) (assigned_in-is ms ls)
+
+-- what is known of assignments that are read, and of the lines behind them
+pub record AreAllowed (ms : List Member) (ls : List Line) (r : List Assignment × List Line) : Type 0 where
+  pub assigned : assigned_in ms ls ≡ r.0
+  pub rest : drop (length (assigned_in ms ls)) ls ≡ r.1
+  pub right : first_wrong ms r.0 ≡ None
+
+pub assignments_part-is : (ms : List Member) (ls : List Line) (r : List Assignment × List Line) → assignments_part ms ls ≡ Ok r → AreAllowed ms ls r
+unfolding assignments_part
+assignments_part-is ms ls r h = here (first_wrong ms (assigned_in ms ls)) refl h
+  where
+    here : (wrong : Option ℕ) → first_wrong ms (assigned_in ms ls) ≡ wrong → allowed_of ls (assigned_in ms ls) wrong ≡ Ok r → AreAllowed ms ls r
+    here None e k =
+        let same : ◌≡◌ {A = List Assignment × List Line} (assigned_in ms ls, drop (length (assigned_in ms ls)) ls) r = cc in
+        let assigned = ap (λ (p : List Assignment × List Line). p.0) same in
+        record {
+          assigned = assigned;
+          rest = ap (λ (p : List Assignment × List Line). p.1) same;
+          right = sym (ap (first_wrong ms) assigned) ∙ e;
+        }
+    here (Some n) e k = absurd (cc)
+
+pub assignments_part-left : (ms : List Member) (ls : List Line) (n : ℕ) → assignments_part ms ls ≡ Err n → n ≤ length ls
+unfolding assignments_part
+assignments_part-left ms ls n h = here (first_wrong ms (assigned_in ms ls)) h
+  where
+    here : (wrong : Option ℕ) → allowed_of ls (assigned_in ms ls) wrong ≡ Err n → n ≤ length ls
+    here None k = absurd (cc)
+    here (Some k) e = let same : length ls - k ≡ n = cc in omega arith
+
+pub assignments_part-rest : (ms : List Member) (ls : List Line) (r : List Assignment × List Line) → assignments_part ms ls ≡ Ok r → length r.1 ≤ length ls
+assignments_part-rest ms ls r h =
+    let is = assignments_part-is ms ls r h in
+    omega (arith, ap (λ (k : List Line). length k) is.rest, length-drop (length (assigned_in ms ls)) ls)
+
+-- no more assignments are read than lines
+pub assignments_part-few : (ms : List Member) (ls : List Line) (r : List Assignment × List Line) → assignments_part ms ls ≡ Ok r → length r.0 ≤ length ls
+assignments_part-few ms ls r h =
+    let is = assignments_part-is ms ls r h in
+    omega (arith, ap (λ (k : List Assignment). length k) is.assigned, length-assigned_in ms ls)

@@ -1,23 +1,19 @@
 -- A text whose component is read spells it.
-use Rattle.std.proofs.Common.{◌≡◌, refl, ℕ, ◌<◌, List, [], ◌∷◌, ◌++◌, length, map, take, drop, get_or, Bool, true, false, cond, not, ap, sym, ◌∙◌, subst, arith}
-use Rattle.std.specs.Prelude.{Option, Some, None, Ok, Err, bytes_eq, codes, position, nat_lt, ◌==◌}
-use Rattle.std.specs.List.{flat_map, prefix_len}
-use Rattle.std.proofs.lemmas.Bool.{eqb-true, false≢true}
-use Rattle.std.proofs.lemmas.Bool.Decides.{nat_tests}
-use Rattle.std.proofs.lemmas.List.{append_assoc, take-append-drop}
-use Rattle.std.proofs.lemmas.List.Folds.{length-prefix_len}
-use Rattle.std.proofs.lemmas.List.Sums.{prefix_len_stops}
+use Rattle.std.proofs.Common.{◌≡◌, refl, ℕ, List, [], ◌∷◌, ◌++◌, length, map, drop, Bool, true, false, cond, ap, sym, ◌∙◌}
+use Rattle.std.specs.Prelude.{Option, Some, None, Ok, Err, bytes_eq, codes, ◌==◌}
+use Rattle.std.specs.List.{flat_map}
+use Rattle.std.proofs.lemmas.Bool.{eqb-true}
 use Rattle.std.proofs.lemmas.Slice.Eq.{bytes_eq-Decides}
-use Rattle.amh_tool.specs.FormNames.{is_name, is_name_byte}
-use Rattle.amh_tool.specs.Form.{member_at, no_member}
-use Rattle.amh_tool.specs.FormLines.{Line, with_byte, lines_in, behind, cut_name, name_behind, class_in, side_in, member_in, number_of, same_side, number_on_side, names_in, assignment_in, top_line}
-use Rattle.amh_tool.specs.Component.{passed, one_line, fixed, at_end, declared_in, with_member, first_twin, distinct_of, members_part, form, import_lines, elaborate_lines, return_lines}
+use Rattle.amh_tool.specs.FormNames.{is_name}
+use Rattle.amh_tool.specs.FormLines.{Line, with_byte, lines_in, name_behind, class_in, side_in, member_in, top_line}
+use Rattle.amh_tool.specs.Component.{passed, one_line, fixed, at_end, declared_in, with_member, first_twin, distinct_of, members_part, assigned_in, assignments_part, form, import_lines, elaborate_lines, return_lines}
 use Rattle.amh_tool.specs.FormText.{class_line, member_line, assignment_line, spelled_lines, IsSpelling}
 use Rattle.amh_tool.specs.declared.form.Member.{Member}
-use Rattle.amh_tool.specs.declared.form.Right.TheVariants.{And}
 use Rattle.amh_tool.specs.declared.form.Assignment.{Assignment}
 use Rattle.amh_tool.specs.declared.form.Component.{Component}
 use Rattle.amh_tool.proofs.FormBinds.{bind-ok, bind-some}
+use Rattle.amh_tool.proofs.FormCuts.{Cut, name_behind-is}
+use Rattle.amh_tool.proofs.FormAssignments.{assigned_in-is, assignments_part-is}
 
 -- ---- the lines of a text are the text
 
@@ -109,6 +105,11 @@ members_part-cut ls r h =
     let is = distinct_of-cut ls (declared_in ls) (first_twin [] (declared_in ls)) r h in
     declared_in-is ls ∙ ap (λ (ms : List Member). map member_line ms ++ drop (length (declared_in ls)) ls) is.0 ∙ ap (λ (k : List Line). map member_line r.0 ++ k) is.1
 
+assignments_part-cut : (ms : List Member) (ls : List Line) (r : List Assignment × List Line) → assignments_part ms ls ≡ Ok r → ls ≡ map (assignment_line ms) r.0 ++ r.1
+assignments_part-cut ms ls r h =
+    let is = assignments_part-is ms ls r h in
+    assigned_in-is ms ls ∙ ap (λ (all : List Assignment). map (assignment_line ms) all ++ drop (length (assigned_in ms ls)) ls) is.assigned ∙ ap (λ (k : List Line). map (assignment_line ms) r.0 ++ k) is.rest
+
 at_end-is : (ls : List Line) (u : Unit {0}) → at_end ls ≡ Ok u → ls ≡ []
 at_end-is [] u h = refl
 at_end-is (l ∷ ls) u h = absurd (cc)
@@ -126,22 +127,21 @@ form-is ls c h =
     bind-ok (one_line class_in imported) _ c (AreLines ls c) (λ class e_class.
     bind-ok (members_part class.1) _ c (AreLines ls c) (λ members e_members.
     bind-ok (fixed elaborate_lines members.1) _ c (AreLines ls c) (λ begun e_begun.
-    bind-ok (one_line (assignment_in members.0) begun) _ c (AreLines ls c) (λ assignment e_assignment.
-    bind-ok (fixed return_lines assignment.1) _ c (AreLines ls c) (λ returned e_returned.
+    bind-ok (assignments_part members.0 begun) _ c (AreLines ls c) (λ assignments e_assignments.
+    bind-ok (fixed return_lines assignments.1) _ c (AreLines ls c) (λ returned e_returned.
     bind-ok (fixed (top_line class.0 ∷ []) returned) _ c (AreLines ls c) (λ rest e_rest.
     bind-ok (at_end rest) _ c (AreLines ls c) (λ nothing e_nothing last.
     one_line-is class_in imported class (AreLines ls c) (λ line cut says.
-    one_line-is (assignment_in members.0) begun assignment (AreLines ls c) (λ line' cut' says'.
-    let same : ◌≡◌ {A = Component} (record { members = members.0; assignments = assignment.0 ∷ [] }) c = cc in
+    let same : ◌≡◌ {A = Component} (record { members = members.0; assignments = assignments.0 }) c = cc in
     let first = class_in-is line class.0 says in
     let end : returned ≡ top_line class.0 ∷ [] = fixed-is (top_line class.0 ∷ []) returned rest e_rest ∙ ap (λ (k : List Line). top_line class.0 ∷ k) (at_end-is rest nothing e_nothing) in
-    let after_assignment = fixed-is return_lines assignment.1 returned e_returned ∙ ap (λ (k : List Line). return_lines ++ k) end in
-    let after_begun = cut' ∙ ap (λ (l : Line). l ∷ assignment.1) (assignment_in-is members.0 line' assignment.0 says') ∙ ap (λ (k : List Line). assignment_line members.0 assignment.0 ∷ k) after_assignment in
+    let after_assignments = fixed-is return_lines assignments.1 returned e_returned ∙ ap (λ (k : List Line). return_lines ++ k) end in
+    let after_begun = assignments_part-cut members.0 begun assignments e_assignments ∙ ap (λ (k : List Line). map (assignment_line members.0) assignments.0 ++ k) after_assignments in
     let after_members = fixed-is elaborate_lines members.1 begun e_begun ∙ ap (λ (k : List Line). elaborate_lines ++ k) after_begun in
     let after_class = members_part-cut class.1 members e_members ∙ ap (λ (k : List Line). map member_line members.0 ++ k) after_members in
     let after_imports = cut ∙ ap (λ (l : Line). l ∷ class.1) first.0 ∙ ap (λ (k : List Line). class_line class.0 ∷ k) after_class in
     let all = fixed-is import_lines ls imported e_imported ∙ ap (λ (k : List Line). import_lines ++ k) after_imports in
-    record { class = class.0; name = first.1; lines = all ∙ ap (spelled_lines class.0) same }) e_assignment) e_class)))))))) h
+    record { class = class.0; name = first.1; lines = all ∙ ap (spelled_lines class.0) same }) e_class)))))))) h
 
 -- a text whose lines are a component's spells it
 pub form-spelling : (text : List ℕ) (c : Component) → form (lines_in text) ≡ Ok c → IsSpelling text c
