@@ -140,7 +140,7 @@ right_in-is ms text r h = here (is_some (behind (codes "~") text)) h
 -- ---- the line
 
 -- `comb` or `sync`
-abbrev side_text : Bool → List ℕ
+abbrev pub side_text : Bool → List ℕ
 side_text clocked = cond clocked (codes "sync") (codes "comb")
 
 side_behind-is : (text : List ℕ) (side : Bool × List ℕ) → side_behind text ≡ Some side → text ≡ side_text side.0 ++ (codes " += self." ++ side.1)
