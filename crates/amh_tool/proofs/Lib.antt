@@ -20,9 +20,12 @@ pub mod ScriptLegal
 pub mod AcceptLaws
 pub mod RunLaws
 pub mod FormRuleLaws
+pub mod FormSideLaws
 pub mod FormLaws
 pub mod FormExits
 pub mod FormBinds
+pub mod FormCuts
+pub mod FormAssignments
 pub mod FormPlaces
 pub mod ComponentLaws
 pub mod FormSound

@@ -1,14 +1,15 @@
 // Reads a design file of the component form.
 ghost use Rattle.std.specs.Prelude.{◌≡◌, ◌≤◌, ◌+◌, ◌==◌, ◌∷◌, [], length, drop, count_by, IfOk};
-ghost use Rattle.amh_tool.specs.FormLines.{lines_in, class_in, assignment_in, top_line};
-ghost use Rattle.amh_tool.specs.Component.{component, form, fixed, one_line, at_end, declared_in, members_part, refused, import_lines, elaborate_lines, return_lines};
-ghost use Rattle.amh_tool.specs.Form.{IsSound};
+ghost use Rattle.amh_tool.specs.FormLines.{lines_in, class_in, top_line};
+ghost use Rattle.amh_tool.specs.Component.{component, form, fixed, one_line, at_end, declared_in, members_part, assigned_in, assignments_part, within_limit, refused, import_lines, elaborate_lines, return_lines};
+ghost use Rattle.amh_tool.specs.Form.{IsSound, uses_sync, signal_count};
 ghost use Rattle.amh_tool.specs.FormText.{IsSpelling, ReadsEachComponent};
-ghost use Rattle.amh_tool.specs.FormGives.{Gives, Reads, ReadsInMemory, Numbers, IsNumbering};
+ghost use Rattle.amh_tool.specs.FormGives.{Gives, Reads, ReadsInMemory, IsNumbered, IsNumbering};
 
 use crate::form::{Assignment, Component, Member};
 use crate::form_lines::{first_line, line_count};
-use crate::form_rules::{assignment_in, class_in, is_top, member_in};
+use crate::form_rules::{Signature, assignment_in, class_in, is_top, member_in};
+use crate::form_sides::first_wrong;
 use amh_host::{Items, Kind, NoMemory, Place};
 use std::alloc::Global;
 use std::collections::BTreeMap;
@@ -21,8 +22,8 @@ const ELABORATE_LINES: &[u8] = b"\n    def elaborate(self, platform):\n        m
 
 const RETURN_LINES: &[u8] = b"        return m\n\n";
 
-/// How many members a component may have.
-const MOST_MEMBERS: usize = 16384;
+/// How many signals a component may have.
+const MOST_SIGNALS: usize = 16384;
 
 /// The line of the first member past the most, since the first member stands in line 6.
 const LINE_PAST_MOST: u32 = 6 + 16384;
@@ -44,8 +45,9 @@ pub enum FormStop {
 /// Reads a design file of the component form.
 ///
 /// Refused are bytes that are no UTF-8, as `Text` at the line of the first of them, then the first line that
-/// the form does not allow at its place, as `Subset`, then the 16,385th member, as `Limit` at its line. A file
-/// that ends too early is refused at the line behind its last one. The column is always 1.
+/// the form does not allow at its place, as `Subset`, then the 16,385th member, as `Limit` at its line, then a
+/// clock and a reset past 16,384 signals, as `Limit` at line 1. A file that ends too early is refused at the line
+/// behind its last one. The column is always 1.
 pub fn parse(alloc: Global, text: &[u8]) -> Result<Component, FormStop>
     requires { length text.now ≤ 1048576 }
     ensures given { Gives result (component text.now) }
@@ -58,14 +60,53 @@ pub fn parse(alloc: Global, text: &[u8]) -> Result<Component, FormStop>
         return Err(FormStop::Refused(refused(Kind::Text, line as u32)));
     }
     match form(alloc, text) {
-        Ok(component) if component.members.len() <= MOST_MEMBERS => Ok(component),
-        Ok(_) => Err(FormStop::Refused(refused(Kind::Limit, LINE_PAST_MOST))),
+        Ok(component) => match within_limit(component) {
+            Ok(component) => Ok(component),
+            Err(refusal) => Err(FormStop::Refused(refusal)),
+        },
         Err(Stop::Here(left)) => {
             let line = line_count(text) - left + 1;
             Err(FormStop::Refused(refused(Kind::Subset, line as u32)))
         }
         Err(Stop::NoMemory) => Err(FormStop::NoMemory),
     }
+}
+
+// The component, where it has not too many signals.
+fn within_limit(component: Component) -> Result<Component, Refusal>
+    ensures { result ≡ within_limit component }
+{
+    if component.members.len() > MOST_SIGNALS {
+        return Err(refused(Kind::Limit, LINE_PAST_MOST));
+    }
+    if signal_count(&component) > MOST_SIGNALS {
+        Err(refused(Kind::Limit, 1))
+    } else {
+        Ok(component)
+    }
+}
+
+// How many signals a component has, with a clock and a reset where `sync` is used.
+fn signal_count(component: &Component) -> usize
+    requires { length component.now.members ≤ 16384 }
+    ensures { result ≡ signal_count component.now }
+{
+    if uses_sync(component.assignments.as_slice()) {
+        2 + component.members.len()
+    } else {
+        component.members.len()
+    }
+}
+
+fn uses_sync(assignments: &[Assignment]) -> bool
+    ensures { result ≡ uses_sync assignments.now }
+{
+    for assignment in assignments {
+        if assignment.clocked {
+            return true;
+        }
+    }
+    false
 }
 
 fn refused(kind: Kind, line: u32) -> Refusal
@@ -121,16 +162,14 @@ fn form(alloc: Global, text: &[u8]) -> Result<Component, Stop>
 {
     let rest = import_part(text)?;
     let (class, rest) = class_part(rest)?;
-    let (members, numbers, rest) = members_part(alloc, rest)?;
+    let (signature, rest) = members_part(alloc, rest)?;
     let rest = elaborate_part(rest)?;
-    let (assignment, rest) = assignment_part(members.as_slice(), &numbers, rest)?;
+    let (assignments, rest) = assignments_part(alloc, &signature, rest)?;
     let rest = return_part(rest)?;
     let rest = top_part(class, rest)?;
     at_end(rest)?;
-    let mut assignments = Items::new(alloc);
-    assignments.push(assignment)?;
     Ok(Component {
-        members,
+        members: signature.members,
         assignments,
     })
 }
@@ -194,21 +233,18 @@ fn class_part(text: &[u8]) -> Result<(&str, &[u8]), Left>
     }
 }
 
-// The members, the number of each by its name, and what stands behind their lines.
+// The members with their numbers, and what stands behind their lines.
 #[tactic(auto, unfolding(crate::specs::Component::members_part))]
-fn members_part(
-    alloc: Global,
-    text: &[u8],
-) -> Result<(Items<Member>, BTreeMap<String, usize>, &[u8]), Stop>
-    ensures part { ReadsInMemory (λ r. (r.0, lines_in r.2.now)) result (members_part (lines_in text.now)) }
-    ensures numbers { IfOk result (λ r. Numbers r.1 r.0) }
+fn members_part(alloc: Global, text: &[u8]) -> Result<(Signature, &[u8]), Stop>
+    ensures part { ReadsInMemory (λ r. (r.0.members, lines_in r.1.now)) result (members_part (lines_in text.now)) }
+    ensures numbers { IfOk result (λ r. IsNumbered r.0) }
 {
     let (members, rest) = declared_in(alloc, text)?;
     if members.len() == 0 {
         return Err(Stop::Here(line_count(text)));
     }
     match numbered(alloc, members.as_slice())? {
-        Numbering::Distinct(numbers) => Ok((members, numbers, rest)),
+        Numbering::Distinct(numbers) => Ok((Signature { members, numbers }, rest)),
         Numbering::Twin(number) => Err(Stop::Here(line_count(text) - number)),
     }
 }
@@ -255,23 +291,44 @@ fn numbered(alloc: Global, members: &[Member]) -> Result<Numbering, NoMemory>
     Ok(Numbering::Distinct(numbers))
 }
 
-// The assignment, and what stands behind its line.
-fn assignment_part<'a>(
-    members: &[Member],
-    numbers: &BTreeMap<String, usize>,
+// The assignments, each of which is allowed, and what stands behind their lines.
+#[tactic(auto, unfolding(crate::specs::Component::assignments_part))]
+fn assignments_part<'a>(
+    alloc: Global,
+    signature: &Signature,
     text: &'a [u8],
-) -> Result<(Assignment, &'a [u8]), Left>
-    requires { Numbers numbers.now members.now }
-    ensures { Reads (λ r. (r.0, lines_in r.1.now)) result (one_line (assignment_in members.now) (lines_in text.now)) }
+) -> Result<(Items<Assignment>, &'a [u8]), Stop>
+    requires { IsNumbered signature.now }
+    ensures { ReadsInMemory (λ r. (r.0, lines_in r.1.now)) result (assignments_part signature.now.members (lines_in text.now)) }
 {
-    if text.is_empty() {
-        return Err(Left(0));
+    let (assignments, rest) = assigned_in(alloc, signature, text)?;
+    match first_wrong(alloc, signature.members.as_slice(), assignments.as_slice())? {
+        None => Ok((assignments, rest)),
+        Some(number) => Err(Stop::Here(line_count(text) - number)),
     }
-    let (line, rest) = first_line(text);
-    match assignment_in(members, numbers, line) {
-        Some(assignment) => Ok((assignment, rest)),
-        None => Err(Left(line_count(text))),
+}
+
+// The assignments that the lines say, up to the first line that says none, and what stands behind them.
+fn assigned_in<'a>(
+    alloc: Global,
+    signature: &Signature,
+    text: &'a [u8],
+) -> Result<(Items<Assignment>, &'a [u8]), NoMemory>
+    requires { IsNumbered signature.now }
+    ensures assignments { IfOk result (λ r. r.0 ≡ assigned_in signature.now.members (lines_in text.now)) }
+    ensures rest { IfOk result (λ r. lines_in r.1.now ≡ drop (length r.0) (lines_in text.now)) }
+{
+    let mut assignments = Items::new(alloc);
+    let mut rest = text;
+    while !rest.is_empty() {
+        let (line, behind) = first_line(rest);
+        let Some(assignment) = assignment_in(signature, line) else {
+            return Ok((assignments, rest));
+        };
+        assignments.push(assignment)?;
+        rest = behind;
     }
+    Ok((assignments, rest))
 }
 
 // What stands behind the line that names the class.

@@ -13,6 +13,7 @@ mod form;
 mod form_lines;
 mod form_names;
 mod form_rules;
+mod form_sides;
 mod lower;
 mod nets;
 mod perform;
