@@ -1,4 +1,5 @@
 mod FormSamples
+mod NetSamples
 mod TraceSamples
 pub mod FormLineLaws
 pub mod FormNameLaws
