@@ -1,5 +1,8 @@
 mod FormSamples
 mod NetSamples
+pub mod LastLaws
+pub mod LastFacts
+pub mod NetTurns
 mod TraceSamples
 pub mod FormLineLaws
 pub mod FormNameLaws
