@@ -3,6 +3,9 @@ mod NetSamples
 pub mod LastLaws
 pub mod LastFacts
 pub mod NetTurns
+pub mod NetPlaces
+pub mod NetSides
+pub mod CircuitParts
 mod TraceSamples
 pub mod FormLineLaws
 pub mod FormNameLaws
