@@ -6,6 +6,9 @@ pub mod NetTurns
 pub mod NetPlaces
 pub mod NetSides
 pub mod CircuitParts
+pub mod CircuitPut
+pub mod CircuitInputs
+pub mod CircuitSides
 mod TraceSamples
 pub mod FormLineLaws
 pub mod FormNameLaws
