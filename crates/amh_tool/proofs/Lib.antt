@@ -9,6 +9,7 @@ pub mod CircuitParts
 pub mod CircuitPut
 pub mod CircuitInputs
 pub mod CircuitSides
+pub mod NetNumbers
 mod TraceSamples
 pub mod FormLineLaws
 pub mod FormNameLaws

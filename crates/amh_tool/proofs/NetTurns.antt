@@ -46,7 +46,7 @@ module _ (c : Component) (h : IsSound c) where
 
 -- ---- one net more
 
-first_is : (b : Bool) (m k : Member) → (if b then 2 else 0) ≡ length (if b then m ∷ k ∷ [] else [])
+pub first_is : (b : Bool) (m k : Member) → (if b then 2 else 0) ≡ length (if b then m ∷ k ∷ [] else [])
 first_is true m k = refl
 first_is false m k = refl
 
