@@ -10,6 +10,7 @@ pub mod CircuitPut
 pub mod CircuitInputs
 pub mod CircuitSides
 pub mod NetNumbers
+pub mod NetRegisters
 mod TraceSamples
 pub mod FormLineLaws
 pub mod FormNameLaws
