@@ -1,4 +1,16 @@
 mod FormSamples
+mod NetSamples
+pub mod LastLaws
+pub mod LastFacts
+pub mod NetTurns
+pub mod NetPlaces
+pub mod NetSides
+pub mod CircuitParts
+pub mod CircuitPut
+pub mod CircuitInputs
+pub mod CircuitSides
+pub mod NetNumbers
+pub mod NetRegisters
 mod TraceSamples
 pub mod FormLineLaws
 pub mod FormNameLaws

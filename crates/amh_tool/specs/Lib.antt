@@ -7,6 +7,7 @@ pub mod Boards
 pub mod Elaborated
 pub mod Corresponds
 pub mod Nets
+pub mod NetParts
 pub mod Running
 pub mod Simulated
 pub mod NetColumns
