@@ -1,24 +1,22 @@
 -- The board of a component's design is that of its nets.
-use Rattle.std.specs.Prelude.{◌≡◌, ◌<◌, ◌≤◌, ◌+◌, ◌==◌, ◌&&◌, ◌||◌, not, if◌then◌else◌, ℕ, zero, suc, Bool, true, false, List, [], ◌∷◌, map, length}
+use Rattle.std.specs.Prelude.{◌≡◌, ◌<◌, ◌≤◌, ◌+◌, ◌==◌, ◌&&◌, ◌||◌, not, ℕ, zero, suc, Bool, true, false, List, [], ◌∷◌, map, length}
 use Rattle.std.specs.List.{list_any}
 use Rattle.std.proofs.Common.{refl, sym, ap, ◌∙◌, subst, arith}
 use Rattle.std.proofs.lemmas.Bool.{ne_eqb, eq-eqb}
-use Rattle.shape_rules.specs.Forms.{Form, unsigned}
+use Rattle.shape_rules.specs.Forms.{unsigned}
 use Rattle.design_ir.specs.declared.domain.Domain.{Domain}
 use Rattle.design_ir.specs.declared.port.Port.{Port}
-use Rattle.design_ir.specs.declared.port.Column.{Column}
 use Rattle.design_ir.specs.declared.signal.Sig.{Sig}
 use Rattle.design_ir.specs.Values.{signal_form}
 use Rattle.design_ir.specs.Circuits.{Circuit, is_input}
-use Rattle.amh_tool.specs.declared.board.Shown.{Shown}
 use Rattle.amh_tool.specs.declared.board.Board.{Board}
 use Rattle.amh_tool.specs.declared.form.Component.{Component}
 use Rattle.amh_tool.specs.declared.nets.Net.{Net}
 use Rattle.amh_tool.specs.Form.{IsSound}
-use Rattle.amh_tool.specs.Elaborated.{circuit_of, bit_signal, ports_from, columns_from, sync}
+use Rattle.amh_tool.specs.Elaborated.{circuit_of, bit_signal, ports_from, columns_from}
 use Rattle.amh_tool.specs.Boards.{board_of, shown_of, is_clock}
 use Rattle.amh_tool.specs.Nets.{is_input_drive, has_register, net_at, net_member, nets_of, HasNets}
-use Rattle.amh_tool.specs.NetColumns.{net_column, net_columns, net_domains, net_board}
+use Rattle.amh_tool.specs.NetColumns.{net_columns, net_domains, net_board}
 use Rattle.amh_tool.proofs.Assumed.{component_has_nets}
 
 -- ---- signals: each has one bit

@@ -1,6 +1,6 @@
 -- What the nets do from event to event: lengths, bits, and that only what is kept is read.
-use Rattle.std.specs.Prelude.{◌≡◌, ◌≢◌, ◌<◌, ◌≤◌, ◌+◌, ℕ, zero, suc, Bool, true, false, not, if◌then◌else◌, List, [], ◌∷◌, length, replicate, slice_set, get_or, All, ℤ, pos, negsuc, ◌-ℤ◌}
-use Rattle.std.proofs.Common.{refl, sym, ap, ◌∙◌, subst, arith, inl, inr, ⊎_elim}
+use Rattle.std.specs.Prelude.{◌≡◌, ◌<◌, ◌≤◌, ◌+◌, ℕ, zero, suc, Bool, true, false, not, if◌then◌else◌, List, [], ◌∷◌, length, slice_set, get_or, All, ℤ, pos, ◌-ℤ◌}
+use Rattle.std.proofs.Common.{refl, sym, ap, ◌∙◌, subst, arith, ⊎_elim}
 use Rattle.std.proofs.lemmas.Bool.{cases_eq, cases_lt}
 use Rattle.std.proofs.lemmas.List.{length-set, get_or-set_same, get_or-set_other, ext_get_or}
 use Rattle.amh_bits.specs.Integers.{int_and, int_or}
@@ -23,31 +23,6 @@ use Rattle.amh_tool.specs.Simulated.{AreBits, FitsNets}
 
 abbrev IsBit : ℤ → Type 0
 IsBit n = IsOf false 1 n
-
--- a fact on a bit, by its two cases
-bit_is : (P : ℤ → Type 0) (n : ℤ) → IsBit n → P (pos 0) → P (pos 1) → P n
-bit_is P (pos zero) h p q = p
-bit_is P (pos (suc zero)) h p q = q
-bit_is P (pos (suc (suc n))) h p q = absurd (omega arith)
-bit_is P (negsuc n) h p q = absurd h
-
--- a fact on two bits, by its four cases
-two_bits : (P : ℤ → ℤ → Type 0) (x y : ℤ) → IsBit x → IsBit y → P (pos 0) (pos 0) → P (pos 0) (pos 1) → P (pos 1) (pos 0) → P (pos 1) (pos 1) → P x y
-two_bits P x y h k p q r s = bit_is (λ x. P x y) x h (bit_is (P (pos 0)) y k p q) (bit_is (P (pos 1)) y k r s)
-
-pub bit_inverted : (n : ℤ) → IsOf false 1 n → IsOf false 1 (pos 1 -ℤ n)
-bit_inverted n h = bit_is (λ n. IsBit (pos 1 -ℤ n)) n h (omega arith) (omega arith)
-
-pub bit_and_bit : (x y : ℤ) → IsOf false 1 x → IsOf false 1 y → IsOf false 1 (int_and x y)
-bit_and_bit x y h k = two_bits (λ x y. IsBit (int_and x y)) x y h k (omega arith) (omega arith) (omega arith) (omega arith)
-
-pub bit_or_bit : (x y : ℤ) → IsOf false 1 x → IsOf false 1 y → IsOf false 1 (int_or x y)
-bit_or_bit x y h k = two_bits (λ x y. IsBit (int_or x y)) x y h k (omega arith) (omega arith) (omega arith) (omega arith)
-
-pub bits_replicate : (n : ℕ) → AreBits (replicate n (pos 0))
-bits_replicate zero s = omega arith
-bits_replicate (suc n) zero = omega arith
-bits_replicate (suc n) (suc s) = bits_replicate n s
 
 pub bits_set : (values : List ℤ) (s : ℕ) (n : ℤ) → AreBits values → IsOf false 1 n → AreBits (slice_set values s n)
 bits_set [] s n h bit i = h i

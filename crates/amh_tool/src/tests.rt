@@ -171,6 +171,54 @@ fn a_register_takes_its_inverse(rt: HostRuntime) -> Result<(), Fail> {
     assert_played(&rt, rt.alloc(), &played)
 }
 
+// Its operator, the choice of the reset and the register are a cell each, over two wires of their own.
+#[test]
+fn a_register_is_lowered(rt: HostRuntime) -> Result<(), Fail> {
+    let alloc = rt.alloc();
+    let design = design_of(alloc, &["q: Out(1)"], &["sync += self.q.eq(~self.q)"])?;
+    let mut host = host_of(alloc, design.as_bytes(), b"")?;
+    let status = play(alloc, &mut host, &top_words(alloc)?);
+    assert_eq!(rt; status, Status::Done);
+    let module = lines_of(
+        alloc,
+        "",
+        &[
+            "attribute \\top 1",
+            "module \\top",
+            "  wire width 1 input 1 \\clk",
+            "  wire width 1 input 2 \\rst",
+            "  attribute \\init 1'0",
+            "  wire width 1 output 3 \\q",
+            "  wire width 1 $11",
+            "  wire width 1 $12",
+            "  cell $not $13",
+            "    parameter \\A_SIGNED 0",
+            "    parameter \\A_WIDTH 1",
+            "    parameter \\Y_WIDTH 1",
+            "    connect \\A \\q",
+            "    connect \\Y $11",
+            "  end",
+            "  cell $mux $14",
+            "    parameter \\WIDTH 1",
+            "    connect \\A $11",
+            "    connect \\B 1'0",
+            "    connect \\S \\rst",
+            "    connect \\Y $12",
+            "  end",
+            "  cell $dff $15",
+            "    parameter \\WIDTH 1",
+            "    parameter \\CLK_POLARITY 1",
+            "    connect \\CLK \\clk",
+            "    connect \\D $12",
+            "    connect \\Q \\q",
+            "  end",
+            "end",
+        ],
+    )?;
+    assert_eq!(rt; host.bytes("top.il").ok_or("no RTLIL")?, module.as_bytes());
+    Ok(())
+}
+
 #[test]
 fn three_registers_shift(rt: HostRuntime) -> Result<(), Fail> {
     let played = Played {

@@ -1,5 +1,5 @@
 // The trace of a script, row by row.
-ghost use Rattle.std.specs.Prelude.{◌≡◌, List, ℕ};
+ghost use Rattle.std.specs.Prelude.{List, ℕ};
 ghost use Rattle.std.specs.List.{flat_map};
 ghost use Rattle.amh_host.specs.Seen.{written};
 ghost use Rattle.amh_host.specs.Calls.{Adds};
