@@ -1,6 +1,6 @@
 -- What the definition says of bytes that are a text, and of bytes that are none.
-use Rattle.std.proofs.Common.{◌≡◌, refl, ℕ, ◌<◌, ◌≤◌, ◌+◌, List, length, take, true, false, eqb, arith}
-use Rattle.std.specs.Prelude.{Ok, Err, IsUtf8, count_by, ◌==◌}
+use Rattle.std.proofs.Common.{◌≡◌, refl, ℕ, ◌<◌, ◌+◌, List, length, take, false, eqb, arith}
+use Rattle.std.specs.Prelude.{Err, IsUtf8, count_by, ◌==◌}
 use Rattle.std.specs.Str.{IsValidUpTo}
 use Rattle.std.specs.Str.Lossy.{utf8_valid_len}
 use Rattle.std.proofs.lemmas.Str.{utf8_valid_len-IsUtf8, utf8_valid_len-IsValidUpTo}

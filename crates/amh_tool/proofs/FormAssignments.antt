@@ -1,5 +1,5 @@
 -- What is known of an assignment that a line says: its members, and that the line spells it.
-use Rattle.std.proofs.Common.{◌≡◌, refl, ℕ, ◌<◌, ◌≤◌, ◌+◌, ◌-◌, suc, List, [], ◌∷◌, ◌++◌, length, drop, map, Bool, true, false, cond, not, ap, sym, ◌∙◌, subst, arith, All}
+use Rattle.std.proofs.Common.{◌≡◌, refl, ℕ, ◌<◌, ◌≤◌, ◌-◌, suc, List, [], ◌∷◌, ◌++◌, length, drop, map, Bool, true, false, cond, ap, sym, ◌∙◌, subst, arith, All}
 use Rattle.std.specs.Prelude.{Option, Some, None, Ok, Err, bytes_eq, codes, is_some, option_and_then}
 use Rattle.std.specs.Option.{option_map}
 use Rattle.std.proofs.lemmas.List.{append_assoc, length-drop}

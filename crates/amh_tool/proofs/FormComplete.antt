@@ -1,6 +1,6 @@
 -- The text that spells a sound component is read as that component.
 use Rattle.std.proofs.Common.{◌≡◌, refl, ℕ, zero, suc, ◌<◌, ◌≤◌, ◌+◌, List, [], ◌∷◌, ◌++◌, length, map, take, drop, get_or, Bool, true, false, cond, not, ◌&&◌, ◌||◌, ap, sym, ◌∙◌, subst, arith, All, ⊎_elim}
-use Rattle.std.specs.Prelude.{Option, Some, None, Ok, IsAscii, bytes_eq, codes, position, nat_lt, nat_le, option_and_then, ◌==◌}
+use Rattle.std.specs.Prelude.{Option, Some, None, Ok, IsAscii, bytes_eq, codes, nat_lt, nat_le, option_and_then, ◌==◌}
 use Rattle.std.specs.List.{flat_map, list_all, prefix_len}
 use Rattle.std.proofs.lemmas.Bool.{and_parts, and_from, eqb-true, eq-eqb, false≢true, false_from_ne_true}
 use Rattle.std.proofs.lemmas.Bool.Decides.{nat_tests}
@@ -12,8 +12,8 @@ use Rattle.std.proofs.lemmas.Str.{IsUtf8-from_ascii}
 use Rattle.amh_tool.specs.FormNames.{is_name, is_name_byte}
 use Rattle.amh_tool.specs.Form.{IsOutput, IsReadable, IsAllowed, IsSound, HasDistinctNames, member_at, no_member, side_of, operands, uses_sync, signal_count}
 use Rattle.amh_tool.specs.FormLines.{Line, with_byte, lines_in, behind, cut_name, name_behind, class_in, side_in, member_in, number_of, output_of, side_behind, operand_behind, not_in, ends_with, right_behind, right_in, assignment_in, top_line}
-use Rattle.amh_tool.specs.Component.{one_line, fixed, declared_in, first_twin, distinct_of, members_part, same_side, is_readable, is_allowed, first_wrong, assigned_in, allowed_of, assignments_part, within_limit, form, import_lines, elaborate_lines, return_lines, component}
-use Rattle.amh_tool.specs.FormText.{class_line, member_line, right_text, assignment_line, spelled_lines, IsSpelling, ReadsEachComponent}
+use Rattle.amh_tool.specs.Component.{one_line, fixed, declared_in, first_twin, distinct_of, members_part, same_side, is_readable, is_allowed, first_wrong, assigned_in, assignments_part, within_limit, form, import_lines, elaborate_lines, return_lines, component}
+use Rattle.amh_tool.specs.FormText.{class_line, member_line, right_text, assignment_line, spelled_lines, ReadsEachComponent}
 use Rattle.amh_tool.specs.declared.form.Member.{Member}
 use Rattle.amh_tool.specs.declared.form.Right.{Right}
 use Rattle.amh_tool.specs.declared.form.Right.TheVariants.{Copy, Not, And, Or}

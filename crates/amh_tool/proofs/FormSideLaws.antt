@@ -1,6 +1,6 @@
 -- Laws of the sides of members.
-use Rattle.std.proofs.Common.{◌≡◌, refl, ℕ, ◌<◌, ◌≤◌, ◌+◌, List, [], ◌∷◌, length, take, drop, get_or, set, replicate, zero, suc, Bool, true, false, cond, not, ◌&&◌, ap, sym, ◌∙◌, subst, arith}
-use Rattle.std.specs.Prelude.{Option, Some, None, position, nat_lt, ◌==◌, is_none}
+use Rattle.std.proofs.Common.{◌≡◌, refl, ℕ, ◌<◌, ◌≤◌, ◌+◌, List, [], ◌∷◌, length, get_or, Bool, true, false, not, ◌&&◌, ap, sym, ◌∙◌, arith}
+use Rattle.std.specs.Prelude.{Option, Some, None, position, nat_lt}
 use Rattle.std.specs.List.{list_all, prefix_len, AllWithin}
 use Rattle.std.proofs.lemmas.Bool.Decides.{nat_tests}
 use Rattle.std.proofs.lemmas.List.{get_or_default}
@@ -8,7 +8,7 @@ use Rattle.std.proofs.lemmas.List.Elements.{AllWithin-more}
 use Rattle.std.proofs.lemmas.List.Sums.{prefix_len_is}
 use Rattle.amh_tool.specs.Form.{side_of, operands}
 use Rattle.amh_tool.specs.Component.{same_side, is_readable, is_allowed, first_wrong}
-use Rattle.amh_tool.specs.FormGives.{side_at, HasSides, readable_by, allowed_by}
+use Rattle.amh_tool.specs.FormGives.{HasSides, readable_by, allowed_by}
 use Rattle.amh_tool.specs.declared.form.Member.{Member}
 use Rattle.amh_tool.specs.declared.form.Right.TheVariants.{Copy}
 use Rattle.amh_tool.specs.declared.form.Assignment.{Assignment}

@@ -13,7 +13,7 @@ use Rattle.amh_host.specs.declared.place.Kind.TheVariants.{Text, Limit}
 use Rattle.amh_tool.specs.FormNames.{is_name, is_name_byte}
 use Rattle.amh_tool.specs.Form.{IsOutput, IsReadable, IsAllowed, HasDistinctNames, IsSound, member_at, no_member, side_of, operands, signal_count}
 use Rattle.amh_tool.specs.FormLines.{Line, with_byte, behind, cut_name, name_behind, lines_in, side_in, member_in, number_of, class_in, top_line}
-use Rattle.amh_tool.specs.Component.{fixed, one_line, at_end, declared_in, with_member, first_twin, distinct_of, members_part, same_side, is_readable, is_allowed, first_wrong, assigned_in, assignments_part, form, import_lines, elaborate_lines, return_lines, refused, within_limit, placed, component}
+use Rattle.amh_tool.specs.Component.{fixed, one_line, at_end, declared_in, with_member, first_twin, distinct_of, members_part, same_side, is_readable, is_allowed, assignments_part, form, import_lines, elaborate_lines, return_lines, refused, within_limit, placed, component}
 use Rattle.amh_tool.specs.declared.form.Member.{Member}
 use Rattle.amh_tool.specs.declared.form.Assignment.{Assignment}
 use Rattle.amh_tool.specs.declared.form.Component.{Component}

@@ -1,5 +1,5 @@
 use Rattle.std.proofs.Common.{◌≡◌, ◌<◌, ◌∙◌, sym, subst, ap, List, length, Some, All, arith}
-use Rattle.amh_tool.specs.Component.{assigned_in, first_wrong}
+use Rattle.amh_tool.specs.Component.{first_wrong}
 use Rattle.amh_tool.specs.FormLines.{lines_in}
 use Rattle.amh_tool.specs.FormGives.{IsWithin}
 use Rattle.amh_tool.specs.declared.form.Member.{Member}

@@ -1,8 +1,8 @@
-use Rattle.std.proofs.Common.{◌≡◌, ◌∙◌, ◌≤◌, ap, sym, refl, subst, arith, length}
+use Rattle.std.proofs.Common.{◌≡◌, ◌∙◌, ap, sym, refl, subst, arith}
 use Rattle.std.specs.Prelude.{Result, Ok, Err}
 use Rattle.amh_tool.specs.FormLines.{lines_in}
 use Rattle.amh_tool.specs.FormGives.{ReadsInMemory}
-use Rattle.amh_tool.specs.Component.{component, form, placed, within_limit}
+use Rattle.amh_tool.specs.Component.{component, form}
 use Rattle.amh_tool.specs.declared.component.Stop.{Stop}
 use Rattle.amh_tool.specs.declared.component.Stop.TheVariants.{Here}
 use Rattle.amh_tool.specs.declared.form.Component.{Component}

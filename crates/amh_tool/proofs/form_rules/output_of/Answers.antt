@@ -1,4 +1,4 @@
-use Rattle.std.proofs.Common.{◌≡◌, ◌<◌, ◌∙◌, sym, subst, ℕ, List, length}
+use Rattle.std.proofs.Common.{◌<◌, ◌∙◌, sym, subst, List, length}
 use Rattle.amh_tool.specs.declared.form.Member.{Member}
 use Rattle.amh_tool.proofs.FormRuleLaws.{number_of-within}
 use Rattle.amh_tool.proofs.form_rules.output_of.Goals as goal

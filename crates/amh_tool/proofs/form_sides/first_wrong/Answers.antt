@@ -1,4 +1,4 @@
-use Rattle.std.proofs.Common.{◌≡◌, ◌≤◌, ◌∙◌, sym, ap, get_or, Some, None, length, arith}
+use Rattle.std.proofs.Common.{◌≤◌, ◌∙◌, sym, get_or, length, arith}
 use Rattle.amh_tool.proofs.FormSideLaws.{no_assignment, is_allowed-at, allowed_more, first_wrong-some, first_wrong-none}
 use Rattle.amh_tool.proofs.form_sides.first_wrong.Goals as goal
 
