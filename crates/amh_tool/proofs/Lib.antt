@@ -37,3 +37,5 @@ pub mod NetEvents
 pub mod NetSteps
 pub mod NetFirst
 pub mod NetHistory
+pub mod LowerLaws
+pub mod Assumed

@@ -14,6 +14,7 @@ mod form_lines;
 mod form_names;
 mod form_rules;
 mod lower;
+mod net_ids;
 mod nets;
 mod perform;
 mod plan;
