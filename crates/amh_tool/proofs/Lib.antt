@@ -55,3 +55,5 @@ pub mod NetEvents
 pub mod NetSteps
 pub mod NetFirst
 pub mod NetHistory
+pub mod LowerLaws
+pub mod Assumed

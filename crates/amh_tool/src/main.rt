@@ -15,6 +15,7 @@ mod form_names;
 mod form_rules;
 mod form_sides;
 mod lower;
+mod net_ids;
 mod nets;
 mod perform;
 mod plan;
