@@ -11,6 +11,10 @@ pub mod CircuitInputs
 pub mod CircuitSides
 pub mod NetNumbers
 pub mod NetRegisters
+pub mod PublicNames
+pub mod NetNames
+pub mod NetsLaws
+pub mod CircuitNets
 mod TraceSamples
 pub mod FormLineLaws
 pub mod FormNameLaws
