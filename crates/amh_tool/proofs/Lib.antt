@@ -15,6 +15,7 @@ pub mod PublicNames
 pub mod NetNames
 pub mod NetsLaws
 pub mod CircuitNets
+pub mod CircuitNumbers
 mod TraceSamples
 pub mod FormLineLaws
 pub mod FormNameLaws
