@@ -11,6 +11,11 @@ pub mod CircuitInputs
 pub mod CircuitSides
 pub mod NetNumbers
 pub mod NetRegisters
+pub mod PublicNames
+pub mod NetNames
+pub mod NetsLaws
+pub mod CircuitNets
+pub mod CircuitNumbers
 mod TraceSamples
 pub mod FormLineLaws
 pub mod FormNameLaws

@@ -155,7 +155,7 @@ number_bit Nothing held s bits = zero_is_bit
 number_bit (Comb r) held s bits = value_of-bit r held bits
 number_bit (Clocked r) held s bits = bits s
 
-past_is_bit : (xs : List ℤ) (s : ℕ) → length xs ≤ s → IsOf false 1 (at xs s)
+pub past_is_bit : (xs : List ℤ) (s : ℕ) → length xs ≤ s → IsOf false 1 (at xs s)
 past_is_bit xs s h = subst (IsOf false 1) (sym (get_or-eq_default xs (pos 0) h)) zero_is_bit
 
 pub settled-bits : (nets : List Net) (held : List ℤ) → AreBits held → AreBits (settled nets held)
