@@ -17,7 +17,7 @@ use Rattle.amh_tool.specs.Elaborated.{circuit_of, bit_signal, ports_from, column
 use Rattle.amh_tool.specs.Boards.{board_of, shown_of, is_clock}
 use Rattle.amh_tool.specs.Nets.{is_input_drive, has_register, net_at, net_member, nets_of, HasNets}
 use Rattle.amh_tool.specs.NetColumns.{net_columns, net_domains, net_board}
-use Rattle.amh_tool.proofs.Assumed.{component_has_nets}
+use Rattle.amh_tool.proofs.CircuitNets.{component_has_nets}
 
 -- ---- signals: each has one bit
 

@@ -19,7 +19,6 @@ pub mod CircuitNumbers
 mod TraceSamples
 pub mod FormLineLaws
 pub mod FormNameLaws
-pub mod Assumed
 pub mod SimLaws
 pub mod BoardLaws
 pub mod TraceLaws
@@ -61,4 +60,3 @@ pub mod NetSteps
 pub mod NetFirst
 pub mod NetHistory
 pub mod LowerLaws
-pub mod Assumed

@@ -19,7 +19,9 @@ use Rattle.amh_tool.specs.Nets.{IsWired, nets_of}
 use Rattle.amh_tool.specs.Running.{settled, after, later, first_held, net_history}
 use Rattle.amh_tool.specs.Simulated.{Simulated, IsStarted, FitsNets, applied}
 use Rattle.amh_tool.specs.Verdicts.{IsFitting}
-use Rattle.amh_tool.proofs.Assumed.{component_wired, component_is_history, legal_event}
+use Rattle.amh_tool.proofs.NetsLaws.{component_wired}
+use Rattle.amh_tool.proofs.CircuitHistory.{component_is_history}
+use Rattle.amh_tool.proofs.CircuitNets.{legal_event}
 use Rattle.amh_tool.proofs.SimLaws.{length-after, settled-after}
 
 -- ---- rows

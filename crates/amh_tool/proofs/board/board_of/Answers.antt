@@ -3,7 +3,7 @@ use Rattle.amh_tool.specs.declared.board.Board.{Board}
 use Rattle.amh_tool.specs.declared.nets.Net.{Net}
 use Rattle.amh_tool.specs.Nets.{nets_of, has_register}
 use Rattle.amh_tool.specs.NetColumns.{net_columns, net_domains, net_board}
-use Rattle.amh_tool.proofs.Assumed.{component_wired}
+use Rattle.amh_tool.proofs.NetsLaws.{component_wired}
 use Rattle.amh_tool.proofs.BoardLaws.{board_of-component}
 use Rattle.amh_tool.proofs.board.board_of.Goals as goal
 

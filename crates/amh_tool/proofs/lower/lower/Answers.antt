@@ -3,7 +3,9 @@ use Rattle.std.proofs.lemmas.Result.{IfOk-weaker}
 use Rattle.amh_tool.specs.declared.nets.Net.{Net}
 use Rattle.amh_tool.specs.Nets.{IsWired}
 use Rattle.amh_tool.specs.Lowered.{module_of}
-use Rattle.amh_tool.proofs.Assumed.{component_wired, component_has_nets, component_is_history}
+use Rattle.amh_tool.proofs.NetsLaws.{component_wired}
+use Rattle.amh_tool.proofs.CircuitNets.{component_has_nets}
+use Rattle.amh_tool.proofs.CircuitHistory.{component_is_history}
 use Rattle.amh_tool.proofs.LowerLaws.{lowered_rules, lowered_corresponds, lowered_history}
 use Rattle.amh_tool.proofs.lower.lower.Goals as goal
 

@@ -3,7 +3,7 @@ use Rattle.std.proofs.lemmas.List.{length-replicate}
 use Rattle.std.proofs.lemmas.Grind.{common_steps}
 use Rattle.amh_tool.specs.Nets.{IsWired}
 use Rattle.amh_tool.specs.Simulated.{AreBits}
-use Rattle.amh_tool.proofs.Assumed.{component_wired}
+use Rattle.amh_tool.proofs.NetsLaws.{component_wired}
 use Rattle.amh_tool.proofs.sim.Sim.start.Goals as goal
 
 pub settle-requires-clause-wired : goal.settle-requires-clause-wired
