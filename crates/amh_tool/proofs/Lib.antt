@@ -16,6 +16,8 @@ pub mod NetNames
 pub mod NetsLaws
 pub mod CircuitNets
 pub mod CircuitNumbers
+pub mod CircuitEdges
+pub mod NetHistory
 mod TraceSamples
 pub mod FormLineLaws
 pub mod FormNameLaws

@@ -247,7 +247,7 @@ length-registered nets held size = either (is_zero (at held 0)) (length-taken_fr
     either true k = k
     either false k = size
 
-input_kept : (nets : List Net) (s : ℕ) → IsInputNet nets s → IsKept nets s
+pub input_kept : (nets : List Net) (s : ℕ) → IsInputNet nets s → IsKept nets s
 input_kept nets s h = record { held = h.held; keeps = ap keeps h.input }
 
 registered-same : (nets : List Net) (x y : List ℤ) → IsWired nets → IsClocked nets → SameKept nets x y → SameKept nets (registered nets x) (registered nets y)
