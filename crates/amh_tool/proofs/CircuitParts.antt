@@ -81,7 +81,7 @@ module _ (c : Component) where
   signals_count : length (map signal_expr (range_with_len 0 (signals_in c))) ≡ signals_in c
   signals_count = length-map (range_with_len 0 (signals_in c)) signal_expr ∙ length-range_with_len 0 (signals_in c)
 
-  signal_stands : (s : ℕ) → s < signals_in c → slice_get (all_exprs c) s ≡ Some (signal_expr s)
+  pub signal_stands : (s : ℕ) → s < signals_in c → slice_get (all_exprs c) s ≡ Some (signal_expr s)
   signal_stands s h =
       let signals = map signal_expr (range_with_len 0 (signals_in c)) in
       let d : Expr = signal_expr 0 in
@@ -142,7 +142,7 @@ module _ (c : Component) where
   two_operands : (a b : ℕ) → AreSignals (a ∷ b ∷ []) → (first_member c + a < signals_in c) × (first_member c + b < signals_in c)
   two_operands a b h = (All-head (λ k. first_member c + k < signals_in c) a (b ∷ []) h, only_operand b (All-tail (λ k. first_member c + k < signals_in c) a (b ∷ []) h))
 
-  here : (operator : ℕ) (exprs : List Expr) (e : Expr) → AreOperators operator exprs → slice_get exprs 0 ≡ Some e → slice_get (all_exprs c) operator ≡ Some e
+  pub here : (operator : ℕ) (exprs : List Expr) (e : Expr) → AreOperators operator exprs → slice_get exprs 0 ≡ Some e → slice_get (all_exprs c) operator ≡ Some e
   here operator exprs e k is = ap (slice_get (all_exprs c)) (omega arith) ∙ k.stand 0 e is
 
   num-operator : (env : List ℤ) (operator : ℕ) (e : Expr) → AllBelow operator (named e) → slice_get (all_exprs c) operator ≡ Some e → num (pool_of c) env operator ≡ value_step (form (pool_of c)) env (num (pool_of c) env) e

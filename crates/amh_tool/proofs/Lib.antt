@@ -18,6 +18,7 @@ pub mod CircuitNets
 pub mod CircuitNumbers
 pub mod CircuitEdges
 pub mod NetHistory
+pub mod CircuitLoops
 mod TraceSamples
 pub mod FormLineLaws
 pub mod FormNameLaws

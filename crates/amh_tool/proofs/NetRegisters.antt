@@ -59,7 +59,7 @@ some_last false a None side e = e
 some_last false a (Some b) side e = e
 
 -- there is a last assignment where there is a first one
-last_of-side_of : (assignments : List Assignment) (i : ℕ) → is_some (last_of assignments i) ≡ is_some (side_of assignments i)
+pub last_of-side_of : (assignments : List Assignment) (i : ℕ) → is_some (last_of assignments i) ≡ is_some (side_of assignments i)
 last_of-side_of [] i = refl
 last_of-side_of (a ∷ more) i = some_last (a.target == i) a (last_of more i) (side_of more i) (last_of-side_of more i)
 
