@@ -1,67 +1,37 @@
 -- No bit of a component's design needs itself: what is driven from `comb` reads what is kept alone.
-use Rattle.std.specs.Prelude.{◌≡◌, ◌<◌, ◌≤◌, ◌⊎◌, ◌+◌, ◌-◌, nat_lt, ℕ, suc, Bool, true, false, if◌then◌else◌, List, [], ◌∷◌, ◌++◌, map, length, Contains, Option, Some, None, is_some, All, slice_get}
-use Rattle.std.specs.List.{flat_map, list_any, range_with_len}
-use Rattle.std.proofs.Common.{refl, sym, ap, ◌∙◌, arith, subst, inl, inr, ⊎_elim}
+use Rattle.std.specs.Prelude.{◌≡◌, ◌<◌, ◌+◌, ℕ, suc, Bool, true, false, if◌then◌else◌, List, [], ◌∷◌, ◌++◌, map, length, Option, Some, None, is_some, All}
+use Rattle.std.specs.List.{flat_map, range_with_len}
+use Rattle.std.proofs.Common.{refl, sym, ap, ◌∙◌, arith, subst, inl, inr}
 use Rattle.std.proofs.lemmas.Bool.{false≢true}
 use Rattle.std.proofs.lemmas.List.Elements.{All-nil, All-cons, All-head, All-tail, All-append, All-contains}
-use Rattle.shape_rules.specs.Forms.{Form}
-use Rattle.shape_rules.specs.declared.op.Op.{Op}
-use Rattle.shape_rules.specs.declared.op.Op.TheVariants as op
 use Rattle.amh_host.specs.declared.place.Place.{Place}
 use Rattle.design_ir.specs.declared.ids.ExprId.{ExprId}
-use Rattle.design_ir.specs.declared.expr.Expr.{Expr}
 use Rattle.design_ir.specs.declared.expr.Expr.TheVariants as expr
 use Rattle.design_ir.specs.declared.process.DesignProcess.{DesignProcess}
-use Rattle.design_ir.specs.Trees.{Block, done, next, assign}
-use Rattle.design_ir.specs.Named.{named, AllBelow}
+use Rattle.design_ir.specs.Trees.{Block, next, assign}
 use Rattle.design_ir.specs.Values.{form, signal_form}
 use Rattle.design_ir.specs.Targets.{Bit, Aim, aims, aim_at, aim_step}
 use Rattle.design_ir.specs.Guards.{Guard, Guarded, guarded}
-use Rattle.design_ir.specs.Needed.{is_bitwise, extended, every, bits_step, needed, needed_whole, index_step, needed_indices}
-use Rattle.design_ir.specs.Loops.{needed_value, AssignmentNeeds, ProcessNeeds, Needs, Chain, Loop}
+use Rattle.design_ir.specs.Needed.{needed, needed_whole, index_step, needed_indices}
+use Rattle.design_ir.specs.Loops.{needed_value, AssignmentNeeds, Needs, Chain, Loop}
 use Rattle.design_ir.specs.Circuits.{Circuit}
-use Rattle.design_ir.proofs.Answers.{LooksBelow}
 use Rattle.design_ir.proofs.Equations.{answer_at}
-use Rattle.amh_tool.specs.declared.form.Member.{Member}
 use Rattle.amh_tool.specs.declared.form.Right.{Right}
-use Rattle.amh_tool.specs.declared.form.Right.TheVariants.{Copy, Not, And, Or}
 use Rattle.amh_tool.specs.declared.form.Assignment.{Assignment}
 use Rattle.amh_tool.specs.declared.form.Component.{Component}
 use Rattle.amh_tool.specs.declared.nets.Net.{Net}
-use Rattle.amh_tool.specs.declared.nets.Drive.TheVariants.{Input, Nothing, Comb, Clocked}
-use Rattle.amh_tool.specs.Form.{member_at, IsSound, IsReadable, IsAllowed, side_of, operands}
-use Rattle.amh_tool.specs.Elaborated.{circuit_of, first_member, first_line, operator_of, value_expr, is_of_side, assigned, eq_column, all_exprs, all_members, side_domain, side_body, has_side, side_process, processes_of}
-use Rattle.amh_tool.specs.Nets.{last_of, with_signals, drive_by, drive_of, nets_of, net_at, keeps, IsKept}
+use Rattle.amh_tool.specs.declared.nets.Drive.TheVariants.{Input, Comb, Clocked}
+use Rattle.amh_tool.specs.Form.{member_at, IsSound, IsAllowed, side_of}
+use Rattle.amh_tool.specs.Elaborated.{circuit_of, first_member, first_line, operator_of, value_expr, is_of_side, assigned, eq_column, all_exprs, side_body, has_side, side_process, processes_of}
+use Rattle.amh_tool.specs.Nets.{last_of, with_signals, drive_by, nets_of, net_at, keeps}
 use Rattle.amh_tool.proofs.LastFacts.{last_of-among}
-use Rattle.amh_tool.proofs.NetPlaces.{nets-count, all-count, net_at-member}
+use Rattle.amh_tool.proofs.NetPlaces.{all-count, net_at-member}
 use Rattle.amh_tool.proofs.NetRegisters.{last_of-side_of}
-use Rattle.amh_tool.proofs.NetsLaws.{readable_kept}
-use Rattle.amh_tool.proofs.CircuitParts.{pool_of, plain_circuit, circuit_is, signals_in, signal_stands, here, operators, AreOperators, all_operators, operators_behind}
-use Rattle.amh_tool.proofs.CircuitPut.{Stands}
+use Rattle.amh_tool.proofs.CircuitParts.{pool_of, plain_circuit, circuit_is, signals_in, signal_stands, operators, AreOperators, all_operators, operators_behind}
 use Rattle.amh_tool.proofs.CircuitSides.{process_on}
-use Rattle.amh_tool.proofs.CircuitNumbers.{assignments_stand}
-
--- ---- all bits of these lists
-
-all_flat : {A B : Type 0} (P : B → Type 0) (f : A → List B) (xs : List A) → ((x : A) → All P (f x)) → All P (flat_map f xs)
-all_flat P f [] h = All-nil P
-all_flat P f (x ∷ xs) h = All-append P (f x) (flat_map f xs) (h x) (all_flat P f xs h)
-
-all_extended : (P : Bit → Type 0) (f : Form) (bits : ℕ → List Bit) (k : ℕ) → ((j : ℕ) → All P (bits j)) → All P (extended f bits k)
-all_extended P f bits k h = by_width P (nat_lt k f.width) f.signed (bits k) (bits (f.width - 1)) (h k) (h (f.width - 1))
-  where
-    by_width : (P : Bit → Type 0) (b t : Bool) (x y : List Bit) → All P x → All P y → All P (if b then x else (if t then y else []))
-    by_width P true t x y p q = p
-    by_width P false true x y p q = q
-    by_width P false false x y p q = All-nil P
-
-all_every : (P : Bit → Type 0) (f : Form) (bits : ℕ → List Bit) → ((j : ℕ) → All P (bits j)) → All P (every f bits)
-all_every P f bits h = all_flat P bits (range_with_len 0 f.width) h
+use Rattle.amh_tool.proofs.CircuitNeeds.{all_extended, all_every, KeptBit, needs_kept}
 
 module _ (c : Component) (h : IsSound c) where
-  abbrev KeptBit : Bit → Type 0
-  KeptBit b = IsKept (nets_of c) b.sig
-
   -- ---- a member is kept where it is driven from `sync`, and is not where it is driven from `comb`
 
   keeps_by : (i : ℕ) (k : Bool) (o : Option Assignment) → side_of c.assignments i ≡ Some k → last_of c.assignments i ≡ o → is_some o ≡ true → keeps (if (member_at c.members i).is_input then Input else drive_by (first_member c) o) ≡ k
@@ -84,64 +54,6 @@ module _ (c : Component) (h : IsSound c) where
       ap (λ (n : Net). keeps n.drive) (net_at-member c a.target allowed.target.held)
       ∙ keeps_by a.target a.clocked (last_of c.assignments a.target) allowed.side refl (last_of-side_of c.assignments a.target ∙ ap is_some allowed.side)
 
-  -- ---- what a right side needs
-
-  needed-signal : (s k : ℕ) → s < signals_in c → needed (pool_of c) s k ≡ record { sig = s; index = k } ∷ []
-  unfolding needed
-  needed-signal s k there =
-      ap (λ f. f k) (answer_at (λ j. []) (bits_step (form (pool_of c))) (all_exprs c) s (expr.Sig (record { 0 = s })) (signal_stands c s there) (λ f g same. refl))
-
-  needed-operator : (operator : ℕ) (e : Expr) → slice_get (all_exprs c) operator ≡ Some e → LooksBelow (bits_step (form (pool_of c))) operator e → needed (pool_of c) operator ≡ bits_step (form (pool_of c)) (needed (pool_of c)) e
-  unfolding needed
-  needed-operator operator e is looks = answer_at (λ j. []) (bits_step (form (pool_of c))) (all_exprs c) operator e is looks
-
-  signal_needs : (a k : ℕ) → IsReadable c.members c.assignments a → All KeptBit (needed (pool_of c) (first_member c + a) k)
-  signal_needs a k readable =
-      let kept = readable_kept c h a readable in
-      subst (All KeptBit) (sym (needed-signal (first_member c + a) k (omega (arith, kept.held, nets-count c))))
-      (All-cons KeptBit (record { sig = first_member c + a; index = k }) [] kept (All-nil KeptBit))
-
-  both_same : (x y : ℕ) (f g : ℕ → ℕ → List Bit) (k : ℕ) → f x ≡ g x → f y ≡ g y
-      → (extended (form (pool_of c) x) (f x) k ++ extended (form (pool_of c) y) (f y) k) ≡ (extended (form (pool_of c) x) (g x) k ++ extended (form (pool_of c) y) (g y) k)
-  both_same x y f g k p q = λ i. extended (form (pool_of c) x) (p i) k ++ extended (form (pool_of c) y) (q i) k
-
-  bitwise_bits : (o : Op) → is_bitwise o ≡ true → (x y : ℕ) (f : ℕ → ℕ → List Bit) (k : ℕ)
-      → bits_step (form (pool_of c)) f (expr.Binary o (record { 0 = x }) (record { 0 = y })) k ≡ (extended (form (pool_of c) x) (f x) k ++ extended (form (pool_of c) y) (f y) k)
-  bitwise_bits o bitwise x y f k =
-      ap (λ t. if t then extended (form (pool_of c) x) (f x) k ++ extended (form (pool_of c) y) (f y) k else every (form (pool_of c) x) (f x) ++ every (form (pool_of c) y) (f y)) bitwise
-
-  two_needs : (o : Op) → is_bitwise o ≡ true → (a b operator : ℕ) (rest : List Expr) → All (IsReadable c.members c.assignments) (a ∷ b ∷ []) → AreOperators c operator (expr.Binary o (record { 0 = first_member c + a }) (record { 0 = first_member c + b }) ∷ rest)
-      → (k : ℕ) → All KeptBit (needed (pool_of c) operator k)
-  two_needs o bitwise a b operator rest reads stand k =
-      let x : ℕ = first_member c + a in
-      let y : ℕ = first_member c + b in
-      let e : Expr = expr.Binary o (record { 0 = x }) (record { 0 = y }) in
-      let readable = All-head (IsReadable c.members c.assignments) a (b ∷ []) reads in
-      let readable' = All-head (IsReadable c.members c.assignments) b [] (All-tail (IsReadable c.members c.assignments) a (b ∷ []) reads) in
-      let kept = readable_kept c h a readable in
-      let kept' = readable_kept c h b readable' in
-      let below : x < operator = omega (arith, stand.behind, kept.held, nets-count c) in
-      let below' : y < operator = omega (arith, stand.behind, kept'.held, nets-count c) in
-      let is = needed-operator operator e (here c operator (e ∷ rest) e stand refl)
-      (λ f g same. λ i j. (bitwise_bits o bitwise x y f j ∙ both_same x y f g j (same x below) (same y below') ∙ sym (bitwise_bits o bitwise x y g j)) i) in
-      subst (All KeptBit) (sym (ap (λ f. f k) is ∙ bitwise_bits o bitwise x y (needed (pool_of c)) k))
-      (All-append KeptBit (extended (form (pool_of c) x) (needed (pool_of c) x) k) (extended (form (pool_of c) y) (needed (pool_of c) y) k)
-        (all_extended KeptBit (form (pool_of c) x) (needed (pool_of c) x) k (λ j. signal_needs a j readable))
-        (all_extended KeptBit (form (pool_of c) y) (needed (pool_of c) y) k (λ j. signal_needs b j readable')))
-
-  needs_kept : (r : Right) (operator : ℕ) (rest : List Expr) → All (IsReadable c.members c.assignments) (operands r) → AreOperators c operator (operator_of (first_member c) r ++ rest)
-      → (k : ℕ) → All KeptBit (needed (pool_of c) (value_expr (first_member c) operator r).0 k)
-  needs_kept (Copy a) operator rest reads stand k = signal_needs a k (All-head (IsReadable c.members c.assignments) a [] reads)
-  needs_kept (Not a) operator rest reads stand k =
-      let x : ℕ = first_member c + a in
-      let e : Expr = expr.Unary op.Not (record { 0 = x }) in
-      let readable = All-head (IsReadable c.members c.assignments) a [] reads in
-      let kept = readable_kept c h a readable in
-      let is = needed-operator operator e (here c operator (e ∷ rest) e stand refl) (λ f g same. λ i j. same x (omega (arith, stand.behind, kept.held, nets-count c)) i j) in
-      subst (All KeptBit) (sym (ap (λ f. f k) is)) (signal_needs a k readable)
-  needs_kept (And a b) operator rest reads stand k = two_needs op.And refl a b operator rest reads stand k
-  needs_kept (Or a b) operator rest reads stand k = two_needs op.Or refl a b operator rest reads stand k
-
   -- ---- an assignment in `comb`
 
   -- it drives what is not kept, and whichever bit it writes reads what is kept
@@ -149,9 +61,9 @@ module _ (c : Component) (h : IsSound c) where
     guards : g.guards ≡ []
     there : g.target.0 < signals_in c
     target : keeps (net_at (nets_of c) g.target.0).drive ≡ false
-    value : (k : ℕ) → All KeptBit (needed (pool_of c) g.value.0 k)
+    value : (k : ℕ) → All (KeptBit c) (needed (pool_of c) g.value.0 k)
 
-  by_side : (t : Bool) (a : Assignment) → is_of_side false a.clocked ≡ t → (target value : ExprId) (place : Place) (rest : Block) → target.0 ≡ first_member c + a.target → IsAllowed c.members c.assignments a → ((k : ℕ) → All KeptBit (needed (pool_of c) value.0 k)) → All IsPlain (guarded [] rest)
+  by_side : (t : Bool) (a : Assignment) → is_of_side false a.clocked ≡ t → (target value : ExprId) (place : Place) (rest : Block) → target.0 ≡ first_member c + a.target → IsAllowed c.members c.assignments a → ((k : ℕ) → All (KeptBit c) (needed (pool_of c) value.0 k)) → All IsPlain (guarded [] rest)
       → All IsPlain (guarded [] (if t then next (assign target value place) rest else rest))
   by_side false a is target value place rest at_target allowed each more = more
   by_side true a is target value place rest at_target allowed each more =
@@ -181,7 +93,7 @@ module _ (c : Component) (h : IsSound c) where
       (assigned false (first_member c) after (suc line) more)
       refl
       mine
-      (needs_kept a.right operator (operators c more) mine.reads stand)
+      (needs_kept c h a.right operator (operators c more) mine.reads stand)
       (all_plain after (suc line) more (All-tail (IsAllowed c.members c.assignments) a more allowed) (operators_behind c operator (operator_of (first_member c) a.right) (operators c more) stand))
 
   body_plain : All IsPlain (guarded [] (side_body c false))
@@ -202,12 +114,12 @@ module _ (c : Component) (h : IsSound c) where
   aims_at s [] = All-nil (λ (x : Aim). x.bit.sig ≡ s)
   aims_at s (x ∷ xs) = All-cons (λ (x : Aim). x.bit.sig ≡ s) (aim_at s x) (map (aim_at s) xs) refl (aims_at s xs)
 
-  value_kept : (value : ExprId) (source : Option ℕ) → ((k : ℕ) → All KeptBit (needed (pool_of c) value.0 k)) → All KeptBit (needed_value (pool_of c) value source)
-  value_kept value None each = all_every KeptBit (form (pool_of c) value.0) (needed (pool_of c) value.0) each
-  value_kept value (Some k) each = all_extended KeptBit (form (pool_of c) value.0) (needed (pool_of c) value.0) k each
+  value_kept : (value : ExprId) (source : Option ℕ) → ((k : ℕ) → All (KeptBit c) (needed (pool_of c) value.0 k)) → All (KeptBit c) (needed_value (pool_of c) value source)
+  value_kept value None each = all_every (KeptBit c) (form (pool_of c) value.0) (needed (pool_of c) value.0) each
+  value_kept value (Some k) each = all_extended (KeptBit c) (form (pool_of c) value.0) (needed (pool_of c) value.0) k each
 
   -- what an assignment writes is not kept, and what it reads is
-  plain_needs : (g : Guarded) (b d : Bit) → IsPlain g → AssignmentNeeds (pool_of c) g b d → (keeps (net_at (nets_of c) b.sig).drive ≡ false) × KeptBit d
+  plain_needs : (g : Guarded) (b d : Bit) → IsPlain g → AssignmentNeeds (pool_of c) g b d → (keeps (net_at (nets_of c) b.sig).drive ≡ false) × (KeptBit c) d
   plain_needs g b d plain needs =
       let s : ℕ = g.target.0 in
       let aimed : needs.aim.bit.sig ≡ s = All-contains (λ (x : Aim). x.bit.sig ≡ s) (aims (pool_of c) s) needs.aim (subst (All (λ (x : Aim). x.bit.sig ≡ s)) (sym (aims-signal s plain.there)) (aims_at s (range_with_len 0 (signal_form (pool_of c).signals s).width))) needs.may in
@@ -216,7 +128,7 @@ module _ (c : Component) (h : IsSound c) where
       let is : list ≡ needed_value (pool_of c) g.value needs.aim.source =
       (λ i. flat_map (λ (x : Guard). needed_whole (pool_of c) x.condition) (plain.guards i) ++ needed_indices-signal s plain.there i ++ needed_value (pool_of c) g.value needs.aim.source) in (
         ap (λ k. keeps (net_at (nets_of c) k).drive) same ∙ plain.target,
-        All-contains KeptBit list d (subst (All KeptBit) (sym is) (value_kept g.value needs.aim.source plain.value)) needs.reads,
+        All-contains (KeptBit c) list d (subst (All (KeptBit c)) (sym is) (value_kept g.value needs.aim.source plain.value)) needs.reads,
       )
 
   -- ---- processes
@@ -243,7 +155,7 @@ module _ (c : Component) (h : IsSound c) where
       by_first true = All-append IsCombBody (side_process c true) (side_process c false) (side_all true) (side_all false)
       by_first false = All-append IsCombBody (side_process c false) (side_process c true) (side_all false) (side_all true)
 
-  one_need : (b d : Bit) → Needs (plain_circuit c) b d → (keeps (net_at (nets_of c) b.sig).drive ≡ false) × KeptBit d
+  one_need : (b d : Bit) → Needs (plain_circuit c) b d → (keeps (net_at (nets_of c) b.sig).drive ≡ false) × (KeptBit c) d
   one_need b d (inl p) =
       let body : p.process.body ≡ side_body c false = All-contains IsCombBody (processes_of c c.assignments) p.process (processes_all c.assignments) p.among p.comb in
       let plain : IsPlain p.assignment = All-contains IsPlain (guarded [] p.process.body) p.assignment (subst (λ (x : Block). All IsPlain (guarded [] x)) (sym body) body_plain) p.stands in
@@ -251,7 +163,7 @@ module _ (c : Component) (h : IsSound c) where
   one_need b d (inr r) = absurd (omega (arith, r.among.1))
 
   -- what a chain begins at is not kept, and what it ends at is
-  chain_ends : (b : Bit) (between : List Bit) (end : Bit) → Chain (plain_circuit c) b between end → (keeps (net_at (nets_of c) b.sig).drive ≡ false) × KeptBit end
+  chain_ends : (b : Bit) (between : List Bit) (end : Bit) → Chain (plain_circuit c) b between end → (keeps (net_at (nets_of c) b.sig).drive ≡ false) × (KeptBit c) end
   chain_ends b [] end chain = one_need b end chain
   chain_ends b (x ∷ xs) end chain = ((one_need b x chain.0).0, (chain_ends x xs end chain.1).1)
 

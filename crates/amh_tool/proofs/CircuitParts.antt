@@ -1,17 +1,15 @@
 -- The design of a component, written out, and its expressions: one for each signal, and those of the right sides.
-use Rattle.std.specs.Prelude.{◌≡◌, ◌<◌, ◌≤◌, ◌+◌, ◌-ℤ◌, ℕ, zero, suc, Bool, List, [], ◌∷◌, ◌++◌, map, length, ℤ, pos, Some, slice_get, All}
+use Rattle.std.specs.Prelude.{◌≡◌, ◌<◌, ◌≤◌, ◌+◌, ℕ, zero, suc, List, [], ◌∷◌, ◌++◌, map, length, ℤ, pos, Some, slice_get, All}
 use Rattle.std.specs.List.{flat_map, range_with_len}
-use Rattle.std.proofs.Common.{refl, sym, ap, ◌∙◌, arith, get_or}
-use Rattle.std.proofs.lemmas.List.{get_or_append_left, get_or-append-add, length-append, length-map}
+use Rattle.std.proofs.Common.{refl, ap, ◌∙◌, arith}
+use Rattle.std.proofs.lemmas.List.{get_or_append_left, length-append, length-map}
 use Rattle.std.proofs.lemmas.List.Elements.{All-head, All-tail}
 use Rattle.std.proofs.lemmas.List.FromFn.{length-range_with_len, get_or-map-range_with_len}
 use Rattle.std.proofs.lemmas.Option.{slice_get-get_or}
 use Rattle.amh_bits.specs.Integers.{int_and, int_or}
-use Rattle.shape_rules.specs.Forms.{Form, unsigned}
+use Rattle.shape_rules.specs.Forms.{unsigned}
 use Rattle.shape_rules.specs.Operators.{turned}
 use Rattle.shape_rules.specs.declared.op.Op.TheVariants as op
-use Rattle.design_ir.specs.declared.ids.ExprId.{ExprId}
-use Rattle.design_ir.specs.declared.signal.Sig.{Sig}
 use Rattle.design_ir.specs.declared.expr.Expr.{Expr}
 use Rattle.design_ir.specs.declared.expr.Expr.TheVariants as expr
 use Rattle.design_ir.specs.Named.{named, AllBelow}

@@ -1,29 +1,26 @@
 -- A component's design has its nets' history, and no other.
-use Rattle.std.specs.Prelude.{◌≡◌, ℕ, zero, suc, Bool, true, false, if◌then◌else◌, List, [], ◌∷◌, map, length, replicate, slice_set, ℤ, pos, fold}
+use Rattle.std.specs.Prelude.{◌≡◌, ℕ, zero, suc, Bool, true, false, if◌then◌else◌, List, [], ◌∷◌, map, length, replicate, ℤ, pos, fold}
 use Rattle.std.proofs.Common.{refl, sym, ap, ◌∙◌, subst}
-use Rattle.std.proofs.lemmas.List.{length-map}
 use Rattle.design_ir.specs.declared.event.Event.{Event}
 use Rattle.design_ir.specs.declared.event.Event.TheVariants.{Set, Edge}
 use Rattle.design_ir.specs.declared.signal.Sig.{Sig}
-use Rattle.design_ir.specs.Circuits.{Circuit, State, at}
-use Rattle.design_ir.specs.Settled.{Settled}
+use Rattle.design_ir.specs.Circuits.{Circuit, State}
 use Rattle.design_ir.specs.Steps.{step, clock_low, first_state}
-use Rattle.design_ir.specs.Histories.{HistoryFrom, History}
+use Rattle.design_ir.specs.Histories.{HistoryFrom}
 use Rattle.design_ir.specs.Legal.{IsLegal, AllLegal}
 use Rattle.amh_tool.specs.declared.form.Member.{Member}
 use Rattle.amh_tool.specs.declared.form.Component.{Component}
-use Rattle.amh_tool.specs.declared.nets.Net.{Net}
 use Rattle.amh_tool.specs.Form.{IsSound, uses_sync}
 use Rattle.amh_tool.specs.Elaborated.{circuit_of, bit_signal, all_members, sync}
 use Rattle.amh_tool.specs.Corresponds.{IsHistory}
 use Rattle.amh_tool.specs.Nets.{nets_of}
 use Rattle.amh_tool.specs.Running.{settled, after, later, first_held, net_history}
 use Rattle.amh_tool.proofs.NetPlaces.{nets-count}
-use Rattle.amh_tool.proofs.NetNumbers.{IsHeld, first_held-is, after-held}
+use Rattle.amh_tool.proofs.NetEvents.{IsHeld, first_held-is, after-held}
 use Rattle.amh_tool.proofs.CircuitParts.{plain_circuit, circuit_is, signals_in}
 use Rattle.amh_tool.proofs.CircuitNets.{plain_edge, plain_legal}
 use Rattle.amh_tool.proofs.CircuitNumbers.{settled-nets, only_settled}
-use Rattle.amh_tool.proofs.CircuitEdges.{first_domain, edge_step}
+use Rattle.amh_tool.proofs.CircuitEdges.{edge_step}
 
 -- ---- what is held at first
 
@@ -66,8 +63,8 @@ module _ (c : Component) (h : IsSound c) where
   history_from (e ∷ es) held legal is_held = (
     settled-nets c h held [] is_held.bits,
     subst (λ (st : State). HistoryFrom (plain_circuit c) st es (settled (nets_of c) (after (nets_of c) held e) ∷ later (nets_of c) (after (nets_of c) held e) es))
-    (sym (step-after held e legal.0 is_held))
-    (history_from es (after (nets_of c) held e) legal.1 (after-held (nets_of c) held e (plain_legal c e legal.0) is_held)),
+        (sym (step-after held e legal.0 is_held))
+        (history_from es (after (nets_of c) held e) legal.1 (after-held (nets_of c) held e (plain_legal c e legal.0) is_held)),
   )
 
   only_history_from : (es : List Event) (held : List ℤ) (envs : List (List ℤ)) → AllLegal (plain_circuit c) es → IsHeld (nets_of c) held
