@@ -19,7 +19,7 @@ use Rattle.amh_tool.specs.Running.{settled, taken_number, taken_from, registered
 use Rattle.amh_tool.proofs.NetPlaces.{nets-count}
 use Rattle.amh_tool.proofs.NetRegisters.{clock_and_reset}
 use Rattle.amh_tool.proofs.NetNumbers.{SameKept, settled-kept, at-taken_from}
-use Rattle.amh_tool.proofs.NetEvents.{input_kept, IsHeld}
+use Rattle.amh_tool.proofs.CircuitEvents.{input_kept, IsHeld}
 use Rattle.amh_tool.proofs.CircuitParts.{pool_of, plain_circuit, signals_in, all_operators}
 use Rattle.amh_tool.proofs.AssignedNumbers.{written, targets}
 use Rattle.amh_tool.proofs.CircuitPut.{put-assigned, driven-assigned}

@@ -21,7 +21,7 @@ use Rattle.amh_tool.proofs.NetSides.{last_on, Driving, by_event, by_nothing, by_
 use Rattle.amh_tool.proofs.NetsLaws.{component_wired}
 use Rattle.amh_tool.proofs.BitNumbers.{value_of-bit}
 use Rattle.amh_tool.proofs.NetNumbers.{value_of-same, SameKept, at-taken_from, length-taken_from}
-use Rattle.amh_tool.proofs.NetEvents.{IsHeld}
+use Rattle.amh_tool.proofs.CircuitEvents.{IsHeld}
 use Rattle.amh_tool.proofs.CircuitParts.{pool_of, signals_in}
 use Rattle.amh_tool.proofs.AssignedNumbers.{taken, written, targets, length-written, at-written, before-written, among-targets, before-targets}
 use Rattle.amh_tool.proofs.CircuitPut.{AreAll}

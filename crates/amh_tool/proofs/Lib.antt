@@ -13,7 +13,7 @@ pub mod CircuitInputs
 pub mod CircuitSides
 pub mod BitNumbers
 pub mod NetNumbers
-pub mod NetEvents
+pub mod CircuitEvents
 pub mod NetRegisters
 pub mod PublicNames
 pub mod NetNames
@@ -22,7 +22,7 @@ pub mod CircuitNets
 pub mod CircuitNumbers
 pub mod CircuitRise
 pub mod CircuitEdges
-pub mod NetHistory
+pub mod CircuitHistory
 pub mod CircuitNeeds
 pub mod CircuitLoops
 mod TraceSamples

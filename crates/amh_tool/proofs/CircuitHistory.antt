@@ -16,7 +16,7 @@ use Rattle.amh_tool.specs.Corresponds.{IsHistory}
 use Rattle.amh_tool.specs.Nets.{nets_of}
 use Rattle.amh_tool.specs.Running.{settled, after, later, first_held, net_history}
 use Rattle.amh_tool.proofs.NetPlaces.{nets-count}
-use Rattle.amh_tool.proofs.NetEvents.{IsHeld, first_held-is, after-held}
+use Rattle.amh_tool.proofs.CircuitEvents.{IsHeld, first_held-is, after-held}
 use Rattle.amh_tool.proofs.CircuitParts.{plain_circuit, circuit_is, signals_in}
 use Rattle.amh_tool.proofs.CircuitNets.{plain_edge, plain_legal}
 use Rattle.amh_tool.proofs.CircuitNumbers.{settled-nets, only_settled}
