@@ -1,26 +1,18 @@
 -- The inputs of a component's design: the nets that events drive.
-use Rattle.std.specs.Prelude.{◌≡◌, ◌<◌, ◌≤◌, ◌+◌, ◌==◌, ◌&&◌, ◌||◌, ℕ, zero, suc, Bool, true, false, if◌then◌else◌, List, [], ◌∷◌, ◌++◌, map, length, ℤ, pos, Option, Some, None, is_some, All, fold}
+use Rattle.std.specs.Prelude.{◌≡◌, ◌<◌, ◌+◌, ◌==◌, ◌&&◌, ◌||◌, ℕ, zero, suc, Bool, true, false, List, [], ◌∷◌, map}
 use Rattle.std.specs.List.{list_any}
-use Rattle.std.proofs.Common.{refl, sym, ap, ◌∙◌, arith, subst, get_or}
-use Rattle.std.proofs.lemmas.Bool.{eq-eqb, ne_eqb, false≢true}
+use Rattle.std.proofs.Common.{refl, sym, ap, ◌∙◌, arith}
+use Rattle.std.proofs.lemmas.Bool.{eq-eqb, ne_eqb}
 use Rattle.design_ir.specs.declared.port.Port.{Port}
-use Rattle.design_ir.specs.declared.process.DesignProcess.{DesignProcess}
-use Rattle.design_ir.specs.declared.ids.DomainId.{DomainId}
-use Rattle.design_ir.specs.Trees.{Block, done}
-use Rattle.design_ir.specs.Put.{put}
-use Rattle.design_ir.specs.Guards.{driven}
-use Rattle.design_ir.specs.Circuits.{Circuit, at, is_among, is_input, is_register}
-use Rattle.design_ir.specs.Settled.{comb_process}
-use Rattle.design_ir.specs.Steps.{clocked, clocked_at}
+use Rattle.design_ir.specs.Circuits.{is_input}
 use Rattle.amh_tool.specs.declared.form.Member.{Member}
-use Rattle.amh_tool.specs.declared.form.Assignment.{Assignment}
 use Rattle.amh_tool.specs.declared.form.Component.{Component}
 use Rattle.amh_tool.specs.declared.nets.Net.{Net}
-use Rattle.amh_tool.specs.Form.{member_at, no_member, uses_sync}
-use Rattle.amh_tool.specs.Elaborated.{all_members, first_member, is_of_side, assigned, operator_of, first_line, side_body, has_side, side_domain, side_process, processes_of, ports_from}
-use Rattle.amh_tool.specs.Nets.{nets_of, net_at, no_net, net_member, is_input_drive}
-use Rattle.amh_tool.proofs.NetPlaces.{nets-members, nets-count}
-use Rattle.amh_tool.proofs.CircuitParts.{pool_of, plain_circuit, signals_in}
+use Rattle.amh_tool.specs.Form.{member_at}
+use Rattle.amh_tool.specs.Elaborated.{all_members, ports_from}
+use Rattle.amh_tool.specs.Nets.{nets_of, net_at, net_member, is_input_drive}
+use Rattle.amh_tool.proofs.NetPlaces.{nets-members}
+use Rattle.amh_tool.proofs.CircuitParts.{plain_circuit}
 
 -- no port from a number on has a signal below it
 port_below : (ms : List Member) (k n : ℕ) → n < k → list_any (λ (p : Port). p.is_input && (p.sig.0 == n)) (ports_from k ms) ≡ false

@@ -1,16 +1,14 @@
 -- The design of a component has its nets as signals, ports and columns, and takes the events that fit them.
-use Rattle.std.specs.Prelude.{◌≡◌, ◌≢◌, ◌<◌, ◌≤◌, ◌+◌, ℕ, zero, suc, Bool, true, false, if◌then◌else◌, List, [], ◌∷◌, map, length, ℤ, IsTrue}
+use Rattle.std.specs.Prelude.{◌≡◌, ◌≢◌, ◌<◌, ℕ, zero, suc, Bool, true, false, if◌then◌else◌, List, [], ◌∷◌, map, length}
 use Rattle.std.specs.List.{AllByRecursion}
-use Rattle.std.proofs.Common.{refl, sym, ap, ◌∙◌, arith, subst, get_or}
+use Rattle.std.proofs.Common.{refl, sym, ap, ◌∙◌, arith, subst}
 use Rattle.std.proofs.lemmas.Bool.{false≢true}
 use Rattle.amh_bits.specs.Patterns.{IsOf}
 use Rattle.shape_rules.specs.Forms.{Form}
-use Rattle.design_ir.specs.declared.ids.SigId.{SigId}
 use Rattle.design_ir.specs.declared.ids.DomainId.{DomainId}
 use Rattle.design_ir.specs.declared.event.Event.{Event}
 use Rattle.design_ir.specs.declared.event.Event.TheVariants.{Set, Edge}
-use Rattle.design_ir.specs.Values.{signal_form}
-use Rattle.design_ir.specs.Circuits.{Circuit, is_input}
+use Rattle.design_ir.specs.Circuits.{Circuit}
 use Rattle.design_ir.specs.Legal.{Ascending, IsLegal}
 use Rattle.amh_tool.specs.declared.form.Member.{Member}
 use Rattle.amh_tool.specs.declared.form.Component.{Component}
@@ -18,12 +16,12 @@ use Rattle.amh_tool.specs.declared.nets.Net.{Net}
 use Rattle.amh_tool.specs.declared.nets.Drive.{Drive}
 use Rattle.amh_tool.specs.declared.nets.Drive.TheVariants.{Input, Nothing, Comb, Clocked}
 use Rattle.amh_tool.specs.Form.{IsSound, uses_sync}
-use Rattle.amh_tool.specs.Elaborated.{circuit_of, bit_signal, ports_from, columns_from, sync, sync_domain, all_members}
-use Rattle.amh_tool.specs.Nets.{nets_of, net_at, net_member, is_input_drive, HasNets, IsClocked}
+use Rattle.amh_tool.specs.Elaborated.{circuit_of, bit_signal, ports_from, columns_from, sync, all_members}
+use Rattle.amh_tool.specs.Nets.{nets_of, net_at, net_member, is_input_drive, HasNets}
 use Rattle.amh_tool.specs.Simulated.{FitsNets}
 use Rattle.amh_tool.proofs.NetPlaces.{nets-members, nets-count}
 use Rattle.amh_tool.proofs.NetRegisters.{has_register-uses_sync, clock_and_reset}
-use Rattle.amh_tool.proofs.CircuitParts.{plain_circuit, circuit_is, signals_in, signal_form-bit}
+use Rattle.amh_tool.proofs.CircuitParts.{plain_circuit, circuit_is, signal_form-bit}
 use Rattle.amh_tool.proofs.CircuitInputs.{is_input-net}
 
 signals-nets : (nets : List Net) → map (λ (m : Member). bit_signal m.name) (map net_member nets) ≡ map (λ (n : Net). bit_signal n.name) nets

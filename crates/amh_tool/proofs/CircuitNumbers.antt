@@ -1,35 +1,32 @@
 -- What a component's design computes at each signal, from an environment and from what is held.
-use Rattle.std.specs.Prelude.{◌≡◌, ◌<◌, ◌≤◌, ◌⊎◌, ◌+◌, ◌||◌, ℕ, zero, suc, Bool, true, false, if◌then◌else◌, List, [], ◌∷◌, map, length, ℤ, pos, Option, Some, None, is_some, All}
-use Rattle.std.proofs.Common.{refl, sym, ap, ◌∙◌, arith, subst, get_or, inl, inr, ⊎_elim}
+use Rattle.std.specs.Prelude.{◌≡◌, ◌<◌, ◌≤◌, ◌⊎◌, ◌+◌, ◌||◌, ℕ, zero, suc, Bool, true, false, if◌then◌else◌, List, [], ◌∷◌, map, length, ℤ, pos, Option, is_some, All}
+use Rattle.std.proofs.Common.{refl, sym, ap, ◌∙◌, arith, subst, inl, inr, ⊎_elim}
 use Rattle.std.proofs.lemmas.Bool.{cases_lt, false≢true}
-use Rattle.std.proofs.lemmas.List.{length-map, ext_get_or}
-use Rattle.std.proofs.lemmas.List.Elements.{All-nil, All-cons, All-head, All-tail, All-weaker}
-use Rattle.std.proofs.Math.ListN.{get_or-eq_default}
+use Rattle.std.proofs.lemmas.List.{ext_get_or}
+use Rattle.std.proofs.lemmas.List.Elements.{All-weaker}
 use Rattle.amh_bits.specs.Patterns.{IsOf, wrap}
 use Rattle.amh_bits.proofs.Wraps.{wrap_same}
-use Rattle.design_ir.specs.Put.{put}
-use Rattle.design_ir.specs.Guards.{driven}
 use Rattle.design_ir.specs.Circuits.{Circuit, State, at, is_among, is_input, is_register, is_held}
 use Rattle.design_ir.specs.Settled.{starts, delta, Settled}
 use Rattle.amh_tool.specs.declared.form.Member.{Member}
-use Rattle.amh_tool.specs.declared.form.Right.{Right}
-use Rattle.amh_tool.specs.declared.form.Right.TheVariants.{Copy, Not, And, Or}
 use Rattle.amh_tool.specs.declared.form.Assignment.{Assignment}
 use Rattle.amh_tool.specs.declared.form.Component.{Component}
 use Rattle.amh_tool.specs.declared.nets.Net.{Net}
 use Rattle.amh_tool.specs.declared.nets.Drive.{Drive}
 use Rattle.amh_tool.specs.declared.nets.Drive.TheVariants.{Input, Nothing, Comb, Clocked}
 use Rattle.amh_tool.specs.Form.{member_at, IsSound, IsAllowed, IsReadable, operands}
-use Rattle.amh_tool.specs.Elaborated.{bit_signal, all_members, first_member, side_body, first_line, processes_of}
-use Rattle.amh_tool.specs.Nets.{with_signals, drive_of, nets_of, net_at, is_input_drive, keeps, IsKept, ReadsKept}
+use Rattle.amh_tool.specs.Elaborated.{bit_signal, all_members, first_member, first_line}
+use Rattle.amh_tool.specs.Nets.{drive_of, nets_of, net_at, is_input_drive, keeps, ReadsKept}
 use Rattle.amh_tool.specs.Running.{value_of, settled_number, settled}
 use Rattle.amh_tool.specs.Simulated.{AreBits}
 use Rattle.amh_tool.proofs.NetPlaces.{nets-count, all-count, net_at-member, net_at-domain, IsMemberAt, place_of}
 use Rattle.amh_tool.proofs.NetSides.{last_on, Driving, by_event, by_nothing, by_comb, by_sync, driving}
 use Rattle.amh_tool.proofs.NetsLaws.{component_wired}
-use Rattle.amh_tool.proofs.NetNumbers.{zero_is_bit, past_is_bit, value_of-bit, value_of-same, SameKept, settled-kept, at-settled, length-settled, IsHeld}
+use Rattle.amh_tool.proofs.BitNumbers.{zero_is_bit, past_is_bit, value_of-bit}
+use Rattle.amh_tool.proofs.NetNumbers.{value_of-same, SameKept, settled-kept, at-settled, length-settled}
 use Rattle.amh_tool.proofs.CircuitParts.{pool_of, plain_circuit, signals_in, all_operators}
-use Rattle.amh_tool.proofs.CircuitPut.{bit_of, taken, written, targets, AreAll, Stands, put-assigned, driven-assigned, length-written, at-written, before-written, among-targets, before-targets}
+use Rattle.amh_tool.proofs.AssignedNumbers.{taken, written, length-written, at-written, before-written, among-targets}
+use Rattle.amh_tool.proofs.CircuitPut.{AreAll, Stands, put-assigned, driven-assigned}
 use Rattle.amh_tool.proofs.CircuitInputs.{is_input-net}
 use Rattle.amh_tool.proofs.CircuitSides.{fold-comb, is_register-driven}
 
@@ -43,9 +40,9 @@ module _ (c : Component) (h : IsSound c) where
   assignments_stand =
       All-weaker (IsAllowed c.members c.assignments) (Stands c)
       (λ a allowed. record {
-          target = omega (arith, allowed.target.held, all-count c);
-          reads = All-weaker (IsReadable c.members c.assignments) (λ k. first_member c + k < signals_in c) there_of (operands a.right) allowed.reads;
-        })
+        target = omega (arith, allowed.target.held, all-count c);
+        reads = All-weaker (IsReadable c.members c.assignments) (λ k. first_member c + k < signals_in c) there_of (operands a.right) allowed.reads;
+      })
       c.assignments h.assignments
 
   -- ---- what is held, and what the statements find
@@ -173,10 +170,10 @@ module _ (c : Component) (h : IsSound c) (held : List ℤ) (rows : List (List �
       let size = length-delta c h held rows env bits in
       ext_get_or (pos 0) (delta (plain_circuit c) (record { held = held; rows = rows }) env) (settled nets held) (size ∙ sym (length-settled nets held))
       (λ s inside.
-          let there : s < length nets = omega (arith, inside, size) in
-          at-delta c h held rows env s bits there
-          ∙ computed-settled nets (net_at nets s).drive held env s bits (wired.reads s there) same
-          ∙ sym (at-settled nets held s there))
+      let there : s < length nets = omega (arith, inside, size) in
+      at-delta c h held rows env s bits there
+      ∙ computed-settled nets (net_at nets s).drive held env s bits (wired.reads s there) same
+      ∙ sym (at-settled nets held s there))
 
   pub settled-nets : Settled (plain_circuit c) (record { held = held; rows = rows }) (settled (nets_of c) held)
   settled-nets = delta-settled (settled (nets_of c) held) (settled-kept (nets_of c) held)
@@ -185,6 +182,6 @@ module _ (c : Component) (h : IsSound c) (held : List ℤ) (rows : List (List �
   only_settled env settles =
       sym settles
       ∙ delta-settled env (λ s k.
-          ap (λ x. at x s) (sym settles)
-          ∙ at-delta c h held rows env s bits k.held
-          ∙ computed-kept (net_at (nets_of c) s).drive held env s k.keeps)
+      ap (λ x. at x s) (sym settles)
+      ∙ at-delta c h held rows env s bits k.held
+      ∙ computed-kept (net_at (nets_of c) s).drive held env s k.keeps)

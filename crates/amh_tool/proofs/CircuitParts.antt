@@ -1,17 +1,15 @@
 -- The design of a component, written out, and its expressions: one for each signal, and those of the right sides.
-use Rattle.std.specs.Prelude.{◌≡◌, ◌<◌, ◌≤◌, ◌+◌, ◌-ℤ◌, ℕ, zero, suc, Bool, List, [], ◌∷◌, ◌++◌, map, length, ℤ, pos, Some, slice_get, All}
+use Rattle.std.specs.Prelude.{◌≡◌, ◌<◌, ◌≤◌, ◌+◌, ℕ, zero, suc, List, [], ◌∷◌, ◌++◌, map, length, ℤ, pos, Some, slice_get, All}
 use Rattle.std.specs.List.{flat_map, range_with_len}
-use Rattle.std.proofs.Common.{refl, sym, ap, ◌∙◌, arith, get_or}
-use Rattle.std.proofs.lemmas.List.{get_or_append_left, get_or-append-add, length-append, length-map}
+use Rattle.std.proofs.Common.{refl, ap, ◌∙◌, arith}
+use Rattle.std.proofs.lemmas.List.{get_or_append_left, length-append, length-map}
 use Rattle.std.proofs.lemmas.List.Elements.{All-head, All-tail}
 use Rattle.std.proofs.lemmas.List.FromFn.{length-range_with_len, get_or-map-range_with_len}
 use Rattle.std.proofs.lemmas.Option.{slice_get-get_or}
 use Rattle.amh_bits.specs.Integers.{int_and, int_or}
-use Rattle.shape_rules.specs.Forms.{Form, unsigned}
+use Rattle.shape_rules.specs.Forms.{unsigned}
 use Rattle.shape_rules.specs.Operators.{turned}
 use Rattle.shape_rules.specs.declared.op.Op.TheVariants as op
-use Rattle.design_ir.specs.declared.ids.ExprId.{ExprId}
-use Rattle.design_ir.specs.declared.signal.Sig.{Sig}
 use Rattle.design_ir.specs.declared.expr.Expr.{Expr}
 use Rattle.design_ir.specs.declared.expr.Expr.TheVariants as expr
 use Rattle.design_ir.specs.Named.{named, AllBelow}
@@ -81,7 +79,7 @@ module _ (c : Component) where
   signals_count : length (map signal_expr (range_with_len 0 (signals_in c))) ≡ signals_in c
   signals_count = length-map (range_with_len 0 (signals_in c)) signal_expr ∙ length-range_with_len 0 (signals_in c)
 
-  signal_stands : (s : ℕ) → s < signals_in c → slice_get (all_exprs c) s ≡ Some (signal_expr s)
+  pub signal_stands : (s : ℕ) → s < signals_in c → slice_get (all_exprs c) s ≡ Some (signal_expr s)
   signal_stands s h =
       let signals = map signal_expr (range_with_len 0 (signals_in c)) in
       let d : Expr = signal_expr 0 in
@@ -142,7 +140,7 @@ module _ (c : Component) where
   two_operands : (a b : ℕ) → AreSignals (a ∷ b ∷ []) → (first_member c + a < signals_in c) × (first_member c + b < signals_in c)
   two_operands a b h = (All-head (λ k. first_member c + k < signals_in c) a (b ∷ []) h, only_operand b (All-tail (λ k. first_member c + k < signals_in c) a (b ∷ []) h))
 
-  here : (operator : ℕ) (exprs : List Expr) (e : Expr) → AreOperators operator exprs → slice_get exprs 0 ≡ Some e → slice_get (all_exprs c) operator ≡ Some e
+  pub here : (operator : ℕ) (exprs : List Expr) (e : Expr) → AreOperators operator exprs → slice_get exprs 0 ≡ Some e → slice_get (all_exprs c) operator ≡ Some e
   here operator exprs e k is = ap (slice_get (all_exprs c)) (omega arith) ∙ k.stand 0 e is
 
   num-operator : (env : List ℤ) (operator : ℕ) (e : Expr) → AllBelow operator (named e) → slice_get (all_exprs c) operator ≡ Some e → num (pool_of c) env operator ≡ value_step (form (pool_of c)) env (num (pool_of c) env) e

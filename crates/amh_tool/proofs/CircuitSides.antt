@@ -1,27 +1,21 @@
 -- The processes of a component's design: one for each side that an assignment is of, in whichever order.
-use Rattle.std.specs.Prelude.{◌≡◌, ◌<◌, ◌≤◌, ◌+◌, ◌==◌, ◌&&◌, ◌||◌, ℕ, zero, suc, Bool, true, false, if◌then◌else◌, List, [], ◌∷◌, ◌++◌, map, length, ℤ, pos, Option, Some, None, is_some, All, fold}
+use Rattle.std.specs.Prelude.{◌≡◌, ◌+◌, ◌&&◌, ◌||◌, ℕ, suc, Bool, true, false, if◌then◌else◌, List, [], ◌∷◌, ◌++◌, length, ℤ, is_some, fold}
 use Rattle.std.specs.List.{list_any}
-use Rattle.std.proofs.Common.{refl, sym, ap, ◌∙◌, arith, subst, get_or}
-use Rattle.std.proofs.lemmas.Bool.{eq-eqb, ne_eqb, false≢true}
-use Rattle.design_ir.specs.declared.port.Port.{Port}
+use Rattle.std.proofs.Common.{refl, sym, ap, ◌∙◌}
+use Rattle.std.proofs.lemmas.Bool.{false≢true}
 use Rattle.design_ir.specs.declared.process.DesignProcess.{DesignProcess}
 use Rattle.design_ir.specs.declared.ids.DomainId.{DomainId}
 use Rattle.design_ir.specs.Pools.{Pooled}
 use Rattle.design_ir.specs.Trees.{Block, done}
 use Rattle.design_ir.specs.Put.{put}
 use Rattle.design_ir.specs.Guards.{driven}
-use Rattle.design_ir.specs.Circuits.{Circuit, at, is_among, is_input, is_register}
+use Rattle.design_ir.specs.Circuits.{is_among, is_register}
 use Rattle.design_ir.specs.Settled.{comb_process}
-use Rattle.design_ir.specs.Steps.{clocked, clocked_at, rises, is_reset}
-use Rattle.amh_tool.specs.declared.form.Member.{Member}
+use Rattle.design_ir.specs.Steps.{clocked, rises, is_reset}
 use Rattle.amh_tool.specs.declared.form.Assignment.{Assignment}
 use Rattle.amh_tool.specs.declared.form.Component.{Component}
-use Rattle.amh_tool.specs.declared.nets.Net.{Net}
-use Rattle.amh_tool.specs.Form.{member_at, no_member, uses_sync}
-use Rattle.amh_tool.specs.Elaborated.{all_members, first_member, is_of_side, assigned, operator_of, first_line, side_body, has_side, side_domain, side_process, processes_of, ports_from}
-use Rattle.amh_tool.specs.Nets.{nets_of, net_at, no_net, net_member, is_input_drive}
-use Rattle.amh_tool.proofs.NetPlaces.{nets-members, nets-count}
-use Rattle.amh_tool.proofs.CircuitParts.{pool_of, plain_circuit, signals_in}
+use Rattle.amh_tool.specs.Elaborated.{all_members, first_member, is_of_side, assigned, operator_of, first_line, side_body, has_side, side_domain, side_process, processes_of}
+use Rattle.amh_tool.proofs.CircuitParts.{pool_of, plain_circuit}
 
 -- ---- the two sides, in whichever order they stand
 

@@ -1,5 +1,5 @@
 -- The last assignment to each member, as a loop over the assignments finds it.
-use Rattle.std.specs.Prelude.{◌≡◌, ◌<◌, ◌≤◌, ◌⊎◌, ◌==◌, ℕ, zero, suc, ◌+◌, if◌then◌else◌, List, [], ◌∷◌, ◌++◌, length, Option, None, Some, slice_get, All}
+use Rattle.std.specs.Prelude.{◌≡◌, ◌<◌, ◌≤◌, ◌⊎◌, ◌==◌, ℕ, zero, suc, ◌+◌, if◌then◌else◌, List, [], ◌∷◌, ◌++◌, length, Option, None, Some, All}
 use Rattle.std.proofs.Common.{refl, sym, ap, ◌∙◌, arith, get_or, set, drop, inl, inr, ⊎_elim}
 use Rattle.std.proofs.lemmas.Bool.{cases_eq, cases_lt, eq-eqb, ne_eqb}
 use Rattle.std.proofs.lemmas.List.{at_drop_more, at_drop_all, get_or-set_same, get_or-set_other, length-set}
@@ -40,11 +40,11 @@ one_over : (last : List (Option Assignment)) (a : Assignment) (i : ℕ) → a.ta
 one_over last a i inside =
     ⊎_elim
     (λ (e : i ≡ a.target).
-        ap (λ b. or_earlier (if b then Some a else None) (get_or last i None)) (eq-eqb a.target i (sym e))
-        ∙ sym (ap (λ k. get_or (set last a.target (Some a)) k None) e ∙ get_or-set_same last a.target (Some a) None inside))
+    ap (λ b. or_earlier (if b then Some a else None) (get_or last i None)) (eq-eqb a.target i (sym e))
+    ∙ sym (ap (λ k. get_or (set last a.target (Some a)) k None) e ∙ get_or-set_same last a.target (Some a) None inside))
     (λ (apart : i ≡ a.target → ⊥).
-        ap (λ b. or_earlier (if b then Some a else None) (get_or last i None)) (ne_eqb a.target i (λ e. apart (sym e)))
-        ∙ sym (get_or-set_other last a.target i (Some a) None apart))
+    ap (λ b. or_earlier (if b then Some a else None) (get_or last i None)) (ne_eqb a.target i (λ e. apart (sym e)))
+    ∙ sym (get_or-set_other last a.target i (Some a) None apart))
     (cases_eq i a.target)
 
 -- ---- what is left, over what is so far
@@ -73,8 +73,8 @@ overlay_turn assignments k count d last here targets so_far =
     let inside : a.target < length last = omega (arith, All-get_or (λ (x : Assignment). x.target < count) assignments k d here targets, so_far.0) in (
       length-set last a.target (Some a) ∙ so_far.0,
       λ i. sym (
-        at_drop_more (λ xs. or_earlier (last_of xs i) (get_or last i None)) assignments k d here
-        ∙ or_earlier-or_earlier (last_of (drop (k + 1) assignments) i) (if a.target == i then Some a else None) (get_or last i None)
-        ∙ ap (or_earlier (last_of (drop (k + 1) assignments) i)) (one_over last a i inside)
-      ) ∙ so_far.1 i,
+          at_drop_more (λ xs. or_earlier (last_of xs i) (get_or last i None)) assignments k d here
+          ∙ or_earlier-or_earlier (last_of (drop (k + 1) assignments) i) (if a.target == i then Some a else None) (get_or last i None)
+          ∙ ap (or_earlier (last_of (drop (k + 1) assignments) i)) (one_over last a i inside)
+          ) ∙ so_far.1 i,
     )

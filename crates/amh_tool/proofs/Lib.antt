@@ -6,16 +6,25 @@ pub mod NetTurns
 pub mod NetPlaces
 pub mod NetSides
 pub mod CircuitParts
+pub mod AssignedNumbers
 pub mod CircuitPut
+pub mod CircuitResets
 pub mod CircuitInputs
 pub mod CircuitSides
+pub mod BitNumbers
 pub mod NetNumbers
+pub mod CircuitEvents
 pub mod NetRegisters
 pub mod PublicNames
 pub mod NetNames
 pub mod NetsLaws
 pub mod CircuitNets
 pub mod CircuitNumbers
+pub mod CircuitRise
+pub mod CircuitEdges
+pub mod CircuitHistory
+pub mod CircuitNeeds
+pub mod CircuitLoops
 mod TraceSamples
 pub mod FormLineLaws
 pub mod FormNameLaws

@@ -1,18 +1,15 @@
 -- The names of the nets: they are public names, and no two are the same.
-use Rattle.std.specs.Prelude.{◌≡◌, ◌<◌, ◌⊎◌, ◌&&◌, ◌||◌, ◌+◌, not, bytes_eq, ℕ, zero, suc, Bool, true, false, if◌then◌else◌, List, [], ◌∷◌, ◌++◌, map, length, codes, All, IsTrue}
-use Rattle.std.specs.List.{list_all, list_any}
-use Rattle.std.specs.Char.{is_ascii_alphabetic}
-use Rattle.std.proofs.Common.{refl, sym, ap, ◌∙◌, arith, subst, inl, inr, get_or, append-nil}
-use Rattle.std.proofs.lemmas.Bool.{false≢true, and_parts, or_cases, or_left, or_right}
+use Rattle.std.specs.Prelude.{◌≡◌, ◌<◌, ◌⊎◌, ◌+◌, ℕ, zero, suc, Bool, true, false, if◌then◌else◌, List, [], ◌∷◌, ◌++◌, map, length, codes}
+use Rattle.std.proofs.Common.{refl, sym, ap, ◌∙◌, arith, subst, inl, inr, get_or}
+use Rattle.std.proofs.lemmas.Bool.{false≢true}
 use Rattle.std.proofs.lemmas.List.{append_cancel_right}
-use Rattle.std.proofs.lemmas.List.Elements.{All-nil, All-cons}
-use Rattle.rtlil_text.specs.Ids.{starts_name, continues_name, IsName, IsPublicName}
+use Rattle.rtlil_text.specs.Ids.{IsPublicName}
 use Rattle.amh_tool.specs.declared.form.Member.{Member}
 use Rattle.amh_tool.specs.declared.form.Component.{Component}
 use Rattle.amh_tool.specs.declared.nets.Net.{Net}
-use Rattle.amh_tool.specs.FormNames.{is_name, is_name_byte, has_name_bytes, keywords, taken_names}
-use Rattle.amh_tool.specs.Form.{member_at, HasDistinctNames, IsSound, uses_sync}
-use Rattle.amh_tool.specs.Elaborated.{domain_members, is_taken, renamed, first_member}
+use Rattle.amh_tool.specs.FormNames.{is_name}
+use Rattle.amh_tool.specs.Form.{member_at, IsSound, uses_sync}
+use Rattle.amh_tool.specs.Elaborated.{is_taken, first_member}
 use Rattle.amh_tool.specs.Nets.{nets_from, input_net, nets_of, no_net, net_at}
 use Rattle.amh_tool.proofs.NetPlaces.{net_at-member, IsMemberAt, place_of}
 use Rattle.amh_tool.proofs.NetRegisters.{two_domain}

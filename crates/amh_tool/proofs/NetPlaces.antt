@@ -8,11 +8,10 @@ use Rattle.amh_tool.specs.declared.form.Right.{Right}
 use Rattle.amh_tool.specs.declared.form.Assignment.{Assignment}
 use Rattle.amh_tool.specs.declared.form.Component.{Component}
 use Rattle.amh_tool.specs.declared.nets.Net.{Net}
-use Rattle.amh_tool.specs.declared.nets.Drive.{Drive}
-use Rattle.amh_tool.specs.declared.nets.Drive.TheVariants.{Input, Nothing, Comb, Clocked}
-use Rattle.amh_tool.specs.Form.{member_at, no_member, uses_sync}
+use Rattle.amh_tool.specs.declared.nets.Drive.TheVariants.{Input, Comb, Clocked}
+use Rattle.amh_tool.specs.Form.{member_at, uses_sync}
 use Rattle.amh_tool.specs.Elaborated.{domain_members, is_taken, renamed, all_members, first_member}
-use Rattle.amh_tool.specs.Nets.{with_signals, drive_by, drive_of, member_net, nets_from, input_net, nets_of, no_net, net_at, is_input_drive, net_member}
+use Rattle.amh_tool.specs.Nets.{with_signals, drive_by, member_net, nets_from, input_net, nets_of, no_net, net_at, is_input_drive, net_member}
 
 -- ---- each net is a signal of the design
 

@@ -1,11 +1,9 @@
 -- Which nets are registers: those of the members that clocked assignments drive.
-use Rattle.std.specs.Prelude.{◌≡◌, ◌<◌, ◌≤◌, ◌⊎◌, ◌+◌, ◌==◌, ◌||◌, ℕ, zero, suc, Bool, true, false, if◌then◌else◌, List, [], ◌∷◌, length, Option, None, Some, is_some, All}
+use Rattle.std.specs.Prelude.{◌≡◌, ◌<◌, ◌⊎◌, ◌+◌, ◌==◌, ◌||◌, ℕ, zero, suc, Bool, true, false, if◌then◌else◌, List, [], ◌∷◌, length, Option, None, Some, is_some, All}
 use Rattle.std.specs.List.{list_any}
-use Rattle.std.proofs.Common.{refl, sym, ap, ◌∙◌, arith, subst, get_or, inl, inr, ⊎_elim}
+use Rattle.std.proofs.Common.{refl, sym, ap, ◌∙◌, arith, subst, get_or, inl, inr}
 use Rattle.std.proofs.lemmas.Bool.{false≢true}
 use Rattle.std.proofs.lemmas.List.Elements.{All-nil, All-cons, All-head, All-tail}
-use Rattle.amh_tool.specs.declared.form.Member.{Member}
-use Rattle.amh_tool.specs.declared.form.Right.{Right}
 use Rattle.amh_tool.specs.declared.form.Assignment.{Assignment}
 use Rattle.amh_tool.specs.declared.form.Component.{Component}
 use Rattle.amh_tool.specs.declared.nets.Net.{Net}
@@ -13,7 +11,7 @@ use Rattle.amh_tool.specs.declared.nets.Drive.{Drive}
 use Rattle.amh_tool.specs.declared.nets.Drive.TheVariants.{Input, Nothing, Comb, Clocked}
 use Rattle.amh_tool.specs.Form.{member_at, IsSound, IsAllowed, side_of, uses_sync}
 use Rattle.amh_tool.specs.Elaborated.{first_member}
-use Rattle.amh_tool.specs.Nets.{or_earlier, last_of, with_signals, drive_by, drive_of, nets_of, no_net, net_at, is_register_drive, has_register, IsInputNet, IsClocked}
+use Rattle.amh_tool.specs.Nets.{or_earlier, last_of, with_signals, drive_by, drive_of, nets_of, no_net, net_at, is_register_drive, has_register, IsClocked}
 use Rattle.amh_tool.proofs.LastFacts.{last_of-among}
 use Rattle.amh_tool.proofs.NetTurns.{first_is}
 use Rattle.amh_tool.proofs.NetPlaces.{nets-count, all-count, net_at-member, net_at-domain, IsMemberAt, place_of}
@@ -59,7 +57,7 @@ some_last false a None side e = e
 some_last false a (Some b) side e = e
 
 -- there is a last assignment where there is a first one
-last_of-side_of : (assignments : List Assignment) (i : ℕ) → is_some (last_of assignments i) ≡ is_some (side_of assignments i)
+pub last_of-side_of : (assignments : List Assignment) (i : ℕ) → is_some (last_of assignments i) ≡ is_some (side_of assignments i)
 last_of-side_of [] i = refl
 last_of-side_of (a ∷ more) i = some_last (a.target == i) a (last_of more i) (side_of more i) (last_of-side_of more i)
 

@@ -84,7 +84,7 @@ winning : Component
 winning = record {
   members = input (codes "a") ∷ output (codes "y") ∷ output (codes "q") ∷ [];
   assignments = record { clocked = false; target = 1; right = Copy 0 } ∷ record { clocked = true; target = 2; right = Copy 0 } ∷
-  record { clocked = false; target = 1; right = And 0 2 } ∷ record { clocked = true; target = 2; right = Or 0 2 } ∷ [];
+      record { clocked = false; target = 1; right = And 0 2 } ∷ record { clocked = true; target = 2; right = Or 0 2 } ∷ [];
 }
 
 five : ℕ → ℕ → ℕ → ℕ → ℕ → List ℤ

@@ -1,7 +1,6 @@
 -- The nets of the members, one after another.
 use Rattle.std.specs.Prelude.{◌≡◌, ◌<◌, ◌≤◌, ◌+◌, ℕ, suc, Bool, true, false, if◌then◌else◌, List, [], ◌∷◌, ◌++◌, length, Option, None, Some, All}
 use Rattle.std.proofs.Common.{refl, sym, ap, ◌∙◌, arith, get_or, drop, append_assoc}
-use Rattle.std.proofs.lemmas.Bool.{false≢true}
 use Rattle.std.proofs.lemmas.List.{at_drop_more}
 use Rattle.std.proofs.lemmas.List.Elements.{All-head, All-tail, All-weaker}
 use Rattle.amh_tool.specs.declared.form.Member.{Member}
@@ -10,7 +9,6 @@ use Rattle.amh_tool.specs.declared.form.Right.TheVariants.{Copy, Not, And, Or}
 use Rattle.amh_tool.specs.declared.form.Assignment.{Assignment}
 use Rattle.amh_tool.specs.declared.form.Component.{Component}
 use Rattle.amh_tool.specs.declared.nets.Net.{Net}
-use Rattle.amh_tool.specs.declared.nets.Drive.{Drive}
 use Rattle.amh_tool.specs.declared.nets.Drive.TheVariants.{Input}
 use Rattle.amh_tool.specs.Form.{IsSound, IsReadable, IsAllowed, operands, uses_sync}
 use Rattle.amh_tool.specs.Elaborated.{renamed, first_member}

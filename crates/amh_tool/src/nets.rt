@@ -125,8 +125,8 @@ fn member_net(
 ) -> Result<Net, NoMemory>
     requires { LastReadsFew last }
     ensures { IfOk result (λ net. net ≡ record {
-        name = (renamed clocked member.now).name;
-        drive = if member.now.is_input then Input else drive_by (if clocked then 2 else 0) last;
+      name = (renamed clocked member.now).name;
+      drive = if member.now.is_input then Input else drive_by (if clocked then 2 else 0) last;
     }) }
 {
     let name = renamed(alloc, clocked, member)?;

@@ -1,4 +1,4 @@
-use Rattle.std.proofs.Common.{◌≡◌, ◌<◌, length, get_or, sym, ◌∙◌, ap}
+use Rattle.std.proofs.Common.{◌<◌, length, get_or, ◌∙◌, ap}
 use Rattle.amh_tool.specs.Form.{uses_sync}
 use Rattle.amh_tool.specs.NetParts.{AreLast}
 use Rattle.amh_tool.proofs.LastLaws.{places_from_last}
