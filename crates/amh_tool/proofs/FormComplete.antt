@@ -411,7 +411,7 @@ pair-full ms operator a b names held_a held_b h =
     let left = (member_at ms a).name in
     let right = (member_at ms b).name in
     let split : (left ++ (operator ++ right)) ++ codes ")\n" ≡ left ++ (operator ++ (right ++ codes ")\n")) =
-        append_assoc left (operator ++ right) (codes ")\n") ∙ ap (λ (t : List ℕ). left ++ t) (append_assoc operator right (codes ")\n")) in
+    append_assoc left (operator ++ right) (codes ")\n") ∙ ap (λ (t : List ℕ). left ++ t) (append_assoc operator right (codes ")\n")) in
     ap (λ (t : List ℕ). full (codes "self." ++ t)) split
     ∙ operand-full ms (codes "self.") a (operator ++ (right ++ codes ")\n")) names held_a refl (operand-full ms operator b (codes ")\n") names held_b h refl)
 

@@ -362,31 +362,52 @@ mod tests {
     use std::alloc::Global;
     use std::test::Fail;
 
-    const GATE: [&str; 15] = [
+    const PART: [&str; 16] = [
         "from amaranth import *\n",
         "from amaranth.lib import wiring\n",
         "from amaranth.lib.wiring import In, Out\n",
         "\n",
-        "class Gate(wiring.Component):\n",
+        "class Part(wiring.Component):\n",
         "    a: In(1)\n",
         "    b: In(1)\n",
         "    y: Out(1)\n",
+        "    q: Out(1)\n",
         "\n",
         "    def elaborate(self, platform):\n",
         "        m = Module()\n",
         "        m.d.comb += self.y.eq(self.a & self.b)\n",
         "        return m\n",
         "\n",
-        "top = Gate()\n",
+        "top = Part()\n",
     ];
 
-    // The gate's file with another line of this number; number 0 changes nothing.
-    fn gate_with(alloc: Global, number: usize, line: &str) -> Result<String, Fail> {
+    // The part's file with other lines of these numbers.
+    fn part_with(alloc: Global, edits: &[(usize, &str)]) -> Result<String, Fail> {
         let mut text = String::new(alloc);
-        for (before, old) in GATE.iter().enumerate() {
-            text.push_str(if before + 1 == number { line } else { *old })?;
+        for (before, old) in PART.iter().enumerate() {
+            text.push_str(edited(edits, before + 1, old))?;
         }
         Ok(text)
+    }
+
+    fn edited<'a>(edits: &[(usize, &'a str)], number: usize, old: &'a str) -> &'a str {
+        for (edited, new) in edits {
+            if *edited == number {
+                return *new;
+            }
+        }
+        old
+    }
+
+    // The part's file with these assignments, which begin in line 13, each without its `m.d.`.
+    fn part_of(alloc: Global, assignments: &str) -> Result<String, Fail> {
+        let mut lines = String::new(alloc);
+        for assignment in assignments.lines() {
+            lines.push_str("        m.d.")?;
+            lines.push_str(assignment)?;
+            lines.push_str("\n")?;
+        }
+        part_with(alloc, &[(13, lines.as_str())])
     }
 
     // The kind and the line of the refusal, if there is one.
@@ -401,24 +422,55 @@ mod tests {
         }
     }
 
-    #[test]
-    fn a_gate_is_read(rt: HostRuntime) -> Result<(), Fail> {
-        let alloc = rt.alloc();
-        let text = gate_with(alloc, 0, "")?;
-        let bytes = text.as_bytes();
-        if bytes.len() > 1048576 {
-            return Err("too long".into());
+    // What is expected of a file that is taken, at 0, or refused at a line as outside the form.
+    fn subset_at(line: u32) -> Option<(Kind, u32)> {
+        if line == 0 {
+            None
+        } else {
+            Some((Kind::Subset, line))
         }
-        let Ok(gate) = parse(alloc, bytes) else {
-            return Err("refused".into());
-        };
-        assert_eq!(rt; gate.members.len(), 3);
-        let only = Assignment {
-            clocked: false,
-            target: 2,
-            right: Right::And(0, 1),
-        };
-        assert_eq!(rt; gate.assignments.as_slice(), [only].as_slice());
+    }
+
+    fn to(clocked: bool, target: usize, right: Right) -> Assignment {
+        Assignment {
+            clocked,
+            target,
+            right,
+        }
+    }
+
+    #[test]
+    fn assignments_are_read(rt: HostRuntime) -> Result<(), Fail> {
+        let alloc = rt.alloc();
+        for (lines, expected) in [
+            (
+                "comb += self.y.eq(self.a)\nsync += self.q.eq(~self.q)",
+                [to(false, 2, Right::Copy(0)), to(true, 3, Right::Not(3))],
+            ),
+            (
+                "sync += self.q.eq(self.a & self.b)\ncomb += self.y.eq(self.q | self.b)",
+                [to(true, 3, Right::And(0, 1)), to(false, 2, Right::Or(3, 1))],
+            ),
+            (
+                "comb += self.y.eq(~self.b)\ncomb += self.y.eq(self.b | self.a)",
+                [to(false, 2, Right::Not(1)), to(false, 2, Right::Or(1, 0))],
+            ),
+            (
+                "sync += self.y.eq(self.y)\nsync += self.q.eq(self.b & self.y)",
+                [to(true, 2, Right::Copy(2)), to(true, 3, Right::And(1, 2))],
+            ),
+        ] {
+            let text = part_of(alloc, lines)?;
+            let bytes = text.as_bytes();
+            if bytes.len() > 1048576 {
+                return Err("too long".into());
+            }
+            let Ok(part) = parse(alloc, bytes) else {
+                return Err("refused".into());
+            };
+            assert_eq!(rt; part.members.len(), 4);
+            assert_eq!(rt; part.assignments.as_slice(), expected.as_slice());
+        }
         Ok(())
     }
 
@@ -426,7 +478,7 @@ mod tests {
     fn each_line_has_its_form(rt: HostRuntime) -> Result<(), Fail> {
         let alloc = rt.alloc();
         for (number, line, refused_at) in [
-            (12, "        m.d.comb += self.y.eq(self.b & self.b)\n", 0),
+            (13, "", 0),
             (8, "    b2_: Out(1)\n    y: Out(1)\n", 0),
             (1, "from amaranth import *\r\n", 1),
             (5, "class é(wiring.Component):\n", 5),
@@ -437,22 +489,84 @@ mod tests {
             (6, "    b: In(1)\n    z: In(2)\n", 7),
             (7, "    b: In(2)\n", 7),
             (8, "    y: Out(1) \n", 8),
-            (8, "", 11),
-            (12, "        m.d.comb += self.y.eq(self.a & self.y)\n", 12),
-            (12, "        m.d.comb += self.a.eq(self.a & self.b)\n", 12),
-            (12, "        m.d.comb += self.y.eq(self.a & self.c)\n", 12),
-            (15, "top = Gate1()\n", 15),
-            (15, "top = Gate()", 15),
-            (15, "top = Gate()\n\n", 16),
-            (15, "", 15),
+            (8, "", 12),
+            (13, "        m.d.comb += self.y.eq(self.a)", 13),
+            (13, "        m.d.comb += self.y.eq(self.a) \n", 13),
+            (13, "       m.d.comb += self.y.eq(self.a)\n", 13),
+            (13, "        m.d.comb += self.y.eq(self.a)\n\n", 14),
+            (16, "top = Part1()\n", 16),
+            (16, "top = Part()", 16),
+            (16, "top = Part()\n\n", 17),
+            (16, "", 16),
         ] {
-            let text = gate_with(alloc, number, line)?;
-            let expected = if refused_at == 0 {
-                None
-            } else {
-                Some((Kind::Subset, refused_at))
-            };
-            assert_eq!(rt; refusal(alloc, text.as_bytes())?, expected, "{line}");
+            let text = part_with(alloc, &[(number, line)])?;
+            assert_eq!(rt;
+                refusal(alloc, text.as_bytes())?,
+                subset_at(refused_at),
+                "{line}"
+            );
+        }
+        Ok(())
+    }
+
+    #[test]
+    fn each_assignment_has_its_form(rt: HostRuntime) -> Result<(), Fail> {
+        let alloc = rt.alloc();
+        for (lines, refused_at) in [
+            // Each production.
+            ("comb += self.y.eq(self.b & self.b)", 0),
+            ("sync += self.y.eq(~self.y)", 0),
+            ("fast += self.y.eq(self.a)", 13),
+            ("comb = self.y.eq(self.a)", 13),
+            ("comb += y.eq(self.a)", 13),
+            ("comb += self.y.eq(self.a", 13),
+            ("comb += self.y.eq(self.a))", 13),
+            ("comb += self.y.eq(self.a &self.b)", 13),
+            ("comb += self.y.eq(self.a& self.b)", 13),
+            ("comb += self.y.eq(self.a ^ self.b)", 13),
+            ("comb += self.y.eq(self.a & self.b & self.a)", 13),
+            ("comb += self.y.eq(self.a | ~self.b)", 13),
+            ("comb += self.y.eq(~ self.a)", 13),
+            ("comb += self.y.eq(~~self.a)", 13),
+            ("comb += self.y.eq(~self.a & self.b)", 13),
+            ("comb += self.y.eq(1)", 13),
+            // Which members there are.
+            ("comb += self.c.eq(self.a)", 13),
+            ("comb += self.y.eq(self.c)", 13),
+            ("comb += self.y.eq(self.a & self.c)", 13),
+            ("comb += self.a.eq(self.b)", 13),
+            ("sync += self.a.eq(self.b)", 13),
+            // What may be read.
+            ("comb += self.y.eq(self.q)\nsync += self.q.eq(self.a)", 0),
+            ("comb += self.y.eq(self.q)", 13),
+            ("sync += self.y.eq(self.q)", 13),
+            ("comb += self.y.eq(self.y)", 13),
+            ("comb += self.y.eq(self.a | self.y)", 13),
+            ("comb += self.y.eq(self.a)\ncomb += self.q.eq(self.y)", 14),
+            ("comb += self.y.eq(self.a)\nsync += self.q.eq(~self.y)", 14),
+            (
+                "comb += self.y.eq(self.q)\ncomb += self.q.eq(self.a)\nsync += self.q.eq(self.b)",
+                13,
+            ),
+            (
+                "comb += self.y.eq(self.q)\nfast += self.y.eq(self.a)\nsync += self.q.eq(self.b)",
+                13,
+            ),
+            // A member's side.
+            ("comb += self.y.eq(self.a)\ncomb += self.y.eq(self.b)", 0),
+            ("sync += self.y.eq(self.a)\nsync += self.y.eq(self.y)", 0),
+            ("comb += self.y.eq(self.a)\nsync += self.y.eq(self.b)", 14),
+            (
+                "sync += self.q.eq(self.a)\ncomb += self.y.eq(self.q)\ncomb += self.q.eq(self.b)",
+                15,
+            ),
+        ] {
+            let text = part_of(alloc, lines)?;
+            assert_eq!(rt;
+                refusal(alloc, text.as_bytes())?,
+                subset_at(refused_at),
+                "{lines}"
+            );
         }
         Ok(())
     }
@@ -460,7 +574,10 @@ mod tests {
     #[test]
     fn a_file_that_is_cut_is_refused_at_its_last_line(rt: HostRuntime) -> Result<(), Fail> {
         let alloc = rt.alloc();
-        let text = gate_with(alloc, 0, "")?;
+        let text = part_of(
+            alloc,
+            "sync += self.q.eq(self.a & self.b)\ncomb += self.y.eq(~self.q)",
+        )?;
         let bytes = text.as_bytes();
         let mut line = 1u32;
         for (end, b) in bytes.iter().enumerate() {
@@ -473,6 +590,7 @@ mod tests {
                 line = line.saturating_add(1);
             }
         }
+        assert_eq!(rt; refusal(alloc, bytes)?, None);
         Ok(())
     }
 
@@ -489,22 +607,32 @@ mod tests {
         Ok(())
     }
 
-    #[test]
-    fn members_have_a_limit(rt: HostRuntime) -> Result<(), Fail> {
-        let alloc = rt.alloc();
+    // The part's file with more members behind `a`, without `b`.
+    fn wide_part(alloc: Global, more: u32, assignment: &str) -> Result<String, Fail> {
         let mut lines = String::new(alloc);
-        for number in 0..16381u32 {
+        for number in 0..more {
             lines.push_str(format!(in alloc; "    x{number}: In(1)\n")?.as_str())?;
         }
-        lines.push_str("    b: In(1)\n")?;
-        let text = gate_with(alloc, 7, lines.as_str())?;
-        assert_eq!(rt; refusal(alloc, text.as_bytes())?, None);
-        lines.push_str("    z: In(1)\n")?;
-        let text = gate_with(alloc, 7, lines.as_str())?;
-        assert_eq!(rt;
-            refusal(alloc, text.as_bytes())?,
-            Some((Kind::Limit, 16390))
-        );
+        part_with(alloc, &[(7, lines.as_str()), (13, assignment)])
+    }
+
+    #[test]
+    fn signals_have_a_limit(rt: HostRuntime) -> Result<(), Fail> {
+        let alloc = rt.alloc();
+        let comb = "        m.d.comb += self.y.eq(self.a)\n";
+        let sync = "        m.d.sync += self.y.eq(self.a)\n";
+        // There are three members beside those that are added.
+        for (more, assignment, expected) in [
+            (16381, comb, None),
+            (16382, comb, Some((Kind::Limit, 16390))),
+            (16379, sync, None),
+            (16380, sync, Some((Kind::Limit, 1))),
+            (16381, sync, Some((Kind::Limit, 1))),
+            (16382, sync, Some((Kind::Limit, 16390))),
+        ] {
+            let text = wide_part(alloc, more, assignment)?;
+            assert_eq!(rt; refusal(alloc, text.as_bytes())?, expected, "{more}");
+        }
         Ok(())
     }
 }

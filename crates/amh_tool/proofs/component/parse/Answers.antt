@@ -36,13 +36,13 @@ returns-in-Ok-within_limit-clause-given c =
 pub returns-in-Ok-within_limit-clause-sound : goal.returns-in-Ok-within_limit-clause-sound
 returns-in-Ok-within_limit-clause-sound c =
     let told : component c.args.text.now ≡ Ok c.in-Ok-within_limit.component =
-        rw (component-text c.args.text.now c.in_default.ensures.cases.1, c.in-Ok.ensures) (sym c.in-Ok-within_limit.ensures) in
+    rw (component-text c.args.text.now c.in_default.ensures.cases.1, c.in-Ok.ensures) (sym c.in-Ok-within_limit.ensures) in
     component-sound c.args.text.now c.in-Ok-within_limit.component c.requires told
 
 pub returns-in-Ok-within_limit-clause-spelled : goal.returns-in-Ok-within_limit-clause-spelled
 returns-in-Ok-within_limit-clause-spelled c =
     let told : component c.args.text.now ≡ Ok c.in-Ok-within_limit.component =
-        rw (component-text c.args.text.now c.in_default.ensures.cases.1, c.in-Ok.ensures) (sym c.in-Ok-within_limit.ensures) in
+    rw (component-text c.args.text.now c.in_default.ensures.cases.1, c.in-Ok.ensures) (sym c.in-Ok-within_limit.ensures) in
     form-spelling c.args.text.now c.in-Ok-within_limit.component (component-is c.args.text.now c.in-Ok-within_limit.component told).same
 
 pub returns-in-Err-within_limit-clause-given : goal.returns-in-Err-within_limit-clause-given
