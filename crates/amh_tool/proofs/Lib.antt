@@ -1,5 +1,6 @@
 mod FormSamples
 mod TraceSamples
+mod NetSamples
 pub mod FormLineLaws
 pub mod FormNameLaws
 pub mod TraceLaws
