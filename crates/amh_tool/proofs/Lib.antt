@@ -1,5 +1,6 @@
 mod FormSamples
 mod NetSamples
+mod ModuleSamples
 pub mod LastLaws
 pub mod LastFacts
 pub mod NetTurns
@@ -26,6 +27,8 @@ pub mod CircuitHistory
 pub mod CircuitNeeds
 pub mod CircuitLoops
 mod TraceSamples
+mod NetSamples
+mod ModuleSamples
 pub mod FormLineLaws
 pub mod FormNameLaws
 pub mod SimLaws

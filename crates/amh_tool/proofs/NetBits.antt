@@ -1,5 +1,5 @@
 -- The bits of the wires in the module of nets are those of the nets' numbers.
-use Rattle.std.specs.Prelude.{◌≡◌, ◌<◌, ◌+◌, ◌&&◌, ◌||◌, ◌⊎◌, not, cond, if◌then◌else◌, option_map, ℕ, zero, suc, Bool, true, false, List, [], ◌∷◌, length, ℤ, pos, ◌-ℤ◌, Option, Some, All}
+use Rattle.std.specs.Prelude.{◌≡◌, ◌<◌, ◌+◌, ◌&&◌, ◌||◌, ◌⊎◌, not, cond, option_map, ℕ, zero, suc, Bool, true, false, List, [], ◌∷◌, length, ℤ, pos, ◌-ℤ◌, Some, All}
 use Rattle.std.proofs.Common.{refl, sym, ap, ◌∙◌, arith, subst, inl, inr}
 use Rattle.std.proofs.lemmas.Bool.{false≢true}
 use Rattle.std.proofs.lemmas.List.Elements.{All-nil, All-cons, All-append}
@@ -9,7 +9,7 @@ use Rattle.rtlil_text.specs.declared.module.RtlWire.{RtlWire}
 use Rattle.rtlil_text.specs.Drivers.{Driver, driver}
 use Rattle.rtlil_text.specs.Sources.{spec_bits}
 use Rattle.rtlil_text.specs.Cells.{bit_at, both, mux_bit}
-use Rattle.rtlil_text.specs.Meaning.{State, Inputs, source_value, driven_bit}
+use Rattle.rtlil_text.specs.Meaning.{State, source_value, driven_bit}
 use Rattle.rtlil_text.specs.History.{Wires, wire_bit}
 use Rattle.rtlil_text.proofs.Enough.{wire_bit-driven}
 use Rattle.amh_tool.specs.declared.form.Right.{Right}
@@ -18,7 +18,7 @@ use Rattle.amh_tool.specs.declared.nets.Net.{Net}
 use Rattle.amh_tool.specs.declared.nets.Drive.{Drive}
 use Rattle.amh_tool.specs.declared.nets.Drive.TheVariants.{Input, Nothing, Comb, Clocked}
 use Rattle.amh_tool.specs.Form.{operands}
-use Rattle.amh_tool.specs.Nets.{net_at, keeps, is_input_drive, is_register_drive, IsKept, ReadsKept, IsWired, HasNets}
+use Rattle.amh_tool.specs.Nets.{keeps, is_input_drive, is_register_drive, IsKept, ReadsKept, IsWired, HasNets}
 use Rattle.amh_tool.specs.Running.{value_of, settled_number, settled_from, settled}
 use Rattle.amh_tool.specs.Corresponds.{inputs_at, AllDefined}
 use Rattle.amh_tool.specs.Lowered.{value_id, next_id, net_id, inner_wire, drive_wires, value_spec}

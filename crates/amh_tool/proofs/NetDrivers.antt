@@ -1,6 +1,6 @@
 -- What drives each bit in the module of nets.
-use Rattle.std.specs.Prelude.{◌≡◌, ◌<◌, ◌+◌, ℕ, suc, Bool, true, false, List, [], ◌∷◌, ◌++◌, length, Contains, Some, slice_get}
-use Rattle.std.proofs.Common.{refl, sym, ap, ◌∙◌, arith, subst, inl, inr}
+use Rattle.std.specs.Prelude.{◌≡◌, ◌<◌, ◌+◌, ℕ, suc, false, List, [], ◌∷◌, length, Contains, Some, slice_get}
+use Rattle.std.proofs.Common.{refl, sym, ap, arith, subst, inl, inr}
 use Rattle.shape_rules.specs.declared.cell.CellKind.TheVariants as kind
 use Rattle.rtlil_text.specs.declared.cell.RtlCell.{RtlCell}
 use Rattle.rtlil_text.specs.declared.module.RtlLink.{RtlLink}
@@ -9,13 +9,13 @@ use Rattle.rtlil_text.specs.Drivers.{ByInput, ByLink, ByCell, output_bits, drive
 use Rattle.rtlil_text.proofs.Among.{Among, Among-left, Among-right, Contains-among}
 use Rattle.rtlil_text.proofs.Driven as driven
 use Rattle.amh_tool.specs.declared.form.Right.{Right}
-use Rattle.amh_tool.specs.declared.form.Right.TheVariants.{Copy, Not, And, Or}
+use Rattle.amh_tool.specs.declared.form.Right.TheVariants.{Not, And, Or}
 use Rattle.amh_tool.specs.declared.nets.Drive.{Drive}
 use Rattle.amh_tool.specs.declared.nets.Drive.TheVariants.{Input, Nothing, Comb, Clocked}
 use Rattle.amh_tool.specs.declared.nets.Net as declared_net
 use Rattle.amh_tool.specs.Nets.{IsWired}
 use Rattle.amh_tool.specs.Lowered.{value_id, next_id, net_id, constant_bit, net_side, not_cell, binary_cell, value_cells, value_spec, choice_cell, register_cell, drive_cells, link, drive_links}
-use Rattle.amh_tool.proofs.Gathered.{gathered, Among-gathered}
+use Rattle.amh_tool.proofs.Gathered.{Among-gathered}
 use Rattle.amh_tool.proofs.NetModule.{drive_at, port_wire_at, cells_at, links_at, netlist}
 use Rattle.amh_tool.proofs.NetRules.{Contains-port_wire, netlist_rules}
 

@@ -1,23 +1,22 @@
 -- The events of a design with these nets: an input takes a bit, or the clock toggles.
-use Rattle.std.specs.Prelude.{◌≡◌, ◌<◌, ◌≤◌, ◌+◌, ◌==◌, ◌&&◌, ◌||◌, if◌then◌else◌, ℕ, zero, suc, Bool, true, false, List, [], ◌∷◌, map, length, fold, slice_set, ℤ, pos, negsuc, ◌-ℤ◌}
+use Rattle.std.specs.Prelude.{◌≡◌, ◌<◌, ◌+◌, ◌==◌, ◌&&◌, ◌||◌, if◌then◌else◌, ℕ, zero, suc, Bool, true, false, List, [], ◌∷◌, map, length, fold, slice_set, ℤ, pos, negsuc, ◌-ℤ◌}
 use Rattle.std.specs.List.{list_any}
 use Rattle.std.proofs.Common.{refl, sym, ap, ◌∙◌, arith, subst, inl, inr}
 use Rattle.std.proofs.lemmas.Bool.{ne_eqb, eq-eqb, false≢true}
 use Rattle.amh_bits.specs.Patterns.{IsOf}
 use Rattle.shape_rules.specs.Forms.{Form}
 use Rattle.design_ir.specs.declared.domain.Domain.{Domain}
-use Rattle.design_ir.specs.declared.event.Event.{Event}
 use Rattle.design_ir.specs.declared.event.Event.TheVariants.{Set, Edge}
 use Rattle.design_ir.specs.declared.ids.DomainId.{DomainId}
 use Rattle.design_ir.specs.declared.ids.SigId.{SigId}
 use Rattle.design_ir.specs.declared.port.Port.{Port}
-use Rattle.design_ir.specs.Circuits.{Circuit, at, is_input, is_clock}
+use Rattle.design_ir.specs.Circuits.{Circuit, at, is_input}
 use Rattle.design_ir.specs.Legal.{IsLegal}
 use Rattle.design_ir.specs.Steps.{toggle}
 use Rattle.amh_tool.specs.declared.nets.Net.{Net}
 use Rattle.amh_tool.specs.declared.nets.Drive.{Drive}
 use Rattle.amh_tool.specs.declared.nets.Drive.TheVariants as drive
-use Rattle.amh_tool.specs.Nets.{net_at, is_input_drive, has_register, net_member, HasNets}
+use Rattle.amh_tool.specs.Nets.{is_input_drive, has_register, net_member, HasNets}
 use Rattle.amh_tool.specs.Elaborated.{ports_from, sync}
 use Rattle.amh_tool.specs.Corresponds.{inputs_after}
 use Rattle.amh_tool.proofs.NetModule.{drive_at}

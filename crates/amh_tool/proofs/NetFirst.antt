@@ -1,12 +1,10 @@
 -- Before any event: every net holds 0, and each register of the module begins at 0.
-use Rattle.std.specs.Prelude.{◌≡◌, ◌<◌, cond, if◌then◌else◌, ℕ, zero, suc, Bool, true, false, List, [], ◌∷◌, map, length, fold, replicate, slice_get, slice_set, ℤ, pos, Option, Some, option_and_then, Contains}
+use Rattle.std.specs.Prelude.{◌≡◌, ◌<◌, cond, if◌then◌else◌, ℕ, zero, suc, Bool, true, false, List, [], ◌∷◌, map, length, fold, replicate, slice_get, ℤ, pos, Option, Some, option_and_then, Contains}
 use Rattle.std.specs.List.{find, IsDistinct}
-use Rattle.std.proofs.Common.{refl, sym, ap, ◌∙◌, arith, subst, inl, ⊎_elim}
-use Rattle.std.proofs.lemmas.Bool.{cases_eq}
-use Rattle.std.proofs.lemmas.List.{get_or-set_same, get_or-set_other, length-set, length-replicate}
+use Rattle.std.proofs.Common.{refl, sym, ap, ◌∙◌, inl, ⊎_elim}
+use Rattle.std.proofs.lemmas.List.{length-set, length-replicate}
 use Rattle.lists.specs.Texts.{text_eq}
 use Rattle.lists.proofs.TextLaws.{text_eq_same}
-use Rattle.design_ir.specs.declared.domain.Domain.{Domain}
 use Rattle.design_ir.specs.declared.signal.Sig.{Sig}
 use Rattle.design_ir.specs.Circuits.{Circuit, at}
 use Rattle.design_ir.specs.Steps.{clock_low}
@@ -23,12 +21,12 @@ use Rattle.amh_tool.specs.declared.nets.Net.{Net}
 use Rattle.amh_tool.specs.declared.nets.Drive.{Drive}
 use Rattle.amh_tool.specs.declared.nets.Drive.TheVariants.{Clocked}
 use Rattle.amh_tool.specs.Elaborated.{bit_signal, sync}
-use Rattle.amh_tool.specs.Nets.{has_register, is_register_drive, IsWired, HasNets}
+use Rattle.amh_tool.specs.Nets.{has_register, IsWired, HasNets}
 use Rattle.amh_tool.specs.Running.{first_held}
 use Rattle.amh_tool.specs.Corresponds.{first_inputs}
 use Rattle.amh_tool.specs.Lowered.{net_id, net_init}
 use Rattle.amh_tool.proofs.NetModule.{drive_at, port_wire_at, netlist}
-use Rattle.amh_tool.proofs.NetRules.{clocked_nets, Contains-port_wire, netlist_rules}
+use Rattle.amh_tool.proofs.NetRules.{Contains-port_wire, netlist_rules}
 use Rattle.amh_tool.proofs.NetDrivers.{driver-register}
 use Rattle.amh_tool.proofs.NetInputs.{low_bit}
 use Rattle.amh_tool.proofs.NetBits.{Shows}

@@ -1,12 +1,10 @@
 -- The module of nets has the history of each design with these nets.
 use Rattle.std.specs.Prelude.{◌≡◌, ◌<◌, ◌+◌, ℕ, zero, suc, List, [], ◌∷◌, map, length, ℤ, slice_get, All}
 use Rattle.std.proofs.Common.{refl, sym, ap, ◌∙◌, arith, subst, get_or}
-use Rattle.std.proofs.lemmas.List.{length-map}
 use Rattle.std.proofs.lemmas.List.Elements.{All-nil, All-cons}
-use Rattle.shape_rules.specs.Forms.{Form}
 use Rattle.design_ir.specs.declared.port.Column.{Column}
 use Rattle.design_ir.specs.declared.event.Event.{Event}
-use Rattle.design_ir.specs.Circuits.{Circuit, at}
+use Rattle.design_ir.specs.Circuits.{Circuit}
 use Rattle.design_ir.specs.Legal.{AllLegal}
 use Rattle.rtlil_text.specs.declared.module.RtlModule.{RtlModule}
 use Rattle.rtlil_text.specs.Meaning.{State}
@@ -15,10 +13,10 @@ use Rattle.amh_tool.specs.declared.nets.Net.{Net}
 use Rattle.amh_tool.specs.Elaborated.{columns_from}
 use Rattle.amh_tool.specs.Nets.{net_at, net_member, IsWired, HasNets}
 use Rattle.amh_tool.specs.Running.{settled, after, later, first_held, net_history}
-use Rattle.amh_tool.specs.Corresponds.{public_id, signal_bits, width_of, inputs_at, inputs_after, inputs_over, first_inputs, IsHistory, SameColumn, SameColumns, AllDefined, SameHistory}
+use Rattle.amh_tool.specs.Corresponds.{signal_bits, width_of, inputs_at, inputs_after, inputs_over, first_inputs, IsHistory, SameColumn, SameColumns, AllDefined, SameHistory}
 use Rattle.amh_tool.specs.Lowered.{net_id, module_of}
 use Rattle.amh_tool.proofs.NetModule.{netlist, module_of-netlist}
-use Rattle.amh_tool.proofs.NetInputs.{low_bit, width_of-net, signal_bits-net}
+use Rattle.amh_tool.proofs.NetInputs.{width_of-net, signal_bits-net}
 use Rattle.amh_tool.proofs.NetBits.{Shows, wire_bit-net, AllDefined-netlist}
 use Rattle.amh_tool.proofs.NetSteps.{Shows-after}
 use Rattle.amh_tool.proofs.NetFirst.{Shows-first}

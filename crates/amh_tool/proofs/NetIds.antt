@@ -1,5 +1,5 @@
 -- The ids in the module of nets: they are ids of the text's form, and no two are the same.
-use Rattle.std.specs.Prelude.{◌≡◌, ◌≢◌, ◌<◌, ◌≤◌, ◌+◌, ◌*◌, ◌^◌, ℕ, suc, List, [], ◌∷◌, ◌++◌, map, length, All}
+use Rattle.std.specs.Prelude.{◌≡◌, ◌≢◌, ◌<◌, ◌≤◌, ◌+◌, ◌*◌, ◌^◌, ℕ, List, [], ◌∷◌, ◌++◌, map, length, All}
 use Rattle.std.specs.Fmt.{decimal}
 use Rattle.std.proofs.Common.{refl, sym, ap, ◌∙◌, arith, subst, inl, inr, get_or, append-nil}
 use Rattle.std.proofs.lemmas.Fmt.{decimal_injective}
@@ -9,8 +9,7 @@ use Rattle.rtlil_text.specs.declared.cell.RtlCell.{RtlCell}
 use Rattle.rtlil_text.specs.declared.module.RtlWire.{RtlWire}
 use Rattle.rtlil_text.specs.Ids.{AreDistinct, IsId}
 use Rattle.rtlil_text.specs.Rules.{module_ids}
-use Rattle.amh_tool.specs.declared.form.Right.{Right}
-use Rattle.amh_tool.specs.declared.form.Right.TheVariants.{Copy, Not, And, Or}
+use Rattle.amh_tool.specs.declared.form.Right.TheVariants.{Copy}
 use Rattle.amh_tool.specs.declared.nets.Net.{Net}
 use Rattle.amh_tool.specs.declared.nets.Drive.{Drive}
 use Rattle.amh_tool.specs.declared.nets.Drive.TheVariants.{Input, Nothing, Comb, Clocked}

@@ -1,7 +1,7 @@
 -- The bits that the inputs of a design give to the module of its nets.
-use Rattle.std.specs.Prelude.{◌≡◌, ◌<◌, ◌≤◌, ◌+◌, ◌==◌, ◌%◌, ◌&&◌, if◌then◌else◌, ℕ, zero, suc, Bool, true, false, List, [], ◌∷◌, map, length, ℤ, Option, Some, None, slice_get, option_and_then}
+use Rattle.std.specs.Prelude.{◌≡◌, ◌<◌, ◌≤◌, ◌+◌, ◌==◌, ◌%◌, if◌then◌else◌, ℕ, zero, suc, Bool, true, false, List, [], ◌∷◌, map, length, ℤ, Option, Some, None, slice_get, option_and_then}
 use Rattle.std.specs.List.{filter_map, cons_option}
-use Rattle.std.proofs.Common.{refl, sym, ap, ◌∙◌, arith, subst, ⊎_elim}
+use Rattle.std.proofs.Common.{refl, sym, ap, ◌∙◌, arith, ⊎_elim}
 use Rattle.std.proofs.lemmas.Bool.{cases_eq, false_from_ne_true}
 use Rattle.lists.specs.Texts.{text_eq}
 use Rattle.lists.proofs.TextLaws.{text_eq_true, text_eq_same}
@@ -14,7 +14,6 @@ use Rattle.design_ir.specs.Circuits.{Circuit, at}
 use Rattle.rtlil_text.specs.Cells.{number_bits}
 use Rattle.rtlil_text.specs.Meaning.{under, input_bit}
 use Rattle.amh_tool.specs.declared.nets.Net.{Net}
-use Rattle.amh_tool.specs.declared.nets.Drive.{Drive}
 use Rattle.amh_tool.specs.Nets.{net_at, is_input_drive, IsWired, net_member, HasNets}
 use Rattle.amh_tool.specs.Elaborated.{bit_signal, ports_from}
 use Rattle.amh_tool.specs.Corresponds.{public_id, width_of, input_bits, signal_bits, inputs_at}

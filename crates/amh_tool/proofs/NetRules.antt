@@ -1,14 +1,12 @@
 -- The module of nets keeps the rules of the text.
-use Rattle.std.specs.Prelude.{◌≡◌, ◌<◌, ◌≤◌, ◌+◌, ◌||◌, if◌then◌else◌, ℕ, zero, suc, Bool, true, false, List, [], ◌∷◌, ◌++◌, length, map, All, Contains, IsPermutation, IfSome, Option, codes}
+use Rattle.std.specs.Prelude.{◌≡◌, ◌<◌, ◌+◌, ◌||◌, if◌then◌else◌, ℕ, zero, suc, Bool, true, false, List, [], ◌∷◌, ◌++◌, length, map, All, Contains, IsPermutation, IfSome, codes}
 use Rattle.std.specs.List.{flat_map, range_with_len}
-use Rattle.std.proofs.Common.{refl, sym, ap, ◌∙◌, arith, subst, inl, inr}
+use Rattle.std.proofs.Common.{refl, sym, ap, ◌∙◌, arith, subst, inl}
 use Rattle.std.proofs.lemmas.List.{append-nil}
 use Rattle.std.proofs.lemmas.List.Concat.{flat_map-append}
 use Rattle.std.proofs.lemmas.List.Elements.{All-nil, All-cons, All-append, Contains-append_left, Contains-append_right}
 use Rattle.std.proofs.lemmas.List.Sorted.{IsPermutation-sym, IsPermutation-trans, IsPermutation-append_comm}
-use Rattle.shape_rules.specs.declared.cell.CellKind.{CellKind}
 use Rattle.shape_rules.specs.declared.cell.CellKind.TheVariants as kind
-use Rattle.rtlil_text.specs.declared.sig.SigPart.{SigPart}
 use Rattle.rtlil_text.specs.declared.sig.SigPart.TheVariants as parts
 use Rattle.rtlil_text.specs.declared.cell.RtlCell.{RtlCell}
 use Rattle.rtlil_text.specs.declared.cell.RtlEnd.{RtlEnd}
@@ -27,7 +25,7 @@ use Rattle.amh_tool.specs.declared.nets.Net.{Net}
 use Rattle.amh_tool.specs.declared.nets.Drive.{Drive}
 use Rattle.amh_tool.specs.declared.nets.Drive.TheVariants.{Input, Nothing, Comb, Clocked}
 use Rattle.amh_tool.specs.Form.{operands}
-use Rattle.amh_tool.specs.Nets.{net_at, is_register_drive, has_register, IsKept, ReadsKept, IsClocked, IsWired}
+use Rattle.amh_tool.specs.Nets.{is_register_drive, has_register, IsKept, ReadsKept, IsClocked, IsWired}
 use Rattle.amh_tool.specs.Lowered.{value_id, next_id, net_id, whole_bit, constant_bit, inner_wire, number_parameter, end_at, net_side, net_init, value_wires, drive_wires, not_cell, binary_cell, value_cells, value_spec, choice_cell, register_cell, drive_cells, link, drive_links, module_of}
 use Rattle.amh_tool.proofs.Gathered.{gathered, gathered-same, flat_map-gathered, All-gathered, Among-gathered, IsPermutation-gathered}
 use Rattle.amh_tool.proofs.NetModule.{drive_at, port_wire_at, inner_wires_at, cells_at, links_at, port_wires, other_wires, netlist, module_of-netlist}

@@ -1,13 +1,12 @@
 -- One event: the registers of a module go on having the bits of what its nets hold.
-use Rattle.std.specs.Prelude.{◌≡◌, ◌<◌, ◌+◌, ◌&&◌, not, cond, if◌then◌else◌, ℕ, zero, suc, Bool, true, false, List, [], ◌∷◌, length, map, fold, replicate, slice_set, ℤ, pos, ◌-ℤ◌, Option, Some}
+use Rattle.std.specs.Prelude.{◌≡◌, ◌<◌, ◌+◌, ◌&&◌, not, cond, if◌then◌else◌, ℕ, zero, suc, Bool, true, false, List, [], ◌∷◌, length, slice_set, ℤ, pos, ◌-ℤ◌, Some}
 use Rattle.std.proofs.Common.{refl, sym, ap, ◌∙◌, arith, subst, inl, inr, ⊎_elim}
 use Rattle.std.proofs.lemmas.Bool.{cases_eq, false≢true}
-use Rattle.std.proofs.lemmas.List.{get_or-set_same, get_or-set_other, length-set, length-replicate}
+use Rattle.std.proofs.lemmas.List.{get_or-set_same, get_or-set_other, length-set}
 use Rattle.amh_bits.specs.Integers.{int_and, int_or}
 use Rattle.shape_rules.specs.Operators.{is_zero}
 use Rattle.design_ir.specs.declared.event.Event.{Event}
 use Rattle.design_ir.specs.declared.event.Event.TheVariants.{Set, Edge}
-use Rattle.design_ir.specs.declared.ids.DomainId.{DomainId}
 use Rattle.design_ir.specs.Circuits.{Circuit, at}
 use Rattle.design_ir.specs.Legal.{IsLegal}
 use Rattle.rtlil_text.specs.Drivers.{Driver}
@@ -18,7 +17,7 @@ use Rattle.amh_tool.specs.declared.form.Right.TheVariants.{Copy, Not, And, Or}
 use Rattle.amh_tool.specs.declared.nets.Net.{Net}
 use Rattle.amh_tool.specs.declared.nets.Drive.{Drive}
 use Rattle.amh_tool.specs.declared.nets.Drive.TheVariants.{Input, Nothing, Comb, Clocked}
-use Rattle.amh_tool.specs.Nets.{net_at, is_input_drive, is_register_drive, has_register, IsClocked, IsWired, HasNets}
+use Rattle.amh_tool.specs.Nets.{is_input_drive, is_register_drive, IsClocked, IsWired, HasNets}
 use Rattle.amh_tool.specs.Running.{value_of, taken_number, taken_from, registered, after}
 use Rattle.amh_tool.specs.Corresponds.{inputs_at, inputs_after}
 use Rattle.amh_tool.specs.Lowered.{net_id}
@@ -27,7 +26,7 @@ use Rattle.amh_tool.proofs.NetRules.{has_register-at, clocked_nets}
 use Rattle.amh_tool.proofs.NetDrivers.{driver-register}
 use Rattle.amh_tool.proofs.NetInputs.{low_bit}
 use Rattle.amh_tool.proofs.NetBits.{IsBit, one_bit, two_bits, Shows, bit-input, wire_bit-next}
-use Rattle.amh_tool.proofs.NetEvents.{IsSet, IsEdge, set_legal, edge_legal, inputs_after-edge, input_held}
+use Rattle.amh_tool.proofs.NetEvents.{IsSet, set_legal, edge_legal, inputs_after-edge, input_held}
 
 -- ---- what registers take
 
