@@ -22,6 +22,7 @@ pub mod CircuitNets
 pub mod CircuitNumbers
 pub mod CircuitRise
 pub mod CircuitEdges
+pub mod NetRunning
 pub mod NetHistory
 pub mod CircuitNeeds
 pub mod CircuitLoops
