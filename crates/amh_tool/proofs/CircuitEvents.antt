@@ -62,7 +62,7 @@ set-held nets held s z inside input bit h = record {
       get_or-set_other held s i z (pos 0) (λ same. false≢true (sym e ∙ ap (λ k. keeps (net_at nets k).drive) same ∙ ap keeps input)) ∙ h.rest i there e;
 }
 
-taken_bit : (reset : Bool) (d : Drive) (held : List ℤ) (s : ℕ) → AreBits held → IsOf false 1 (taken_number reset held s d)
+pub taken_bit : (reset : Bool) (d : Drive) (held : List ℤ) (s : ℕ) → AreBits held → IsOf false 1 (taken_number reset held s d)
 taken_bit reset Input held s bits = bits s
 taken_bit reset Nothing held s bits = bits s
 taken_bit reset (Comb r) held s bits = bits s
@@ -124,7 +124,7 @@ taken-same reset nets x y wired same s k =
     ∙ taken_number-same nets reset (net_at nets s).drive x y s (wired.reads s k.held) (same s k) same
     ∙ sym (at-taken_from reset y nets s k.held)
 
-length-registered : (nets : List Net) (held : List ℤ) → length held ≡ length nets → length (registered nets held) ≡ length nets
+pub length-registered : (nets : List Net) (held : List ℤ) → length held ≡ length nets → length (registered nets held) ≡ length nets
 length-registered nets held size = either (is_zero (at held 0)) (length-taken_from (not (is_zero (at held 1))) held 0 nets)
   where
     either : (b : Bool) → length (taken_from (not (is_zero (at held 1))) held 0 nets) ≡ length nets → length (if b then taken_from (not (is_zero (at held 1))) held 0 nets else held) ≡ length nets

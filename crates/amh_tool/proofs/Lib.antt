@@ -24,6 +24,7 @@ pub mod CircuitNumbers
 pub mod CircuitRise
 pub mod CircuitEdges
 pub mod CircuitHistory
+pub mod NetRunning
 pub mod CircuitNeeds
 pub mod CircuitLoops
 mod TraceSamples

@@ -1,5 +1,5 @@
 -- Histories of small components, worked out by hand.
-use Rattle.std.specs.Prelude.{◌≡◌, refl, ℕ, true, false, List, [], ◌∷◌, ℤ, pos, codes}
+use Rattle.std.specs.Prelude.{◌≡◌, refl, ℕ, true, false, List, [], ◌∷◌, ℤ, pos, codes, map, Bool}
 use Rattle.std.proofs.Common.{arith}
 use Rattle.design_ir.specs.declared.event.Event.{Event}
 use Rattle.design_ir.specs.declared.event.Event.TheVariants.{Set, Edge}
@@ -9,6 +9,8 @@ use Rattle.design_ir.specs.Histories.{History}
 use Rattle.design_ir.specs.Legal.{AllLegal}
 use Rattle.amh_tool.specs.declared.form.Member.{Member}
 use Rattle.amh_tool.specs.declared.form.Right.TheVariants.{Copy, Not, And, Or}
+use Rattle.amh_tool.specs.declared.nets.Net.{Net}
+use Rattle.amh_tool.specs.declared.nets.Drive.TheVariants.{Input, Clocked}
 use Rattle.amh_tool.specs.declared.form.Component.{Component}
 use Rattle.amh_tool.specs.Elaborated.{circuit_of}
 use Rattle.amh_tool.specs.Nets.{nets_of}
@@ -103,3 +105,27 @@ winning_runs = refl
 winning_settles : History (circuit_of winning) winning_events winning_envs
 unfolding gives edge five input output winning winning_events winning_envs circuit_of form num target_bits target_signals
 winning_settles = (refl, (refl, (refl, (refl, (refl, refl)))))
+
+-- ---- names: a member gives way to the clock where there is one
+
+named_clk : Bool → Component
+named_clk clocked = record {
+  members = input (codes "clk") ∷ output (codes "q") ∷ [];
+  assignments = record { clocked = clocked; target = 1; right = Copy 0 } ∷ [];
+}
+
+net_names : Component → List (List ℕ)
+net_names c = map (λ (n : Net). n.name) (nets_of c)
+
+names_with_clock : net_names (named_clk true) ≡ codes "clk" ∷ codes "rst" ∷ codes "clk$1" ∷ codes "q" ∷ []
+unfolding input output named_clk net_names nets_of
+names_with_clock = refl
+
+names_without_clock : net_names (named_clk false) ≡ codes "clk" ∷ codes "q" ∷ []
+unfolding input output named_clk net_names nets_of
+names_without_clock = refl
+
+-- the register reads the member, and not the clock
+drives_with_clock : map (λ (n : Net). n.drive) (nets_of (named_clk true)) ≡ Input ∷ Input ∷ Input ∷ Clocked (Copy 2) ∷ []
+unfolding input output named_clk nets_of
+drives_with_clock = refl
