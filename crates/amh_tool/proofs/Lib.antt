@@ -28,8 +28,6 @@ pub mod NetRunning
 pub mod CircuitNeeds
 pub mod CircuitLoops
 mod TraceSamples
-mod NetSamples
-mod ModuleSamples
 pub mod FormLineLaws
 pub mod FormNameLaws
 pub mod SimLaws
