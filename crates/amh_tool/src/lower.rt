@@ -1,9 +1,9 @@
 // The module of RTLIL that a component is lowered to.
-ghost use Rattle.std.specs.Prelude.{◌≡◌, ◌<◌, ◌≤◌, ◌+◌, ◌++◌, length, All, true, IfOk, OnOk};
+ghost use Rattle.std.specs.Prelude.{◌≡◌, ◌<◌, ◌≤◌, ◌++◌, length, All, true, IfOk, OnOk};
 ghost use Rattle.rtlil_text.specs.Rules.{IsModule};
 ghost use Rattle.amh_tool.specs.Form.{IsSound, operands};
 ghost use Rattle.amh_tool.specs.Elaborated.{circuit_of};
-ghost use Rattle.amh_tool.specs.Nets.{net_at, is_register_drive, ReadsKept, IsClocked, IsWired};
+ghost use Rattle.amh_tool.specs.Nets.{is_register_drive, ReadsKept, IsClocked, IsWired};
 ghost use Rattle.amh_tool.specs.Corresponds.{Corresponds, SameHistory};
 ghost use Rattle.amh_tool.specs.Lowered.{net_side, net_init, net_wire, net_wires, inner_wire, inner_wires, value_wires, drive_wires, value_cells, drive_cells, net_cells, link, drive_links, net_links, module_of};
 
