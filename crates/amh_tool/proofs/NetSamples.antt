@@ -1,6 +1,7 @@
 -- Histories of small components, worked out by hand.
-use Rattle.std.specs.Prelude.{◌≡◌, refl, ℕ, true, false, List, [], ◌∷◌, ℤ, pos, codes, map, Bool}
-use Rattle.std.proofs.Common.{arith}
+use Rattle.std.specs.Prelude.{◌≡◌, refl, ℕ, true, false, List, [], ◌∷◌, ℤ, pos, codes, map, Bool, zero, suc, ◌<◌, length, IsTrue}
+use Rattle.std.proofs.Common.{arith, subst, inr}
+use Rattle.std.proofs.lemmas.List.Elements.{All-nil, All-cons}
 use Rattle.design_ir.specs.declared.event.Event.{Event}
 use Rattle.design_ir.specs.declared.event.Event.TheVariants.{Set, Edge}
 use Rattle.design_ir.specs.Values.{form, num}
@@ -12,7 +13,11 @@ use Rattle.amh_tool.specs.declared.form.Right.TheVariants.{Copy, Not, And, Or}
 use Rattle.amh_tool.specs.declared.nets.Net.{Net}
 use Rattle.amh_tool.specs.declared.nets.Drive.TheVariants.{Input, Clocked}
 use Rattle.amh_tool.specs.declared.form.Component.{Component}
+use Rattle.amh_tool.specs.FormNames.{is_name, keywords, taken_names}
+use Rattle.amh_tool.specs.Form.{member_at, HasDistinctNames, IsReadable, IsAllowed, IsSound}
 use Rattle.amh_tool.specs.Elaborated.{circuit_of}
+use Rattle.amh_tool.specs.Corresponds.{IsHistory}
+use Rattle.amh_tool.proofs.NetHistory.{component_is_history}
 use Rattle.amh_tool.specs.Nets.{nets_of}
 use Rattle.amh_tool.specs.Running.{net_history}
 
@@ -57,6 +62,40 @@ turning_legal = (((λ e. cc), (omega arith, tt), (omega arith, tt)), (((λ e. cc
 turning_settles : History (circuit_of turning) turning_events turning_envs
 unfolding gives edge three output turning turning_events turning_envs circuit_of form num target_bits target_signals
 turning_settles = (refl, (refl, (refl, (refl, (refl, (refl, refl))))))
+
+-- it keeps to the rules of the form, so the history is its only one
+turning_names : (i : ℕ) → i < length turning.members → IsTrue (is_name (member_at turning.members i).name)
+unfolding output turning is_name keywords taken_names
+turning_names zero p = refl
+turning_names (suc i) p = absurd (omega arith)
+
+turning_distinct : HasDistinctNames turning.members
+unfolding output turning
+turning_distinct zero zero p q e = refl
+turning_distinct zero (suc j) p q e = absurd (omega arith)
+turning_distinct (suc i) j p q e = absurd (omega arith)
+
+turning_sound : IsSound turning
+unfolding output turning
+turning_sound =
+    let readable : IsReadable turning.members turning.assignments 0 = record { held = omega arith; kept = inr refl } in
+    let allowed : IsAllowed turning.members turning.assignments (record { clocked = true; target = 0; right = Not 0 }) =
+    record {
+      target = record { held = omega arith; side = refl };
+      side = refl;
+      reads = All-cons (IsReadable turning.members turning.assignments) 0 [] readable (All-nil (IsReadable turning.members turning.assignments));
+    } in
+    record {
+      some = omega arith;
+      assignments = All-cons (IsAllowed turning.members turning.assignments) (record { clocked = true; target = 0; right = Not 0 }) [] allowed (All-nil (IsAllowed turning.members turning.assignments));
+      names = turning_names;
+      distinct = turning_distinct;
+      few = omega arith;
+      short = omega arith;
+    }
+
+turning_history : IsHistory (circuit_of turning) turning_events turning_envs
+turning_history = subst (IsHistory (circuit_of turning) turning_events) turning_runs (component_is_history turning turning_sound turning_events turning_legal)
 
 -- ---- two registers that swap their numbers, one turned on the way
 
