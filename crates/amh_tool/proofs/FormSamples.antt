@@ -1,13 +1,11 @@
 -- The definition at literal texts.
 use Rattle.std.specs.Prelude.{◌≡◌, refl, ℕ, true, false, List, [], ◌∷◌, ◌++◌, Ok, Err, codes}
 use Rattle.amh_tool.specs.FormNames.{keywords, taken_names, is_name}
-use Rattle.amh_tool.specs.FormLines.{Line, lines_in, name_behind, class_in, side_in, member_in, side_behind, operand_behind, not_in, right_behind, right_in, assignment_in, top_line}
-use Rattle.amh_tool.specs.Form.{member_at}
+use Rattle.amh_tool.specs.FormLines.{lines_in, name_behind, class_in, side_in, member_in, side_behind, operand_behind, not_in, right_behind, right_in, assignment_in, top_line}
 use Rattle.amh_tool.specs.FormText.{spelled_lines}
 use Rattle.amh_tool.specs.Component.{form, members_part, assignments_part, import_lines, elaborate_lines, return_lines}
 use Rattle.amh_tool.specs.declared.form.Member.{Member}
-use Rattle.amh_tool.specs.declared.form.Right.TheVariants.{Copy, Not, And, Or}
-use Rattle.amh_tool.specs.declared.form.Assignment.{Assignment}
+use Rattle.amh_tool.specs.declared.form.Right.TheVariants.{Not, And, Or}
 use Rattle.amh_tool.specs.declared.form.Component.{Component}
 
 head_text : List ℕ

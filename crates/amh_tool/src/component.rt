@@ -509,58 +509,61 @@ mod tests {
         Ok(())
     }
 
+    // Assignments, with the line at which their file is refused, or 0 where it is taken.
+    const ASSIGNMENTS: [(&str, u32); 34] = [
+        // Each production.
+        ("comb += self.y.eq(self.b & self.b)", 0),
+        ("sync += self.y.eq(~self.y)", 0),
+        ("fast += self.y.eq(self.a)", 13),
+        ("comb = self.y.eq(self.a)", 13),
+        ("comb += y.eq(self.a)", 13),
+        ("comb += self.y.eq(self.a", 13),
+        ("comb += self.y.eq(self.a))", 13),
+        ("comb += self.y.eq(self.a &self.b)", 13),
+        ("comb += self.y.eq(self.a& self.b)", 13),
+        ("comb += self.y.eq(self.a ^ self.b)", 13),
+        ("comb += self.y.eq(self.a & self.b & self.a)", 13),
+        ("comb += self.y.eq(self.a | ~self.b)", 13),
+        ("comb += self.y.eq(~ self.a)", 13),
+        ("comb += self.y.eq(~~self.a)", 13),
+        ("comb += self.y.eq(~self.a & self.b)", 13),
+        ("comb += self.y.eq(1)", 13),
+        // Which members there are.
+        ("comb += self.c.eq(self.a)", 13),
+        ("comb += self.y.eq(self.c)", 13),
+        ("comb += self.y.eq(self.a & self.c)", 13),
+        ("comb += self.a.eq(self.b)", 13),
+        ("sync += self.a.eq(self.b)", 13),
+        // What may be read.
+        ("comb += self.y.eq(self.q)\nsync += self.q.eq(self.a)", 0),
+        ("comb += self.y.eq(self.q)", 13),
+        ("sync += self.y.eq(self.q)", 13),
+        ("comb += self.y.eq(self.y)", 13),
+        ("comb += self.y.eq(self.a | self.y)", 13),
+        ("comb += self.y.eq(self.a)\ncomb += self.q.eq(self.y)", 14),
+        ("comb += self.y.eq(self.a)\nsync += self.q.eq(~self.y)", 14),
+        (
+            "comb += self.y.eq(self.q)\ncomb += self.q.eq(self.a)\nsync += self.q.eq(self.b)",
+            13,
+        ),
+        (
+            "comb += self.y.eq(self.q)\nfast += self.y.eq(self.a)\nsync += self.q.eq(self.b)",
+            13,
+        ),
+        // A member's side.
+        ("comb += self.y.eq(self.a)\ncomb += self.y.eq(self.b)", 0),
+        ("sync += self.y.eq(self.a)\nsync += self.y.eq(self.y)", 0),
+        ("comb += self.y.eq(self.a)\nsync += self.y.eq(self.b)", 14),
+        (
+            "sync += self.q.eq(self.a)\ncomb += self.y.eq(self.q)\ncomb += self.q.eq(self.b)",
+            15,
+        ),
+    ];
+
     #[test]
     fn each_assignment_has_its_form(rt: HostRuntime) -> Result<(), Fail> {
         let alloc = rt.alloc();
-        for (lines, refused_at) in [
-            // Each production.
-            ("comb += self.y.eq(self.b & self.b)", 0),
-            ("sync += self.y.eq(~self.y)", 0),
-            ("fast += self.y.eq(self.a)", 13),
-            ("comb = self.y.eq(self.a)", 13),
-            ("comb += y.eq(self.a)", 13),
-            ("comb += self.y.eq(self.a", 13),
-            ("comb += self.y.eq(self.a))", 13),
-            ("comb += self.y.eq(self.a &self.b)", 13),
-            ("comb += self.y.eq(self.a& self.b)", 13),
-            ("comb += self.y.eq(self.a ^ self.b)", 13),
-            ("comb += self.y.eq(self.a & self.b & self.a)", 13),
-            ("comb += self.y.eq(self.a | ~self.b)", 13),
-            ("comb += self.y.eq(~ self.a)", 13),
-            ("comb += self.y.eq(~~self.a)", 13),
-            ("comb += self.y.eq(~self.a & self.b)", 13),
-            ("comb += self.y.eq(1)", 13),
-            // Which members there are.
-            ("comb += self.c.eq(self.a)", 13),
-            ("comb += self.y.eq(self.c)", 13),
-            ("comb += self.y.eq(self.a & self.c)", 13),
-            ("comb += self.a.eq(self.b)", 13),
-            ("sync += self.a.eq(self.b)", 13),
-            // What may be read.
-            ("comb += self.y.eq(self.q)\nsync += self.q.eq(self.a)", 0),
-            ("comb += self.y.eq(self.q)", 13),
-            ("sync += self.y.eq(self.q)", 13),
-            ("comb += self.y.eq(self.y)", 13),
-            ("comb += self.y.eq(self.a | self.y)", 13),
-            ("comb += self.y.eq(self.a)\ncomb += self.q.eq(self.y)", 14),
-            ("comb += self.y.eq(self.a)\nsync += self.q.eq(~self.y)", 14),
-            (
-                "comb += self.y.eq(self.q)\ncomb += self.q.eq(self.a)\nsync += self.q.eq(self.b)",
-                13,
-            ),
-            (
-                "comb += self.y.eq(self.q)\nfast += self.y.eq(self.a)\nsync += self.q.eq(self.b)",
-                13,
-            ),
-            // A member's side.
-            ("comb += self.y.eq(self.a)\ncomb += self.y.eq(self.b)", 0),
-            ("sync += self.y.eq(self.a)\nsync += self.y.eq(self.y)", 0),
-            ("comb += self.y.eq(self.a)\nsync += self.y.eq(self.b)", 14),
-            (
-                "sync += self.q.eq(self.a)\ncomb += self.y.eq(self.q)\ncomb += self.q.eq(self.b)",
-                15,
-            ),
-        ] {
+        for (lines, refused_at) in ASSIGNMENTS {
             let text = part_of(alloc, lines)?;
             assert_eq!(rt;
                 refusal(alloc, text.as_bytes())?,
