@@ -17,7 +17,7 @@ use Rattle.amh_tool.specs.FormNames.{is_name, keywords, taken_names}
 use Rattle.amh_tool.specs.Form.{member_at, HasDistinctNames, IsReadable, IsAllowed, IsSound}
 use Rattle.amh_tool.specs.Elaborated.{circuit_of}
 use Rattle.amh_tool.specs.Corresponds.{IsHistory}
-use Rattle.amh_tool.proofs.NetHistory.{component_is_history}
+use Rattle.amh_tool.proofs.CircuitHistory.{component_is_history}
 use Rattle.amh_tool.specs.Nets.{nets_of}
 use Rattle.amh_tool.specs.Running.{net_history}
 
