@@ -610,13 +610,12 @@ mod tests {
         Ok(())
     }
 
-    // The part's file with more members behind `a`, without `b`.
-    fn wide_part(alloc: Global, more: u32, assignment: &str) -> Result<String, Fail> {
-        let mut lines = String::new(alloc);
-        for number in 0..more {
+    // Adds members of these numbers.
+    fn add_members(alloc: Global, lines: &mut String, from: u32, to: u32) -> Result<(), Fail> {
+        for number in from..to {
             lines.push_str(format!(in alloc; "    x{number}: In(1)\n")?.as_str())?;
         }
-        part_with(alloc, &[(7, lines.as_str()), (13, assignment)])
+        Ok(())
     }
 
     #[test]
@@ -624,16 +623,18 @@ mod tests {
         let alloc = rt.alloc();
         let comb = "        m.d.comb += self.y.eq(self.a)\n";
         let sync = "        m.d.sync += self.y.eq(self.a)\n";
+        let mut lines = String::new(alloc);
+        let mut members = 0;
         // There are three members beside those that are added.
         for (more, assignment, expected) in [
-            (16381, comb, None),
-            (16382, comb, Some((Kind::Limit, 16390))),
             (16379, sync, None),
             (16380, sync, Some((Kind::Limit, 1))),
-            (16381, sync, Some((Kind::Limit, 1))),
+            (16381, comb, None),
             (16382, sync, Some((Kind::Limit, 16390))),
         ] {
-            let text = wide_part(alloc, more, assignment)?;
+            add_members(alloc, &mut lines, members, more)?;
+            members = more;
+            let text = part_with(alloc, &[(7, lines.as_str()), (13, assignment)])?;
             assert_eq!(rt; refusal(alloc, text.as_bytes())?, expected, "{more}");
         }
         Ok(())
