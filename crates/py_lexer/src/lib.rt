@@ -2,9 +2,14 @@
 #![tactic(auto)]
 
 mod chars;
+mod front;
+mod going;
 mod line;
 mod names;
+mod numbers;
 mod piece;
+mod signs;
+mod strings;
 mod token;
 
 pub use line::{LexStop, Line, Lines};
