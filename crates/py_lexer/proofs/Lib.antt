@@ -1,2 +1,4 @@
 pub mod NumberLaws
 pub mod StringLaws
+pub mod WalkLaws
+mod Samples

@@ -1,8 +1,10 @@
 pub mod Characters
 pub mod Fronts
+pub mod Gives
 pub mod Lines
 pub mod Names
 pub mod Numbers
 pub mod Pieces
 pub mod Signs
 pub mod Strings
+pub mod Walks

@@ -1,5 +1,5 @@
 // Characters, and marks behind them.
-ghost use Rattle.std.specs.Prelude.{◌≡◌, ◌≤◌, ◌<◌, ◌+◌, ◌^◌, length, drop, take, IfOk, slice_index};
+ghost use Rattle.std.specs.Prelude.{◌≡◌, ◌≤◌, ◌<◌, ◌+◌, ◌*◌, ◌^◌, length, drop, take, IfOk, slice_index};
 ghost use Rattle.std.specs.Str.{chars};
 ghost use Rattle.py_lexer.specs.Characters.{line_end, line_width, next, past, start};
 
@@ -82,7 +82,10 @@ pub fn next(mark: Mark, c: char) -> Mark
     requires byte { mark.byte < 2 ^ 31 }
     requires line { mark.place.line < 2 ^ 31 }
     requires col { mark.place.col < 2 ^ 31 }
-    ensures { result ≡ next mark c }
+    ensures value { result ≡ next mark c }
+    ensures byte { result.byte ≤ mark.byte + 4 }
+    ensures line { result.place.line ≤ mark.place.line + 1 }
+    ensures col { result.place.col ≤ mark.place.col + 1 }
 {
     let Place { line, col } = mark.place;
     Mark {
@@ -96,4 +99,22 @@ pub fn next(mark: Mark, c: char) -> Mark
             Place { line, col: col + 1 }
         },
     }
+}
+
+/// The mark behind these characters.
+#[tactic(auto, unfolding(crate::specs::Characters::past))]
+pub fn past(mark: Mark, cs: &[char]) -> Mark
+    requires byte { mark.byte + 4 * length cs.now < 2 ^ 31 }
+    requires line { mark.place.line + length cs.now < 2 ^ 31 }
+    requires col { mark.place.col + length cs.now < 2 ^ 31 }
+    ensures value { result ≡ past mark cs.now }
+    ensures byte { result.byte ≤ mark.byte + 4 * length cs.now }
+    ensures line { result.place.line ≤ mark.place.line + length cs.now }
+    ensures col { result.place.col ≤ mark.place.col + length cs.now }
+{
+    let mut at = mark;
+    for c in cs {
+        at = next(at, *c);
+    }
+    at
 }

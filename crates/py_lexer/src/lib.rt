@@ -11,6 +11,7 @@ mod piece;
 mod signs;
 mod strings;
 mod token;
+mod walk;
 
 pub use line::{LexStop, Line, Lines};
 pub use token::{Token, TokenForm, Tokens};
