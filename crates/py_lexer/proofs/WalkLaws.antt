@@ -35,9 +35,9 @@ pieces_step m (c ∷ cs) f e h l =
     let w = f.width - 1 in
     let width : suc w ≡ f.width = omega arith in
     let first : pieces_from m 0 (c ∷ cs) ≡ placed m f (c ∷ cs) ∷ pieces_from (next m c) w cs =
-      ap (λ (g : Front). placed m g (c ∷ cs) ∷ pieces_from (next m c) (g.width - 1) cs) (sym e) in
+    ap (λ (g : Front). placed m g (c ∷ cs) ∷ pieces_from (next m c) (g.width - 1) cs) (sym e) in
     let others : pieces_from (next m c) w cs ≡ pieces_from (past m (take f.width (c ∷ cs))) 0 (drop f.width (c ∷ cs)) =
-      pieces_pass (next m c) w cs ∙ ap (λ k. pieces_from (past m (take k (c ∷ cs))) 0 (drop k (c ∷ cs))) width in
+    pieces_pass (next m c) w cs ∙ ap (λ k. pieces_from (past m (take k (c ∷ cs))) 0 (drop k (c ∷ cs))) width in
     first ∙ ap (λ ps. placed m f (c ∷ cs) ∷ ps) others
 
 -- the first piece, with some others

@@ -108,12 +108,12 @@ unfoldable pub number_front : List ℕ → Front
 number_front cs =
     if is_decimal (parts_of cs)
     then (
-      if is_small (parts_of cs) cs
-      then record { piece = Token Decimal; width = decimal_width (parts_of cs) }
-      else record { piece = Fault; width = 0 }
+    if is_small (parts_of cs) cs
+    then record { piece = Token Decimal; width = decimal_width (parts_of cs) }
+    else record { piece = Fault; width = 0 }
     )
     else (
-      if nat_lt (value_from (numeral_of cs).base 0 (digits_of (numeral_of cs) cs)) (2 ^ 128)
-      then record { piece = Token Number; width = (numeral_of cs).width }
-      else record { piece = Fault; width = 0 }
+    if nat_lt (value_from (numeral_of cs).base 0 (digits_of (numeral_of cs) cs)) (2 ^ 128)
+    then record { piece = Token Number; width = (numeral_of cs).width }
+    else record { piece = Fault; width = 0 }
     )

@@ -58,9 +58,9 @@ unfoldable pub token_front : List ℕ → Front
 token_front cs =
     if is_quote (slice_index cs 0) then string_front (style_of false (slice_index cs 0) (drop 1 cs)) cs
     else (
-      if (slice_index cs 0 == 102) && is_quote (slice_index cs 1)
-      then string_front (style_of true (slice_index cs 1) (drop 2 cs)) cs
-      else plain_front cs
+    if (slice_index cs 0 == 102) && is_quote (slice_index cs 1)
+    then string_front (style_of true (slice_index cs 1) (drop 2 cs)) cs
+    else plain_front cs
     )
 
 -- the piece at the front of the text

@@ -87,7 +87,8 @@ fn next_value(base: u32, n: u128, c: char) -> Option<u128>
     let Some(digit) = c.to_digit(base) else {
         return Some(n);
     };
-    n.checked_mul(u128::from(base))?.checked_add(u128::from(digit))
+    n.checked_mul(u128::from(base))?
+        .checked_add(u128::from(digit))
 }
 
 // The number that the digits spell, where it is below 2^128.
@@ -175,7 +176,11 @@ fn is_narrow(numeral: Numeral, cs: &[char]) -> bool
     requires most { numeral.base ≤ 16 }
     ensures { result ≡ nat_lt (value_from numeral.base 0 (digits_of numeral cs.now)) (2 ^ 128) }
 {
-    value(numeral.base, after(front(cs, numeral.width), numeral.prefix)).is_some()
+    value(
+        numeral.base,
+        after(front(cs, numeral.width), numeral.prefix),
+    )
+    .is_some()
 }
 
 fn sign_of_exponent(c: char) -> usize

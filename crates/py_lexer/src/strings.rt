@@ -131,7 +131,13 @@ fn closing_brace(cs: &[char]) -> Part
 }
 
 // What a character that is neither a closing quote nor a backslash begins.
-fn plain_part(alloc: Global, style: Style, c: char, cs: &[char], line_ends: bool) -> Result<Part, NoMemory>
+fn plain_part(
+    alloc: Global,
+    style: Style,
+    c: char,
+    cs: &[char],
+    line_ends: bool,
+) -> Result<Part, NoMemory>
     requires { length cs.now < 2 ^ 31 }
     ensures value { IfOk result (λ part. part ≡ plain_part style c cs.now line_ends) }
     ensures within { IfOk result (λ part. IsPartOf part (length cs.now + 1)) }
