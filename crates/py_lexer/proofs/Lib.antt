@@ -1,4 +1,11 @@
+mod BodyLaws
+mod DecimalLaws
+mod FrontLaws
+mod LineEndLaws
 pub mod NumberLaws
+mod NumeralLaws
+mod Samples
+mod SignLaws
 pub mod StringLaws
 pub mod WalkLaws
-mod Samples
+mod WordLaws

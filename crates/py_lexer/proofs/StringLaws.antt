@@ -8,7 +8,7 @@ use Rattle.py_lexer.specs.declared.strings.Body.TheVariants.{Closed, Cut, Spoile
 use Rattle.py_lexer.specs.Strings.{closes, part_of, by_part, quotes, string_from}
 
 -- the rest of a part is passed over
-string_passes : (style : Style) (n k : ℕ) (cs : List ℕ) → string_from style n k cs ≡ string_from style (n + k) 0 (drop k cs)
+pub string_passes : (style : Style) (n k : ℕ) (cs : List ℕ) → string_from style n k cs ≡ string_from style (n + k) 0 (drop k cs)
 unfolding string_from
 string_passes style n zero cs = ap (λ m. string_from style m 0 cs) (omega arith)
 string_passes style n (suc k) [] = refl

@@ -1,10 +1,12 @@
 pub mod Characters
 pub mod Fronts
 pub mod Gives
+pub mod Grammar
 pub mod Lines
 pub mod Names
 pub mod Numbers
 pub mod Pieces
 pub mod Signs
 pub mod Strings
+pub mod Tiles
 pub mod Walks
