@@ -29,7 +29,7 @@ front_at (suc k) (c ∷ cs) (suc i) x e p = front_at k cs i x e p
 abbrev pub IsQuote : ℕ → Type 0
 IsQuote q = (q ≡ 39) ⊎ (q ≡ 34)
 
-some_quote : (q : ℕ) → IsQuote q → 0 < q
+pub some_quote : (q : ℕ) → IsQuote q → 0 < q
 some_quote q h = elim h as (λ _. 0 < q) [ inl e ↦ omega (arith, e) | inr e ↦ omega (arith, e) ]
 
 tripled_front : (q k : ℕ) (cs : List ℕ) → 0 < q → is_tripled q (take k cs) ≡ true → is_tripled q cs ≡ true
@@ -42,12 +42,12 @@ tripled_front q k cs p t =
 closes_front : (style : Style) (c k : ℕ) (cs : List ℕ) → 0 < style.quote → closes style (c ∷ cs) ≡ false → closes style (c ∷ take k cs) ≡ false
 closes_front style c k cs p f =
     false_from_ne_true (closes style (c ∷ take k cs)) (λ t.
-      let both = and_parts (c == style.quote) (cond style.triple (is_tripled style.quote (take k cs)) true) t in
-      let rest : cond style.triple (is_tripled style.quote cs) true ≡ true =
-        cond_both style.triple (is_tripled style.quote (take k cs)) true (λ b. b ≡ true → cond style.triple (is_tripled style.quote cs) true ≡ true)
-        (λ three u. cond-true style.triple _ _ three ∙ tripled_front style.quote k cs p u)
-        (λ one u. ap (λ b. cond b (is_tripled style.quote cs) true) one) both.1 in
-      let q : true ≡ false = sym (and_from (c == style.quote) (cond style.triple (is_tripled style.quote cs) true) both.0 rest) ∙ f in cc)
+    let both = and_parts (c == style.quote) (cond style.triple (is_tripled style.quote (take k cs)) true) t in
+    let rest : cond style.triple (is_tripled style.quote cs) true ≡ true =
+    cond_both style.triple (is_tripled style.quote (take k cs)) true (λ b. b ≡ true → cond style.triple (is_tripled style.quote cs) true ≡ true)
+    (λ three u. cond-true style.triple _ _ three ∙ tripled_front style.quote k cs p u)
+    (λ one u. ap (λ b. cond b (is_tripled style.quote cs) true) one) both.1 in
+    let q : true ≡ false = sym (and_from (c == style.quote) (cond style.triple (is_tripled style.quote cs) true) both.0 rest) ∙ f in cc)
 
 -- which characters end a line
 pub ends_cases : (c : ℕ) (cs : List ℕ) → ends_line (c ∷ cs) ≡ true → (c ≡ 10) ⊎ ((c ≡ 13) × (slice_index cs 0 ≡ 10))
@@ -64,8 +64,8 @@ two_end c (x ∷ xs) e f = subst (λ c. ends_line (c ∷ x ∷ xs) ≡ true) (sy
 ends_front : (c k : ℕ) (cs : List ℕ) → ends_line (c ∷ cs) ≡ false → ends_line (c ∷ take k cs) ≡ false
 ends_front c k cs f =
     false_from_ne_true (ends_line (c ∷ take k cs)) (λ t. elim (ends_cases c (take k cs) t) as (λ _. ⊥) [
-      inl e ↦ both_ways (ends_line (c ∷ cs)) f (subst (λ c. ends_line (c ∷ cs) ≡ true) (sym e) refl)
-    | inr e ↦ both_ways (ends_line (c ∷ cs)) f (two_end c cs e.0 (front_at k cs 0 10 e.1 (omega arith)))
+      | inl e ↦ both_ways (ends_line (c ∷ cs)) f (subst (λ c. ends_line (c ∷ cs) ≡ true) (sym e) refl)
+      | inr e ↦ both_ways (ends_line (c ∷ cs)) f (two_end c cs e.0 (front_at k cs 0 10 e.1 (omega arith)))
     ])
 
 closing_by : (q : ℕ) (triple : Bool) (cs : List ℕ) → 0 < q → ((slice_index cs 0 == q) && cond triple (is_tripled q (drop 1 cs)) true) ≡ true → take (cond triple 3 1) cs ≡ replicate (cond triple 3 1) q
@@ -83,7 +83,7 @@ closing_by q true (c ∷ d ∷ e ∷ es) p t =
     cc
 
 -- NUL is no quote
-closing_quotes : (style : Style) (cs : List ℕ) → 0 < style.quote → closes style cs ≡ true → take (quotes style) cs ≡ replicate (quotes style) style.quote
+pub closing_quotes : (style : Style) (cs : List ℕ) → 0 < style.quote → closes style cs ≡ true → take (quotes style) cs ≡ replicate (quotes style) style.quote
 closing_quotes style cs p t = closing_by style.quote style.triple cs p t
 
 -- a part, and the body behind it, are a body
@@ -198,12 +198,12 @@ part_sound style c cs k p f =
     cond_both (c == 92) (escape cs) (plain_part style c cs line) P
     (λ e. subst (λ x. PartAt style (x ∷ cs) k (escape cs)) (sym (eqb-true c 92 e)) (escape_sound style k cs))
     (λ n. cond_both line (cond style.triple (Inner 1) Missing) braces P
-      (λ t. cond_both style.triple (Inner 1) Missing P (λ three. ending_at style c k cs p f n t three) (λ _. tt))
-      (λ l. cond_both open' (opening_brace cs) last P
-        (λ o. let both = and_parts style.holes (c == 123) o in opening_sound style c k cs both.0 (eqb-true c 123 both.1))
-        (λ a. cond_both close' (closing_brace cs) (Inner 1) P
-          (λ o. let both = and_parts style.holes (c == 125) o in closing_sound style c k cs both.0 (eqb-true c 125 both.1))
-          (λ b. other_at style c k cs p f n l a b))))
+    (λ t. cond_both style.triple (Inner 1) Missing P (λ three. ending_at style c k cs p f n t three) (λ _. tt))
+    (λ l. cond_both open' (opening_brace cs) last P
+    (λ o. let both = and_parts style.holes (c == 123) o in opening_sound style c k cs both.0 (eqb-true c 123 both.1))
+    (λ a. cond_both close' (closing_brace cs) (Inner 1) P
+    (λ o. let both = and_parts style.holes (c == 125) o in closing_sound style c k cs both.0 (eqb-true c 125 both.1))
+    (λ b. other_at style c k cs p f n l a b))))
 
 by_part_closed : (n t : ℕ) (part : Part) (more : ℕ → Body) → by_part n part more ≡ Closed t → (w : ℕ) × (part ≡ Inner w) × (more (w - 1) ≡ Closed t)
 by_part_closed n t (Inner w) more e = (w, refl, e)
@@ -220,12 +220,12 @@ body_sound style n zero t (c ∷ cs) p e =
     cond_both (closes style (c ∷ cs)) (Closed (n + quotes style)) (by_part n (part_of style (c ∷ cs)) more) (λ b. b ≡ Closed t → (k : ℕ) × (t ≡ n + 0 + k) × IsBody style (take k (c ∷ cs)))
     (λ f e. let q : n + quotes style ≡ t = cc in (quotes style, omega (arith, q), subst (IsBody style) (sym (closing_quotes style (c ∷ cs) p f)) closing))
     (λ f e.
-      let part = by_part_closed n t (part_of style (c ∷ cs)) more e in
-      let w = part.0 in
-      let rest = body_sound style (suc n) (w - 1) t cs p part.2 in
-      let k = rest.0 in
-      let at : PartAt style (c ∷ cs) k (Inner w) = subst (PartAt style (c ∷ cs) k) part.1 (part_sound style c cs k p f) in
-      let width : suc (w - 1) ≡ w = omega (arith, at.0) in
-      let behind : IsBody style (take k (drop w (c ∷ cs))) = subst (λ n. IsBody style (take k (drop n (c ∷ cs)))) width rest.2 in
-      (w + k, omega (arith, rest.1, at.0), subst (IsBody style) (sym (take-add w k (c ∷ cs))) (at.1 behind)))
+    let part = by_part_closed n t (part_of style (c ∷ cs)) more e in
+    let w = part.0 in
+    let rest = body_sound style (suc n) (w - 1) t cs p part.2 in
+    let k = rest.0 in
+    let at : PartAt style (c ∷ cs) k (Inner w) = subst (PartAt style (c ∷ cs) k) part.1 (part_sound style c cs k p f) in
+    let width : suc (w - 1) ≡ w = omega (arith, at.0) in
+    let behind : IsBody style (take k (drop w (c ∷ cs))) = subst (λ n. IsBody style (take k (drop n (c ∷ cs)))) width rest.2 in
+    (w + k, omega (arith, rest.1, at.0), subst (IsBody style) (sym (take-add w k (c ∷ cs))) (at.1 behind)))
     e

@@ -98,7 +98,7 @@ exponent_sound cs =
     let sign = (y == 43) || (y == 45) in
     cond_both (mark && is_digit 10 (slice_index cs (1 + sign_of_exponent y))) (1 + sign_of_exponent y) 0 (ExponentAt cs)
     (λ e. let both = and_parts mark (is_digit 10 (slice_index cs (1 + sign_of_exponent y))) e in
-      cond_both sign 1 0 (λ n. is_digit 10 (slice_index cs (1 + n)) ≡ true → ExponentAt cs (1 + n)) (λ s d. signed_at cs both.0 s d) (λ _ d. plain_at cs both.0 d) both.1)
+    cond_both sign 1 0 (λ n. is_digit 10 (slice_index cs (1 + n)) ≡ true → ExponentAt cs (1 + n)) (λ s d. signed_at cs both.0 s d) (λ _ d. plain_at cs both.0 d) both.1)
     (λ _ h. absurd (omega arith))
 
 -- digits, a fraction and an exponent, one behind the other
@@ -110,24 +110,24 @@ assembled cs w fr lead ex we wp fe le xe some few small =
     let count : length (take w cs) + fr ≤ 18 = omega (arith, digits.1) in
     let behind : drop pw (drop w cs) ≡ drop (w + pw) cs = drop-drop pw w cs in
     elim (cases_lt 0 lead) as (λ _. IsDecimal (take (w + pw + lead + ex) cs)) [
-      inl p ↦
-        let digits_of_ex : ex ≡ digit_count 10 (drop (w + pw + lead) cs) = xe ∙ cond-true (nat_lt 0 lead) _ _ (lt-ltb 0 lead p) in
-        let farther : drop (w + pw + lead) cs ≡ drop lead (drop (w + pw) cs) = sym (drop-drop lead (w + pw) cs) in
-        let at : ExponentAt (drop (w + pw) cs) lead = subst (λ l. ExponentAt (drop (w + pw) cs) l) (sym le) (exponent_sound (drop (w + pw) cs)) in
-        let here : value_from 10 0 (take (digit_count 10 (drop (w + pw + lead) cs)) (drop (w + pw + lead) cs)) ≤ 18 = subst (λ n. value_from 10 0 (take n (drop (w + pw + lead) cs)) ≤ 18) digits_of_ex small in
-        let there : value_from 10 0 (take (digit_count 10 (drop lead (drop (w + pw) cs))) (drop lead (drop (w + pw) cs))) ≤ 18 = subst (λ d. value_from 10 0 (take (digit_count 10 d) d) ≤ 18) farther here in
-        let exponent : IsExponent (take (lead + ex) (drop (w + pw) cs)) = subst (λ n. IsExponent (take (lead + n) (drop (w + pw) cs))) (sym (digits_of_ex ∙ ap (digit_count 10) farther)) (at p there) in
-        let sums : w + pw + lead + ex ≡ w + (pw + (lead + ex)) = omega arith in
-        let split : take (w + pw + lead + ex) cs ≡ take w cs ++ (take pw (drop w cs) ++ take (lead + ex) (drop (w + pw) cs)) =
+      | inl p ↦
+          let digits_of_ex : ex ≡ digit_count 10 (drop (w + pw + lead) cs) = xe ∙ cond-true (nat_lt 0 lead) _ _ (lt-ltb 0 lead p) in
+          let farther : drop (w + pw + lead) cs ≡ drop lead (drop (w + pw) cs) = sym (drop-drop lead (w + pw) cs) in
+          let at : ExponentAt (drop (w + pw) cs) lead = subst (λ l. ExponentAt (drop (w + pw) cs) l) (sym le) (exponent_sound (drop (w + pw) cs)) in
+          let here : value_from 10 0 (take (digit_count 10 (drop (w + pw + lead) cs)) (drop (w + pw + lead) cs)) ≤ 18 = subst (λ n. value_from 10 0 (take n (drop (w + pw + lead) cs)) ≤ 18) digits_of_ex small in
+          let there : value_from 10 0 (take (digit_count 10 (drop lead (drop (w + pw) cs))) (drop lead (drop (w + pw) cs))) ≤ 18 = subst (λ d. value_from 10 0 (take (digit_count 10 d) d) ≤ 18) farther here in
+          let exponent : IsExponent (take (lead + ex) (drop (w + pw) cs)) = subst (λ n. IsExponent (take (lead + n) (drop (w + pw) cs))) (sym (digits_of_ex ∙ ap (digit_count 10) farther)) (at p there) in
+          let sums : w + pw + lead + ex ≡ w + (pw + (lead + ex)) = omega arith in
+          let split : take (w + pw + lead + ex) cs ≡ take w cs ++ (take pw (drop w cs) ++ take (lead + ex) (drop (w + pw) cs)) =
           ap (λ n. take n cs) sums ∙ (take-add w (pw + (lead + ex)) cs ∙ ap (λ r. take w cs ++ r) (take-add pw (lead + ex) (drop w cs) ∙ ap (λ r. take pw (drop w cs) ++ take (lead + ex) r) behind)) in
-        subst IsDecimal (sym split) (exponential (take w cs) fr (take pw (drop w cs)) (take (lead + ex) (drop (w + pw) cs)) digits.0 fraction count exponent)
-    | inr z ↦
-        let none : lead ≡ 0 = omega arith in
-        let no_ex : ex ≡ 0 = xe ∙ cond-false (nat_lt 0 lead) (digit_count 10 (drop (w + pw + lead) cs)) 0 (le-ltb 0 lead z) in
-        let sums : w + pw + lead + ex ≡ w + pw = omega arith in
-        let frac : 0 < fr = elim some as (λ _. 0 < fr) [ inl f ↦ f | inr l ↦ absurd (omega arith) ] in
-        let split : take (w + pw + lead + ex) cs ≡ take w cs ++ take pw (drop w cs) = ap (λ n. take n cs) sums ∙ take-add w pw cs in
-        subst IsDecimal (sym split) (fractional (take w cs) fr (take pw (drop w cs)) digits.0 fraction frac count)
+          subst IsDecimal (sym split) (exponential (take w cs) fr (take pw (drop w cs)) (take (lead + ex) (drop (w + pw) cs)) digits.0 fraction count exponent)
+      | inr z ↦
+          let none : lead ≡ 0 = omega arith in
+          let no_ex : ex ≡ 0 = xe ∙ cond-false (nat_lt 0 lead) (digit_count 10 (drop (w + pw + lead) cs)) 0 (le-ltb 0 lead z) in
+          let sums : w + pw + lead + ex ≡ w + pw = omega arith in
+          let frac : 0 < fr = elim some as (λ _. 0 < fr) [ inl f ↦ f | inr l ↦ absurd (omega arith) ] in
+          let split : take (w + pw + lead + ex) cs ≡ take w cs ++ take pw (drop w cs) = ap (λ n. take n cs) sums ∙ take-add w pw cs in
+          subst IsDecimal (sym split) (fractional (take w cs) fr (take pw (drop w cs)) digits.0 fraction frac count)
     ]
 
 -- the decimal at the front

@@ -9,3 +9,5 @@ mod SignLaws
 pub mod StringLaws
 pub mod WalkLaws
 mod WordLaws
+mod SpanLaws
+pub mod TileLaws

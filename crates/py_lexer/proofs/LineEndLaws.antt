@@ -16,6 +16,7 @@ line_ends cs =
     one : (cs : List ℕ) → slice_index cs 0 ≡ 10 → IsLineEnd (take 1 cs)
     one [] e = cc
     one (c ∷ cs) e = subst (λ x. IsLineEnd (x ∷ [])) (sym e) feed
+
     two : (cs : List ℕ) → slice_index cs 0 ≡ 13 → slice_index cs 1 ≡ 10 → IsLineEnd (take 2 cs)
     two [] e f = cc
     two (c ∷ []) e f = cc

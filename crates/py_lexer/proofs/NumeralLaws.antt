@@ -21,19 +21,19 @@ grouped_from base c [] l h = single c h
 grouped_from base c (d ∷ []) l h =
     cond_both (is_run base d []) 1 0 (λ n. IsGrouped base (c ∷ take n (d ∷ [])))
     (λ r. elim (or_cases (is_digit base d) ((d == 95) && is_digit base 0) r) as (λ _. IsGrouped base (c ∷ d ∷ [])) [
-      inl t ↦ digit c (d ∷ []) h (single d t)
-    | inr t ↦ absurd (nul_no_digit base l (and_parts (d == 95) (is_digit base 0) t).1)
+      | inl t ↦ digit c (d ∷ []) h (single d t)
+      | inr t ↦ absurd (nul_no_digit base l (and_parts (d == 95) (is_digit base 0) t).1)
     ])
     (λ _. single c h)
 grouped_from base c (d ∷ e ∷ es) l h =
     cond_both (is_run base d (e ∷ es)) (suc (run_width base (e ∷ es))) 0 (λ n. IsGrouped base (c ∷ take n (d ∷ e ∷ es)))
     (λ r. elim (or_cases (is_digit base d) ((d == 95) && is_digit base e) r) as (λ _. IsGrouped base (c ∷ d ∷ take (run_width base (e ∷ es)) (e ∷ es))) [
-      inl t ↦ digit c (d ∷ take (run_width base (e ∷ es)) (e ∷ es)) h (grouped_from base d (e ∷ es) l t)
-    | inr t ↦
-        let both = and_parts (d == 95) (is_digit base e) t in
-        let all : IsGrouped base (c ∷ 95 ∷ take (suc (run_width base es)) (e ∷ es)) = apart c (e ∷ take (run_width base es) es) h (grouped_from base e es l both.1) in
-        subst (λ x. IsGrouped base (c ∷ x ∷ take (run_width base (e ∷ es)) (e ∷ es))) (sym (eqb-true d 95 both.0))
-        (subst (λ n. IsGrouped base (c ∷ 95 ∷ take n (e ∷ es))) (sym (run_more base e es both.1)) all)
+      | inl t ↦ digit c (d ∷ take (run_width base (e ∷ es)) (e ∷ es)) h (grouped_from base d (e ∷ es) l t)
+      | inr t ↦
+          let both = and_parts (d == 95) (is_digit base e) t in
+          let all : IsGrouped base (c ∷ 95 ∷ take (suc (run_width base es)) (e ∷ es)) = apart c (e ∷ take (run_width base es) es) h (grouped_from base e es l both.1) in
+          subst (λ x. IsGrouped base (c ∷ x ∷ take (run_width base (e ∷ es)) (e ∷ es))) (sym (eqb-true d 95 both.0))
+          (subst (λ n. IsGrouped base (c ∷ 95 ∷ take n (e ∷ es))) (sym (run_more base e es both.1)) all)
     ])
     (λ _. single c h)
 
@@ -64,8 +64,8 @@ numeral_sound c cs d =
     cond_both (c == 48) (numeral_by (named_base (slice_index cs 0)) (c ∷ cs)) (record { base = 10; prefix = 0; width = run_width 10 (c ∷ cs) }) (NumberAt (c ∷ cs))
     (λ e. subst (λ x. NumberAt (x ∷ cs) (numeral_by (named_base (slice_index cs 0)) (x ∷ cs))) (sym (eqb-true c 48 e)) zeros)
     (λ e.
-      let P : ℕ → Type 0 = λ w. nat_lt (value_from 10 0 (take w (c ∷ cs))) (2 ^ 128) ≡ true → IsNumber (take w (c ∷ cs)) in
-      subst P (sym (run_more 10 c cs d)) (λ v. decimal (c ∷ take (run_width 10 cs) cs) (grouped_from 10 c cs (omega arith) d) (eqb-false c 48 e) (ltb-true _ _ v)))
+    let P : ℕ → Type 0 = λ w. nat_lt (value_from 10 0 (take w (c ∷ cs))) (2 ^ 128) ≡ true → IsNumber (take w (c ∷ cs)) in
+    subst P (sym (run_more 10 c cs d)) (λ v. decimal (c ∷ take (run_width 10 cs) cs) (grouped_from 10 c cs (omega arith) d) (eqb-false c 48 e) (ltb-true _ _ v)))
   where
     zeros : NumberAt (48 ∷ cs) (numeral_by (named_base (slice_index cs 0)) (48 ∷ cs))
     zeros =

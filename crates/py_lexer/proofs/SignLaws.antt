@@ -32,16 +32,16 @@ three c d e t =
 two : (c d : ℕ) → is_sign_of_two c d ≡ true → IsSign (c ∷ d ∷ [])
 two c d t =
     elim (or_cases ((is_in (codes "=!<>+-*%&|^") c && (d == 61)) || (is_in (codes "/*<>") c && (d == c))) ((c == 45) && (d == 62)) t) as (λ _. IsSign (c ∷ d ∷ [])) [
-      inl s ↦ elim (or_cases (is_in (codes "=!<>+-*%&|^") c && (d == 61)) (is_in (codes "/*<>") c && (d == c)) s) as (λ _. IsSign (c ∷ d ∷ [])) [
-        inl u ↦ let both = and_parts (is_in (codes "=!<>+-*%&|^") c) (d == 61) u in
-          subst (λ d. IsSign (c ∷ d ∷ [])) (sym (eqb-true d 61 both.1))
-          (is_in_each (λ c. IsSign (c ∷ 61 ∷ [])) (codes "=!<>+-*%&|^") c (refl, (refl, (refl, (refl, (refl, (refl, (refl, (refl, (refl, (refl, (refl, tt))))))))))) both.0)
-      | inr u ↦ let both = and_parts (is_in (codes "/*<>") c) (d == c) u in
-          subst (λ d. IsSign (c ∷ d ∷ [])) (sym (eqb-true d c both.1))
-          (is_in_each (λ c. IsSign (c ∷ c ∷ [])) (codes "/*<>") c (refl, (refl, (refl, (refl, tt)))) both.0)
+      | inl s ↦ elim (or_cases (is_in (codes "=!<>+-*%&|^") c && (d == 61)) (is_in (codes "/*<>") c && (d == c)) s) as (λ _. IsSign (c ∷ d ∷ [])) [
+        | inl u ↦ let both = and_parts (is_in (codes "=!<>+-*%&|^") c) (d == 61) u in
+            subst (λ d. IsSign (c ∷ d ∷ [])) (sym (eqb-true d 61 both.1))
+            (is_in_each (λ c. IsSign (c ∷ 61 ∷ [])) (codes "=!<>+-*%&|^") c (refl, (refl, (refl, (refl, (refl, (refl, (refl, (refl, (refl, (refl, (refl, tt))))))))))) both.0)
+        | inr u ↦ let both = and_parts (is_in (codes "/*<>") c) (d == c) u in
+            subst (λ d. IsSign (c ∷ d ∷ [])) (sym (eqb-true d c both.1))
+            (is_in_each (λ c. IsSign (c ∷ c ∷ [])) (codes "/*<>") c (refl, (refl, (refl, (refl, tt)))) both.0)
       ]
-    | inr s ↦ let both = and_parts (c == 45) (d == 62) s in
-        subst (λ d. IsSign (c ∷ d ∷ [])) (sym (eqb-true d 62 both.1)) (subst (λ c. IsSign (c ∷ 62 ∷ [])) (sym (eqb-true c 45 both.0)) refl)
+      | inr s ↦ let both = and_parts (c == 45) (d == 62) s in
+          subst (λ d. IsSign (c ∷ d ∷ [])) (sym (eqb-true d 62 both.1)) (subst (λ c. IsSign (c ∷ 62 ∷ [])) (sym (eqb-true c 45 both.0)) refl)
     ]
 
 one : (c : ℕ) → is_sign_of_one c ≡ true → IsSign (c ∷ [])
@@ -71,15 +71,15 @@ two_at (c ∷ []) t = absurd (no_second c t)
   where
     no_second : (c : ℕ) → is_sign_of_two c 0 ≡ true → ⊥
     no_second c t = let s : IsSign (c ∷ 0 ∷ []) = two c 0 t in
-      elim (or_cases ((is_in (codes "=!<>+-*%&|^") c && (0 == 61)) || (is_in (codes "/*<>") c && (0 == c))) ((c == 45) && (0 == 62)) t) as (λ _. ⊥) [
-        inl s ↦ elim (or_cases (is_in (codes "=!<>+-*%&|^") c && (0 == 61)) (is_in (codes "/*<>") c && (0 == c)) s) as (λ _. ⊥) [
-          inl u ↦ let q : false ≡ true = (and_parts (is_in (codes "=!<>+-*%&|^") c) (0 == 61) u).1 in cc
-        | inr u ↦ let both = and_parts (is_in (codes "/*<>") c) (0 == c) u in
-            let z : 0 ≡ c = eqb-true 0 c both.1 in
-            let q : false ≡ true = subst (λ c. is_in (codes "/*<>") c ≡ true) (sym z) both.0 in cc
+        elim (or_cases ((is_in (codes "=!<>+-*%&|^") c && (0 == 61)) || (is_in (codes "/*<>") c && (0 == c))) ((c == 45) && (0 == 62)) t) as (λ _. ⊥) [
+          | inl s ↦ elim (or_cases (is_in (codes "=!<>+-*%&|^") c && (0 == 61)) (is_in (codes "/*<>") c && (0 == c)) s) as (λ _. ⊥) [
+            | inl u ↦ let q : false ≡ true = (and_parts (is_in (codes "=!<>+-*%&|^") c) (0 == 61) u).1 in cc
+            | inr u ↦ let both = and_parts (is_in (codes "/*<>") c) (0 == c) u in
+                let z : 0 ≡ c = eqb-true 0 c both.1 in
+                let q : false ≡ true = subst (λ c. is_in (codes "/*<>") c ≡ true) (sym z) both.0 in cc
+          ]
+          | inr s ↦ let q : false ≡ true = (and_parts (c == 45) (0 == 62) s).1 in cc
         ]
-      | inr s ↦ let q : false ≡ true = (and_parts (c == 45) (0 == 62) s).1 in cc
-      ]
 two_at (c ∷ d ∷ cs) t = two c d t
 
 one_at : (cs : List ℕ) → is_sign_of_one (slice_index cs 0) ≡ true → IsSign (take 1 cs)

@@ -47,7 +47,7 @@ unfolding word_form
 word_sound word =
     cond_both (is_in_form Nfkc word) (cond (is_keyword word) (Some Keyword) (cond (is_refused_keyword word) None (Some Name))) None (WordAt word)
     (λ n. cond_both (is_keyword word) (Some Keyword) (cond (is_refused_keyword word) None (Some Name)) (WordAt word) (λ k. k)
-      (λ k. cond_both (is_refused_keyword word) None (Some Name) (WordAt word) (λ r. tt) (λ r. ((bytes_decides (nfkc word) word).0 n, k, r))))
+    (λ k. cond_both (is_refused_keyword word) None (Some Name) (WordAt word) (λ r. tt) (λ r. ((bytes_decides (nfkc word) word).0 n, k, r))))
     (λ _. tt)
 
 -- the word at the front

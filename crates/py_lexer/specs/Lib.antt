@@ -7,6 +7,7 @@ pub mod Names
 pub mod Numbers
 pub mod Pieces
 pub mod Signs
+pub mod Spans
 pub mod Strings
 pub mod Tiles
 pub mod Walks

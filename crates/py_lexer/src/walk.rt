@@ -1,8 +1,11 @@
 // The walk over a text.
-ghost use Rattle.std.specs.Prelude.{◌≡◌, ◌≤◌, ◌<◌, ◌+◌, [], length, drop, IfOk, IfErr};
+ghost use Rattle.std.specs.Prelude.{◌≡◌, ◌≤◌, ◌<◌, ◌+◌, [], length, drop, All, IfOk, IfErr};
 ghost use Rattle.std.specs.Str.{chars};
 ghost use Rattle.py_lexer.specs.Lines.{before, last_line, logical_lines};
 ghost use Rattle.py_lexer.specs.Gives.{Tells, Cuts};
+ghost use Rattle.py_lexer.specs.Characters.{start};
+ghost use Rattle.py_lexer.specs.Tiles.{Tiles, tokens_in};
+ghost use Rattle.py_lexer.specs.Spans.{IsLineOf, IsInOrder};
 ghost use Rattle.py_lexer.specs.Walks.{begun, owed, HasRoom};
 
 use crate::chars::{after, all_chars, front, past, start};
@@ -82,7 +85,14 @@ impl Walk {
 #[tactic(auto, unfolding(crate::specs::Lines::logical_lines))]
 pub fn cut_lines(alloc: Global, text: &str) -> Result<Lines, LexStop>
     requires { length text.now ≤ 1048576 }
-    ensures { Cuts result (logical_lines (chars text.now)) }
+    ensures cut { Cuts result (logical_lines (chars text.now)) }
+
+    // The tokens and the gaps between them are the text, and each has its form.
+    ensures tiles { IfOk result (λ lines. Tiles start (chars text.now) (tokens_in lines)) }
+
+    // A line has a token, and each token takes whole characters of the text, in order.
+    ensures lines { IfOk result (All (IsLineOf text.now)) }
+    ensures order { IfOk result (λ lines. IsInOrder 0 (tokens_in lines)) }
 {
     let all = all_chars(alloc, text)?;
     cut_chars(alloc, all.as_slice())
