@@ -21,7 +21,7 @@ prefix_all p (c ∷ cs) =
     (λ e. subst (λ n. list_all p (take n (c ∷ cs)) ≡ true) more (and_from (p c) (list_all p (take (prefix_len p cs) cs)) e (prefix_all p cs)))
     (λ _. refl)
 
-count_prefix : (base : ℕ) (cs : List ℕ) → digit_count base cs ≡ prefix_len (is_digit base) cs
+pub count_prefix : (base : ℕ) (cs : List ℕ) → digit_count base cs ≡ prefix_len (is_digit base) cs
 unfolding digit_count
 count_prefix base cs = length-take-le (prefix_len (is_digit base) cs) cs (prefix_fits (is_digit base) cs)
 
@@ -43,7 +43,7 @@ taken n cs e p =
     let count : length (take n cs) ≡ n = length-take-le n cs (omega (arith, all.1)) in
     ((omega arith, subst (λ n. list_all (is_digit 10) (take n cs) ≡ true) (sym e) all.0), count)
 
-pointed_more : (n : ℕ) → 0 < n → pointed_width n ≡ suc n
+pub pointed_more : (n : ℕ) → 0 < n → pointed_width n ≡ suc n
 pointed_more n h = cond-true (nat_lt 0 n) (n + 1) 0 (lt-ltb 0 n h) ∙ omega arith
 
 fraction_by : (n : ℕ) (cs : List ℕ) → n ≡ digit_count 10 cs → IsFraction n (take (pointed_width n) (46 ∷ cs))

@@ -4,6 +4,8 @@ mod FrontLaws
 mod LineEndLaws
 pub mod NumberLaws
 mod NumeralLaws
+mod ReachLists
+mod ReachNumbers
 mod Samples
 mod SignLaws
 pub mod StringLaws

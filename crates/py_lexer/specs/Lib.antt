@@ -3,6 +3,7 @@ pub mod Fronts
 pub mod Gives
 pub mod Grammar
 pub mod Lines
+pub mod Longest
 pub mod Names
 pub mod Numbers
 pub mod Pieces
