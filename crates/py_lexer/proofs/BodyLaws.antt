@@ -19,7 +19,7 @@ use Rattle.py_lexer.proofs.WordLaws.{WordIs, WordAt, word_sound, name_sound}
 use Rattle.py_lexer.proofs.LineEndLaws.{line_ends}
 
 -- what stands at a place of a front stands there in the whole text
-front_at : (k : ℕ) (cs : List ℕ) (i x : ℕ) → slice_index (take k cs) i ≡ x → 0 < x → slice_index cs i ≡ x
+pub front_at : (k : ℕ) (cs : List ℕ) (i x : ℕ) → slice_index (take k cs) i ≡ x → 0 < x → slice_index cs i ≡ x
 front_at zero cs i x e p = absurd (omega (arith, e))
 front_at (suc k) [] i x e p = e
 front_at (suc k) (c ∷ cs) zero x e p = e

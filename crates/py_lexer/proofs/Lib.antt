@@ -6,6 +6,8 @@ pub mod NumberLaws
 mod NumeralLaws
 mod ReachLists
 mod ReachNumbers
+mod ReachStrings
+mod ReachWords
 mod Samples
 mod SignLaws
 pub mod StringLaws
