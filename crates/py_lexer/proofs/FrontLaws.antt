@@ -69,7 +69,7 @@ str_by q cs (Closed n) h e = string_whole (style_of false q cs) (q ∷ cs) n h (
 str_by q cs Cut h e = cond_both (is_tripled q cs) (record { piece = Unclosed; width = quotes (style_of false q cs) }) (record { piece = Fault; width = 0 }) (Sound (q ∷ cs)) (λ _. tt) (λ _. tt)
 str_by q cs (Spoiled n) h e = tt
 
-str_sound : (q : ℕ) (cs : List ℕ) → IsQuote q → Sound (q ∷ cs) (string_front (style_of false q cs) (q ∷ cs))
+pub str_sound : (q : ℕ) (cs : List ℕ) → IsQuote q → Sound (q ∷ cs) (string_front (style_of false q cs) (q ∷ cs))
 unfolding string_front
 str_sound q cs h =
     let style = style_of false q cs in
@@ -85,14 +85,14 @@ format_by q cs (Closed n) h e =
 format_by q cs Cut h e = cond_both (is_tripled q cs) (record { piece = Unclosed; width = suc (quotes (style_of true q cs)) }) (record { piece = Fault; width = 0 }) (Sound (102 ∷ q ∷ cs)) (λ _. tt) (λ _. tt)
 format_by q cs (Spoiled n) h e = tt
 
-format_sound : (q : ℕ) (cs : List ℕ) → IsQuote q → Sound (102 ∷ q ∷ cs) (string_front (style_of true q cs) (102 ∷ q ∷ cs))
+pub format_sound : (q : ℕ) (cs : List ℕ) → IsQuote q → Sound (102 ∷ q ∷ cs) (string_front (style_of true q cs) (102 ∷ q ∷ cs))
 unfolding string_front
 format_sound q cs h =
     let style = style_of true q cs in
     let lead : suc (quotes style) ≡ 1 + quotes style = omega arith in
     subst (λ n. Sound (102 ∷ q ∷ cs) (string_by style n (string_from style 0 0 (drop n (102 ∷ q ∷ cs))))) lead (format_by q cs _ h refl)
 
-quote_of : (c : ℕ) → is_quote c ≡ true → IsQuote c
+pub quote_of : (c : ℕ) → is_quote c ≡ true → IsQuote c
 quote_of c t = elim (or_cases (c == 39) (c == 34) t) as (λ _. IsQuote c) [ inl e ↦ inl (eqb-true c 39 e) | inr e ↦ inr (eqb-true c 34 e) ]
 
 number_sound : (c : ℕ) (cs : List ℕ) → is_digit 10 c ≡ true → Sound (c ∷ cs) (number_front (c ∷ cs))
@@ -139,7 +139,7 @@ plain_sound c cs =
     (λ s. word_by_sound c cs (word_form (take (name_width cs) (c ∷ cs))) s (word_sound (take (name_width cs) (c ∷ cs))))
     (λ _. cond_both (is_digit 10 c) (number_front (c ∷ cs)) (bracket_front (opened_by c) (c ∷ cs)) (Sound (c ∷ cs)) (λ d. number_sound c cs d) (λ _. bracket_sound c cs))
 
-prefixed_sound : (c : ℕ) (cs : List ℕ) → c ≡ 102 → is_quote (slice_index cs 0) ≡ true → Sound (c ∷ cs) (string_front (style_of true (slice_index cs 0) (drop 1 cs)) (c ∷ cs))
+pub prefixed_sound : (c : ℕ) (cs : List ℕ) → c ≡ 102 → is_quote (slice_index cs 0) ≡ true → Sound (c ∷ cs) (string_front (style_of true (slice_index cs 0) (drop 1 cs)) (c ∷ cs))
 prefixed_sound c [] e q = let z : false ≡ true = q in absurd cc
 prefixed_sound c (x ∷ xs) e q = subst (λ y. Sound (y ∷ x ∷ xs) (string_front (style_of true x xs) (y ∷ x ∷ xs))) (sym e) (format_sound x xs (quote_of x q))
 

@@ -2,6 +2,7 @@ mod BodyLaws
 mod DecimalLaws
 mod FrontLaws
 mod LineEndLaws
+mod LongestLaws
 pub mod NumberLaws
 mod NumeralLaws
 mod ReachLists
@@ -13,5 +14,6 @@ mod SignLaws
 pub mod StringLaws
 pub mod WalkLaws
 mod WordLaws
+mod SizeLaws
 mod SpanLaws
 pub mod TileLaws

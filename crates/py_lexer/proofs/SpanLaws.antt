@@ -19,7 +19,8 @@ use Rattle.py_lexer.specs.Grammar.{IsToken}
 use Rattle.py_lexer.specs.Lines.{fresh, meet, ends_logical, line_by, line_of, before, going_on, lines_from, logical_lines}
 use Rattle.py_lexer.specs.Tiles.{tokens_in, token_between, Tiles, over, gap, token}
 use Rattle.py_lexer.specs.Spans.{IsSpan, IsInOrder, IsLineOf}
-use Rattle.py_lexer.proofs.TileLaws.{token_some, before_ok, going_ok, last_ok, lines_tile}
+use Rattle.py_lexer.proofs.SizeLaws.{token_some}
+use Rattle.py_lexer.proofs.TileLaws.{before_ok, going_ok, last_ok, lines_tile}
 
 -- a fact of each element, by recursion
 abbrev pub Each : {A : Type 0} → (A → Type 0) → List A → Type 0
@@ -69,7 +70,7 @@ spans m cs ts (gap n between rest us h t) front b s =
     let here : (past n between).byte ≡ length (encodes (front ++ between)) = omega (arith, past_byte n between, ap length (encodes-append front between), length-append (encodes front) (encodes between)) in
     let more = spans (past n between) rest us t (front ++ between) here (scalars_split between rest s) in
     (subst (λ text. Each (IsSpan (encodes text)) us) (append_assoc front between rest) more.0, order_down n.byte (past n between).byte us (omega (arith, past_byte n between)) more.1)
-spans m cs ts (token n form text rest us h t) front b s =
+spans m cs ts (token n form text rest us h l t) front b s =
     let here : (past n text).byte ≡ length (encodes (front ++ text)) = omega (arith, past_byte n text, ap length (encodes-append front text), length-append (encodes front) (encodes text)) in
     let more = spans (past n text) rest us t (front ++ text) here (scalars_split text rest s) in
     let whole = encodes (front ++ (text ++ rest)) in

@@ -1,8 +1,8 @@
 -- The tokens of the lines, with what stands between them, are the text.
-use Rattle.std.proofs.Common.{◌≡◌, ◌≢◌, ℕ, zero, suc, Bool, true, false, IsTrue, ◌+◌, ◌-◌, ◌<◌, ◌≤◌, ◌&&◌, ◌||◌, ◌⊎◌, List, [], ◌∷◌, ◌++◌, length, take, drop, refl, ap, sym, subst, ◌∙◌, arith, cond, inl, inr, slice_index, append_assoc, Result, Ok, Err}
+use Rattle.std.proofs.Common.{◌≡◌, ◌≢◌, ℕ, zero, suc, Bool, true, false, IsTrue, ◌+◌, ◌-◌, ◌<◌, ◌≤◌, ◌&&◌, ◌||◌, ◌⊎◌, List, [], ◌∷◌, ◌++◌, length, take, drop, refl, ap, sym, subst, ◌∙◌, arith, cond, inl, inr, slice_index, append_assoc, length-append, Result, Ok, Err}
 use Rattle.std.specs.Prelude.{nat_lt, ◌==◌, Option, None, Some, replicate}
 use Rattle.std.proofs.lemmas.Bool.{cond_both}
-use Rattle.std.proofs.lemmas.List.{take-append-drop}
+use Rattle.std.proofs.lemmas.List.{take-append-drop, length-take}
 use Rattle.amh_host.specs.declared.place.Place.{Place}
 use Rattle.py_lexer.specs.declared.token.Token.{Token}
 use Rattle.py_lexer.specs.declared.line.Line.{Line}
@@ -25,6 +25,9 @@ use Rattle.py_lexer.specs.Lines.{fresh, token_of, with_token, opened, fits, inne
 use Rattle.py_lexer.specs.Strings.{quotes}
 use Rattle.py_lexer.specs.Tiles.{tokens_in, token_between, Tiles, over, gap, token}
 use Rattle.py_lexer.proofs.FrontLaws.{SoundBy, front_sound}
+use Rattle.py_lexer.specs.Longest.{IsLongest}
+use Rattle.py_lexer.proofs.LongestLaws.{ReachBy, token_longest}
+use Rattle.py_lexer.proofs.SizeLaws.{gap_some, token_some}
 
 -- the tokens of pieces
 abbrev pub piece_tokens : Piece → Placed → List Token
@@ -60,53 +63,7 @@ abbrev pub AreGood : List Placed → Type 0
 AreGood [] = Unit {0}
 AreGood (p ∷ ps) = IsGood p.piece × AreGood ps
 
--- no gap and no token is empty
-line_end_some : (xs : List ℕ) → IsLineEnd xs → 0 < length xs
-line_end_some xs feed = omega arith
-line_end_some xs return_feed = omega arith
-
-gap_some : (xs : List ℕ) → IsGap xs → 0 < length xs
-gap_some xs space = omega arith
-gap_some xs tab = omega arith
-gap_some xs (comment cs h) = omega arith
-gap_some xs (line_end cs h) = line_end_some cs h
-gap_some xs (joint cs h) = omega arith
-
-grouped_some : (base : ℕ) (xs : List ℕ) → IsGrouped base xs → 0 < length xs
-grouped_some base xs (single d h) = omega arith
-grouped_some base xs (digit d ds h g) = omega arith
-grouped_some base xs (apart d ds h g) = omega arith
-
-number_some : (xs : List ℕ) → IsNumber xs → 0 < length xs
-number_some xs nothing = omega arith
-number_some xs (decimal ds g z v) = grouped_some 10 ds g
-number_some xs (based letter ds p g v) = omega arith
-
-longer : (xs ys : List ℕ) → 0 < length xs → 0 < length (xs ++ ys)
-longer [] ys h = absurd (omega arith)
-longer (x ∷ xs) ys h = omega arith
-
-decimal_some : (xs : List ℕ) → IsDecimal xs → 0 < length xs
-decimal_some xs (fractional whole count fraction d f p l) = longer whole fraction d.0
-decimal_some xs (exponential whole count fraction exponent d f l e) = longer whole (fraction ++ exponent) d.0
-
-string_some : (holes : Bool) (xs : List ℕ) → IsString holes xs → 0 < length xs
-string_some holes xs s =
-    let opens : 0 < length (replicate (quotes s.style) s.style.quote) = cond_both s.style.triple 3 1 (λ n. 0 < length (replicate n s.style.quote)) (λ _. omega arith) (λ _. omega arith) in
-    subst (λ xs. 0 < length xs) (sym s.whole) (longer _ s.rest opens)
-
-pub token_some : (form : TokenForm) (xs : List ℕ) → IsToken form xs → 0 < length xs
-unfolding is_keyword
-token_some Name xs h = subst (λ xs. 0 < length xs) (sym h.whole) (omega arith)
-token_some Keyword [] h = let q : false ≡ true = h in absurd cc
-token_some Keyword (x ∷ xs) h = omega arith
-token_some Number xs h = number_some xs h
-token_some Decimal xs h = decimal_some xs h
-token_some Str xs h = string_some false xs h
-token_some FormatStr xs h = subst (λ xs. 0 < length xs) (sym h.1.0) (omega arith)
-token_some Sign [] h = let q : false ≡ true = h in absurd cc
-token_some Sign (x ∷ xs) h = omega arith
-
+-- no piece that is no fault is empty
 piece_some : (piece : Piece) (xs : List ℕ) → IsGood piece → SoundBy piece xs → 0 < length xs
 piece_some Space xs g h = gap_some xs h
 piece_some Tab xs g h = gap_some xs h
@@ -119,18 +76,58 @@ piece_some (Close b) xs g h = token_some Sign xs h
 piece_some Fault xs g h = absurd g
 piece_some Unclosed xs g h = absurd g
 
+-- a piece that is a token is the longest
+abbrev LongestBy : Piece → List ℕ → List ℕ → Type 0
+LongestBy Space xs rest = Unit {0}
+LongestBy Tab xs rest = Unit {0}
+LongestBy Comment xs rest = Unit {0}
+LongestBy LineEnd xs rest = Unit {0}
+LongestBy Joint xs rest = Unit {0}
+LongestBy (Word form) xs rest = IsLongest xs rest
+LongestBy (Open b) xs rest = IsLongest xs rest
+LongestBy (Close b) xs rest = IsLongest xs rest
+LongestBy Fault xs rest = Unit {0}
+LongestBy Unclosed xs rest = Unit {0}
+
+-- what reaches as far as each token is the longest
+longest_from : (w : ℕ) (cs : List ℕ) → ((form : TokenForm) (other behind : List ℕ) → other ++ behind ≡ cs → IsToken form other → length other ≤ w) → IsLongest (take w cs) (drop w cs)
+longest_from w cs h form other behind e t =
+    let whole : other ++ behind ≡ cs = e ∙ take-append-drop w cs in
+    let reach : length other ≤ w = h form other behind whole t in
+    omega (arith, length-take w cs, length-append other behind, ap length whole)
+
+abbrev EachReach : Piece → ℕ → List ℕ → Type 0
+EachReach piece w cs = (form : TokenForm) (other behind : List ℕ) → other ++ behind ≡ cs → IsToken form other → ReachBy piece w (length other)
+
+longest_by : (piece : Piece) (w : ℕ) (cs : List ℕ) → EachReach piece w cs → LongestBy piece (take w cs) (drop w cs)
+longest_by Space w cs h = tt
+longest_by Tab w cs h = tt
+longest_by Comment w cs h = tt
+longest_by LineEnd w cs h = tt
+longest_by Joint w cs h = tt
+longest_by (Word form) w cs h = longest_from w cs h
+longest_by (Open b) w cs h = longest_from w cs h
+longest_by (Close b) w cs h = longest_from w cs h
+longest_by Fault w cs h = tt
+longest_by Unclosed w cs h = tt
+
+front_longest : (cs : List ℕ) → LongestBy (front_of cs).piece (take (front_of cs).width cs) (drop (front_of cs).width cs)
+front_longest cs =
+    longest_by (front_of cs).piece (front_of cs).width cs
+    (λ form other behind e t. subst (λ xs. ReachBy (front_of xs).piece (front_of xs).width (length other)) e (token_longest form other behind t))
+
 -- one piece, and the tiles behind it
-tile : (piece : Piece) (m : Mark) (xs rest : List ℕ) (ts : List Token) → IsGood piece → SoundBy piece xs → Tiles (past m xs) rest ts → Tiles m (xs ++ rest) (piece_tokens piece (record { piece = piece; from = m; upto = past m xs }) ++ ts)
-tile Space m xs rest ts g h t = gap m xs rest ts h t
-tile Tab m xs rest ts g h t = gap m xs rest ts h t
-tile Comment m xs rest ts g h t = gap m xs rest ts h t
-tile LineEnd m xs rest ts g h t = gap m xs rest ts h t
-tile Joint m xs rest ts g h t = gap m xs rest ts h t
-tile (Word form) m xs rest ts g h t = token m form xs rest ts h t
-tile (Open b) m xs rest ts g h t = token m Sign xs rest ts h t
-tile (Close b) m xs rest ts g h t = token m Sign xs rest ts h t
-tile Fault m xs rest ts g h t = absurd g
-tile Unclosed m xs rest ts g h t = absurd g
+tile : (piece : Piece) (m : Mark) (xs rest : List ℕ) (ts : List Token) → IsGood piece → SoundBy piece xs → LongestBy piece xs rest → Tiles (past m xs) rest ts → Tiles m (xs ++ rest) (piece_tokens piece (record { piece = piece; from = m; upto = past m xs }) ++ ts)
+tile Space m xs rest ts g h l t = gap m xs rest ts h t
+tile Tab m xs rest ts g h l t = gap m xs rest ts h t
+tile Comment m xs rest ts g h l t = gap m xs rest ts h t
+tile LineEnd m xs rest ts g h l t = gap m xs rest ts h t
+tile Joint m xs rest ts g h l t = gap m xs rest ts h t
+tile (Word form) m xs rest ts g h l t = token m form xs rest ts h l t
+tile (Open b) m xs rest ts g h l t = token m Sign xs rest ts h l t
+tile (Close b) m xs rest ts g h l t = token m Sign xs rest ts h l t
+tile Fault m xs rest ts g h l t = absurd g
+tile Unclosed m xs rest ts g h l t = absurd g
 
 -- pieces without a fault tile the text
 pub pieces_tile : (m : Mark) (left : ℕ) (cs : List ℕ) → AreGood (pieces_from m left cs) → Tiles (past m (take left cs)) (drop left cs) (tokens_of (pieces_from m left cs))
@@ -146,7 +143,7 @@ pieces_tile m zero (c ∷ cs) g =
     let behind = pieces_tile (next m c) (f.width - 1) cs g.1 in
     let width : suc (f.width - 1) ≡ f.width = width_some f.width (c ∷ cs) (piece_some f.piece xs g.0 sound) in
     let rest : Tiles (past m xs) (drop f.width (c ∷ cs)) ts = subst (λ n. Tiles (past m (take n (c ∷ cs))) (drop n (c ∷ cs)) ts) width behind in
-    subst (λ ys. Tiles m ys (piece_tokens f.piece (placed m f (c ∷ cs)) ++ ts)) (take-append-drop f.width (c ∷ cs)) (tile f.piece m xs (drop f.width (c ∷ cs)) ts g.0 sound rest)
+    subst (λ ys. Tiles m ys (piece_tokens f.piece (placed m f (c ∷ cs)) ++ ts)) (take-append-drop f.width (c ∷ cs)) (tile f.piece m xs (drop f.width (c ∷ cs)) ts g.0 sound (front_longest (c ∷ cs)) rest)
   where
     width_some : (w : ℕ) (xs : List ℕ) → 0 < length (take w xs) → suc (w - 1) ≡ w
     width_some zero xs h = absurd (omega arith)
