@@ -1,13 +1,13 @@
 -- Each string that is cut is one.
-use Rattle.std.proofs.Common.{◌≡◌, ◌≢◌, ℕ, zero, suc, Bool, true, false, IsTrue, ◌+◌, ◌-◌, ◌<◌, ◌≤◌, ◌&&◌, ◌||◌, ◌⊎◌, List, [], ◌∷◌, ◌++◌, length, take, drop, refl, ap, sym, subst, ◌∙◌, arith, cond, inl, inr, slice_index, append_assoc}
+use Rattle.std.proofs.Common.{◌≡◌, ◌≢◌, ℕ, zero, suc, Bool, true, false, ◌+◌, ◌-◌, ◌<◌, ◌&&◌, ◌⊎◌, List, [], ◌∷◌, ◌++◌, take, drop, refl, ap, sym, subst, ◌∙◌, arith, cond, inl, inr, slice_index, append_assoc}
 use Rattle.std.specs.Prelude.{nat_lt, ◌==◌, Option, None, Some, codes, replicate}
-use Rattle.std.proofs.lemmas.Bool.{cond_both, cond-true, eqb-true, eqb-false, ltb-true, eq-eqb, and_parts, and_from, and_cases, or_cases, false_from_ne_true, both_ways}
+use Rattle.std.proofs.lemmas.Bool.{cond_both, cond-true, eqb-true, eqb-false, eq-eqb, and_parts, and_from, false_from_ne_true, both_ways}
 use Rattle.std.proofs.Math.Seq.{take-add}
 use Rattle.py_lexer.specs.declared.strings.Style.{Style}
 use Rattle.py_lexer.specs.declared.strings.Part.{Part}
 use Rattle.py_lexer.specs.declared.strings.Part.TheVariants.{Inner, Missing, Bad}
 use Rattle.py_lexer.specs.declared.strings.Body.{Body}
-use Rattle.py_lexer.specs.declared.strings.Body.TheVariants.{Closed, Cut, Spoiled}
+use Rattle.py_lexer.specs.declared.strings.Body.TheVariants.{Closed}
 use Rattle.py_lexer.specs.declared.token.TokenForm.{TokenForm}
 use Rattle.py_lexer.specs.declared.token.TokenForm.TheVariants.{Name, Keyword, Number, Decimal, Str, FormatStr, Sign}
 use Rattle.py_lexer.specs.Characters.{ends_line, line_end}

@@ -1,12 +1,11 @@
 -- Each decimal that is cut is one.
-use Rattle.std.proofs.Common.{◌≡◌, ◌≢◌, ℕ, zero, suc, Bool, true, false, IsTrue, ◌+◌, ◌<◌, ◌≤◌, ◌^◌, ◌&&◌, ◌||◌, ◌⊎◌, List, [], ◌∷◌, ◌++◌, length, take, drop, refl, ap, sym, subst, ◌∙◌, arith, cond, inl, inr, slice_index}
-use Rattle.std.specs.Prelude.{nat_lt, nat_le, ◌==◌}
+use Rattle.std.proofs.Common.{◌≡◌, ℕ, zero, suc, Bool, true, false, ◌+◌, ◌<◌, ◌≤◌, ◌&&◌, ◌||◌, ◌⊎◌, List, [], ◌∷◌, ◌++◌, length, take, drop, refl, ap, sym, subst, ◌∙◌, arith, cond, inl, inr, slice_index}
+use Rattle.std.specs.Prelude.{nat_lt, ◌==◌}
 use Rattle.std.specs.List.{list_all, prefix_len}
-use Rattle.std.proofs.lemmas.Bool.{cond_both, cond-true, cond-false, eqb-true, ltb-true, ltb-false, leb-true, and_parts, and_from, or_cases, lt-ltb, le-ltb, cases_lt}
+use Rattle.std.proofs.lemmas.Bool.{cond_both, cond-true, cond-false, eqb-true, ltb-true, leb-true, and_parts, and_from, or_cases, lt-ltb, le-ltb, cases_lt}
 use Rattle.std.proofs.lemmas.List.{length-take-le, drop-drop}
 use Rattle.std.proofs.Math.Seq.{take-add}
-use Rattle.py_lexer.specs.declared.numbers.Parts.{Parts}
-use Rattle.py_lexer.specs.Numbers.{is_digit, digit_count, value_from, sign_of_exponent, exponent_lead, fraction_count, pointed as pointed_width, parts_of, is_decimal, decimal_width, exponent_of, is_small}
+use Rattle.py_lexer.specs.Numbers.{is_digit, digit_count, value_from, sign_of_exponent, exponent_lead, fraction_count, pointed as pointed_width, parts_of, is_decimal, decimal_width, is_small}
 use Rattle.py_lexer.specs.Grammar.{IsDigits, IsFraction, whole, pointed, IsMark, IsSignOfExponent, IsExponent, plain, signed, IsDecimal, fractional, exponential}
 
 prefix_fits : (p : ℕ → Bool) (cs : List ℕ) → prefix_len p cs ≤ length cs

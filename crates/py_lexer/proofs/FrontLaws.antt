@@ -1,7 +1,7 @@
 -- What stands at the front of a text has its form.
-use Rattle.std.proofs.Common.{◌≡◌, ◌≢◌, ℕ, zero, suc, Bool, true, false, IsTrue, ◌+◌, ◌-◌, ◌<◌, ◌≤◌, ◌^◌, ◌&&◌, ◌||◌, ◌⊎◌, List, [], ◌∷◌, ◌++◌, length, take, drop, refl, ap, sym, subst, ◌∙◌, arith, cond, inl, inr, slice_index}
+use Rattle.std.proofs.Common.{◌≡◌, ℕ, suc, Bool, true, false, ◌+◌, ◌<◌, ◌^◌, ◌&&◌, List, [], ◌∷◌, ◌++◌, length, take, drop, refl, ap, sym, subst, ◌∙◌, arith, cond, inl, inr, slice_index}
 use Rattle.std.specs.Prelude.{nat_lt, ◌==◌, Option, None, Some, replicate}
-use Rattle.std.proofs.lemmas.Bool.{cond_both, eqb-true, eq-eqb, ltb-true, and_parts, and_from, or_cases}
+use Rattle.std.proofs.lemmas.Bool.{cond_both, eqb-true, eq-eqb, and_parts, and_from, or_cases}
 use Rattle.std.proofs.Math.Seq.{take-add}
 use Rattle.py_lexer.specs.declared.strings.Style.{Style}
 use Rattle.py_lexer.specs.declared.strings.Body.{Body}
@@ -12,13 +12,13 @@ use Rattle.py_lexer.specs.declared.piece.Front.{Front}
 use Rattle.py_lexer.specs.declared.piece.Piece.{Piece}
 use Rattle.py_lexer.specs.declared.piece.Piece.TheVariants.{Space, Tab, Comment, LineEnd, Joint, Token, Open, Close, Fault, Unclosed}
 use Rattle.py_lexer.specs.declared.token.TokenForm.{TokenForm}
-use Rattle.py_lexer.specs.declared.token.TokenForm.TheVariants.{Name, Keyword, Number, Decimal, Str, FormatStr, Sign}
+use Rattle.py_lexer.specs.declared.token.TokenForm.TheVariants.{Number, Decimal, FormatStr, Sign}
 use Rattle.py_lexer.specs.Characters.{line_end, ends_line, line_width}
 use Rattle.py_lexer.specs.Names.{starts_name, name_width, word_form}
 use Rattle.py_lexer.specs.Numbers.{is_digit, value_from, numeral_of, digits_of, parts_of, is_decimal, is_small, decimal_width, number_front}
 use Rattle.py_lexer.specs.Signs.{opened_by, closed_by, sign_width}
-use Rattle.py_lexer.specs.Strings.{is_tripled, quotes, closes, string_from, string_by, lead_of, style_of, string_front, is_quote}
-use Rattle.py_lexer.specs.Grammar.{IsLineEnd, IsGap, space, tab, comment, line_end as ending, joint, IsToken, IsString, IsBody}
+use Rattle.py_lexer.specs.Strings.{is_tripled, quotes, string_from, string_by, style_of, string_front, is_quote}
+use Rattle.py_lexer.specs.Grammar.{IsGap, space, tab, comment, line_end as ending, joint, IsToken, IsString, IsBody}
 use Rattle.py_lexer.specs.Pieces.{fault, joint_front, sign_front, closed_front, bracket_front, word_by, word_front, plain_front, token_front, front_of}
 use Rattle.py_lexer.proofs.LineEndLaws.{line_ends, comment_stays}
 use Rattle.py_lexer.proofs.WordLaws.{WordAt, word_sound, word_token}

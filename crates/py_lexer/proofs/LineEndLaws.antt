@@ -1,5 +1,5 @@
 -- The ends of lines.
-use Rattle.std.proofs.Common.{◌≡◌, ◌≢◌, ℕ, zero, suc, Bool, true, false, ◌+◌, ◌<◌, ◌&&◌, List, [], ◌∷◌, take, drop, refl, sym, subst, arith, cond, slice_index}
+use Rattle.std.proofs.Common.{◌≡◌, ◌≢◌, ℕ, suc, true, false, ◌&&◌, List, [], ◌∷◌, take, sym, subst, cond, slice_index}
 use Rattle.std.specs.Prelude.{nat_lt, ◌==◌}
 use Rattle.std.proofs.lemmas.Bool.{cond_both, eqb-true, and_parts}
 use Rattle.py_lexer.specs.Characters.{line_end, ends_line, line_width}

@@ -1,10 +1,9 @@
 -- No token is longer than the one that is cut.
-use Rattle.std.proofs.Common.{◌≡◌, ◌≢◌, ℕ, zero, suc, Bool, true, false, ◌+◌, ◌-◌, ◌<◌, ◌≤◌, ◌^◌, ◌&&◌, ◌||◌, ◌⊎◌, List, [], ◌∷◌, ◌++◌, length, take, drop, refl, ap, sym, subst, ◌∙◌, arith, cond, inl, inr, slice_index, append_assoc, length-append}
-use Rattle.std.specs.Prelude.{nat_lt, ◌==◌, Option, None, Some, codes, replicate}
+use Rattle.std.proofs.Common.{◌≡◌, ℕ, zero, suc, Bool, true, false, ◌+◌, ◌-◌, ◌<◌, ◌≤◌, ◌^◌, ◌&&◌, List, [], ◌∷◌, ◌++◌, length, take, drop, refl, sym, subst, arith, cond, inl, inr, slice_index}
+use Rattle.std.specs.Prelude.{nat_lt, ◌==◌, Option, None, Some, replicate}
 use Rattle.std.specs.List.{list_all}
 use Rattle.std.specs.Char.{is_ascii_alphabetic}
-use Rattle.std.proofs.lemmas.Bool.{cond_both, cond-true, cond-false, eqb-true, eq-eqb, ne_eqb, and_parts, and_from, both_ways, or_cases, lt-ltb, ltb-true, ltb-false, agree_below_at, false_from_ne_true, cases_Bool}
-use Rattle.std.proofs.Math.Seq.{drop-append_seam}
+use Rattle.std.proofs.lemmas.Bool.{cond_both, cond-true, eqb-true, eq-eqb, ne_eqb, and_parts, and_from, both_ways, ltb-true, ltb-false, agree_below_at, false_from_ne_true, cases_Bool}
 use Rattle.unicode_ident.specs.Ident.{is_xid_continue}
 use Rattle.unicode_ident.proofs.Computing.{unicode_ident}
 use Rattle.py_lexer.specs.declared.strings.Style.{Style}
@@ -20,13 +19,13 @@ use Rattle.py_lexer.specs.Characters.{line_end, ends_line, line_width}
 use Rattle.py_lexer.specs.Names.{starts_name, name_width, word_form}
 use Rattle.py_lexer.specs.Numbers.{is_digit, value_from, digit_count, numeral_of, digits_of, parts_of, is_decimal, is_small, decimal_width, number_front}
 use Rattle.py_lexer.specs.Signs.{opened_by, closed_by, is_sign_of_three, is_sign_of_two, is_sign_of_one, sign_width}
-use Rattle.py_lexer.specs.Strings.{is_tripled, quotes, closes, string_from, string_by, lead_of, style_of, string_front, is_quote}
-use Rattle.py_lexer.specs.Grammar.{IsNumber, nothing, decimal, based, IsGrouped, single, digit, apart, IsDigits, IsDecimal, fractional, exponential, IsName, IsString, IsBody, closing, plain, escaped, joined, doubled, hole, IsToken, signs}
+use Rattle.py_lexer.specs.Strings.{is_tripled, quotes, string_from, string_by, style_of, string_front, is_quote}
+use Rattle.py_lexer.specs.Grammar.{IsNumber, nothing, decimal, based, IsGrouped, single, digit, apart, IsDigits, IsDecimal, fractional, exponential, IsString, IsBody, closing, plain, escaped, joined, doubled, hole, IsToken, signs}
 use Rattle.py_lexer.specs.Pieces.{fault, joint_front, sign_front, closed_front, bracket_front, word_by, word_front, plain_front, token_front, front_of}
-use Rattle.py_lexer.proofs.FrontLaws.{SoundBy, Sound, front_sound, prefixed_sound, quote_of}
+use Rattle.py_lexer.proofs.FrontLaws.{SoundBy, front_sound, prefixed_sound, quote_of}
 use Rattle.py_lexer.proofs.SizeLaws.{token_some}
-use Rattle.py_lexer.proofs.BodyLaws.{IsQuote, some_quote}
-use Rattle.py_lexer.proofs.ReachWords.{no_start, no_continue, IsWord, EachWord, among_each, keyword_is_word, word_reach}
+use Rattle.py_lexer.proofs.BodyLaws.{IsQuote}
+use Rattle.py_lexer.proofs.ReachWords.{no_start, no_continue, IsWord, among_each, keyword_is_word, word_reach}
 use Rattle.py_lexer.proofs.ReachNumbers.{numeral_reach, whole_reach, decimal_reach}
 use Rattle.py_lexer.proofs.ReachStrings.{body_reach}
 
@@ -119,10 +118,10 @@ word_longest c rest b s all =
     front_reach c n cs (cond_both (is_quote c) (string_front (style_of false c cs) (c ∷ cs)) others P
     (λ q. absurd (both_ways (starts_name c) (quote_starts_none c q) s))
     (λ _. cond_both ((c == 102) && is_quote (slice_index cs 0)) format words P
-      (λ t. let both = and_parts (c == 102) (is_quote (slice_index cs 0)) t in prefix_reach c rest b (eqb-true c 102 both.0) all both.1)
-      (λ _. cond_both (starts_name c) (word_front (c ∷ cs)) numbers P
-        (λ _. word_by_reach (word_form (take (name_width cs) (c ∷ cs))) (name_width cs) n (word_reach c rest b all))
-        (λ f. absurd (both_ways (starts_name c) f s)))))
+    (λ t. let both = and_parts (c == 102) (is_quote (slice_index cs 0)) t in prefix_reach c rest b (eqb-true c 102 both.0) all both.1)
+    (λ _. cond_both (starts_name c) (word_front (c ∷ cs)) numbers P
+    (λ _. word_by_reach (word_form (take (name_width cs) (c ∷ cs))) (name_width cs) n (word_reach c rest b all))
+    (λ f. absurd (both_ways (starts_name c) f s)))))
 
 -- a digit is no quote and begins no name
 digit_no_quote : (c : ℕ) → is_digit 10 c ≡ true → is_quote c ≡ true → ⊥
@@ -162,10 +161,10 @@ digit_front c n cs d r =
     front_reach c n cs (cond_both (is_quote c) (string_front (style_of false c cs) (c ∷ cs)) others P
     (λ q. absurd (digit_no_quote c d q))
     (λ _. cond_both ((c == 102) && is_quote (slice_index cs 0)) format words P
-      (λ t. absurd (both_ways (is_digit 10 c) (subst (λ x. is_digit 10 x ≡ false) (sym (eqb-true c 102 (and_parts (c == 102) (is_quote (slice_index cs 0)) t).0)) refl) d))
-      (λ _. cond_both (starts_name c) (word_front (c ∷ cs)) numbers P
-        (λ s. absurd (both_ways (starts_name c) (digit_starts_none c d) s))
-        (λ _. cond_both (is_digit 10 c) (number_front (c ∷ cs)) (bracket_front (opened_by c) (c ∷ cs)) P (λ _. r) (λ f. absurd (both_ways (is_digit 10 c) f d))))))
+    (λ t. absurd (both_ways (is_digit 10 c) (subst (λ x. is_digit 10 x ≡ false) (sym (eqb-true c 102 (and_parts (c == 102) (is_quote (slice_index cs 0)) t).0)) refl) d))
+    (λ _. cond_both (starts_name c) (word_front (c ∷ cs)) numbers P
+    (λ s. absurd (both_ways (starts_name c) (digit_starts_none c d) s))
+    (λ _. cond_both (is_digit 10 c) (number_front (c ∷ cs)) (bracket_front (opened_by c) (c ∷ cs)) P (λ _. r) (λ f. absurd (both_ways (is_digit 10 c) f d))))))
 
 whole_of : (X : List ℕ) → digit_count 10 X ≤ decimal_width (parts_of X)
 unfolding parts_of
@@ -249,12 +248,12 @@ sign_front_at c n cs k r =
     front_reach c n cs (cond_both (is_quote c) (string_front (style_of false c cs) (c ∷ cs)) others P
     (λ q. absurd (both_ways (is_quote c) k.0 q))
     (λ _. cond_both ((c == 102) && is_quote (slice_index cs 0)) format words P
-      (λ t. absurd (both_ways (c == 102) k.1 (and_parts (c == 102) (is_quote (slice_index cs 0)) t).0))
-      (λ _. cond_both (starts_name c) (word_front (c ∷ cs)) numbers P
-        (λ s. absurd (both_ways (starts_name c) k.2 s))
-        (λ _. cond_both (is_digit 10 c) (number_front (c ∷ cs)) (bracket_front (opened_by c) (c ∷ cs)) P
-          (λ d. absurd (both_ways (is_digit 10 c) k.3 d))
-          (λ _. subst Q (sym k.4) (subst R (sym k.5) r))))))
+    (λ t. absurd (both_ways (c == 102) k.1 (and_parts (c == 102) (is_quote (slice_index cs 0)) t).0))
+    (λ _. cond_both (starts_name c) (word_front (c ∷ cs)) numbers P
+    (λ s. absurd (both_ways (starts_name c) k.2 s))
+    (λ _. cond_both (is_digit 10 c) (number_front (c ∷ cs)) (bracket_front (opened_by c) (c ∷ cs)) P
+    (λ d. absurd (both_ways (is_digit 10 c) k.3 d))
+    (λ _. subst Q (sym k.4) (subst R (sym k.5) r))))))
 
 sign_front_reach : (c n : ℕ) (cs : List ℕ) → n ≤ sign_width c (slice_index cs 0) (slice_index cs 1) → Reach n (sign_front (c ∷ cs))
 sign_front_reach c n cs l =
@@ -287,8 +286,8 @@ first_quote holes q rest b h (escaped x cs t body) e = elim h as (λ _. suc (suc
 first_quote holes q rest b h (joined ends cs t body) e = elim h as (λ _. suc (length (ends ++ cs)) ≡ 1) [ inl f ↦ absurd (omega (arith, e, f)) | inr f ↦ absurd (omega (arith, e, f)) ]
 first_quote holes q rest b h (doubled brace cs t o body) e =
     elim h as (λ _. suc (suc (length cs)) ≡ 1) [
-      inl f ↦ elim o as (λ _. suc (suc (length cs)) ≡ 1) [ inl g ↦ absurd (omega (arith, e, f, g)) | inr g ↦ absurd (omega (arith, e, f, g)) ]
-    | inr f ↦ elim o as (λ _. suc (suc (length cs)) ≡ 1) [ inl g ↦ absurd (omega (arith, e, f, g)) | inr g ↦ absurd (omega (arith, e, f, g)) ]
+      | inl f ↦ elim o as (λ _. suc (suc (length cs)) ≡ 1) [ inl g ↦ absurd (omega (arith, e, f, g)) | inr g ↦ absurd (omega (arith, e, f, g)) ]
+      | inr f ↦ elim o as (λ _. suc (suc (length cs)) ≡ 1) [ inl g ↦ absurd (omega (arith, e, f, g)) | inr g ↦ absurd (omega (arith, e, f, g)) ]
     ]
 first_quote holes q rest b h (hole name cs t n body) e = elim h as (λ _. suc (length (name ++ 125 ∷ cs)) ≡ 1) [ inl f ↦ absurd (omega (arith, e, f)) | inr f ↦ absurd (omega (arith, e, f)) ]
 
@@ -305,8 +304,8 @@ short_closes holes q rest b h body =
     let style : Style = record { quote = q; triple = false; holes = holes } in
     let P = ClosesAt holes q (rest ++ b) (suc (length rest)) in
     elim (cases_Bool T) as (λ _. P T) [
-      inl t ↦ subst P (sym t) (λ k e. let one : length rest ≡ 1 = first_quote holes q rest b h body (eqb-true _ q (and_parts (slice_index (rest ++ b) 0 == q) (slice_index (rest ++ b) 1 == q) t).0) in omega (arith, one))
-    | inr t ↦ subst P (sym t) (λ k e. omega (arith, closed_same k (length rest) _ (body_reach style 0 rest b h body) e))
+      | inl t ↦ subst P (sym t) (λ k e. let one : length rest ≡ 1 = first_quote holes q rest b h body (eqb-true _ q (and_parts (slice_index (rest ++ b) 0 == q) (slice_index (rest ++ b) 1 == q) t).0) in omega (arith, one))
+      | inr t ↦ subst P (sym t) (λ k e. omega (arith, closed_same k (length rest) _ (body_reach style 0 rest b h body) e))
     ]
 
 long_closes : (holes : Bool) (q : ℕ) (rest b : List ℕ) → IsQuote q → IsBody (record { quote = q; triple = true; holes = holes }) rest → ClosesAt holes q (q ∷ q ∷ (rest ++ b)) (suc (suc (suc (length rest)))) (is_tripled q (q ∷ q ∷ (rest ++ b)))
@@ -330,7 +329,7 @@ str_front q n Y h r =
     let style = style_of false q Y in
     let lead : quotes style ≡ 0 + quotes style = omega arith in
     let found : Reach n (string_by style (0 + quotes style) (string_from style 0 0 (drop (0 + quotes style) (q ∷ Y)))) =
-      subst (λ m. Reach n (string_by style m (string_from style 0 0 (drop m (q ∷ Y))))) lead (string_by_reach style (quotes style) n _ r) in
+    subst (λ m. Reach n (string_by style m (string_from style 0 0 (drop m (q ∷ Y))))) lead (string_by_reach style (quotes style) n _ r) in
     front_reach q n Y (cond_both (is_quote q) (string_front style (q ∷ Y)) _ (Reach n) (λ _. found) (λ f. absurd (both_ways (is_quote q) f (is_quote_from q h))))
 
 format_front : (q n : ℕ) (Y : List ℕ) → IsQuote q → ClosesAt true q Y n (is_tripled q Y) → Reach (suc n) (front_of (102 ∷ q ∷ Y))
@@ -339,7 +338,7 @@ format_front q n Y h r =
     let style = style_of true q Y in
     let lead : suc (quotes style) ≡ 1 + quotes style = omega arith in
     let found : Reach (suc n) (string_by style (1 + quotes style) (string_from style 0 0 (drop (1 + quotes style) (102 ∷ q ∷ Y)))) =
-      subst (λ m. Reach (suc n) (string_by style m (string_from style 0 0 (drop m (102 ∷ q ∷ Y))))) lead (string_by_reach style (suc (quotes style)) (suc n) (string_from style 0 0 (drop (quotes style) (q ∷ Y))) (λ k e. let l : n ≤ quotes style + k = r k e in omega (arith, l))) in
+    subst (λ m. Reach (suc n) (string_by style m (string_from style 0 0 (drop m (102 ∷ q ∷ Y))))) lead (string_by_reach style (suc (quotes style)) (suc n) (string_from style 0 0 (drop (quotes style) (q ∷ Y))) (λ k e. let l : n ≤ quotes style + k = r k e in omega (arith, l))) in
     front_reach 102 (suc n) (q ∷ Y) (cond_both ((102 == 102) && is_quote q) (string_front style (102 ∷ q ∷ Y)) _ (Reach (suc n)) (λ _. found) (λ f. absurd (both_ways (is_quote q) f (is_quote_from q h))))
 
 str_opened : (q : ℕ) (triple : Bool) (rest b : List ℕ) → IsQuote q → IsBody (record { quote = q; triple = triple; holes = false }) rest → Reach (length (replicate (cond triple 3 1) q ++ rest)) (front_of ((replicate (cond triple 3 1) q ++ rest) ++ b))

@@ -1,7 +1,6 @@
 -- Runs of digits and what they spell.
-use Rattle.std.proofs.Common.{◌≡◌, ℕ, zero, suc, ◌+◌, ◌*◌, ◌<◌, ◌≤◌, Bool, true, false, IsTrue, List, [], ◌∷◌, length, slice_index, if◌then◌else◌, refl, arith}
-use Rattle.std.specs.Char.{digit_value}
-use Rattle.py_lexer.specs.Numbers.{is_digit, is_run, run_width, next_value, value_from}
+use Rattle.std.proofs.Common.{ℕ, ◌<◌, ◌≤◌, IsTrue, List, [], ◌∷◌, length, slice_index, arith}
+use Rattle.py_lexer.specs.Numbers.{is_digit, run_width, next_value, value_from}
 
 next_value_grows : (base n c : ℕ) → 1 ≤ base → n ≤ next_value base n c
 next_value_grows base n c h = grind arith

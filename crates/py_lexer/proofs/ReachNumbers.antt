@@ -1,16 +1,15 @@
 -- No number is longer than the one that is cut.
-use Rattle.std.proofs.Common.{◌≡◌, ◌≢◌, ℕ, zero, suc, Bool, true, false, ◌+◌, ◌<◌, ◌≤◌, ◌^◌, ◌&&◌, ◌||◌, ◌⊎◌, List, [], ◌∷◌, ◌++◌, length, take, drop, refl, ap, sym, subst, ◌∙◌, arith, cond, inl, inr, slice_index, length-append, append_assoc}
+use Rattle.std.proofs.Common.{◌≡◌, ℕ, suc, true, false, ◌+◌, ◌<◌, ◌≤◌, ◌&&◌, ◌||◌, ◌⊎◌, List, [], ◌∷◌, ◌++◌, length, drop, refl, ap, sym, subst, ◌∙◌, arith, cond, inl, inr, slice_index, length-append, append_assoc}
 use Rattle.std.specs.Prelude.{nat_lt, ◌==◌}
 use Rattle.std.specs.List.{list_all}
-use Rattle.std.proofs.lemmas.Bool.{cond_both, cond-true, cond-false, eqb-true, eq-eqb, ne_eqb, ltb-true, lt-ltb, le-ltb, and_parts, and_from, and_left, or_cases, or_from, or_left, or_right, both_ways}
+use Rattle.std.proofs.lemmas.Bool.{cond_both, cond-true, cond-false, eqb-true, eq-eqb, ne_eqb, lt-ltb, le-ltb, and_parts, and_from, and_left, or_from, or_left, or_right, both_ways}
 use Rattle.std.proofs.Math.Seq.{drop-append_seam, drop-append-add}
 use Rattle.std.proofs.lemmas.List.{drop-drop}
 use Rattle.py_lexer.specs.declared.numbers.Numeral.{Numeral}
-use Rattle.py_lexer.specs.declared.numbers.Parts.{Parts}
-use Rattle.py_lexer.specs.Numbers.{is_digit, is_run, run_width, digit_count, named_base, numeral_by, numeral_of, sign_of_exponent, exponent_lead, fraction_count, pointed as pointed_width, parts_of, is_decimal, decimal_width, value_from}
+use Rattle.py_lexer.specs.Numbers.{is_digit, is_run, run_width, digit_count, named_base, numeral_by, numeral_of, sign_of_exponent, exponent_lead, fraction_count, pointed as pointed_width, parts_of, is_decimal, decimal_width}
 use Rattle.py_lexer.specs.Grammar.{IsGrouped, single, digit, apart, IsNumber, nothing, decimal, based, IsDigits, IsFraction, whole, pointed, IsMark, IsSignOfExponent, IsExponent, plain, signed, IsDecimal, fractional, exponential}
 use Rattle.py_lexer.proofs.NumeralLaws.{run_more}
-use Rattle.py_lexer.proofs.DecimalLaws.{digits_begin, pointed_more}
+use Rattle.py_lexer.proofs.DecimalLaws.{pointed_more}
 use Rattle.py_lexer.proofs.ReachLists.{count_reach, count_exact, count_more, count_none}
 
 first_digit : (base : ℕ) (ds b : List ℕ) → IsGrouped base ds → is_digit base (slice_index (ds ++ b) 0) ≡ true
@@ -47,7 +46,7 @@ numeral_reach other b (based letter ds p g v) =
     let base = named_base letter in
     let X = 48 ∷ letter ∷ (ds ++ b) in
     let found : numeral_by base X ≡ record { base = base; prefix = 2; width = 2 + run_width base (ds ++ b) } =
-      cond-true (nat_lt 0 base && is_digit base (slice_index (ds ++ b) 0)) _ _ (and_from (nat_lt 0 base) _ (lt-ltb 0 base p) (first_digit base ds b g)) in
+    cond-true (nat_lt 0 base && is_digit base (slice_index (ds ++ b) 0)) _ _ (and_from (nat_lt 0 base) _ (lt-ltb 0 base p) (first_digit base ds b g)) in
     omega (arith, run_reach base ds b g, ap (λ (n : Numeral). n.width) found)
 
 -- the first character behind the digits
@@ -99,8 +98,8 @@ grouped_digits ds b (single d h) = inl (omega (arith, count_more 10 d b h))
 grouped_digits ds b (digit d more h g) =
     let count = count_more 10 d (more ++ b) h in
     elim (grouped_digits more b g) as (λ _. (length (d ∷ more) ≤ digit_count 10 (d ∷ (more ++ b))) ⊎ (behind_digits (d ∷ (more ++ b)) ≡ 95)) [
-      inl l ↦ inl (omega (arith, l, count))
-    | inr e ↦ inr (ap (λ n. slice_index (drop n (d ∷ (more ++ b))) 0) count ∙ e)
+      | inl l ↦ inl (omega (arith, l, count))
+      | inr e ↦ inr (ap (λ n. slice_index (drop n (d ∷ (more ++ b))) 0) count ∙ e)
     ]
 grouped_digits ds b (apart d more h g) =
     let count = count_more 10 d (95 ∷ (more ++ b)) h ∙ ap suc (count_none 10 95 (more ++ b) refl) in
@@ -118,21 +117,21 @@ pub whole_reach : (other b : List ℕ) → IsNumber other → is_decimal (parts_
 whole_reach other b nothing t = omega (arith, count_more 10 48 b refl)
 whole_reach other b (decimal ds g z v) t =
     elim (grouped_digits ds b g) as (λ _. length ds ≤ digit_count 10 (ds ++ b)) [
-      inl l ↦ l
-    | inr e ↦ absurd (both_ways (is_decimal (parts_of (ds ++ b))) (not_decimal (ds ++ b) 95 e (λ h. omega (arith, h)) (λ h. omega (arith, h)) (λ h. omega (arith, h))) t)
+      | inl l ↦ l
+      | inr e ↦ absurd (both_ways (is_decimal (parts_of (ds ++ b))) (not_decimal (ds ++ b) 95 e (λ h. omega (arith, h)) (λ h. omega (arith, h)) (λ h. omega (arith, h))) t)
     ]
 whole_reach other b (based letter ds p g v) t =
     let X = 48 ∷ letter ∷ (ds ++ b) in
     let by = λ (l : ℕ) (e : letter ≡ l) (f : is_digit 10 l ≡ false) (a : l ≡ 46 → ⊥) (s : l ≡ 101 → ⊥) (u : l ≡ 69 → ⊥).
-      let none : is_digit 10 letter ≡ false = subst (λ x. is_digit 10 x ≡ false) (sym e) f in
-      let count : digit_count 10 X ≡ 1 = count_more 10 48 (letter ∷ (ds ++ b)) refl ∙ ap suc (count_none 10 letter (ds ++ b) none) in
-      let behind : behind_digits X ≡ l = ap (λ n. slice_index (drop n X) 0) count ∙ e in
-      both_ways (is_decimal (parts_of X)) (not_decimal X l behind a s u) t in
+    let none : is_digit 10 letter ≡ false = subst (λ x. is_digit 10 x ≡ false) (sym e) f in
+    let count : digit_count 10 X ≡ 1 = count_more 10 48 (letter ∷ (ds ++ b)) refl ∙ ap suc (count_none 10 letter (ds ++ b) none) in
+    let behind : behind_digits X ≡ l = ap (λ n. slice_index (drop n X) 0) count ∙ e in
+    both_ways (is_decimal (parts_of X)) (not_decimal X l behind a s u) t in
     absurd (elim (letters letter p) as (λ _. ⊥) [
-      inl e ↦ by 120 e refl (λ h. omega (arith, h)) (λ h. omega (arith, h)) (λ h. omega (arith, h))
-    | inr o ↦ elim o as (λ _. ⊥) [
-        inl e ↦ by 111 e refl (λ h. omega (arith, h)) (λ h. omega (arith, h)) (λ h. omega (arith, h))
-      | inr e ↦ by 98 e refl (λ h. omega (arith, h)) (λ h. omega (arith, h)) (λ h. omega (arith, h))
+      | inl e ↦ by 120 e refl (λ h. omega (arith, h)) (λ h. omega (arith, h)) (λ h. omega (arith, h))
+      | inr o ↦ elim o as (λ _. ⊥) [
+        | inl e ↦ by 111 e refl (λ h. omega (arith, h)) (λ h. omega (arith, h)) (λ h. omega (arith, h))
+        | inr e ↦ by 98 e refl (λ h. omega (arith, h)) (λ h. omega (arith, h)) (λ h. omega (arith, h))
       ]
     ])
 
@@ -148,7 +147,7 @@ tail_reach X E e p =
     let some : 0 < (parts_of X).lead = omega (arith, lead) in
     let there : drop (m + (parts_of X).lead) X ≡ drop (exponent_lead E) E = sym (drop-drop (parts_of X).lead m X) ∙ (ap (drop (parts_of X).lead) e ∙ ap (λ n. drop n E) lead) in
     let digits : (parts_of X).exponent ≡ digit_count 10 (drop (exponent_lead E) E) =
-      exponent_is X ∙ (cond-true (nat_lt 0 (parts_of X).lead) (digit_count 10 (drop (m + (parts_of X).lead) X)) 0 (lt-ltb 0 _ some) ∙ ap (digit_count 10) there) in
+    exponent_is X ∙ (cond-true (nat_lt 0 (parts_of X).lead) (digit_count 10 (drop (m + (parts_of X).lead) X)) 0 (lt-ltb 0 _ some) ∙ ap (digit_count 10) there) in
     (or_right (nat_lt 0 (parts_of X).fraction) (nat_lt 0 (parts_of X).lead) (lt-ltb 0 _ some), omega (arith, lead, digits))
 
 mark_test : (c : ℕ) → IsMark c → ((c == 101) || (c == 69)) ≡ true

@@ -1,15 +1,13 @@
 -- A string is told in full.
-use Rattle.std.proofs.Common.{◌≡◌, ◌≢◌, ℕ, zero, suc, Bool, true, false, ◌+◌, ◌-◌, ◌<◌, ◌≤◌, ◌&&◌, ◌||◌, ◌⊎◌, List, [], ◌∷◌, ◌++◌, length, take, drop, refl, ap, sym, subst, ◌∙◌, arith, cond, inl, inr, slice_index, append_assoc, length-append}
-use Rattle.std.specs.Prelude.{nat_lt, ◌==◌, Option, None, Some, codes, replicate}
+use Rattle.std.proofs.Common.{◌≡◌, ℕ, suc, Bool, true, false, ◌+◌, ◌<◌, ◌≤◌, ◌&&◌, ◌⊎◌, List, [], ◌∷◌, ◌++◌, length, take, drop, refl, ap, sym, subst, ◌∙◌, arith, cond, inl, inr, slice_index, append_assoc, length-append}
+use Rattle.std.specs.Prelude.{◌==◌, Some, codes, replicate}
 use Rattle.std.specs.List.{list_all}
-use Rattle.std.proofs.lemmas.Bool.{cond_both, cond-true, cond-false, eqb-true, eq-eqb, ne_eqb, and_parts, and_from, and_left, and_right, both_ways, false_from_ne_true}
+use Rattle.std.proofs.lemmas.Bool.{cond_both, cond-true, cond-false, eqb-true, eq-eqb, ne_eqb, and_parts, and_from, and_left, and_right, both_ways}
 use Rattle.std.proofs.Math.Seq.{drop-append-add, take-append_seam}
 use Rattle.py_lexer.specs.declared.strings.Style.{Style}
 use Rattle.py_lexer.specs.declared.strings.Part.{Part}
 use Rattle.py_lexer.specs.declared.strings.Part.TheVariants.{Inner, Missing, Bad}
-use Rattle.py_lexer.specs.declared.strings.Body.{Body}
-use Rattle.py_lexer.specs.declared.strings.Body.TheVariants.{Closed, Cut, Spoiled}
-use Rattle.py_lexer.specs.declared.token.TokenForm.{TokenForm}
+use Rattle.py_lexer.specs.declared.strings.Body.TheVariants.{Closed}
 use Rattle.py_lexer.specs.declared.token.TokenForm.TheVariants.{Name}
 use Rattle.py_lexer.specs.Characters.{ends_line, line_end}
 use Rattle.py_lexer.specs.Names.{starts_name, name_width, word_form}
@@ -17,7 +15,7 @@ use Rattle.unicode_ident.specs.Ident.{is_xid_continue}
 use Rattle.py_lexer.specs.Signs.{is_in}
 use Rattle.py_lexer.specs.Strings.{is_tripled, quotes, closes, escape, is_name, hole, opening_brace, closing_brace, plain_part, part_of, string_from}
 use Rattle.py_lexer.specs.Grammar.{IsLineEnd, feed, return_feed, IsName, IsPlain, IsBody, closing, plain, escaped, joined, doubled, hole as in_hole}
-use Rattle.py_lexer.proofs.BodyLaws.{IsQuote, some_quote}
+use Rattle.py_lexer.proofs.BodyLaws.{IsQuote}
 use Rattle.py_lexer.proofs.StringLaws.{string_closed, string_inner}
 use Rattle.py_lexer.proofs.ReachWords.{no_start, no_continue, name_form, word_exact}
 
@@ -79,12 +77,12 @@ plain_is style c cs b l p =
     let braces = cond open' (opening_brace Z) last in
     cond_both (c == 92) (escape Z) (plain_part style c Z line) P (λ e. absurd (p.no_escape (eqb-true c 92 e)))
     (λ _. cond_both line (cond style.triple (Inner 1) Missing) braces P
-      (λ t. cond_both style.triple (Inner 1) Missing P (λ _. refl) (λ one. absurd (both_ways line (ends_more c cs b l ∙ p.no_end one) t)))
-      (λ _. cond_both open' (opening_brace Z) last P
-        (λ o. let both = and_parts style.holes (c == 123) o in absurd ((p.no_brace both.0).0 (eqb-true c 123 both.1)))
-        (λ _. cond_both close' (closing_brace Z) (Inner 1) P
-          (λ o. let both = and_parts style.holes (c == 125) o in absurd ((p.no_brace both.0).1 (eqb-true c 125 both.1)))
-          (λ _. refl))))
+    (λ t. cond_both style.triple (Inner 1) Missing P (λ _. refl) (λ one. absurd (both_ways line (ends_more c cs b l ∙ p.no_end one) t)))
+    (λ _. cond_both open' (opening_brace Z) last P
+    (λ o. let both = and_parts style.holes (c == 123) o in absurd ((p.no_brace both.0).0 (eqb-true c 123 both.1)))
+    (λ _. cond_both close' (closing_brace Z) (Inner 1) P
+    (λ o. let both = and_parts style.holes (c == 125) o in absurd ((p.no_brace both.0).1 (eqb-true c 125 both.1)))
+    (λ _. refl))))
 
 escape_is : (style : Style) (e : ℕ) (cs : List ℕ) → is_in (codes "\\'\"nt") e ≡ true → part_of style (92 ∷ e ∷ cs) ≡ Inner 2
 unfolding part_of
@@ -126,7 +124,7 @@ hole_at first rest b s all form =
     let named : is_name (word_form (take w (first ∷ Y))) ≡ true = ap (λ x. is_name (word_form x)) word ∙ ap is_name form in
     ap (HoleBy first Y) exact
     ∙ cond-true ((starts_name first && (slice_index (first ∷ Y) w == 125)) && is_name (word_form (take w (first ∷ Y)))) (Inner (w + 2)) Bad
-      (and_from (starts_name first && (slice_index (first ∷ Y) w == 125)) _ (and_from (starts_name first) _ s (eq-eqb _ 125 at)) named)
+    (and_from (starts_name first && (slice_index (first ∷ Y) w == 125)) _ (and_from (starts_name first) _ s (eq-eqb _ 125 at)) named)
 
 hole_is : (name b : List ℕ) → IsName name → opening_brace (name ++ 125 ∷ b) ≡ Inner (length name + 2)
 hole_is name b n =
@@ -150,11 +148,11 @@ doubled_reach : (style : Style) (n brace : ℕ) (cs b : List ℕ) → IsQuote st
 doubled_reach style n brace cs b q h more t =
     let P : ℕ → Type 0 = λ x. string_from style n 0 (x ∷ x ∷ (cs ++ b)) ≡ Closed (n + suc (suc (length cs))) in
     let open' : P 123 =
-      stepped style n 2 (length cs) (123 ∷ 123 ∷ (cs ++ b)) (cs ++ b) (sym (no_close style 123 (123 ∷ (cs ++ b)) (no_quote style.quote 123 q (omega arith) (λ h. omega (arith, h))))) (sym (opening_is style (123 ∷ (cs ++ b)) h)) (omega arith) (omega arith) refl (more 2)
-      ∙ ap (λ k. Closed (n + k)) (omega arith) in
+    stepped style n 2 (length cs) (123 ∷ 123 ∷ (cs ++ b)) (cs ++ b) (sym (no_close style 123 (123 ∷ (cs ++ b)) (no_quote style.quote 123 q (omega arith) (λ h. omega (arith, h))))) (sym (opening_is style (123 ∷ (cs ++ b)) h)) (omega arith) (omega arith) refl (more 2)
+    ∙ ap (λ k. Closed (n + k)) (omega arith) in
     let close' : P 125 =
-      stepped style n 2 (length cs) (125 ∷ 125 ∷ (cs ++ b)) (cs ++ b) (sym (no_close style 125 (125 ∷ (cs ++ b)) (no_quote style.quote 125 q (omega arith) (λ h. omega (arith, h))))) (sym (closing_is style (125 ∷ (cs ++ b)) h)) (omega arith) (omega arith) refl (more 2)
-      ∙ ap (λ k. Closed (n + k)) (omega arith) in
+    stepped style n 2 (length cs) (125 ∷ 125 ∷ (cs ++ b)) (cs ++ b) (sym (no_close style 125 (125 ∷ (cs ++ b)) (no_quote style.quote 125 q (omega arith) (λ h. omega (arith, h))))) (sym (closing_is style (125 ∷ (cs ++ b)) h)) (omega arith) (omega arith) refl (more 2)
+    ∙ ap (λ k. Closed (n + k)) (omega arith) in
     elim t as (λ _. P brace) [ inl e ↦ subst P (sym e) open' | inr e ↦ subst P (sym e) close' ]
 
 hole_reach : (style : Style) (n : ℕ) (name cs b : List ℕ) → IsQuote style.quote → style.holes ≡ true → More style n cs b → IsName name → string_from style n 0 (123 ∷ ((name ++ 125 ∷ cs) ++ b)) ≡ Closed (n + suc (length (name ++ 125 ∷ cs)))

@@ -1,19 +1,16 @@
 -- No name and no keyword is longer than the word that is cut.
-use Rattle.std.proofs.Common.{◌≡◌, ◌≢◌, ℕ, zero, suc, Bool, true, false, ◌+◌, ◌<◌, ◌≤◌, ◌&&◌, ◌||◌, ◌⊎◌, List, [], ◌∷◌, ◌++◌, length, take, drop, refl, ap, sym, subst, ◌∙◌, arith, cond, inl, inr, slice_index, bytes_eq}
-use Rattle.std.specs.Prelude.{◌==◌, Option, None, Some, codes, take_while, nat_lt, nat_le}
-use Rattle.std.specs.List.{list_all, list_any, prefix_len}
+use Rattle.std.proofs.Common.{◌≡◌, ℕ, suc, true, false, ◌<◌, ◌≤◌, ◌||◌, List, [], ◌∷◌, ◌++◌, length, refl, sym, subst, ◌∙◌, arith, inl, inr, bytes_eq}
+use Rattle.std.specs.Prelude.{◌==◌, Some}
+use Rattle.std.specs.List.{list_all}
 use Rattle.std.specs.Char.{is_ascii_alphabetic, is_ascii_alphanumeric}
 use Rattle.std.specs.Cmp.Lexicographic.{bytes_decides}
-use Rattle.std.proofs.lemmas.Bool.{cond_both, cond-true, cond-false, eqb-true, or_cases, or_from, both_ways, ltb-true}
+use Rattle.std.proofs.lemmas.Bool.{cond-true, cond-false, or_cases, or_from}
 use Rattle.unicode_ident.specs.Ident.{is_xid_start, is_xid_continue}
 use Rattle.unicode_ident.proofs.Computing.{unicode_ident}
 use Rattle.unicode_ident.proofs.IdentLemmas.{is_xid_start-ascii, is_xid_continue-ascii}
 use Rattle.unicode_normalization.specs.Forms.{nfkc, is_in_form, Nfkc}
-use Rattle.py_lexer.specs.declared.token.TokenForm.{TokenForm}
-use Rattle.py_lexer.specs.declared.token.TokenForm.TheVariants.{Name, Keyword, Number, Decimal, Str, FormatStr, Sign}
+use Rattle.py_lexer.specs.declared.token.TokenForm.TheVariants.{Name}
 use Rattle.py_lexer.specs.Names.{starts_name, name_width, is_among, and_to_class, continue_to_from, if_to_or, pass_to_with, is_keyword, is_refused_keyword, word_form}
-use Rattle.py_lexer.specs.Numbers.{is_digit}
-use Rattle.py_lexer.specs.Strings.{is_quote}
 use Rattle.py_lexer.specs.Grammar.{IsName}
 use Rattle.py_lexer.proofs.WordLaws.{prefix_count}
 use Rattle.py_lexer.proofs.ReachLists.{prefix_reach, prefix_exact}
@@ -47,14 +44,14 @@ keyword_is_word word e =
     let c = is_among if_to_or word in
     let d = is_among pass_to_with word in
     elim (or_cases ((a || b) || c) d e) as (λ _. IsWord word) [
-      inl abc ↦ elim (or_cases (a || b) c abc) as (λ _. IsWord word) [
-        inl ab ↦ elim (or_cases a b ab) as (λ _. IsWord word) [
-          inl t ↦ among_each IsWord and_to_class word ((refl, refl), ((refl, refl), ((refl, refl), ((refl, refl), ((refl, refl), ((refl, refl), ((refl, refl), tt))))))) t
-        | inr t ↦ among_each IsWord continue_to_from word ((refl, refl), ((refl, refl), ((refl, refl), ((refl, refl), ((refl, refl), ((refl, refl), ((refl, refl), tt))))))) t
+      | inl abc ↦ elim (or_cases (a || b) c abc) as (λ _. IsWord word) [
+        | inl ab ↦ elim (or_cases a b ab) as (λ _. IsWord word) [
+          | inl t ↦ among_each IsWord and_to_class word ((refl, refl), ((refl, refl), ((refl, refl), ((refl, refl), ((refl, refl), ((refl, refl), ((refl, refl), tt))))))) t
+          | inr t ↦ among_each IsWord continue_to_from word ((refl, refl), ((refl, refl), ((refl, refl), ((refl, refl), ((refl, refl), ((refl, refl), ((refl, refl), tt))))))) t
         ]
-      | inr t ↦ among_each IsWord if_to_or word ((refl, refl), ((refl, refl), ((refl, refl), ((refl, refl), ((refl, refl), ((refl, refl), ((refl, refl), tt))))))) t
+        | inr t ↦ among_each IsWord if_to_or word ((refl, refl), ((refl, refl), ((refl, refl), ((refl, refl), ((refl, refl), ((refl, refl), ((refl, refl), tt))))))) t
       ]
-    | inr t ↦ among_each IsWord pass_to_with word ((refl, refl), ((refl, refl), ((refl, refl), ((refl, refl), ((refl, refl), ((refl, refl), tt)))))) t
+      | inr t ↦ among_each IsWord pass_to_with word ((refl, refl), ((refl, refl), ((refl, refl), ((refl, refl), ((refl, refl), ((refl, refl), tt)))))) t
     ]
 
 -- a name is told as one

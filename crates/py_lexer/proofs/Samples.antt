@@ -1,10 +1,8 @@
 -- The definitions at literal texts.
-use Rattle.std.specs.Prelude.{◌≡◌, refl, ℕ, true, false, List, [], ◌∷◌, ◌++◌, Ok, Err, codes}
-use Rattle.py_lexer.specs.Characters.{line_width, past}
+use Rattle.std.specs.Prelude.{◌≡◌, refl, false, codes}
 use Rattle.py_lexer.specs.Numbers.{digit_count, run_width, value_from, numeral_of, exponent_lead, fraction_count, parts_of, number_front}
-use Rattle.py_lexer.specs.Signs.{sign_width}
-use Rattle.py_lexer.specs.Strings.{style_of, part_of, string_from, string_front, hole}
-use Rattle.py_lexer.specs.declared.piece.Piece.TheVariants.{Space, Tab, Comment, LineEnd, Joint, Token, Open, Close, Fault, Unclosed}
+use Rattle.py_lexer.specs.Strings.{style_of, part_of, string_from, string_front}
+use Rattle.py_lexer.specs.declared.piece.Piece.TheVariants.{Token}
 use Rattle.py_lexer.specs.declared.token.TokenForm.TheVariants.{Number, Decimal, Str}
 
 number-hex : number_front (codes "0x1F+") ≡ record { piece = Token Number; width = 4 }

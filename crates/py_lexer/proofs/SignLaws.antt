@@ -1,11 +1,9 @@
 -- Each sign that is cut is an operator or a delimiter.
-use Rattle.std.proofs.Common.{◌≡◌, ℕ, zero, suc, Bool, true, false, IsTrue, ◌+◌, ◌<◌, ◌&&◌, ◌||◌, List, [], ◌∷◌, length, take, drop, refl, ap, sym, subst, ◌∙◌, arith, cond, inl, inr, slice_index}
-use Rattle.std.specs.Prelude.{nat_lt, ◌==◌, Option, None, Some, codes}
+use Rattle.std.proofs.Common.{◌≡◌, ℕ, true, false, ◌&&◌, ◌||◌, List, [], ◌∷◌, take, refl, sym, subst, cond, inl, inr, slice_index}
+use Rattle.std.specs.Prelude.{nat_lt, ◌==◌, codes}
 use Rattle.std.proofs.lemmas.Bool.{cond_both, eqb-true, and_parts, or_cases}
-use Rattle.py_lexer.specs.declared.piece.Bracket.{Bracket}
-use Rattle.py_lexer.specs.declared.piece.Bracket.TheVariants.{Round, Square, Curly}
 use Rattle.py_lexer.specs.Names.{is_among}
-use Rattle.py_lexer.specs.Signs.{is_in, opened_by, closed_by, is_sign_of_three, is_sign_of_two, is_sign_of_one, sign_width}
+use Rattle.py_lexer.specs.Signs.{is_in, is_sign_of_three, is_sign_of_two, is_sign_of_one, sign_width}
 use Rattle.py_lexer.specs.Grammar.{signs}
 
 abbrev pub IsSign : List ℕ → Type 0

@@ -1,5 +1,5 @@
 -- No gap and no token is empty.
-use Rattle.std.proofs.Common.{◌≡◌, ℕ, zero, suc, Bool, true, false, ◌+◌, ◌<◌, ◌≤◌, List, [], ◌∷◌, ◌++◌, length, refl, sym, subst, arith, cond}
+use Rattle.std.proofs.Common.{◌≡◌, ℕ, Bool, true, false, ◌<◌, List, [], ◌∷◌, ◌++◌, length, sym, subst, arith}
 use Rattle.std.specs.Prelude.{replicate}
 use Rattle.std.proofs.lemmas.Bool.{cond_both}
 use Rattle.py_lexer.specs.declared.token.TokenForm.{TokenForm}
@@ -54,4 +54,3 @@ token_some Str xs h = string_some false xs h
 token_some FormatStr xs h = subst (λ xs. 0 < length xs) (sym h.1.0) (omega arith)
 token_some Sign [] h = let q : false ≡ true = h in absurd cc
 token_some Sign (x ∷ xs) h = omega arith
-

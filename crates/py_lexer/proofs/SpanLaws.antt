@@ -1,23 +1,19 @@
 -- Tokens take whole characters of the text, in order.
-use Rattle.std.proofs.Common.{◌≡◌, ℕ, zero, suc, Bool, true, false, ◌+◌, ◌<◌, ◌≤◌, ◌&&◌, List, [], ◌∷◌, ◌++◌, length, take, drop, refl, ap, sym, subst, ◌∙◌, arith, append_assoc, length-append, encode_utf8_all, Result, Ok, Err}
+use Rattle.std.proofs.Common.{◌≡◌, ℕ, true, ◌+◌, ◌<◌, ◌≤◌, List, [], ◌∷◌, ◌++◌, length, refl, ap, sym, subst, ◌∙◌, arith, append_assoc, length-append, Ok}
 use Rattle.std.specs.Prelude.{All}
 use Rattle.std.specs.Str.{chars, IsUtf8, IsCharBoundary}
-use Rattle.std.specs.Char.{len_utf8}
 use Rattle.std.proofs.Math.Utf8.{encode, encodes, scalars, scalar}
 use Rattle.std.proofs.lemmas.Bool.{and_parts, cond_both}
 use Rattle.std.proofs.lemmas.Str.{chars-encodes, length-le-encodes, length-encode, encodes-append, IsCharBoundary-at_seam}
 use Rattle.std.proofs.lemmas.List.Elements.{All-cons, All-nil}
-use Rattle.amh_host.specs.declared.place.Place.{Place}
 use Rattle.py_lexer.specs.declared.token.Token.{Token}
-use Rattle.py_lexer.specs.declared.token.TokenForm.{TokenForm}
 use Rattle.py_lexer.specs.declared.line.Line.{Line}
 use Rattle.py_lexer.specs.declared.going.Going.{Going}
 use Rattle.py_lexer.specs.declared.piece.Mark.{Mark}
 use Rattle.py_lexer.specs.declared.piece.Placed.{Placed}
 use Rattle.py_lexer.specs.Characters.{next, past, start}
-use Rattle.py_lexer.specs.Grammar.{IsToken}
 use Rattle.py_lexer.specs.Lines.{fresh, meet, ends_logical, line_by, line_of, before, going_on, lines_from, logical_lines}
-use Rattle.py_lexer.specs.Tiles.{tokens_in, token_between, Tiles, over, gap, token}
+use Rattle.py_lexer.specs.Tiles.{tokens_in, Tiles, over, gap, token}
 use Rattle.py_lexer.specs.Spans.{IsSpan, IsInOrder, IsLineOf}
 use Rattle.py_lexer.proofs.SizeLaws.{token_some}
 use Rattle.py_lexer.proofs.TileLaws.{before_ok, going_ok, last_ok, lines_tile}

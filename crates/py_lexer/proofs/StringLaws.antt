@@ -1,9 +1,8 @@
 -- A string, part by part.
-use Rattle.std.proofs.Common.{◌≡◌, ℕ, zero, suc, true, false, ◌+◌, ◌-◌, ◌<◌, ◌≤◌, List, [], ◌∷◌, length, drop, refl, ap, sym, ◌∙◌, arith, add-one}
+use Rattle.std.proofs.Common.{◌≡◌, ℕ, zero, suc, true, false, ◌+◌, ◌<◌, ◌≤◌, List, [], ◌∷◌, length, drop, refl, ap, sym, ◌∙◌, arith}
 use Rattle.py_lexer.specs.declared.strings.Style.{Style}
 use Rattle.py_lexer.specs.declared.strings.Part.{Part}
 use Rattle.py_lexer.specs.declared.strings.Part.TheVariants.{Inner, Missing, Bad}
-use Rattle.py_lexer.specs.declared.strings.Body.{Body}
 use Rattle.py_lexer.specs.declared.strings.Body.TheVariants.{Closed, Cut, Spoiled}
 use Rattle.py_lexer.specs.Strings.{closes, part_of, by_part, quotes, string_from}
 

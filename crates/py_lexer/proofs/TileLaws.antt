@@ -1,29 +1,24 @@
 -- The tokens of the lines, with what stands between them, are the text.
-use Rattle.std.proofs.Common.{◌≡◌, ◌≢◌, ℕ, zero, suc, Bool, true, false, IsTrue, ◌+◌, ◌-◌, ◌<◌, ◌≤◌, ◌&&◌, ◌||◌, ◌⊎◌, List, [], ◌∷◌, ◌++◌, length, take, drop, refl, ap, sym, subst, ◌∙◌, arith, cond, inl, inr, slice_index, append_assoc, length-append, Result, Ok, Err}
-use Rattle.std.specs.Prelude.{nat_lt, ◌==◌, Option, None, Some, replicate}
+use Rattle.std.proofs.Common.{◌≡◌, ℕ, zero, suc, Bool, true, false, ◌+◌, ◌-◌, ◌<◌, ◌≤◌, ◌&&◌, List, [], ◌∷◌, ◌++◌, length, take, drop, refl, ap, sym, subst, ◌∙◌, arith, append_assoc, length-append, Result, Ok, Err}
+use Rattle.std.specs.Prelude.{◌==◌}
 use Rattle.std.proofs.lemmas.Bool.{cond_both}
 use Rattle.std.proofs.lemmas.List.{take-append-drop, length-take}
 use Rattle.amh_host.specs.declared.place.Place.{Place}
 use Rattle.py_lexer.specs.declared.token.Token.{Token}
 use Rattle.py_lexer.specs.declared.line.Line.{Line}
 use Rattle.py_lexer.specs.declared.going.Going.{Going}
-use Rattle.py_lexer.specs.declared.piece.Bracket.{Bracket}
 use Rattle.py_lexer.specs.declared.piece.Opening.{Opening}
-use Rattle.py_lexer.specs.declared.piece.Front.{Front}
 use Rattle.py_lexer.specs.declared.piece.Mark.{Mark}
 use Rattle.py_lexer.specs.declared.piece.Placed.{Placed}
 use Rattle.py_lexer.specs.declared.piece.Piece.{Piece}
 use Rattle.py_lexer.specs.declared.piece.Piece.TheVariants.{Space, Tab, Comment, LineEnd, Joint, Token as Word, Open, Close, Fault, Unclosed}
 use Rattle.py_lexer.specs.declared.token.TokenForm.{TokenForm}
-use Rattle.py_lexer.specs.declared.token.TokenForm.TheVariants.{Name, Keyword, Number, Decimal, Str, FormatStr, Sign}
-use Rattle.py_lexer.specs.declared.strings.Style.{Style}
+use Rattle.py_lexer.specs.declared.token.TokenForm.TheVariants.{Sign}
 use Rattle.py_lexer.specs.Characters.{next, past, start}
-use Rattle.py_lexer.specs.Names.{is_keyword}
-use Rattle.py_lexer.specs.Grammar.{IsLineEnd, feed, return_feed, IsGap, space, tab, comment, line_end, joint, IsGrouped, single, digit, apart, IsNumber, nothing, decimal, based, IsDecimal, fractional, exponential, IsString, IsToken}
+use Rattle.py_lexer.specs.Grammar.{IsToken}
 use Rattle.py_lexer.specs.Pieces.{front_of, placed, pieces_from}
-use Rattle.py_lexer.specs.Lines.{fresh, token_of, with_token, opened, fits, innermost, without_innermost, closed, spaced, meet, meet_by, is_line_end, ends_logical, line_by, line_of, before, last_by, last_line, going_on, lines_from, logical_lines}
-use Rattle.py_lexer.specs.Strings.{quotes}
-use Rattle.py_lexer.specs.Tiles.{tokens_in, token_between, Tiles, over, gap, token}
+use Rattle.py_lexer.specs.Lines.{fresh, token_of, with_token, opened, fits, innermost, without_innermost, spaced, meet, meet_by, is_line_end, ends_logical, line_by, line_of, before, last_by, going_on, lines_from, logical_lines}
+use Rattle.py_lexer.specs.Tiles.{tokens_in, Tiles, over, gap, token}
 use Rattle.py_lexer.proofs.FrontLaws.{SoundBy, front_sound}
 use Rattle.py_lexer.specs.Longest.{IsLongest}
 use Rattle.py_lexer.proofs.LongestLaws.{ReachBy, token_longest}

@@ -1,12 +1,12 @@
 -- Each name and each keyword that is cut is one.
-use Rattle.std.proofs.Common.{◌≡◌, ℕ, zero, suc, Bool, true, false, IsTrue, ◌+◌, ◌<◌, ◌≤◌, ◌&&◌, ◌||◌, List, [], ◌∷◌, length, take, drop, refl, ap, sym, subst, ◌∙◌, arith, cond, bytes_eq}
+use Rattle.std.proofs.Common.{◌≡◌, ℕ, suc, Bool, true, false, ◌+◌, ◌≤◌, List, [], ◌∷◌, length, take, refl, sym, subst, arith, cond}
 use Rattle.std.specs.Prelude.{Option, None, Some, take_while}
 use Rattle.std.specs.List.{list_all, prefix_len}
 use Rattle.std.specs.Cmp.Lexicographic.{bytes_decides}
-use Rattle.std.proofs.lemmas.Bool.{cond_both, cond-true, and_from}
+use Rattle.std.proofs.lemmas.Bool.{cond_both, and_from}
 use Rattle.std.proofs.lemmas.List.{length-take-le}
 use Rattle.unicode_ident.specs.Ident.{is_xid_continue}
-use Rattle.unicode_normalization.specs.Forms.{nfkc, is_in_form, normalize, Nfkc}
+use Rattle.unicode_normalization.specs.Forms.{nfkc, is_in_form, Nfkc}
 use Rattle.py_lexer.specs.declared.token.TokenForm.{TokenForm}
 use Rattle.py_lexer.specs.declared.token.TokenForm.TheVariants.{Name, Keyword, Number, Decimal, Str, FormatStr, Sign}
 use Rattle.py_lexer.specs.Names.{starts_name, name_width, is_keyword, is_refused_keyword, word_form}

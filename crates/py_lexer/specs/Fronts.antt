@@ -1,5 +1,5 @@
 -- What a front of a text keeps to.
-use Rattle.std.specs.Prelude.{ℕ, ◌<◌, ◌≤◌, ◌≡◌}
+use Rattle.std.specs.Prelude.{ℕ, ◌<◌, ◌≤◌}
 use Rattle.py_lexer.specs.declared.piece.Front.{Front}
 use Rattle.py_lexer.specs.declared.piece.Piece.{Piece}
 use Rattle.py_lexer.specs.declared.piece.Piece.TheVariants.{Space, Tab, Comment, LineEnd, Joint, Token, Open, Close, Fault, Unclosed}

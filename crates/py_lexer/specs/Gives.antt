@@ -1,5 +1,5 @@
 -- What cutting a text gives, beside what the definitions say.
-use Rattle.std.specs.Prelude.{◌≡◌, ℕ, List, Result, Ok, Err}
+use Rattle.std.specs.Prelude.{◌≡◌, List, Result, Ok, Err}
 use Rattle.amh_host.specs.declared.place.Place.{Place}
 use Rattle.py_lexer.specs.declared.line.Line.{Line}
 use Rattle.py_lexer.specs.declared.line.LexStop.{LexStop}

@@ -1,5 +1,5 @@
 -- The logical lines that the pieces of a text make, or the place of its first fault.
-use Rattle.std.specs.Prelude.{ℕ, zero, suc, ◌+◌, ◌-◌, ◌==◌, ◌&&◌, Bool, true, false, List, [], ◌∷◌, ◌++◌, take, length, Option, None, Some, Result, Ok, Err, if◌then◌else◌, slice_get}
+use Rattle.std.specs.Prelude.{ℕ, ◌+◌, ◌-◌, ◌==◌, ◌&&◌, Bool, true, false, List, [], ◌∷◌, ◌++◌, take, length, Option, None, Some, Result, Ok, Err, if◌then◌else◌, slice_get}
 use Rattle.amh_host.specs.declared.place.Place.{Place}
 use Rattle.py_lexer.specs.declared.token.Token.{Token}
 use Rattle.py_lexer.specs.declared.token.TokenForm.{TokenForm}

@@ -1,5 +1,5 @@
 -- Whole numbers and decimals.
-use Rattle.std.specs.Prelude.{ℕ, zero, suc, ◌+◌, ◌-◌, ◌*◌, ◌^◌, ◌==◌, ◌&&◌, ◌||◌, nat_lt, nat_le, Bool, List, [], ◌∷◌, length, take, drop, take_while, if◌then◌else◌, slice_index}
+use Rattle.std.specs.Prelude.{ℕ, suc, ◌+◌, ◌*◌, ◌^◌, ◌==◌, ◌&&◌, ◌||◌, nat_lt, nat_le, Bool, List, [], ◌∷◌, length, take, drop, take_while, if◌then◌else◌, slice_index}
 use Rattle.std.specs.Char.{digit_value}
 use Rattle.py_lexer.specs.declared.piece.Front.{Front}
 use Rattle.py_lexer.specs.declared.piece.Piece.TheVariants.{Token, Fault}

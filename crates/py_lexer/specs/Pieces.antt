@@ -1,5 +1,5 @@
 -- A text as its pieces, one behind the other: spaces, comments, line ends and tokens.
-use Rattle.std.specs.Prelude.{ℕ, zero, suc, ◌+◌, ◌-◌, ◌==◌, ◌&&◌, nat_lt, Bool, true, false, List, [], ◌∷◌, take, drop, length, Option, None, Some, if◌then◌else◌, slice_index}
+use Rattle.std.specs.Prelude.{ℕ, zero, suc, ◌+◌, ◌-◌, ◌==◌, ◌&&◌, nat_lt, true, false, List, [], ◌∷◌, take, drop, length, Option, None, Some, if◌then◌else◌, slice_index}
 use Rattle.py_lexer.specs.Characters.{line_end, ends_line, line_width, next, past}
 use Rattle.py_lexer.specs.Names.{starts_name, name_width, word_form}
 use Rattle.py_lexer.specs.Numbers.{is_digit, number_front}

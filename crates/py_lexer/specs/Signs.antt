@@ -1,5 +1,5 @@
 -- Operators and delimiters.
-use Rattle.std.specs.Prelude.{ℕ, ◌==◌, ◌&&◌, ◌||◌, Bool, List, codes, Option, None, Some, if◌then◌else◌, slice_index}
+use Rattle.std.specs.Prelude.{ℕ, ◌==◌, ◌&&◌, ◌||◌, Bool, List, codes, Option, None, Some, if◌then◌else◌}
 use Rattle.std.specs.List.{list_any}
 use Rattle.py_lexer.specs.declared.piece.Bracket.{Bracket}
 use Rattle.py_lexer.specs.declared.piece.Bracket.TheVariants.{Round, Square, Curly}

@@ -1,5 +1,5 @@
 -- Strings and format strings.
-use Rattle.std.specs.Prelude.{ℕ, zero, suc, ◌+◌, ◌-◌, ◌==◌, ◌&&◌, ◌||◌, nat_lt, Bool, true, false, List, [], ◌∷◌, take, drop, length, codes, Option, None, Some, if◌then◌else◌, slice_index}
+use Rattle.std.specs.Prelude.{ℕ, zero, suc, ◌+◌, ◌-◌, ◌==◌, ◌&&◌, ◌||◌, Bool, true, false, List, [], ◌∷◌, take, drop, codes, Option, None, Some, if◌then◌else◌, slice_index}
 use Rattle.py_lexer.specs.Characters.{line_end, ends_line}
 use Rattle.py_lexer.specs.Names.{starts_name, name_width, word_form}
 use Rattle.py_lexer.specs.Signs.{is_in}

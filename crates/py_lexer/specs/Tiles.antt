@@ -1,5 +1,5 @@
 -- A text as its tokens and what stands between them.
-use Rattle.std.specs.Prelude.{ℕ, List, [], ◌∷◌, ◌++◌, flat_map}
+use Rattle.std.specs.Prelude.{ℕ, List, [], ◌∷◌, ◌++◌}
 use Rattle.py_lexer.specs.declared.token.Token.{Token}
 use Rattle.py_lexer.specs.declared.token.TokenForm.{TokenForm}
 use Rattle.py_lexer.specs.declared.line.Line.{Line}

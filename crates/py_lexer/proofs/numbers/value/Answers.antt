@@ -1,5 +1,4 @@
-use Rattle.std.proofs.Common.{◌≡◌, ℕ, suc, ◌<◌, ◌≤◌, ◌^◌, List, ◌∷◌, drop, length, get_or, drop-cons, arith, sym, ◌∙◌, ap}
-use Rattle.std.specs.Option.{SomeIff}
+use Rattle.std.proofs.Common.{◌≡◌, ℕ, suc, ◌<◌, ◌≤◌, List, ◌∷◌, drop, length, get_or, drop-cons, arith, sym, ◌∙◌, ap}
 use Rattle.py_lexer.specs.Numbers.{value_from, next_value}
 use Rattle.py_lexer.proofs.NumberLaws.{value_from_grows}
 use Rattle.py_lexer.proofs.numbers.value.Goals as goal

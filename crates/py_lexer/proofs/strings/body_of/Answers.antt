@@ -1,4 +1,4 @@
-use Rattle.std.proofs.Common.{◌≡◌, ◌∙◌, sym, ap, subst, arith, false, ◌<◌, ◌≤◌, ◌+◌, length, drop, length-drop}
+use Rattle.std.proofs.Common.{◌≡◌, ◌∙◌, sym, ap, subst, arith, false, ◌≤◌, ◌+◌, length, length-drop}
 use Rattle.py_lexer.specs.Strings.{closes, part_of, string_from}
 use Rattle.py_lexer.specs.Fronts.{IsPartOf}
 use Rattle.py_lexer.specs.declared.strings.Part.TheVariants.{Inner}

@@ -1,4 +1,4 @@
-use Rattle.std.proofs.Common.{◌≡◌, ◌∙◌, sym, refl, List, [], ◌∷◌, Option, None}
+use Rattle.std.proofs.Common.{◌≡◌, ◌∙◌, sym, refl, List, [], ◌∷◌, None}
 use Rattle.std.specs.Prelude.{slice_get}
 use Rattle.py_lexer.proofs.going.Going.expect_closed.Goals as goal
 
