@@ -62,7 +62,7 @@ fn shown(alloc: Global, text: &str) -> Result<String, Fail> {
 }
 
 #[test]
-fn tokens_have_their_forms(rt: HostRuntime) -> Result<(), Fail> {
+fn names_and_numbers_have_their_forms(rt: HostRuntime) -> Result<(), Fail> {
     let alloc = rt.alloc();
     for (text, expected) in [
         ("", ""),
@@ -89,6 +89,16 @@ fn tokens_have_their_forms(rt: HostRuntime) -> Result<(), Fail> {
         ("1_0.5 00 0X1F", "0 #1_0 s. #5 #0 #0 #0 nX1F;"),
         ("0x_1 1__0 1_ 0b2", "0 #0 nx_1 #1 n__0 #1 n_ #0 nb2;"),
         ("1.real 0_0 1e+ .5", "0 #1 s. nreal #0 n_0 #1 ne s+ s. #5;"),
+    ] {
+        assert_eq!(rt; shown(alloc, text)?.as_str(), expected);
+    }
+    Ok(())
+}
+
+#[test]
+fn strings_have_their_forms(rt: HostRuntime) -> Result<(), Fail> {
+    let alloc = rt.alloc();
+    for (text, expected) in [
         ("'a' \"b'\" '' \"\"", "0 t'a' t\"b'\" t'' t\"\";"),
         (
             "'''a'b''c''' \"\"\"\"\"\"",
@@ -102,6 +112,16 @@ fn tokens_have_their_forms(rt: HostRuntime) -> Result<(), Fail> {
         ("f'''{_é}\n{{{x}}}'''", "0 ff'''{_é}\n{{{x}}}''';"),
         ("F'a' b'c' ff'd'", "0 nF t'a' nb t'c' nff t'd';"),
         ("'{' '}'", "0 t'{' t'}';"),
+    ] {
+        assert_eq!(rt; shown(alloc, text)?.as_str(), expected);
+    }
+    Ok(())
+}
+
+#[test]
+fn signs_have_their_forms(rt: HostRuntime) -> Result<(), Fail> {
+    let alloc = rt.alloc();
+    for (text, expected) in [
         ("()[]{},:.=", "0 s( s) s[ s] s{ s} s, s: s. s=;"),
         ("==!=<<=>>=", "0 s== s!= s<<= s>>=;"),
         ("< <= > >= << >>", "0 s< s<= s> s>= s<< s>>;"),
@@ -115,6 +135,16 @@ fn tokens_have_their_forms(rt: HostRuntime) -> Result<(), Fail> {
         ),
         ("/= **= := <> ~=", "0 s/ s= s** s= s: s= s< s> s~ s=;"),
         ("<<< ... >>>=", "0 s<< s< s. s. s. s>> s>=;"),
+    ] {
+        assert_eq!(rt; shown(alloc, text)?.as_str(), expected);
+    }
+    Ok(())
+}
+
+#[test]
+fn lines_join_and_have_their_indents(rt: HostRuntime) -> Result<(), Fail> {
+    let alloc = rt.alloc();
+    for (text, expected) in [
         ("a\tb", "0 na nb;"),
         ("if a:\n    b\n\n  # c\n  d\n", "0 kif na s:;4 nb;2 nd;"),
         ("x = (1,\n\t # c\n\n 2)\ny", "0 nx s= s( #1 s, #2 s);0 ny;"),
