@@ -31,6 +31,7 @@ with_token form p g = record g { in_indent = false; tokens = g.tokens ++ token_o
 abbrev pub opened : Bracket → Placed → Going → Going
 opened b p g = record g { brackets = g.brackets ++ record { bracket = b; place = p.from.place } ∷ [] }
 
+-- the two are of one pair
 abbrev pub same_bracket : Bracket → Bracket → Bool
 same_bracket Round Round = true
 same_bracket Round Square = false
@@ -55,6 +56,7 @@ innermost os = slice_get os (length os - 1)
 abbrev pub without_innermost : Going → Going
 without_innermost g = record g { brackets = take (length g.brackets - 1) g.brackets }
 
+-- after a bracket that closes the one that was opened last; else it is told at its place
 abbrev pub closed : Bracket → Placed → Going → Result Going Place
 closed b p g =
     if fits b (innermost g.brackets) then Ok (with_token Sign p (without_innermost g)) else Err p.from.place
@@ -81,9 +83,11 @@ meet_by (Close b) p g = closed b p g
 meet_by Fault p g = Err p.upto.place
 meet_by Unclosed p g = Err (first_opened g.brackets p.from.place)
 
+-- the same by the piece itself
 unfoldable pub meet : Placed → Going → Result Going Place
 meet p g = meet_by p.piece p g
 
+-- the piece ends its line in the text
 abbrev pub is_line_end : Piece → Bool
 is_line_end LineEnd = true
 is_line_end Space = false
@@ -100,6 +104,7 @@ is_line_end Unclosed = false
 abbrev pub ends_logical : Placed → Going → Bool
 ends_logical p g = is_line_end p.piece && (length g.brackets == 0)
 
+-- a line of these tokens; without a token there is none
 abbrev pub line_by : ℕ → List Token → List Line
 line_by indent [] = []
 line_by indent (t ∷ ts) = record { indent = indent; place = t.place; tokens = t ∷ ts } ∷ []
@@ -113,6 +118,7 @@ abbrev pub before : List Line → Result (List Line) Place → Result (List Line
 before ls (Ok more) = Ok (ls ++ more)
 before ls (Err place) = Err place
 
+-- what a text gives at its end, by the brackets that stand open
 abbrev pub last_by : List Opening → Going → Result (List Line) Place
 last_by [] g = Ok (line_of g)
 last_by (o ∷ os) g = Err o.place
@@ -121,6 +127,7 @@ last_by (o ∷ os) g = Err o.place
 abbrev pub last_line : Going → Result (List Line) Place
 last_line g = last_by g.brackets g
 
+-- a fault is the first, since nothing behind it is looked at
 abbrev pub going_on : Result Going Place → (Going → Result (List Line) Place) → Result (List Line) Place
 going_on (Ok g) more = more g
 going_on (Err place) more = Err place

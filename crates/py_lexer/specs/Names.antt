@@ -19,13 +19,16 @@ abbrev pub and_to_class : List (List ℕ)
 and_to_class =
     codes "and" ∷ codes "as" ∷ codes "assert" ∷ codes "async" ∷ codes "await" ∷ codes "break" ∷ codes "class" ∷ []
 
+-- the keywords from `continue` on
 abbrev pub continue_to_from : List (List ℕ)
 continue_to_from =
     codes "continue" ∷ codes "def" ∷ codes "elif" ∷ codes "else" ∷ codes "False" ∷ codes "for" ∷ codes "from" ∷ []
 
+-- the keywords from `if` on
 abbrev pub if_to_or : List (List ℕ)
 if_to_or = codes "if" ∷ codes "import" ∷ codes "in" ∷ codes "is" ∷ codes "None" ∷ codes "not" ∷ codes "or" ∷ []
 
+-- the keywords from `pass` on
 abbrev pub pass_to_with : List (List ℕ)
 pass_to_with = codes "pass" ∷ codes "raise" ∷ codes "return" ∷ codes "True" ∷ codes "while" ∷ codes "with" ∷ []
 
@@ -39,10 +42,12 @@ refused_keywords =
 abbrev pub is_among : List (List ℕ) → List ℕ → Bool
 is_among words word = list_any (λ w. bytes_eq word w) words
 
+-- the word is a keyword of the subset
 unfoldable pub is_keyword : List ℕ → Bool
 is_keyword word =
     is_among and_to_class word || is_among continue_to_from word || is_among if_to_or word || is_among pass_to_with word
 
+-- the word is a keyword of Python that the subset leaves out
 unfoldable pub is_refused_keyword : List ℕ → Bool
 is_refused_keyword word = is_among refused_keywords word
 

@@ -38,6 +38,7 @@ value_from base n (c ∷ cs) = value_from base (next_value base n c) cs
 abbrev pub named_base : ℕ → ℕ
 named_base c = if c == 120 then 16 else (if c == 111 then 8 else (if c == 98 then 2 else 0))
 
+-- the whole number that begins with a zero and names this base; without a digit of it, the zero alone
 abbrev pub numeral_by : ℕ → List ℕ → Numeral
 numeral_by base cs =
     if nat_lt 0 base && is_digit base (slice_index cs 2)
@@ -92,6 +93,7 @@ parts_of cs =
 abbrev pub is_decimal : Parts → Bool
 is_decimal p = nat_lt 0 p.fraction || nat_lt 0 p.lead
 
+-- how many characters a decimal takes
 abbrev pub decimal_width : Parts → ℕ
 decimal_width p = p.mantissa + p.lead + p.exponent
 

@@ -30,6 +30,7 @@ sign_front cs =
     let width = sign_width (slice_index cs 0) (slice_index cs 1) (slice_index cs 2) in
     if nat_lt 0 width then record { piece = Token Sign; width = width } else fault
 
+-- a closing bracket, or a sign
 abbrev pub closed_front : Option Bracket → List ℕ → Front
 closed_front None cs = sign_front cs
 closed_front (Some b) cs = record { piece = Close b; width = 1 }
@@ -39,6 +40,7 @@ abbrev pub bracket_front : Option Bracket → List ℕ → Front
 bracket_front None cs = closed_front (closed_by (slice_index cs 0)) cs
 bracket_front (Some b) cs = record { piece = Open b; width = 1 }
 
+-- a word of this form, or a fault where it may not stand
 abbrev pub word_by : Option TokenForm → ℕ → Front
 word_by None width = fault
 word_by (Some form) width = record { piece = Token form; width = width }
