@@ -1,0 +1,60 @@
+// Texts that several nodes of a tree may share.
+ghost use Rattle.std.specs.Prelude.{◌≡◌, IfOk};
+
+use amh_host::{Items, NoMemory, Text};
+use std::alloc::Global;
+use std::marker::Model;
+use std::rc::Rc;
+
+/// A handle of a text, which contracts see as its bytes.
+#[derive(Drop)]
+pub struct Name {
+    text: Rc<Text>,
+}
+
+impl Model for Name {
+    ghost use Rattle.std.specs.Prelude.{List, ℕ};
+
+    ghost Value = { List ℕ };
+
+    ghost view = { λ a. a.text.value };
+}
+
+impl Name {
+    /// The handle of this text.
+    pub fn new(alloc: Global, text: Text) -> Result<Name, NoMemory>
+        ensures { IfOk result (λ name. name ≡ text) }
+    {
+        match Rc::new(alloc, text) {
+            Ok(text) => Ok(Name { text }),
+            Err(_) => Err(NoMemory),
+        }
+    }
+
+    /// One handle more of the same text.
+    pub fn share(&self) -> Result<Name, NoMemory>
+        ensures { IfOk result (λ name. name ≡ self.now) }
+    {
+        match self.text.clone() {
+            Ok(text) => Ok(Name { text }),
+            Err(_) => Err(NoMemory),
+        }
+    }
+
+    /// The text.
+    pub fn as_str(&self) -> &str
+        ensures { result.now ≡ self.now }
+    {
+        self.text.as_str()
+    }
+}
+
+/// A part of a format string: text, or the name between braces.
+#[derive(Drop)]
+pub enum Piece {
+    Text(Name),
+    Hole(Name),
+}
+
+/// The parts of a format string, in order.
+pub type Pieces = Items<Piece>;
