@@ -31,7 +31,7 @@ mutual
     Binary : Place → Tree → Links → Tree
     Compare : Place → Tree → Links → Tree
     Boolean : Place → Tree → Links → Tree
-    Choice : Place → (yes test no : Tree) → Tree
+    Choice : Place → (chosen test other : Tree) → Tree
 
   -- expressions one after another
   pub data Trees : Type 0 where

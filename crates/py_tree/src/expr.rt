@@ -1,8 +1,11 @@
 // Expressions. An `Expr` is a handle: one more of it costs a count.
+ghost use Rattle.std.specs.Prelude.{◌≡◌, IfOk};
+ghost use Rattle.py_tree.specs.Seen.{tree, kind_tree};
 
 use crate::name::{Name, Pieces};
 use crate::number::{Amount, Decimal};
-use amh_host::Place;
+use amh_host::{NoMemory, Place};
+use std::alloc::Global;
 use std::rc::Rc;
 
 /// The constants that are keywords.
@@ -85,11 +88,11 @@ pub enum ExprKind {
     Compare(Expr, Vec<Link>),
     /// A first operand, then `and` each time or `or` each time, with an operand each.
     Boolean(Expr, Vec<Link>),
-    /// `yes if test else no`.
+    /// `chosen if test else other`.
     Choice {
-        yes: Expr,
+        chosen: Expr,
         test: Expr,
-        no: Expr,
+        other: Expr,
     },
 }
 
@@ -141,4 +144,29 @@ pub enum Argument {
     Positional(Expr),
     Starred(Expr),
     Keyword(Name, Expr),
+}
+
+impl Expr {
+    /// A node of this kind at this place.
+    pub fn new(alloc: Global, place: Place, kind: ExprKind) -> Result<Expr, NoMemory>
+        ensures { IfOk result (λ e. tree e ≡ kind_tree kind place) }
+    {
+        match Rc::new(alloc, kind) {
+            Ok(kind) => Ok(Expr { place, kind }),
+            Err(_) => Err(NoMemory),
+        }
+    }
+
+    /// One handle more of the same node.
+    pub fn share(&self) -> Result<Expr, NoMemory>
+        ensures { IfOk result (λ e. tree e ≡ tree self.now) }
+    {
+        match self.kind.clone() {
+            Ok(kind) => Ok(Expr {
+                place: self.place,
+                kind,
+            }),
+            Err(_) => Err(NoMemory),
+        }
+    }
 }
