@@ -56,5 +56,46 @@ pub enum Piece {
     Hole(Name),
 }
 
-/// The parts of a format string, in order.
-pub type Pieces = Items<Piece>;
+/// A handle of the parts of a format string, which contracts see as their list.
+#[derive(Drop)]
+pub struct Pieces {
+    items: Rc<Items<Piece>>,
+}
+
+impl Model for Pieces {
+    ghost use Rattle.std.specs.Prelude.{List};
+    ghost use Rattle.py_tree.specs.declared.name.Piece.{Piece};
+
+    ghost Value = { List Piece };
+
+    ghost view = { λ a. a.items.value };
+}
+
+impl Pieces {
+    /// The handle of these parts.
+    pub fn new(alloc: Global, items: Items<Piece>) -> Result<Pieces, NoMemory>
+        ensures { IfOk result (λ pieces. pieces ≡ items) }
+    {
+        match Rc::new(alloc, items) {
+            Ok(items) => Ok(Pieces { items }),
+            Err(_) => Err(NoMemory),
+        }
+    }
+
+    /// One handle more of the same parts.
+    pub fn share(&self) -> Result<Pieces, NoMemory>
+        ensures { IfOk result (λ pieces. pieces ≡ self.now) }
+    {
+        match self.items.clone() {
+            Ok(items) => Ok(Pieces { items }),
+            Err(_) => Err(NoMemory),
+        }
+    }
+
+    /// The parts, in order.
+    pub fn as_slice(&self) -> &[Piece]
+        ensures { result.now ≡ self.now }
+    {
+        self.items.as_slice()
+    }
+}

@@ -1,0 +1,7 @@
+pub mod Words
+pub mod Values
+pub mod Forms
+pub mod Seen
+pub mod Grammar
+pub mod Readers
+pub mod Reading
