@@ -3,5 +3,3 @@ pub mod Values
 pub mod Forms
 pub mod Seen
 pub mod Grammar
-pub mod Readers
-pub mod Reading

@@ -1,5 +1,5 @@
 -- Words: tokens with their values.
-use Rattle.std.specs.Prelude.{ℕ, Bool, true, false, List, [], ◌∷◌, Option, Some, None, is_some, if◌then◌else◌}
+use Rattle.std.specs.Prelude.{ℕ, Bool, true, false, List, [], ◌∷◌, Option, Some, None, is_some, option_and_then, if◌then◌else◌}
 use Rattle.lists.specs.Texts.{text_eq}
 use Rattle.amh_host.specs.declared.place.Place.{Place}
 use Rattle.py_tree.specs.declared.name.Piece.{Piece}
@@ -57,3 +57,7 @@ next_sign this = next (λ m. is_text this (sign_of m))
 
 abbrev pub next_key : List ℕ → List Word → Bool
 next_key this = next (λ m. is_text this (keyword_of m))
+
+-- the value of the text of a mark, where both are there
+abbrev pub valued : {A : Type 0} → (Mark → Option (List ℕ)) → (List ℕ → Option A) → Mark → Option A
+valued text value m = option_and_then value (text m)
