@@ -3,3 +3,5 @@ pub mod Values
 pub mod Forms
 pub mod Seen
 pub mod Grammar
+pub mod Readers
+pub mod Reading

@@ -23,3 +23,22 @@ pub struct Word {
     pub mark: Mark,
     pub place: Place,
 }
+
+/// Why a reader read nothing.
+#[derive(Clone, Copy, Debug, PartialEq, Eq, Drop)]
+pub enum Stop {
+    /// Nothing that it reads stands there.
+    Unread,
+    /// No memory was left.
+    NoMemory,
+}
+
+/// The rules of the grammar that call themselves inside a bracket.
+#[derive(Clone, Copy, Debug, PartialEq, Eq, Drop)]
+pub enum Kind {
+    Target,
+    Unary,
+    Not,
+    Or,
+    Expr,
+}

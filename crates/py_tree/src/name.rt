@@ -1,5 +1,6 @@
 // Texts that several nodes of a tree may share.
 ghost use Rattle.std.specs.Prelude.{◌≡◌, IfOk};
+ghost use Rattle.lists.specs.Texts.{text_eq};
 
 use amh_host::{Items, NoMemory, Text};
 use std::alloc::Global;
@@ -46,6 +47,13 @@ impl Name {
         ensures { result.now ≡ self.now }
     {
         self.text.as_str()
+    }
+
+    /// Whether it is this text.
+    pub fn is(&self, this: &str) -> bool
+        ensures { result ≡ text_eq self.now this.now }
+    {
+        self.text.is(this)
     }
 }
 
