@@ -4,6 +4,7 @@
 //! what a reader takes off the front of some words; the code is that reader.
 #![tactic(auto)]
 
+mod operator;
 mod take;
 mod word;
 
