@@ -32,7 +32,7 @@ Items D = D ▸ More (Plain D)
 
 -- "for" targets "in" or [ "if" or ]
 abbrev pub Comp : Deeper → Means (Deep Each)
-Comp I = Made each_seen (Keyed (codes "for") ▸ (Made tuple_seen (Items (I a_target)) ▸ (Keyed (codes "in") ▸ (I an_or ▸ Maybe (Keyed (codes "if") ▸ I an_or)))))
+Comp I = Made (λ x. each_seen x.1.0 x.1.1.1.0 x.1.1.1.1) (Keyed (codes "for") ▸ (Made tuple_seen (Items (I a_target)) ▸ (Keyed (codes "in") ▸ (I an_or ▸ Maybe (Keyed (codes "if") ▸ I an_or)))))
 
 -- what follows a first thing in brackets: a comprehension, or more things
 abbrev pub Others : {A : Type 0} → Deeper → Means (Deep A) → Means (Rest A)
@@ -45,13 +45,13 @@ abbrev pub AmountOf : Means Amount
 AmountOf = Made whole_amount (One number_of) ∣ Made decimal_amount (One decimal_of)
 
 abbrev pub Round : Deeper → Means Seen
-Round I = Made round_seen (Signed (codes "(") ▸ (Maybe (Items (I an_expr)) ▸ Signed (codes ")")))
+Round I = Made (λ x. round_seen x.0 x.1.0) (Signed (codes "(") ▸ (Maybe (Items (I an_expr)) ▸ Signed (codes ")")))
 
 abbrev pub Square : Deeper → Means Seen
-Square I = Made display_seen (Signed (codes "[") ▸ (Maybe (I an_expr ▸ Others I (Plain (I an_expr))) ▸ Signed (codes "]")))
+Square I = Made (λ x. display_seen x.0 x.1.0) (Signed (codes "[") ▸ (Maybe (I an_expr ▸ Others I (Plain (I an_expr))) ▸ Signed (codes "]")))
 
 abbrev pub Curly : Deeper → Means Seen
-Curly I = Made dict_seen (Signed (codes "{") ▸ (Maybe (Pair I ▸ Others I (Pair I)) ▸ Signed (codes "}")))
+Curly I = Made (λ x. dict_seen x.0 x.1.0) (Signed (codes "{") ▸ (Maybe (Pair I ▸ Others I (Pair I)) ▸ Signed (codes "}")))
 
 abbrev pub Atom : Deeper → Means Seen
 Atom I =
@@ -81,7 +81,7 @@ IndexRule I = Made index_seen (Such index_fits (Maybe (I an_expr) ▸ Maybe (Sig
 abbrev pub Trail : Deeper → Means (Deep Trailer)
 Trail I =
     Made attribute_seen (Signed (codes ".") ▸ One name_of)
-    ∣ Made call_seen (Signed (codes "(") ▸ (Maybe (Args I) ▸ Signed (codes ")")))
+    ∣ Made (λ x. call_seen x.1.0) (Signed (codes "(") ▸ (Maybe (Args I) ▸ Signed (codes ")")))
     ∣ Made bracketed_index (Signed (codes "[") ▸ (IndexRule I ▸ Signed (codes "]")))
 
 abbrev pub Primary : Deeper → Means Seen

@@ -1,5 +1,5 @@
 -- The reader of expressions, by precedence: the words that come next tell each choice, so nothing is read twice.
-use Rattle.std.specs.Prelude.{◌≡◌, ◌==◌, ◌||◌, ◌&&◌, is_some, not, ℕ, zero, suc, Bool, true, false, List, [], ◌∷◌, Option, Some, None, codes}
+use Rattle.std.specs.Prelude.{nat_lt, if◌then◌else◌, ◌≡◌, ◌==◌, ◌||◌, ◌&&◌, is_some, not, ℕ, zero, suc, Bool, true, false, List, [], ◌∷◌, Option, Some, None, codes}
 use Rattle.lists.specs.Texts.{text_eq}
 use Rattle.amh_host.specs.declared.place.Place.{Place}
 use Rattle.py_tree.specs.declared.expr.Operator.{Operator}
@@ -61,7 +61,7 @@ abbrev pub if_part : Inner → Read (Option (Place × Seen))
 if_part i = maybe (next_key (codes "if")) (key (codes "if") ▹ i an_or)
 
 abbrev pub comp : Inner → Read (Deep Each)
-comp i = made each_seen (key (codes "for") ▹ (made tuple_seen (items (i a_target)) ▹ (key (codes "in") ▹ (i an_or ▹ if_part i))))
+comp i = made (λ x. each_seen x.1.0 x.1.1.1.0 x.1.1.1.1) (key (codes "for") ▹ (made tuple_seen (items (i a_target)) ▹ (key (codes "in") ▹ (i an_or ▹ if_part i))))
 
 abbrev pub others : {A : Type 0} → Inner → (List Word → Bool) → Read (Deep A) → Read (Rest A)
 others i test r = choose (next_key (codes "for")) (made over (comp i)) (made more (more_of test r))
@@ -80,19 +80,19 @@ abbrev pub inside : {A : Type 0} → List ℕ → Read A → Read (Option A)
 inside close r = maybe (λ ws. not (next_sign close ws)) r
 
 abbrev pub round : Inner → Read Seen
-round i = made round_seen (sign (codes "(") ▹ (inside (codes ")") (items (i an_expr)) ▹ sign (codes ")")))
+round i = made (λ x. round_seen x.0 x.1.0) (sign (codes "(") ▹ (inside (codes ")") (items (i an_expr)) ▹ sign (codes ")")))
 
 abbrev pub square_inside : Inner → Read (Seen × Rest Tree)
 square_inside i = i an_expr ▹ others i begins (plain_of (i an_expr))
 
 abbrev pub square : Inner → Read Seen
-square i = made display_seen (sign (codes "[") ▹ (inside (codes "]") (square_inside i) ▹ sign (codes "]")))
+square i = made (λ x. display_seen x.0 x.1.0) (sign (codes "[") ▹ (inside (codes "]") (square_inside i) ▹ sign (codes "]")))
 
 abbrev pub curly_inside : Inner → Read (Deep (Tree × Tree) × Rest (Tree × Tree))
 curly_inside i = pair i ▹ others i begins (pair i)
 
 abbrev pub curly : Inner → Read Seen
-curly i = made dict_seen (sign (codes "{") ▹ (inside (codes "}") (curly_inside i) ▹ sign (codes "}")))
+curly i = made (λ x. dict_seen x.0 x.1.0) (sign (codes "{") ▹ (inside (codes "}") (curly_inside i) ▹ sign (codes "}")))
 
 abbrev pub bracketed : Inner → Read Seen
 bracketed i = choose (next_sign (codes "(")) (round i) (choose (next_sign (codes "[")) (square i) (curly i))
@@ -142,7 +142,7 @@ abbrev pub attribute : Read (Deep Trailer)
 attribute = made attribute_seen (sign (codes ".") ▹ one name_of)
 
 abbrev pub call : Inner → Read (Deep Trailer)
-call i = made call_seen (sign (codes "(") ▹ (inside (codes ")") (args i) ▹ sign (codes ")")))
+call i = made (λ x. call_seen x.1.0) (sign (codes "(") ▹ (inside (codes ")") (args i) ▹ sign (codes ")")))
 
 abbrev pub indexed : Inner → Read (Deep Trailer)
 indexed i = made bracketed_index (sign (codes "[") ▹ (index i ▹ sign (codes "]")))
@@ -200,6 +200,10 @@ level i room (suc k) = chain k (level i room k)
 
 abbrev pub negated : Inner → ℕ → Read Seen
 negated i room = choose (next_key (codes "not")) (made not_seen (key (codes "not") ▹ i a_not)) (level i room 7)
+
+-- the operands of a level
+abbrev pub operand : Inner → ℕ → ℕ → Read Seen
+operand i room k = if nat_lt k 7 then level i room k else if k == 7 then negated i room else chain 7 (negated i room)
 
 abbrev pub either : Inner → ℕ → Read Seen
 either i room = chain 8 (chain 7 (negated i room))

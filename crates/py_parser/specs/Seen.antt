@@ -71,20 +71,26 @@ Listed A = Deep (List A) × Option Place
 abbrev pub plain : Place × Seen → Deep Tree
 plain x = (x.1.tree, x.1.depth)
 
+abbrev pub is_empty : {A : Type 0} → List A → Bool
+is_empty [] = true
+is_empty (x ∷ xs) = false
+
+-- whether nothing follows the first
+abbrev pub is_lone : {A : Type 0} → Listed A → Bool
+is_lone l = is_empty l.0.0 && not (is_some l.1)
+
 -- one expression with no comma is that expression, and else a tuple that begins at p
-abbrev pub tuple_tree : Place → Tree → List Tree → Option Place → Tree
-tuple_tree p e [] None = e
-tuple_tree p e [] (Some comma) = Tuple p (some e none)
-tuple_tree p e (t ∷ ts) comma = Tuple p (trees (e ∷ t ∷ ts))
+abbrev pub tuple_tree : Place → Tree → Listed Tree → Tree
+tuple_tree p e l = if is_lone l then e else Tuple p (trees (e ∷ l.0.0))
 
 abbrev pub tuple_seen : Seen × Listed Tree → Seen
-tuple_seen x = seen x.0.place (tuple_tree x.0.place x.0.tree x.1.0.0 x.1.1) (max x.0.depth x.1.0.1)
+tuple_seen x = seen x.0.place (tuple_tree x.0.place x.0.tree x.1) (max x.0.depth x.1.0.1)
 
 -- ---- brackets
 
-abbrev pub round_seen : Place × (Option (Seen × Listed Tree) × Place) → Seen
-round_seen (p, (None, q)) = seen p (Tuple p none) 0
-round_seen (p, (Some x, q)) = seen p (tuple_tree p x.0.tree x.1.0.0 x.1.1) (suc (max x.0.depth x.1.0.1))
+abbrev pub round_seen : Place → Option (Seen × Listed Tree) → Seen
+round_seen p None = seen p (Tuple p none) 0
+round_seen p (Some x) = seen p (tuple_tree p x.0.tree x.1) (suc (max x.0.depth x.1.0.1))
 
 -- what may follow the first part in square or curly brackets
 pub data Rest (A : Type 0) : Type 0 where
@@ -99,9 +105,9 @@ abbrev pub rest_depth : {A : Type 0} → Rest A → ℕ
 rest_depth (over c) = c.1
 rest_depth (more l) = l.0.1
 
-abbrev pub display_seen : Place × (Option (Seen × Rest Tree) × Place) → Seen
-display_seen (p, (None, q)) = seen p (Display p none) 0
-display_seen (p, (Some x, q)) = seen p (display_tree p x.0.tree x.1) (suc (max x.0.depth (rest_depth x.1)))
+abbrev pub display_seen : Place → Option (Seen × Rest Tree) → Seen
+display_seen p None = seen p (Display p none) 0
+display_seen p (Some x) = seen p (display_tree p x.0.tree x.1) (suc (max x.0.depth (rest_depth x.1)))
 
 abbrev pub pair_seen : Seen × (Place × Seen) → Deep (Tree × Tree)
 pair_seen x = ((x.0.tree, x.1.1.tree), max x.0.depth x.1.1.depth)
@@ -113,9 +119,9 @@ abbrev pub dict_tree : Place → Tree × Tree → Rest (Tree × Tree) → Tree
 dict_tree p e (over c) = DictOf p e.0 e.1 c.0
 dict_tree p e (more l) = Dict p (pairs (e ∷ l.0.0))
 
-abbrev pub dict_seen : Place × (Option (Deep (Tree × Tree) × Rest (Tree × Tree)) × Place) → Seen
-dict_seen (p, (None, q)) = seen p (Dict p (pairs [])) 0
-dict_seen (p, (Some x, q)) = seen p (dict_tree p x.0.0 x.1) (suc (max x.0.1 (rest_depth x.1)))
+abbrev pub dict_seen : Place → Option (Deep (Tree × Tree) × Rest (Tree × Tree)) → Seen
+dict_seen p None = seen p (Dict p (pairs [])) 0
+dict_seen p (Some x) = seen p (dict_tree p x.0.0 x.1) (suc (max x.0.1 (rest_depth x.1)))
 
 -- `for targets in source if condition`
 abbrev pub condition_tree : Option (Place × Seen) → Option Tree
@@ -126,8 +132,8 @@ abbrev pub condition_depth : Option (Place × Seen) → ℕ
 condition_depth None = 0
 condition_depth (Some x) = x.1.depth
 
-abbrev pub each_seen : Place × (Seen × (Place × (Seen × Option (Place × Seen)))) → Deep Each
-each_seen (p, (t, (q, (s, c)))) = (each t.tree s.tree (perhaps (condition_tree c)), max (max t.depth s.depth) (condition_depth c))
+abbrev pub each_seen : Seen → Seen → Option (Place × Seen) → Deep Each
+each_seen t s c = (each t.tree s.tree (perhaps (condition_tree c)), max (max t.depth s.depth) (condition_depth c))
 
 -- ---- trailers
 
@@ -162,9 +168,9 @@ call_tree (Positional e) (over c) = CallOf e c.0
 call_tree (Starred e) (over c) = CallOf e c.0
 call_tree (Keyword n e) (over c) = CallOf e c.0
 
-abbrev pub call_seen : Place × (Option (Deep Argument × Rest Argument) × Place) → Deep Trailer
-call_seen (p, (None, q)) = (Call no_argument, 0)
-call_seen (p, (Some x, q)) = (call_tree x.0.0 x.1, suc (max x.0.1 (rest_depth x.1)))
+abbrev pub call_seen : Option (Deep Argument × Rest Argument) → Deep Trailer
+call_seen None = (Call no_argument, 0)
+call_seen (Some x) = (call_tree x.0.0 x.1, suc (max x.0.1 (rest_depth x.1)))
 
 -- a part of an index that may be left out
 abbrev pub part_tree : Option Seen → Perhaps
@@ -199,8 +205,7 @@ bracketed_index x = x.1.0
 
 -- a first part, and what trails it
 abbrev pub primary_seen : Seen × Deep (List Trailer) → Seen
-primary_seen (e, ([], d)) = e
-primary_seen (e, (t ∷ ts, d)) = seen e.place (Trailed e.place e.tree (trailers (t ∷ ts))) (max e.depth d)
+primary_seen x = if is_empty x.1.0 then x.0 else seen x.0.place (Trailed x.0.place x.0.tree (trailers x.1.0)) (max x.0.depth x.1.1)
 
 -- ---- operators
 
@@ -230,8 +235,7 @@ abbrev pub chain_tree : ℕ → Place → Tree → Links → Tree
 chain_tree k p e ls = if nat_lt k 6 then Binary p e ls else if nat_lt 6 k then Boolean p e ls else Compare p e ls
 
 abbrev pub chain_seen : ℕ → Seen × Deep (List (Operator × Tree)) → Seen
-chain_seen k (e, ([], d)) = e
-chain_seen k (e, (l ∷ ls, d)) = seen e.place (chain_tree k e.place e.tree (links (l ∷ ls))) (max e.depth d)
+chain_seen k x = if is_empty x.1.0 then x.0 else seen x.0.place (chain_tree k x.0.place x.0.tree (links x.1.0)) (max x.0.depth x.1.1)
 
 -- `if else` counts as a bracket round its three operands
 abbrev pub ChoiceParts : Type 0

@@ -4,7 +4,9 @@
 //! what a reader takes off the front of some words; the code is that reader.
 #![tactic(auto)]
 
+mod node;
 mod operator;
+mod phrase;
 mod take;
 mod word;
 
