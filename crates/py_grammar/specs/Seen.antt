@@ -258,17 +258,20 @@ is_place (CallOf e c) = false
 is_place (Index e) = true
 is_place (Slice a b c) = true
 
-abbrev pub ends_in_place : Trailers → Bool
-ends_in_place no_trailer = false
-ends_in_place (trailer t no_trailer) = is_place t
-ends_in_place (trailer t (trailer u ts)) = ends_in_place (trailer u ts)
+-- whether the last of them is one, or b where there is none
+abbrev pub ends_in_place : Bool → Trailers → Bool
+ends_in_place b no_trailer = b
+ends_in_place b (trailer t ts) = ends_in_place (is_place t) ts
+
+abbrev pub some_there : Trees → Bool
+some_there none = false
+some_there (some t ts) = true
 
 abbrev mutual
   pub is_target : Tree → Bool
   is_target (Name p n) = true
-  is_target (Trailed p e ts) = ends_in_place ts
-  is_target (Tuple p none) = false
-  is_target (Tuple p (some t ts)) = is_target t && are_targets ts
+  is_target (Trailed p e ts) = ends_in_place false ts
+  is_target (Tuple p ts) = some_there ts && are_targets ts
   is_target _ = false
 
   pub are_targets : Trees → Bool

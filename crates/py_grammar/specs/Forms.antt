@@ -2,10 +2,10 @@
 -- Each is a relation between the words of a text and what they stand for.
 use Rattle.std.specs.Prelude.{◌≡◌, ◌⊎◌, ℕ, Bool, List, [], ◌∷◌, ◌++◌, Option, Some, None, IsTrue}
 use Rattle.amh_host.specs.declared.place.Place.{Place}
-use Rattle.py_parser.specs.declared.word.Word.{Word}
-use Rattle.py_parser.specs.declared.word.Mark.{Mark}
-use Rattle.py_parser.specs.declared.word.Mark.TheVariants as mark
-use Rattle.py_parser.specs.Words.{word}
+use Rattle.py_grammar.specs.declared.word.Word.{Word}
+use Rattle.py_grammar.specs.declared.word.Mark.{Mark}
+use Rattle.py_grammar.specs.declared.word.Mark.TheVariants as mark
+use Rattle.py_grammar.specs.Words.{word}
 
 -- which words stand for which value
 abbrev pub Means : Type 0 → Type 1

@@ -5,4 +5,4 @@ pub mod Seen
 pub mod Grammar
 pub mod Readers
 pub mod Reading
-pub mod Phrases
+pub mod Laws

@@ -1,11 +1,11 @@
 -- What readers are made of: each takes what it reads off the front of some words and leaves the rest.
 use Rattle.std.specs.Prelude.{◌≡◌, ℕ, zero, suc, Bool, true, false, if◌then◌else◌, length, List, [], ◌∷◌, ◌++◌, Option, Some, None, Result, Ok, Err}
 use Rattle.amh_host.specs.declared.place.Place.{Place}
-use Rattle.py_parser.specs.declared.word.Word.{Word}
-use Rattle.py_parser.specs.declared.word.Mark.{Mark}
-use Rattle.py_parser.specs.declared.word.Stop.{Stop}
-use Rattle.py_parser.specs.declared.word.Stop.TheVariants.{Unread, NoMemory}
-use Rattle.py_parser.specs.Words.{sign_of, keyword_of, is_text}
+use Rattle.py_grammar.specs.declared.word.Word.{Word}
+use Rattle.py_grammar.specs.declared.word.Mark.{Mark}
+use Rattle.py_grammar.specs.declared.word.Stop.{Stop}
+use Rattle.py_grammar.specs.declared.word.Stop.TheVariants.{Unread, NoMemory}
+use Rattle.py_grammar.specs.Words.{sign_of, keyword_of, is_text}
 
 abbrev pub Read : Type 0 → Type 0
 Read A = List Word → Option (A × List Word)

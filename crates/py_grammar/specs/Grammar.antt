@@ -7,14 +7,14 @@ use Rattle.py_tree.specs.declared.expr.Operator.{Operator}
 use Rattle.py_tree.specs.declared.expr.Operator.TheVariants as op
 use Rattle.py_tree.specs.declared.number.Amount.{Amount}
 use Rattle.py_tree.specs.Tree.{Tree, Each, Trailer, Argument}
-use Rattle.py_parser.specs.declared.word.Word.{Word}
-use Rattle.py_parser.specs.declared.word.Kind.{Kind}
-use Rattle.py_parser.specs.declared.word.Kind.TheVariants.{Target as a_target, Unary as a_unary, Not as a_not, Or as an_or, Expr as an_expr}
-use Rattle.py_parser.specs.declared.word.Mark.{Mark}
-use Rattle.py_parser.specs.Words.{name_of, keyword_of, sign_of, number_of, decimal_of, string_of, format_of, valued}
-use Rattle.py_parser.specs.Values.{constant_of, unary_of, sign_at, key_at}
-use Rattle.py_parser.specs.Forms.{Means, Signed, Keyed, One, ◌▸◌, ◌∣◌, Made, Such, Maybe, Many}
-use Rattle.py_parser.specs.Seen.{Seen, Deep, Listed, Rest, over, more, all_of, name_seen, constant_seen, decimal_seen, string_seen, format_seen, whole_amount, decimal_amount, number_seen, plain, tuple_seen, round_seen, display_seen, pair_seen, after_comma, dict_seen, each_seen, attribute_seen, starred_seen, keyword_seen, positional_seen, over_fits, call_seen, index_fits, index_seen, bracketed_index, primary_seen, await_seen, power_fits, power_seen, unary_seen, not_seen, link_seen, chain_seen, choice_fits, choice_seen, seen_is_target}
+use Rattle.py_grammar.specs.declared.word.Word.{Word}
+use Rattle.py_grammar.specs.declared.word.Kind.{Kind}
+use Rattle.py_grammar.specs.declared.word.Kind.TheVariants.{Target as a_target, Unary as a_unary, Not as a_not, Or as an_or, Expr as an_expr}
+use Rattle.py_grammar.specs.declared.word.Mark.{Mark}
+use Rattle.py_grammar.specs.Words.{name_of, keyword_of, sign_of, number_of, decimal_of, string_of, format_of, valued}
+use Rattle.py_grammar.specs.Values.{constant_of, unary_of, sign_at, key_at}
+use Rattle.py_grammar.specs.Forms.{Means, Signed, Keyed, One, ◌▸◌, ◌∣◌, Made, Such, Maybe, Many}
+use Rattle.py_grammar.specs.Seen.{Seen, Deep, Listed, Rest, over, more, all_of, name_seen, constant_seen, decimal_seen, string_seen, format_seen, whole_amount, decimal_amount, number_seen, plain, tuple_seen, round_seen, display_seen, pair_seen, after_comma, dict_seen, each_seen, attribute_seen, starred_seen, keyword_seen, positional_seen, over_fits, call_seen, index_fits, index_seen, bracketed_index, primary_seen, await_seen, power_fits, power_seen, unary_seen, not_seen, link_seen, chain_seen, choice_fits, choice_seen, seen_is_target}
 
 -- the rules of one bracket deeper
 abbrev pub Deeper : Type 1

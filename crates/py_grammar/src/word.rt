@@ -1,7 +1,8 @@
 // Words: tokens with their values.
 
-use amh_host::Place;
+use amh_host::{NoMemory, Place};
 use py_tree::{Decimal, Name, Pieces};
+use std::alloc::AllocFailed;
 
 /// What a word is: a token with its value.
 #[derive(Drop)]
@@ -41,4 +42,26 @@ pub enum Kind {
     Not,
     Or,
     Expr,
+}
+
+impl From<NoMemory> for Stop {
+    ghost use Rattle.py_grammar.specs.declared.word.Stop.TheVariants.{NoMemory as no_memory};
+    ghost use Rattle.std.specs.Prelude.{◌≡◌};
+
+    ghost from_gives = { λ _ e. e ≡ no_memory };
+
+    fn from(_: NoMemory) -> Stop {
+        Stop::NoMemory
+    }
+}
+
+impl<T: Drop> From<AllocFailed<T>> for Stop {
+    ghost use Rattle.py_grammar.specs.declared.word.Stop.TheVariants.{NoMemory as no_memory};
+    ghost use Rattle.std.specs.Prelude.{◌≡◌};
+
+    ghost from_gives = { λ _ e. e ≡ no_memory };
+
+    fn from(_: AllocFailed<T>) -> Stop {
+        Stop::NoMemory
+    }
 }

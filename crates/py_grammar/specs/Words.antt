@@ -4,9 +4,9 @@ use Rattle.lists.specs.Texts.{text_eq}
 use Rattle.amh_host.specs.declared.place.Place.{Place}
 use Rattle.py_tree.specs.declared.name.Piece.{Piece}
 use Rattle.py_tree.specs.declared.number.Decimal.{Decimal}
-use Rattle.py_parser.specs.declared.word.Word.{Word}
-use Rattle.py_parser.specs.declared.word.Mark.{Mark}
-use Rattle.py_parser.specs.declared.word.Mark.TheVariants as mark
+use Rattle.py_grammar.specs.declared.word.Word.{Word}
+use Rattle.py_grammar.specs.declared.word.Mark.{Mark}
+use Rattle.py_grammar.specs.declared.word.Mark.TheVariants as mark
 
 -- the word with this mark at this place
 abbrev pub word : Mark → Place → Word
