@@ -9,7 +9,9 @@
 mod expr;
 mod name;
 mod number;
+mod stmt;
 
 pub use expr::{Argument, Comprehension, Constant, Expr, ExprKind, Link, Operator, Pair, Sign, Trailer};
 pub use name::{Name, Piece, Pieces};
+pub use stmt::{Block, Branch, Function, Imported, Param, Program, Stmt, StmtKind};
 pub use number::{Amount, Decimal};
