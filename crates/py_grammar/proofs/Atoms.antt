@@ -148,28 +148,28 @@ exact_square : (I : Kind → List Word → Seen → Type 0) (i : Inner) → Know
 unfolding square
 exact_square I i kn = exact_made Any (λ x. display_seen x.0 x.1.0) _ _ (exact_bracket (codes "[") (codes "]") (I an_expr ▸ Others I (Plain (I an_expr))) (square_inside i)
     (exact_weaken (After_others (After 11) begins) (Sign_first (codes "]")) (I an_expr ▸ Others I (Plain (I an_expr))) (square_inside i)
-      (exact_then (After 11) (After_others (After 11) begins) (I an_expr) (Others I (Plain (I an_expr))) (i an_expr) (others i begins (plain_of (i an_expr))) (kn.exact an_expr)
-        (exact_others I i kn (After 11) begins (Plain (I an_expr)) (plain_of (i an_expr)) (exact_made (After 11) (λ e. (e.tree, e.depth)) (I an_expr) (i an_expr) (kn.exact an_expr)) (comma_after 11 (omega arith)) (λ ws a r d. begins_lead (ws ++ r) (kn.leads an_expr ws d.from r d.derived)))
-        (λ us x r d h. others_hold (After 11) I (Plain (I an_expr)) (comma_after 11 (omega arith)) (λ p r. omega arith) us x r d h.no_if))
-      (close_others (codes "]") (omega arith) refl not_square))
+    (exact_then (After 11) (After_others (After 11) begins) (I an_expr) (Others I (Plain (I an_expr))) (i an_expr) (others i begins (plain_of (i an_expr))) (kn.exact an_expr)
+    (exact_others I i kn (After 11) begins (Plain (I an_expr)) (plain_of (i an_expr)) (exact_made (After 11) (λ e. (e.tree, e.depth)) (I an_expr) (i an_expr) (kn.exact an_expr)) (comma_after 11 (omega arith)) (λ ws a r d. begins_lead (ws ++ r) (kn.leads an_expr ws d.from r d.derived)))
+    (λ us x r d h. others_hold (After 11) I (Plain (I an_expr)) (comma_after 11 (omega arith)) (λ p r. omega arith) us x r d h.no_if))
+    (close_others (codes "]") (omega arith) refl not_square))
     (λ ws a r d. sign_by_lead (codes "]") (ws ++ r) 3 (then_first (λ ws. lead ws ≤ 3) (I an_expr) (Others I (Plain (I an_expr))) (kn.leads an_expr) ws a r d) (omega arith)))
 
 exact_curly : (I : Kind → List Word → Seen → Type 0) (i : Inner) → Knows I i → Exact Any (Curly I) (curly i)
 unfolding curly
 exact_curly I i kn = exact_made Any (λ x. dict_seen x.0 x.1.0) _ _ (exact_bracket (codes "{") (codes "}") (Pair I ▸ Others I (Pair I)) (curly_inside i)
     (exact_weaken (After_others (After 11) begins) (Sign_first (codes "}")) (Pair I ▸ Others I (Pair I)) (curly_inside i)
-      (exact_then (After 11) (After_others (After 11) begins) (Pair I) (Others I (Pair I)) (pair i) (others i begins (pair i)) (exact_pair I i kn)
-        (exact_others I i kn (After 11) begins (Pair I) (pair i) (exact_pair I i kn) (comma_after 11 (omega arith)) (λ ws a r d. begins_lead (ws ++ r) (pair_leads I i kn ws a r d)))
-        (λ us x r d h. others_hold (After 11) I (Pair I) (comma_after 11 (omega arith)) (λ p r. omega arith) us x r d h.no_if))
-      (close_others (codes "}") (omega arith) refl not_curly))
+    (exact_then (After 11) (After_others (After 11) begins) (Pair I) (Others I (Pair I)) (pair i) (others i begins (pair i)) (exact_pair I i kn)
+    (exact_others I i kn (After 11) begins (Pair I) (pair i) (exact_pair I i kn) (comma_after 11 (omega arith)) (λ ws a r d. begins_lead (ws ++ r) (pair_leads I i kn ws a r d)))
+    (λ us x r d h. others_hold (After 11) I (Pair I) (comma_after 11 (omega arith)) (λ p r. omega arith) us x r d h.no_if))
+    (close_others (codes "}") (omega arith) refl not_curly))
     (λ ws a r d. sign_by_lead (codes "}") (ws ++ r) 3 (then_first (λ ws. lead ws ≤ 3) (Pair I) (Others I (Pair I)) (pair_leads I i kn) ws a r d) (omega arith)))
 
 pub exact_bracketed : (I : Kind → List Word → Seen → Type 0) (i : Inner) → Knows I i → Exact Any (Round I ∣ Square I ∣ Curly I) (bracketed i)
 unfolding bracketed
 exact_bracketed I i kn = exact_choose Any (next_sign (codes "(")) (Round I) (Square I ∣ Curly I) (round i) (choose (next_sign (codes "[")) (square i) (curly i)) (exact_round I i kn)
     (exact_choose Any (next_sign (codes "[")) (Square I) (Curly I) (square i) (curly i) (exact_square I i kn) (exact_curly I i kn)
-      (λ ws a r d h. sign_there (codes "[") (ws ++ r) (square_first I ws a r d))
-      (λ ws a r d h. ap (next_sign (codes "[")) (curly_first I ws a r d).whole))
+    (λ ws a r d h. sign_there (codes "[") (ws ++ r) (square_first I ws a r d))
+    (λ ws a r d h. ap (next_sign (codes "[")) (curly_first I ws a r d).whole))
     (λ ws a r d h. sign_there (codes "(") (ws ++ r) (round_first I ws a r d))
     (λ ws a r d h. elim d [ inl d ↦ ap (next_sign (codes "(")) (square_first I ws a r d).whole | inr d ↦ ap (next_sign (codes "(")) (curly_first I ws a r d).whole ])
 
@@ -195,7 +195,6 @@ exact_amount = exact_choose Any (next (λ m. is_some (number_of m))) (Made whole
 -- a number goes on with `/`
 abbrev pub No_slash : List Word → Type 0
 No_slash r = next_sign (codes "/") r ≡ false
-
 
 pub exact_number : Exact No_slash (Made number_seen (One number_of ▸ Maybe (Signed (codes "/") ▸ AmountOf))) number
 unfolding number

@@ -127,28 +127,55 @@ rank_at : (s t : List ℕ) → text_eq s t ≡ true → sign_rank s ≡ sign_ran
 rank_at s t h = ap sign_rank (text_same s t h)
 
 term_rank : (s : List ℕ) → is_some (term_of s) ≡ true → sign_rank s ≡ 2
-term_rank s h = elim (if_is_some (text_eq s (codes "*")) _ _ h) [ inl e ↦ rank_at s (codes "*") e | inr h ↦
-    elim (if_is_some (text_eq s (codes "//")) _ _ h) [ inl e ↦ rank_at s (codes "//") e | inr h ↦
-    elim (if_is_some (text_eq s (codes "%")) _ _ h) [ inl e ↦ rank_at s (codes "%") e | inr h ↦ cc ] ] ]
+term_rank s h = elim (if_is_some (text_eq s (codes "*")) _ _ h) [
+  | inl e ↦ rank_at s (codes "*") e
+  | inr h ↦
+      elim (if_is_some (text_eq s (codes "//")) _ _ h) [
+        | inl e ↦ rank_at s (codes "//") e
+        | inr h ↦
+            elim (if_is_some (text_eq s (codes "%")) _ _ h) [ inl e ↦ rank_at s (codes "%") e | inr h ↦ cc ]
+      ]
+]
 
 sum_rank : (s : List ℕ) → is_some (sum_of s) ≡ true → sign_rank s ≡ 3
-sum_rank s h = elim (if_is_some (text_eq s (codes "+")) _ _ h) [ inl e ↦ rank_at s (codes "+") e | inr h ↦
-    elim (if_is_some (text_eq s (codes "-")) _ _ h) [ inl e ↦ rank_at s (codes "-") e | inr h ↦ cc ] ]
+sum_rank s h = elim (if_is_some (text_eq s (codes "+")) _ _ h) [
+  | inl e ↦ rank_at s (codes "+") e
+  | inr h ↦
+      elim (if_is_some (text_eq s (codes "-")) _ _ h) [ inl e ↦ rank_at s (codes "-") e | inr h ↦ cc ]
+]
 
 shift_rank : (s : List ℕ) → is_some (shift_of s) ≡ true → sign_rank s ≡ 4
-shift_rank s h = elim (if_is_some (text_eq s (codes "<<")) _ _ h) [ inl e ↦ rank_at s (codes "<<") e | inr h ↦
-    elim (if_is_some (text_eq s (codes ">>")) _ _ h) [ inl e ↦ rank_at s (codes ">>") e | inr h ↦ cc ] ]
+shift_rank s h = elim (if_is_some (text_eq s (codes "<<")) _ _ h) [
+  | inl e ↦ rank_at s (codes "<<") e
+  | inr h ↦
+      elim (if_is_some (text_eq s (codes ">>")) _ _ h) [ inl e ↦ rank_at s (codes ">>") e | inr h ↦ cc ]
+]
 
 only_text : (this : List ℕ) (o : Operator) (s : List ℕ) → is_some (only this o s) ≡ true → text_eq s this ≡ true
 only_text this o s h = elim (if_is_some (text_eq s this) _ _ h) [ inl e ↦ e | inr h ↦ cc ]
 
 comparison_rank : (s : List ℕ) → is_some (comparison_of s) ≡ true → sign_rank s ≡ 8
-comparison_rank s h = elim (if_is_some (text_eq s (codes "<")) _ _ h) [ inl e ↦ rank_at s (codes "<") e | inr h ↦
-    elim (if_is_some (text_eq s (codes "<=")) _ _ h) [ inl e ↦ rank_at s (codes "<=") e | inr h ↦
-    elim (if_is_some (text_eq s (codes ">")) _ _ h) [ inl e ↦ rank_at s (codes ">") e | inr h ↦
-    elim (if_is_some (text_eq s (codes ">=")) _ _ h) [ inl e ↦ rank_at s (codes ">=") e | inr h ↦
-    elim (if_is_some (text_eq s (codes "==")) _ _ h) [ inl e ↦ rank_at s (codes "==") e | inr h ↦
-    elim (if_is_some (text_eq s (codes "!=")) _ _ h) [ inl e ↦ rank_at s (codes "!=") e | inr h ↦ cc ] ] ] ] ] ]
+comparison_rank s h = elim (if_is_some (text_eq s (codes "<")) _ _ h) [
+  | inl e ↦ rank_at s (codes "<") e
+  | inr h ↦
+      elim (if_is_some (text_eq s (codes "<=")) _ _ h) [
+        | inl e ↦ rank_at s (codes "<=") e
+        | inr h ↦
+            elim (if_is_some (text_eq s (codes ">")) _ _ h) [
+              | inl e ↦ rank_at s (codes ">") e
+              | inr h ↦
+                  elim (if_is_some (text_eq s (codes ">=")) _ _ h) [
+                    | inl e ↦ rank_at s (codes ">=") e
+                    | inr h ↦
+                        elim (if_is_some (text_eq s (codes "==")) _ _ h) [
+                          | inl e ↦ rank_at s (codes "==") e
+                          | inr h ↦
+                              elim (if_is_some (text_eq s (codes "!=")) _ _ h) [ inl e ↦ rank_at s (codes "!=") e | inr h ↦ cc ]
+                        ]
+                  ]
+            ]
+      ]
+]
 
 sign_at_rank : (k : ℕ) (s : List ℕ) → is_some (sign_at k s) ≡ true → sign_rank s ≡ k + 2
 sign_at_rank zero s h = term_rank s h
@@ -195,11 +222,13 @@ worded_rank s h = elim (or_cases (text_eq s (codes "not")) (text_eq s (codes "is
 
 mark_is_operator_rank : (k : ℕ) (m : Mark) → (is_some (valued sign_of (sign_at k) m) || is_some (valued keyword_of (key_at k) m) || ((k == 6) && starts_worded m)) ≡ true → mark_rank m ≡ k + 2
 mark_is_operator_rank k (mark.Sign s) h = elim (or_cases (is_some (sign_at k s) || false) ((k == 6) && false) h) [
-    inl a ↦ elim (or_cases (is_some (sign_at k s)) false a) [ inl b ↦ sign_at_rank k s b | inr b ↦ cc ]
-    | inr a ↦ let b = and_second (k == 6) false a in cc ]
+  | inl a ↦ elim (or_cases (is_some (sign_at k s)) false a) [ inl b ↦ sign_at_rank k s b | inr b ↦ cc ]
+  | inr a ↦ let b = and_second (k == 6) false a in cc
+]
 mark_is_operator_rank k (mark.Keyword s) h = elim (or_cases (is_some (key_at k s)) ((k == 6) && (text_eq s (codes "not") || text_eq s (codes "is"))) h) [
-    inl b ↦ key_at_rank k s b
-    | inr a ↦ let e = six_is k (and_first (k == 6) _ a) in worded_rank s (and_second (k == 6) _ a) ∙ sym (ap (λ n. n + 2) e) ]
+  | inl b ↦ key_at_rank k s b
+  | inr a ↦ let e = six_is k (and_first (k == 6) _ a) in worded_rank s (and_second (k == 6) _ a) ∙ sym (ap (λ n. n + 2) e)
+]
 mark_is_operator_rank k (mark.Name s) h = let b = and_second (k == 6) false h in cc
 mark_is_operator_rank k (mark.Number n) h = let b = and_second (k == 6) false h in cc
 mark_is_operator_rank k (mark.Decimal d) h = let b = and_second (k == 6) false h in cc

@@ -62,6 +62,7 @@ text_same (x ∷ xs) (y ∷ ys) h = let p : (x == y) ≡ true = both_first (x ==
     both_first : (a b : Bool) → (a && b) ≡ true → a ≡ true
     both_first true b h = refl
     both_first false b h = cc
+
     both_second : (a b : Bool) → (a && b) ≡ true → b ≡ true
     both_second true b h = h
     both_second false b h = cc
@@ -95,8 +96,9 @@ is_key_text this mark.Other h = cc
 sign_sound : (this : List ℕ) (ws : List Word) (p : Place) (r : List Word) → sign this ws ≡ Some (p, r) → Front (Signed this) ws p r
 sign_sound this [] p r h = cc
 sign_sound this (w ∷ ws) p r h = elim (if_some (is_text this (sign_of w.mark)) (Some (w.place, ws)) None (p, r) h) [
-    inl y ↦ front_at (Signed this) (w ∷ ws) (w.place, ws) (p, r) (record { front = w ∷ []; split = refl; derived = record { whole = ap (λ m. word m w.place ∷ []) (is_sign_text this w.mark y.0) } }) y.1
-    | inr n ↦ let e = n.1 in cc ]
+  | inl y ↦ front_at (Signed this) (w ∷ ws) (w.place, ws) (p, r) (record { front = w ∷ []; split = refl; derived = record { whole = ap (λ m. word m w.place ∷ []) (is_sign_text this w.mark y.0) } }) y.1
+  | inr n ↦ let e = n.1 in cc
+]
 
 sign_complete : (this : List ℕ) (ws : List Word) (p : Place) (r : List Word) → Signed this ws p → sign this (ws ++ r) ≡ Some (p, r)
 sign_complete this ws p r d = ap (λ z. sign this (z ++ r)) d.whole ∙ if_true (text_eq this this) (Some (p, r)) None (text_itself this)
@@ -107,8 +109,9 @@ exact_sign this = record { sound = sign_sound this; complete = λ ws p r d e. si
 key_sound : (this : List ℕ) (ws : List Word) (p : Place) (r : List Word) → key this ws ≡ Some (p, r) → Front (Keyed this) ws p r
 key_sound this [] p r h = cc
 key_sound this (w ∷ ws) p r h = elim (if_some (is_text this (keyword_of w.mark)) (Some (w.place, ws)) None (p, r) h) [
-    inl y ↦ front_at (Keyed this) (w ∷ ws) (w.place, ws) (p, r) (record { front = w ∷ []; split = refl; derived = record { whole = ap (λ m. word m w.place ∷ []) (is_key_text this w.mark y.0) } }) y.1
-    | inr n ↦ let e = n.1 in cc ]
+  | inl y ↦ front_at (Keyed this) (w ∷ ws) (w.place, ws) (p, r) (record { front = w ∷ []; split = refl; derived = record { whole = ap (λ m. word m w.place ∷ []) (is_key_text this w.mark y.0) } }) y.1
+  | inr n ↦ let e = n.1 in cc
+]
 
 key_complete : (this : List ℕ) (ws : List Word) (p : Place) (r : List Word) → Keyed this ws p → key this (ws ++ r) ≡ Some (p, r)
 key_complete this ws p r d = ap (λ z. key this (z ++ r)) d.whole ∙ if_true (text_eq this this) (Some (p, r)) None (text_itself this)
@@ -155,17 +158,21 @@ exact_then E1 E2 D1 D2 r1 r2 e1 e2 follow = record { sound = then_sound E1 E2 D1
 
 pub exact_made : {A B : Type 0} (E : List Word → Type 0) (f : A → B) (D : List Word → A → Type 0) (rd : Read A) → Exact E D rd → Exact E (Made f D) (made f rd)
 exact_made E f D rd e = record {
-    sound = λ ws y r h. let p = bind_ok (rd ws) (λ x. Some (f x.0, x.1)) (y, r) h in let g = e.sound ws p.from.0 p.from.1 p.was in front_at (Made f D) ws (f p.from.0, p.from.1) (y, r) (record { front = g.front; split = g.split; derived = record { from = p.from.0; derived = g.derived; is = refl } }) p.gave;
-    complete = λ ws y r d ends. ap (λ o. o >>= λ x. Some (f x.0, x.1)) (e.complete ws d.from r d.derived ends) ∙ ap (λ z. Some (z, r)) (sym d.is) }
+  sound = λ ws y r h. let p = bind_ok (rd ws) (λ x. Some (f x.0, x.1)) (y, r) h in let g = e.sound ws p.from.0 p.from.1 p.was in front_at (Made f D) ws (f p.from.0, p.from.1) (y, r) (record { front = g.front; split = g.split; derived = record { from = p.from.0; derived = g.derived; is = refl } }) p.gave;
+  complete = λ ws y r d ends. ap (λ o. o >>= λ x. Some (f x.0, x.1)) (e.complete ws d.from r d.derived ends) ∙ ap (λ z. Some (z, r)) (sym d.is);
+}
 
 pub exact_choose : {A : Type 0} (E : List Word → Type 0) (test : List Word → Bool) (D1 D2 : List Word → A → Type 0) (r1 r2 : Read A) → Exact E D1 r1 → Exact E D2 r2 → ((ws : List Word) (a : A) (r : List Word) → D1 ws a → E r → test (ws ++ r) ≡ true) → ((ws : List Word) (a : A) (r : List Word) → D2 ws a → E r → test (ws ++ r) ≡ false) → Exact E (D1 ∣ D2) (choose test r1 r2)
 exact_choose E test D1 D2 r1 r2 e1 e2 t1 t2 = record {
-    sound = λ ws a r h. elim (if_some (test ws) (r1 ws) (r2 ws) (a, r) h) [
-      inl y ↦ let f = e1.sound ws a r y.1 in record { front = f.front; split = f.split; derived = inl f.derived }
-      | inr n ↦ let f = e2.sound ws a r n.1 in record { front = f.front; split = f.split; derived = inr f.derived } ];
-    complete = λ ws a r d ends. elim d [
-      inl x ↦ if_true (test (ws ++ r)) (r1 (ws ++ r)) (r2 (ws ++ r)) (t1 ws a r x ends) ∙ e1.complete ws a r x ends
-      | inr x ↦ if_false (test (ws ++ r)) (r1 (ws ++ r)) (r2 (ws ++ r)) (t2 ws a r x ends) ∙ e2.complete ws a r x ends ] }
+  sound = λ ws a r h. elim (if_some (test ws) (r1 ws) (r2 ws) (a, r) h) [
+    | inl y ↦ let f = e1.sound ws a r y.1 in record { front = f.front; split = f.split; derived = inl f.derived }
+    | inr n ↦ let f = e2.sound ws a r n.1 in record { front = f.front; split = f.split; derived = inr f.derived }
+  ];
+  complete = λ ws a r d ends. elim d [
+    | inl x ↦ if_true (test (ws ++ r)) (r1 (ws ++ r)) (r2 (ws ++ r)) (t1 ws a r x ends) ∙ e1.complete ws a r x ends
+    | inr x ↦ if_false (test (ws ++ r)) (r1 (ws ++ r)) (r2 (ws ++ r)) (t2 ws a r x ends) ∙ e2.complete ws a r x ends
+  ];
+}
 
 such_sound : {A : Type 0} (test : A → Bool) (x : A × List Word) (y : A × List Word) → (if test x.0 then Some x else None) ≡ Some y → (test x.0 ≡ true) × (x ≡ y)
 such_sound test x y h = elim (if_some (test x.0) (Some x) None y h) [ inl p ↦ (p.0, some_same x y p.1) | inr n ↦ let e = n.1 in cc ]
@@ -178,8 +185,9 @@ is_true b h = h
 
 pub exact_such : {A : Type 0} (E : List Word → Type 0) (test : A → Bool) (D : List Word → A → Type 0) (rd : Read A) → Exact E D rd → Exact E (Such test D) (such test rd)
 exact_such {A = A} E test D rd e = record {
-    sound = λ ws a r h. let p = bind_ok (rd ws) (λ x. if test x.0 then Some x else None) (a, r) h in let g = e.sound ws p.from.0 p.from.1 p.was in let s = such_sound test p.from (a, r) p.gave in subst (λ (z : A × List Word). Front (Such test D) ws z.0 z.1) s.1 (record { front = g.front; split = g.split; derived = record { derived = g.derived; passes = is_true (test p.from.0) s.0 } });
-    complete = λ ws a r d ends. ap (λ o. o >>= λ x. if test x.0 then Some x else None) (e.complete ws a r d.derived ends) ∙ if_true (test a) (Some (a, r)) None (true_is (test a) d.passes) }
+  sound = λ ws a r h. let p = bind_ok (rd ws) (λ x. if test x.0 then Some x else None) (a, r) h in let g = e.sound ws p.from.0 p.from.1 p.was in let s = such_sound test p.from (a, r) p.gave in subst (λ (z : A × List Word). Front (Such test D) ws z.0 z.1) s.1 (record { front = g.front; split = g.split; derived = record { derived = g.derived; passes = is_true (test p.from.0) s.0 } });
+  complete = λ ws a r d ends. ap (λ o. o >>= λ x. if test x.0 then Some x else None) (e.complete ws a r d.derived ends) ∙ if_true (test a) (Some (a, r)) None (true_is (test a) d.passes);
+}
 
 -- ---- a thing or nothing
 
@@ -189,7 +197,9 @@ maybe_complete E F test D rd e ef t1 t2 ws o r (there {x = a} d) ends = if_true 
 
 pub exact_maybe : {A : Type 0} (E F : List Word → Type 0) (test : List Word → Bool) (D : List Word → A → Type 0) (rd : Read A) → Exact E D rd → ((r : List Word) → F r → E r) → ((ws : List Word) (a : A) (r : List Word) → D ws a → F r → test (ws ++ r) ≡ true) → ((r : List Word) → F r → test r ≡ false) → Exact F (Maybe D) (maybe test rd)
 exact_maybe E F test D rd e ef t1 t2 = record {
-    sound = λ ws o r h. elim (if_some (test ws) (rd ws >>= λ x. Some (Some x.0, x.1)) (Some (None, ws)) (o, r) h) [
-      inl y ↦ let p = bind_ok (rd ws) (λ x. Some (Some x.0, x.1)) (o, r) y.1 in let g = e.sound ws p.from.0 p.from.1 p.was in front_at (Maybe D) ws (Some p.from.0, p.from.1) (o, r) (record { front = g.front; split = g.split; derived = there g.derived }) p.gave
-      | inr n ↦ front_at (Maybe D) ws (None, ws) (o, r) (record { front = []; split = refl; derived = not_there }) n.1 ];
-    complete = maybe_complete E F test D rd e ef t1 t2 }
+  sound = λ ws o r h. elim (if_some (test ws) (rd ws >>= λ x. Some (Some x.0, x.1)) (Some (None, ws)) (o, r) h) [
+    | inl y ↦ let p = bind_ok (rd ws) (λ x. Some (Some x.0, x.1)) (o, r) y.1 in let g = e.sound ws p.from.0 p.from.1 p.was in front_at (Maybe D) ws (Some p.from.0, p.from.1) (o, r) (record { front = g.front; split = g.split; derived = there g.derived }) p.gave
+    | inr n ↦ front_at (Maybe D) ws (None, ws) (o, r) (record { front = []; split = refl; derived = not_there }) n.1
+  ];
+  complete = maybe_complete E F test D rd e ef t1 t2;
+}

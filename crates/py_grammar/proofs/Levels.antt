@@ -51,10 +51,10 @@ exact_power : (I : Kind → List Word → Seen → Type 0) (i : Inner) (room : �
 unfolding power
 exact_power I i room kn = exact_made (After 1) power_seen (Such (power_fits room) (Awaited I ▸ Maybe (Signed (codes "**") ▸ I a_unary))) _ (exact_such (After 1) (power_fits room) (Awaited I ▸ Maybe (Signed (codes "**") ▸ I a_unary)) _
     (exact_then (After 0) (After 1) (Awaited I) (Maybe (Signed (codes "**") ▸ I a_unary)) (awaited i) (maybe (next_sign (codes "**")) (sign (codes "**") ▹ i a_unary)) (exact_awaited I i kn)
-      (exact_maybe (After 1) (After 1) (next_sign (codes "**")) (Signed (codes "**") ▸ I a_unary) (sign (codes "**") ▹ i a_unary)
-        (exact_then Any (After 1) (Signed (codes "**")) (I a_unary) (sign (codes "**")) (i a_unary) (exact_sign (codes "**")) (kn.exact a_unary) (λ us b r d h. tt))
-        (λ r h. h) (λ ws x r d h. sign_there (codes "**") (ws ++ r) (signed_first (codes "**") (I a_unary) ws x r d)) (λ r h. sign_by_rank (codes "**") r 1 h (omega arith)))
-      (power_on I)))
+    (exact_maybe (After 1) (After 1) (next_sign (codes "**")) (Signed (codes "**") ▸ I a_unary) (sign (codes "**") ▹ i a_unary)
+    (exact_then Any (After 1) (Signed (codes "**")) (I a_unary) (sign (codes "**")) (i a_unary) (exact_sign (codes "**")) (kn.exact a_unary) (λ us b r d h. tt))
+    (λ r h. h) (λ ws x r d h. sign_there (codes "**") (ws ++ r) (signed_first (codes "**") (I a_unary) ws x r d)) (λ r h. sign_by_rank (codes "**") r 1 h (omega arith)))
+    (power_on I)))
 
 power_leads : (I : Kind → List Word → Seen → Type 0) (room : ℕ) (ws : List Word) (e : Seen) (r : List Word) → PowerRule I room ws e → lead (ws ++ r) ≤ 1
 power_leads I room ws e r d = then_first (λ ws. lead ws ≤ 1) (Awaited I) (Maybe (Signed (codes "**") ▸ I a_unary)) (awaited_leads I) ws d.from r d.derived.derived
@@ -63,9 +63,15 @@ lead_at : (s t : List ℕ) → text_eq s t ≡ true → sign_lead s ≡ sign_lea
 lead_at s t h = ap sign_lead (text_same s t h)
 
 unary_lead_is : (m : Mark) → is_some (valued sign_of unary_of m) ≡ true → mark_lead m ≡ 2
-unary_lead_is (mark.Sign s) h = elim (if_is_some (text_eq s (codes "-")) _ _ h) [ inl e ↦ lead_at s (codes "-") e | inr h ↦
-    elim (if_is_some (text_eq s (codes "+")) _ _ h) [ inl e ↦ lead_at s (codes "+") e | inr h ↦
-    elim (if_is_some (text_eq s (codes "~")) _ _ h) [ inl e ↦ lead_at s (codes "~") e | inr h ↦ cc ] ] ]
+unary_lead_is (mark.Sign s) h = elim (if_is_some (text_eq s (codes "-")) _ _ h) [
+  | inl e ↦ lead_at s (codes "-") e
+  | inr h ↦
+      elim (if_is_some (text_eq s (codes "+")) _ _ h) [
+        | inl e ↦ lead_at s (codes "+") e
+        | inr h ↦
+            elim (if_is_some (text_eq s (codes "~")) _ _ h) [ inl e ↦ lead_at s (codes "~") e | inr h ↦ cc ]
+      ]
+]
 unary_lead_is (mark.Name s) h = cc
 unary_lead_is (mark.Keyword s) h = cc
 unary_lead_is (mark.Number n) h = cc
@@ -179,18 +185,19 @@ worded_no_sign k ws o r d = elim (worded_word ws o r d) [ inl f ↦ ap (next (si
 -- what a comparison in words needs behind it is asked of comparisons alone
 exact_worded_at : (k : ℕ) → Exact (No_not k) (Such (λ x. k == 6) Worded) (such (λ x. k == 6) worded)
 exact_worded_at k = record {
-    sound = (exact_such Plain_not (λ x. k == 6) Worded worded exact_worded).sound;
-    complete = λ ws a r d h. (exact_such Plain_not (λ x. k == 6) Worded worded exact_worded).complete ws a r d (h d.passes) }
+  sound = (exact_such Plain_not (λ x. k == 6) Worded worded exact_worded).sound;
+  complete = λ ws a r d h. (exact_such Plain_not (λ x. k == 6) Worded worded exact_worded).complete ws a r d (h d.passes);
+}
 
 exact_operator : (k : ℕ) → Exact (No_not k) (Op k) (operator k)
 unfolding operator
 exact_operator k = exact_choose (No_not k) (next (sign_test k)) (Made (λ x. x.1) (One (valued sign_of (sign_at k)))) (Made (λ x. x.1) (One (valued keyword_of (key_at k))) ∣ Such (λ x. k == 6) Worded) _ _
     (exact_weaken Any (No_not k) _ _ (exact_made Any (λ x. x.1) (One (valued sign_of (sign_at k))) (one (valued sign_of (sign_at k))) (exact_one (valued sign_of (sign_at k)))) (λ r h. tt))
     (exact_choose (No_not k) (next (key_test k)) (Made (λ x. x.1) (One (valued keyword_of (key_at k)))) (Such (λ x. k == 6) Worded) _ _
-      (exact_weaken Any (No_not k) _ _ (exact_made Any (λ x. x.1) (One (valued keyword_of (key_at k))) (one (valued keyword_of (key_at k))) (exact_one (valued keyword_of (key_at k)))) (λ r h. tt))
-      (exact_worded_at k)
-      (λ ws a r d h. one_passes (valued keyword_of (key_at k)) ws d.from r d.derived)
-      (λ ws a r d h. worded_no_key k ws a r d))
+    (exact_weaken Any (No_not k) _ _ (exact_made Any (λ x. x.1) (One (valued keyword_of (key_at k))) (one (valued keyword_of (key_at k))) (exact_one (valued keyword_of (key_at k)))) (λ r h. tt))
+    (exact_worded_at k)
+    (λ ws a r d h. one_passes (valued keyword_of (key_at k)) ws d.from r d.derived)
+    (λ ws a r d h. worded_no_key k ws a r d))
     (λ ws a r d h. one_passes (valued sign_of (sign_at k)) ws d.from r d.derived)
     (λ ws a r d h. later k ws a r d)
   where
@@ -244,8 +251,8 @@ pub exact_chain : (k : ℕ) (D : List Word → Seen → Type 0) (rd : Read Seen)
 unfolding chain
 exact_chain k D rd e n = exact_made (After (k + 2)) (chain_seen k) (D ▸ Made all_of (Many (Made link_seen (Op k ▸ D)))) (rd ▹ many (is_operator k) (link k rd) and_one ([], 0))
     (exact_then (After (k + 1)) (After (k + 2)) D (Made all_of (Many (Made link_seen (Op k ▸ D)))) rd (many (is_operator k) (link k rd) and_one ([], 0)) e
-      (exact_many (After (k + 1)) (After (k + 2)) (Made link_seen (Op k ▸ D)) (is_operator k) (link k rd) and_one ([], 0) (link_runs k D rd e n))
-      (λ us b r d h. links_on k D us d.from r d.derived h))
+    (exact_many (After (k + 1)) (After (k + 2)) (Made link_seen (Op k ▸ D)) (is_operator k) (link k rd) and_one ([], 0) (link_runs k D rd e n))
+    (λ us b r d h. links_on k D us d.from r d.derived h))
 
 chain_leads : (n k : ℕ) (D : List Word → Seen → Type 0) → ((ws : List Word) (e : Seen) (r : List Word) → D ws e → lead (ws ++ r) ≤ n) → (ws : List Word) (e : Seen) (r : List Word) → Chain k D ws e → lead (ws ++ r) ≤ n
 chain_leads n k D f ws e r d = then_first (λ ws. lead ws ≤ n) D (Made all_of (Many (Made link_seen (Op k ▸ D)))) f ws d.from r d.derived
@@ -292,14 +299,14 @@ exact_expr : (I : Kind → List Word → Seen → Type 0) (i : Inner) (room : �
 unfolding expr
 exact_expr I i room kn = exact_made (After 11) choice_seen (Such (choice_fits room) (OrRule I room ▸ Maybe (Keyed (codes "if") ▸ (I an_or ▸ (Keyed (codes "else") ▸ I an_expr))))) _ (exact_such (After 11) (choice_fits room) (OrRule I room ▸ Maybe (Keyed (codes "if") ▸ (I an_or ▸ (Keyed (codes "else") ▸ I an_expr)))) _
     (exact_then (After 10) (After 11) (OrRule I room) (Maybe (Keyed (codes "if") ▸ (I an_or ▸ (Keyed (codes "else") ▸ I an_expr)))) (either i room) (choice_part i) (exact_either I i room kn)
-      (exact_maybe (After 11) (After 11) (next_key (codes "if")) (Keyed (codes "if") ▸ (I an_or ▸ (Keyed (codes "else") ▸ I an_expr))) (key (codes "if") ▹ (i an_or ▹ (key (codes "else") ▹ i an_expr)))
-        (exact_then Any (After 11) (Keyed (codes "if")) (I an_or ▸ (Keyed (codes "else") ▸ I an_expr)) (key (codes "if")) (i an_or ▹ (key (codes "else") ▹ i an_expr)) (exact_key (codes "if"))
-          (exact_then (After 10) (After 11) (I an_or) (Keyed (codes "else") ▸ I an_expr) (i an_or) (key (codes "else") ▹ i an_expr) (kn.exact an_or)
-            (exact_then Any (After 11) (Keyed (codes "else")) (I an_expr) (key (codes "else")) (i an_expr) (exact_key (codes "else")) (kn.exact an_expr) (λ us b r d h. tt))
-            (λ us b r d h. key_after (codes "else") 10 (us ++ r) (omega arith) (keyed_first (codes "else") (I an_expr) us b r d)))
-          (λ us b r d h. tt))
-        (λ r h. h) (λ ws x r d h. key_there (codes "if") (ws ++ r) (keyed_first (codes "if") (I an_or ▸ (Keyed (codes "else") ▸ I an_expr)) ws x r d)) (λ r h. key_by_rank (codes "if") r 11 h (omega arith)))
-      (choice_on (I an_or ▸ (Keyed (codes "else") ▸ I an_expr)))))
+    (exact_maybe (After 11) (After 11) (next_key (codes "if")) (Keyed (codes "if") ▸ (I an_or ▸ (Keyed (codes "else") ▸ I an_expr))) (key (codes "if") ▹ (i an_or ▹ (key (codes "else") ▹ i an_expr)))
+    (exact_then Any (After 11) (Keyed (codes "if")) (I an_or ▸ (Keyed (codes "else") ▸ I an_expr)) (key (codes "if")) (i an_or ▹ (key (codes "else") ▹ i an_expr)) (exact_key (codes "if"))
+    (exact_then (After 10) (After 11) (I an_or) (Keyed (codes "else") ▸ I an_expr) (i an_or) (key (codes "else") ▹ i an_expr) (kn.exact an_or)
+    (exact_then Any (After 11) (Keyed (codes "else")) (I an_expr) (key (codes "else")) (i an_expr) (exact_key (codes "else")) (kn.exact an_expr) (λ us b r d h. tt))
+    (λ us b r d h. key_after (codes "else") 10 (us ++ r) (omega arith) (keyed_first (codes "else") (I an_expr) us b r d)))
+    (λ us b r d h. tt))
+    (λ r h. h) (λ ws x r d h. key_there (codes "if") (ws ++ r) (keyed_first (codes "if") (I an_or ▸ (Keyed (codes "else") ▸ I an_expr)) ws x r d)) (λ r h. key_by_rank (codes "if") r 11 h (omega arith)))
+    (choice_on (I an_or ▸ (Keyed (codes "else") ▸ I an_expr)))))
 
 expr_leads : (I : Kind → List Word → Seen → Type 0) (room : ℕ) (ws : List Word) (e : Seen) (r : List Word) → ExprRule I room ws e → lead (ws ++ r) ≤ 3
 expr_leads I room ws e r d = then_first (λ ws. lead ws ≤ 3) (OrRule I room) (Maybe (Keyed (codes "if") ▸ (I an_or ▸ (Keyed (codes "else") ▸ I an_expr)))) (or_leads I room) ws d.from r d.derived.derived

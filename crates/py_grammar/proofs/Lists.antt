@@ -107,12 +107,13 @@ comma_no_item test p r h = h
 
 comma_runs : {A : Type 0} (E : List Word → Type 0) (test : List Word → Bool) (D : List Word → Deep A → Type 0) (rd : Read (Deep A)) → Exact E D rd → ((p : Place) (r : List Word) → E (word (mark.Sign (codes ",")) p ∷ r)) → ((ws : List Word) (a : Deep A) (r : List Word) → D ws a → test (ws ++ r) ≡ true) → Runs E (After_items E test) (Item D) (comma_then test) (made after_comma (sign (codes ",") ▹ rd))
 comma_runs E test D rd e c t = record {
-    exact = exact_made E after_comma (Signed (codes ",") ▸ D) (sign (codes ",") ▹ rd) (exact_then Any E (Signed (codes ",")) D (sign (codes ",")) rd (exact_sign (codes ",")) e (λ us b r d h. tt));
-    length_there = λ ws a d. sign_long (codes ",") ws (item_first D ws a [] d);
-    goes_on = item_goes test D t;
-    ends = λ r f. f.no_item;
-    at_end = λ r f. f.ends;
-    at_next = λ ws a r d. let f = item_first D ws a r d in subst E (sym f.whole) (c f.place f.rest) }
+  exact = exact_made E after_comma (Signed (codes ",") ▸ D) (sign (codes ",") ▹ rd) (exact_then Any E (Signed (codes ",")) D (sign (codes ",")) rd (exact_sign (codes ",")) e (λ us b r d h. tt));
+  length_there = λ ws a d. sign_long (codes ",") ws (item_first D ws a [] d);
+  goes_on = item_goes test D t;
+  ends = λ r f. f.no_item;
+  at_end = λ r f. f.ends;
+  at_next = λ ws a r d. let f = item_first D ws a r d in subst E (sym f.whole) (c f.place f.rest);
+}
 
 last_follows : (E : List Word → Type 0) (test : List Word → Bool) → ((p : Place) (r : List Word) → E (word (mark.Sign (codes ",")) p ∷ r)) → (us : List Word) (o : Option Place) (r : List Word) → Maybe (Signed (codes ",")) us o → After_list E test r → After_items E test (us ++ r)
 last_follows E test c us o r (not_there) h = record { ends = h.ends; no_item = no_item_of test r h.no_comma }
@@ -165,13 +166,13 @@ pub exact_comp : (I : Kind → List Word → Seen → Type 0) (i : Inner) → Kn
 unfolding comp
 exact_comp I i kn = exact_made (After 11) (λ x. each_seen x.1.0 x.1.1.1.0 x.1.1.1.1) _ _
     (exact_then Any (After 11) (Keyed (codes "for")) _ (key (codes "for")) _ (exact_key (codes "for"))
-      (exact_then (After_list (After 0) begins) (After 11) (Made tuple_seen (Items (I a_target))) _ (made tuple_seen (items (i a_target))) _
-        (exact_made (After_list (After 0) begins) tuple_seen (Items (I a_target)) (items (i a_target)) (exact_items (After 0) (I a_target) (i a_target) (kn.exact a_target) (comma_after 0 (omega arith)) (kn.leads a_target)))
-        (exact_then Any (After 11) (Keyed (codes "in")) _ (key (codes "in")) _ (exact_key (codes "in"))
-          (exact_then (After 10) (After 11) (I an_or) _ (i an_or) _ (kn.exact an_or) (exact_if I i kn) (if_there I))
-          (λ us b r d h. tt))
-        (λ us b r d h. targets_end (us ++ r) (keyed_first (codes "in") (I an_or ▸ Maybe (Keyed (codes "if") ▸ I an_or)) us b r d)))
-      (λ us b r d h. tt))
+    (exact_then (After_list (After 0) begins) (After 11) (Made tuple_seen (Items (I a_target))) _ (made tuple_seen (items (i a_target))) _
+    (exact_made (After_list (After 0) begins) tuple_seen (Items (I a_target)) (items (i a_target)) (exact_items (After 0) (I a_target) (i a_target) (kn.exact a_target) (comma_after 0 (omega arith)) (kn.leads a_target)))
+    (exact_then Any (After 11) (Keyed (codes "in")) _ (key (codes "in")) _ (exact_key (codes "in"))
+    (exact_then (After 10) (After 11) (I an_or) _ (i an_or) _ (kn.exact an_or) (exact_if I i kn) (if_there I))
+    (λ us b r d h. tt))
+    (λ us b r d h. targets_end (us ++ r) (keyed_first (codes "in") (I an_or ▸ Maybe (Keyed (codes "if") ▸ I an_or)) us b r d)))
+    (λ us b r d h. tt))
 
 comp_first : (I : Kind → List Word → Seen → Type 0) (us : List Word) (x : Deep Each) (r : List Word) → Comp I us x → Key_first (codes "for") (us ++ r)
 comp_first I us x r d = keyed_first (codes "for") (Made tuple_seen (Items (I a_target)) ▸ (Keyed (codes "in") ▸ (I an_or ▸ Maybe (Keyed (codes "if") ▸ I an_or)))) us d.from r d.derived
@@ -209,6 +210,6 @@ pair_leads I i kn ws a r d = then_first (λ ws. lead ws ≤ 3) (I an_expr) (Sign
 pub exact_bracket : {A : Type 0} (from_sign to_sign : List ℕ) (D : List Word → A → Type 0) (rd : Read A) → Exact (Sign_first to_sign) D rd → ((ws : List Word) (a : A) (r : List Word) → D ws a → next_sign to_sign (ws ++ r) ≡ false) → Exact Any (Signed from_sign ▸ (Maybe D ▸ Signed to_sign)) (sign from_sign ▹ (inside to_sign rd ▹ sign to_sign))
 exact_bracket from_sign to_sign D rd e t = exact_then Any Any (Signed from_sign) (Maybe D ▸ Signed to_sign) (sign from_sign) (inside to_sign rd ▹ sign to_sign) (exact_sign from_sign)
     (exact_then (Sign_first to_sign) Any (Maybe D) (Signed to_sign) (inside to_sign rd) (sign to_sign)
-      (exact_maybe (Sign_first to_sign) (Sign_first to_sign) (λ ws. not (next_sign to_sign ws)) D rd e (λ r h. h) (λ ws a r d h. ap not (t ws a r d)) (λ r h. ap not (sign_there to_sign r h)))
-      (exact_sign to_sign) (λ us p r d h. signed_is to_sign us p r d))
+    (exact_maybe (Sign_first to_sign) (Sign_first to_sign) (λ ws. not (next_sign to_sign ws)) D rd e (λ r h. h) (λ ws a r d h. ap not (t ws a r d)) (λ r h. ap not (sign_there to_sign r h)))
+    (exact_sign to_sign) (λ us p r d h. signed_is to_sign us p r d))
     (λ us b r d h. tt)

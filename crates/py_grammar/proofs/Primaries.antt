@@ -192,14 +192,14 @@ unfolding arg
 exact_arg I i kn =
     let ex : Exact (After 12) (I an_expr) (i an_expr) = exact_weaken (After 11) (After 12) (I an_expr) (i an_expr) (kn.exact an_expr) (λ r h. omega arith) in
     exact_choose (After 12) (next_sign (codes "*")) (Made starred_seen (Signed (codes "*") ▸ I an_expr)) (Made keyword_seen (One name_of ▸ (Signed (codes "=") ▸ I an_expr)) ∣ Made positional_seen (I an_expr)) _ _
-      (exact_made (After 12) starred_seen (Signed (codes "*") ▸ I an_expr) (sign (codes "*") ▹ i an_expr) (exact_then Any (After 12) (Signed (codes "*")) (I an_expr) (sign (codes "*")) (i an_expr) (exact_sign (codes "*")) ex (λ us b r d h. tt)))
-      (exact_choose (After 12) is_named (Made keyword_seen (One name_of ▸ (Signed (codes "=") ▸ I an_expr))) (Made positional_seen (I an_expr)) _ _
-        (exact_made (After 12) keyword_seen (One name_of ▸ (Signed (codes "=") ▸ I an_expr)) (one name_of ▹ (sign (codes "=") ▹ i an_expr)) (exact_then Any (After 12) (One name_of) (Signed (codes "=") ▸ I an_expr) (one name_of) (sign (codes "=") ▹ i an_expr) (exact_one name_of) (exact_then Any (After 12) (Signed (codes "=")) (I an_expr) (sign (codes "=")) (i an_expr) (exact_sign (codes "=")) ex (λ us b r d h. tt)) (λ us b r d h. tt)))
-        (exact_made (After 12) positional_seen (I an_expr) (i an_expr) ex)
-        (λ ws a r d h. keyword_first I ws d.from r d.derived)
-        (λ ws a r d h. not_named I i kn ws d.from r d.derived h))
-      (λ ws a r d h. sign_there (codes "*") (ws ++ r) (arg_star I ws d.from r d.derived))
-      (λ ws a r d h. elim d [ inl d ↦ sign_by_lead (codes "*") (ws ++ r) 0 (key_no_star I ws d.from r d.derived) (omega arith) | inr d ↦ sign_by_lead (codes "*") (ws ++ r) 3 (kn.leads an_expr ws d.from r d.derived) (omega arith) ])
+    (exact_made (After 12) starred_seen (Signed (codes "*") ▸ I an_expr) (sign (codes "*") ▹ i an_expr) (exact_then Any (After 12) (Signed (codes "*")) (I an_expr) (sign (codes "*")) (i an_expr) (exact_sign (codes "*")) ex (λ us b r d h. tt)))
+    (exact_choose (After 12) is_named (Made keyword_seen (One name_of ▸ (Signed (codes "=") ▸ I an_expr))) (Made positional_seen (I an_expr)) _ _
+    (exact_made (After 12) keyword_seen (One name_of ▸ (Signed (codes "=") ▸ I an_expr)) (one name_of ▹ (sign (codes "=") ▹ i an_expr)) (exact_then Any (After 12) (One name_of) (Signed (codes "=") ▸ I an_expr) (one name_of) (sign (codes "=") ▹ i an_expr) (exact_one name_of) (exact_then Any (After 12) (Signed (codes "=")) (I an_expr) (sign (codes "=")) (i an_expr) (exact_sign (codes "=")) ex (λ us b r d h. tt)) (λ us b r d h. tt)))
+    (exact_made (After 12) positional_seen (I an_expr) (i an_expr) ex)
+    (λ ws a r d h. keyword_first I ws d.from r d.derived)
+    (λ ws a r d h. not_named I i kn ws d.from r d.derived h))
+    (λ ws a r d h. sign_there (codes "*") (ws ++ r) (arg_star I ws d.from r d.derived))
+    (λ ws a r d h. elim d [ inl d ↦ sign_by_lead (codes "*") (ws ++ r) 0 (key_no_star I ws d.from r d.derived) (omega arith) | inr d ↦ sign_by_lead (codes "*") (ws ++ r) 3 (kn.leads an_expr ws d.from r d.derived) (omega arith) ])
 
 or_second : (a b : Bool) → b ≡ true → (a || b) ≡ true
 or_second true b h = refl
@@ -227,10 +227,10 @@ exact_args : (I : Kind → List Word → Seen → Type 0) (i : Inner) → Knows 
 unfolding args
 exact_args I i kn = exact_such (Sign_first (codes ")")) over_fits (Arg I ▸ Others I (Arg I)) (arg i ▹ others i begins_argument (arg i))
     (exact_weaken (After_others (After 12) begins_argument) (Sign_first (codes ")")) (Arg I ▸ Others I (Arg I)) (arg i ▹ others i begins_argument (arg i))
-      (exact_then (After 12) (After_others (After 12) begins_argument) (Arg I) (Others I (Arg I)) (arg i) (others i begins_argument (arg i)) (exact_arg I i kn)
-        (exact_others I i kn (After 12) begins_argument (Arg I) (arg i) (exact_arg I i kn) (comma_after 12 (omega arith)) (arg_begins I i kn))
-        (λ us x r d h. others_hold (After 12) I (Arg I) (comma_after 12 (omega arith)) (λ p r. omega arith) us x r d h.list.ends))
-      args_end)
+    (exact_then (After 12) (After_others (After 12) begins_argument) (Arg I) (Others I (Arg I)) (arg i) (others i begins_argument (arg i)) (exact_arg I i kn)
+    (exact_others I i kn (After 12) begins_argument (Arg I) (arg i) (exact_arg I i kn) (comma_after 12 (omega arith)) (arg_begins I i kn))
+    (λ us x r d h. others_hold (After 12) I (Arg I) (comma_after 12 (omega arith)) (λ p r. omega arith) us x r d h.list.ends))
+    args_end)
 
 exact_call : (I : Kind → List Word → Seen → Type 0) (i : Inner) → Knows I i → Exact Any (Made (λ x. call_seen x.1.0) (Signed (codes "(") ▸ (Maybe (Args I) ▸ Signed (codes ")")))) (call i)
 unfolding call
@@ -268,7 +268,7 @@ exact_index I i kn =
     let middle = exact_then After_part (Sign_first (codes "]")) (Maybe (I an_expr)) (Maybe (Signed (codes ":") ▸ Maybe (I an_expr))) (perhaps_expr i) (step i) (exact_part I i kn) last (colon_or_end (Maybe (I an_expr))) in
     let both = exact_colon (Maybe (I an_expr) ▸ Maybe (Signed (codes ":") ▸ Maybe (I an_expr))) (perhaps_expr i ▹ step i) middle in
     exact_made (Sign_first (codes "]")) index_seen _ _ (exact_such (Sign_first (codes "]")) index_fits _ _
-      (exact_then After_part (Sign_first (codes "]")) (Maybe (I an_expr)) (Maybe (Signed (codes ":") ▸ (Maybe (I an_expr) ▸ Maybe (Signed (codes ":") ▸ Maybe (I an_expr))))) (perhaps_expr i) (stop i) (exact_part I i kn) both (colon_or_end (Maybe (I an_expr) ▸ Maybe (Signed (codes ":") ▸ Maybe (I an_expr))))))
+    (exact_then After_part (Sign_first (codes "]")) (Maybe (I an_expr)) (Maybe (Signed (codes ":") ▸ (Maybe (I an_expr) ▸ Maybe (Signed (codes ":") ▸ Maybe (I an_expr))))) (perhaps_expr i) (stop i) (exact_part I i kn) both (colon_or_end (Maybe (I an_expr) ▸ Maybe (Signed (codes ":") ▸ Maybe (I an_expr))))))
 
 -- ---- trailers
 
@@ -282,12 +282,12 @@ unfolding trail indexed
 exact_trail I i kn = exact_choose Any (next_sign (codes ".")) (Made attribute_seen (Signed (codes ".") ▸ One name_of)) _ attribute _
     (exact_made Any attribute_seen (Signed (codes ".") ▸ One name_of) (sign (codes ".") ▹ one name_of) (exact_then Any Any (Signed (codes ".")) (One name_of) (sign (codes ".")) (one name_of) (exact_sign (codes ".")) (exact_one name_of) (λ us b r d h. tt)))
     (exact_choose Any (next_sign (codes "(")) (Made (λ x. call_seen x.1.0) (Signed (codes "(") ▸ (Maybe (Args I) ▸ Signed (codes ")")))) (Made bracketed_index (Signed (codes "[") ▸ (IndexRule I ▸ Signed (codes "]")))) (call i) (indexed i)
-      (exact_call I i kn)
-      (exact_made Any bracketed_index (Signed (codes "[") ▸ (IndexRule I ▸ Signed (codes "]"))) (sign (codes "[") ▹ (index i ▹ sign (codes "]"))) (exact_then Any Any (Signed (codes "[")) (IndexRule I ▸ Signed (codes "]")) (sign (codes "[")) (index i ▹ sign (codes "]")) (exact_sign (codes "["))
-        (exact_then (Sign_first (codes "]")) Any (IndexRule I) (Signed (codes "]")) (index i) (sign (codes "]")) (exact_index I i kn) (exact_sign (codes "]")) (λ us p r d h. record { place = p; rest = r; whole = ap (λ z. z ++ r) d.whole }))
-        (λ us b r d h. tt)))
-      (λ ws a r d h. sign_there (codes "(") (ws ++ r) (signed_first (codes "(") (Maybe (Args I) ▸ Signed (codes ")")) ws d.from r d.derived))
-      (λ ws a r d h. ap (next_sign (codes "(")) (signed_first (codes "[") (IndexRule I ▸ Signed (codes "]")) ws d.from r d.derived).whole))
+    (exact_call I i kn)
+    (exact_made Any bracketed_index (Signed (codes "[") ▸ (IndexRule I ▸ Signed (codes "]"))) (sign (codes "[") ▹ (index i ▹ sign (codes "]"))) (exact_then Any Any (Signed (codes "[")) (IndexRule I ▸ Signed (codes "]")) (sign (codes "[")) (index i ▹ sign (codes "]")) (exact_sign (codes "["))
+    (exact_then (Sign_first (codes "]")) Any (IndexRule I) (Signed (codes "]")) (index i) (sign (codes "]")) (exact_index I i kn) (exact_sign (codes "]")) (λ us p r d h. record { place = p; rest = r; whole = ap (λ z. z ++ r) d.whole }))
+    (λ us b r d h. tt)))
+    (λ ws a r d h. sign_there (codes "(") (ws ++ r) (signed_first (codes "(") (Maybe (Args I) ▸ Signed (codes ")")) ws d.from r d.derived))
+    (λ ws a r d h. ap (next_sign (codes "(")) (signed_first (codes "[") (IndexRule I ▸ Signed (codes "]")) ws d.from r d.derived).whole))
     (λ ws a r d h. sign_there (codes ".") (ws ++ r) (signed_first (codes ".") (One name_of) ws d.from r d.derived))
     (λ ws a r d h. trail_later I ws a r d)
   where
@@ -322,8 +322,8 @@ pub exact_primary : (I : Kind → List Word → Seen → Type 0) (i : Inner) →
 unfolding primary
 exact_primary I i kn = exact_made (After 0) primary_seen (Atom I ▸ Made all_of (Many (Trail I))) (atom i ▹ many trails (trail i) and_one ([], 0))
     (exact_then No_slash (After 0) (Atom I) (Made all_of (Many (Trail I))) (atom i) (many trails (trail i) and_one ([], 0)) (exact_atom I i kn)
-      (exact_many Any (After 0) (Trail I) trails (trail i) and_one ([], 0) (trail_runs I i kn))
-      (λ us b r d h. trailed_on I us d.from r d.derived h))
+    (exact_many Any (After 0) (Trail I) trails (trail i) and_one ([], 0) (trail_runs I i kn))
+    (λ us b r d h. trailed_on I us d.from r d.derived h))
 
 pub primary_leads : (I : Kind → List Word → Seen → Type 0) (ws : List Word) (e : Seen) (r : List Word) → Primary I ws e → lead (ws ++ r) ≤ 0
 primary_leads I ws e r d = then_first (λ ws. lead ws ≤ 0) (Atom I) (Made all_of (Many (Trail I))) (atom_leads I) ws d.from r d.derived

@@ -47,13 +47,15 @@ repeat_sound : {A B : Type 0} (E : List Word → Type 0) (D : List Word → A �
 unfolding repeat
 repeat_sound E D goes rd add e zero b ws c r h = run_at D add ws b (b, ws) (c, r) (record { things = []; added = refl; front = []; split = refl; derived = no_more }) h
 repeat_sound E D goes rd add e (suc n) b ws c r h = elim (if_some (goes ws) (rd ws >>= λ x. repeat goes rd add n (add b x.0) x.1) (Some (b, ws)) (c, r) h) [
-    inl y ↦ let p = bind_ok (rd ws) (λ x. repeat goes rd add n (add b x.0) x.1) (c, r) y.1 in
+  | inl y ↦ let p = bind_ok (rd ws) (λ x. repeat goes rd add n (add b x.0) x.1) (c, r) y.1 in
       let f = e.sound ws p.from.0 p.from.1 p.was in
       let g = repeat_sound E D goes rd add e n (add b p.from.0) p.from.1 c r p.gave in
       record { things = p.from.0 ∷ g.things; added = g.added; front = f.front ++ g.front; split = f.split ∙ (ap (λ z. f.front ++ z) g.split ∙ sym (append_assoc f.front g.front r)); derived = one_more f.derived g.derived }
-    | inr n ↦ run_at D add ws b (b, ws) (c, r) (record { things = []; added = refl; front = []; split = refl; derived = no_more }) n.1 ]
+  | inr n ↦ run_at D add ws b (b, ws) (c, r) (record { things = []; added = refl; front = []; split = refl; derived = no_more }) n.1
+]
 
 pub exact_many : {A B : Type 0} (E F : List Word → Type 0) (D : List Word → A → Type 0) (goes : List Word → Bool) (rd : Read A) (add : B → A → B) (b : B) → Runs E F D goes rd → Exact F (Made (λ xs. fold add b xs) (Many D)) (many goes rd add b)
 exact_many E F D goes rd add b run = record {
-    sound = λ ws c r h. let g = repeat_sound E D goes rd add run.exact (length ws) b ws c r h in record { front = g.front; split = g.split; derived = record { from = g.things; derived = g.derived; is = g.added } };
-    complete = λ ws c r d f. repeat_complete E F D goes rd add run ws d.from d.derived r f (length (ws ++ r)) (omega (arith, length-append ws r)) b ∙ ap (λ z. Some (z, r)) (sym d.is) }
+  sound = λ ws c r h. let g = repeat_sound E D goes rd add run.exact (length ws) b ws c r h in record { front = g.front; split = g.split; derived = record { from = g.things; derived = g.derived; is = g.added } };
+  complete = λ ws c r d f. repeat_complete E F D goes rd add run ws d.from d.derived r f (length (ws ++ r)) (omega (arith, length-append ws r)) b ∙ ap (λ z. Some (z, r)) (sym d.is);
+}

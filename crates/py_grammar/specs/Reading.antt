@@ -120,8 +120,8 @@ unfoldable pub arg : Inner → Read (Deep Argument)
 arg i = choose (next_sign (codes "*"))
     (made starred_seen (sign (codes "*") ▹ i an_expr))
     (choose is_named
-        (made keyword_seen (one name_of ▹ (sign (codes "=") ▹ i an_expr)))
-        (made positional_seen (i an_expr)))
+    (made keyword_seen (one name_of ▹ (sign (codes "=") ▹ i an_expr)))
+    (made positional_seen (i an_expr)))
 
 unfoldable pub args : Inner → Read (Deep Argument × Rest Argument)
 args i = such over_fits (arg i ▹ others i begins_argument (arg i))

@@ -7,13 +7,11 @@ pub fn expressions_are_exact()
     ensures read_is_derived { ReadIsDerived }
     ensures derived_is_read { DerivedIsRead }
     ensures one_tree { OneTree }
-{
-}
+{}
 
 /// The same of expressions with a comma between each two.
 pub fn lists_are_exact()
     ensures read_is_derived { ExprsReadIsDerived }
     ensures derived_is_read { ExprsDerivedIsRead }
     ensures one_tree { ExprsOneTree }
-{
-}
+{}

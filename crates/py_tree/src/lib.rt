@@ -11,7 +11,9 @@ mod name;
 mod number;
 mod stmt;
 
-pub use expr::{Argument, Comprehension, Constant, Expr, ExprKind, Link, Operator, Pair, Sign, Trailer};
+pub use expr::{
+    Argument, Comprehension, Constant, Expr, ExprKind, Link, Operator, Pair, Sign, Trailer,
+};
 pub use name::{Name, Piece, Pieces};
-pub use stmt::{Block, Branch, Function, Imported, Param, Program, Stmt, StmtKind};
 pub use number::{Amount, Decimal};
+pub use stmt::{Block, Branch, Function, Imported, Param, Program, Stmt, StmtKind};
