@@ -1,0 +1,6 @@
+pub mod Ids
+pub mod Cells
+pub mod Operands
+pub mod Operators
+pub mod Carried
+pub mod Expressions
