@@ -1,3 +1,5 @@
 pub mod Places
 pub mod Reading
 pub mod Whole
+pub mod Drawn
+pub mod Arithmetic
