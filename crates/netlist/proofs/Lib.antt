@@ -3,3 +3,5 @@ pub mod Reading
 pub mod Whole
 pub mod Drawn
 pub mod Arithmetic
+pub mod Comparisons
+pub mod Bitwise
