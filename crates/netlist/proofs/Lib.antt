@@ -5,3 +5,5 @@ pub mod Drawn
 pub mod Arithmetic
 pub mod Comparisons
 pub mod Bitwise
+pub mod Widths
+pub mod BitOperators

@@ -92,7 +92,7 @@ spec_bits-replicate : (id : List ℕ) (place n : ℕ) → spec_bits (replicate n
 spec_bits-replicate id place zero = refl
 spec_bits-replicate id place (suc n) = ap (λ s. s ++ (Net id place ∷ [])) (spec_bits-replicate id place n) ∙ replicate-snoc (Net id place) n
 
-length-filling : (id : List ℕ) (s : Bool) (w n : ℕ) → length (spec_bits (filling id (record { width = w; signed = s }) n)) ≡ n
+pub length-filling : (id : List ℕ) (s : Bool) (w n : ℕ) → length (spec_bits (filling id (record { width = w; signed = s }) n)) ≡ n
 length-filling id true w n = ap length (spec_bits-replicate id (w - 1) n) ∙ length-replicate (Net id (w - 1)) n
 length-filling id false w n = length-const_part (replicate n false) ∙ length-replicate false n
 
