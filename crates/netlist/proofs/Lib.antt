@@ -7,3 +7,6 @@ pub mod Comparisons
 pub mod Bitwise
 pub mod Widths
 pub mod BitOperators
+pub mod ReducedBits
+pub mod ReducedOperators
+pub mod ShiftOperators
