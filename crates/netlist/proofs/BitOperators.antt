@@ -37,7 +37,7 @@ alike_bitwise wires k f of n g a b y x z kind law s t p q c d le o =
     (first_cell wires (binary_cell k (part_id n) (as_form a g) (as_form b g) y.form.width (whole y)) [] o.cells)
 
 -- the result's width, and the work shape's
-result_within : (o : Op) (a b : Form) (y : Form) → y ≡ form_of o a b → (form_of o a b).width ≤ (work_form o a b).width → y.width ≤ (work_form o a b).width
+pub result_within : (o : Op) (a b : Form) (y : Form) → y ≡ form_of o a b → (form_of o a b).width ≤ (work_form o a b).width → y.width ≤ (work_form o a b).width
 result_within o a b y e le = let d : y.width ≡ (form_of o a b).width = ap (λ (f : Form). f.width) e in omega arith
 
 pub makes_and : MakesOperator op.And

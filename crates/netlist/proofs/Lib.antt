@@ -10,3 +10,6 @@ pub mod BitOperators
 pub mod ReducedBits
 pub mod ReducedOperators
 pub mod ShiftOperators
+pub mod Divisions
+pub mod Magnitudes
+pub mod Made
