@@ -13,3 +13,4 @@ pub mod ShiftOperators
 pub mod Divisions
 pub mod Magnitudes
 pub mod Made
+pub mod FittingCells

@@ -3,4 +3,5 @@ pub mod Cells
 pub mod Operands
 pub mod Operators
 pub mod Carried
+pub mod Fits
 pub mod Expressions
