@@ -14,3 +14,4 @@ pub mod Divisions
 pub mod Magnitudes
 pub mod Made
 pub mod FittingCells
+pub mod FittingDrawings
