@@ -62,12 +62,12 @@ pub record IsComparison (k : CellKind) : Type 0 where
   pub binary : IsBinary k
   pub rules : (m : RtlModule) (c : RtlCell) → FitsComparison c → KindFits m c k
 
-arithmetic_fits : (m : RtlModule) (k : CellKind) (name : List ℕ) (a b : Operand) (width : ℕ) (y : List SigPart) → IsArithmetic k → SpecIs m a.spec a.form.width → SpecIs m b.spec b.form.width → SpecIs m y width
+pub arithmetic_fits : (m : RtlModule) (k : CellKind) (name : List ℕ) (a b : Operand) (width : ℕ) (y : List SigPart) → IsArithmetic k → SpecIs m a.spec a.form.width → SpecIs m b.spec b.form.width → SpecIs m y width
     → a.form ≡ b.form → a.form.width ≡ width → CellFits m (binary_cell k name a b width y)
 arithmetic_fits m k name a b width y kind p q r same wide =
     binary_fits m k name a b width y kind.binary.parameters kind.binary.ends p q r (kind.rules m (binary_cell k name a b width y) (arithmetic_rules m k name a b width y p q r same wide))
 
-comparison_fits : (m : RtlModule) (k : CellKind) (name : List ℕ) (a b : Operand) (y : List SigPart) → IsComparison k → SpecIs m a.spec a.form.width → SpecIs m b.spec b.form.width → SpecIs m y 1
+pub comparison_fits : (m : RtlModule) (k : CellKind) (name : List ℕ) (a b : Operand) (y : List SigPart) → IsComparison k → SpecIs m a.spec a.form.width → SpecIs m b.spec b.form.width → SpecIs m y 1
     → a.form ≡ b.form → CellFits m (binary_cell k name a b 1 y)
 comparison_fits m k name a b y kind p q r same =
     binary_fits m k name a b 1 y kind.binary.parameters kind.binary.ends p q r (kind.rules m (binary_cell k name a b 1 y) (comparison_rules m k name a b y p q r same))
@@ -75,16 +75,16 @@ comparison_fits m k name a b y kind p q r same =
 add_kind : IsArithmetic kind.Add
 add_kind = record { binary = record { parameters = refl; ends = refl }; rules = λ m c f. f }
 
-sub_kind : IsArithmetic kind.Sub
+pub sub_kind : IsArithmetic kind.Sub
 sub_kind = record { binary = record { parameters = refl; ends = refl }; rules = λ m c f. f }
 
 mul_kind : IsArithmetic kind.Mul
 mul_kind = record { binary = record { parameters = refl; ends = refl }; rules = λ m c f. f }
 
-div_kind : IsArithmetic kind.DivFloor
+pub div_kind : IsArithmetic kind.DivFloor
 div_kind = record { binary = record { parameters = refl; ends = refl }; rules = λ m c f. f }
 
-mod_kind : IsArithmetic kind.ModFloor
+pub mod_kind : IsArithmetic kind.ModFloor
 mod_kind = record { binary = record { parameters = refl; ends = refl }; rules = λ m c f. f }
 
 and_kind : IsArithmetic kind.And
@@ -96,10 +96,10 @@ or_kind = record { binary = record { parameters = refl; ends = refl }; rules = �
 xor_kind : IsArithmetic kind.Xor
 xor_kind = record { binary = record { parameters = refl; ends = refl }; rules = λ m c f. f }
 
-eq_kind : IsComparison kind.Eq
+pub eq_kind : IsComparison kind.Eq
 eq_kind = record { binary = record { parameters = refl; ends = refl }; rules = λ m c f. f }
 
-lt_kind : IsComparison kind.Lt
+pub lt_kind : IsComparison kind.Lt
 lt_kind = record { binary = record { parameters = refl; ends = refl }; rules = λ m c f. f }
 
 le_kind : IsComparison kind.Le
@@ -183,7 +183,7 @@ fits_not =
 -- ---- comparisons
 
 -- the whole of a value of one bit
-one_is : (m : RtlModule) (y : Value) → HasValue m.wires y → y.form.width ≡ 1 → SpecIs m (whole y) 1
+pub one_is : (m : RtlModule) (y : Value) → HasValue m.wires y → y.form.width ≡ 1 → SpecIs m (whole y) 1
 one_is m y hy e = subst (λ (w : ℕ). SpecIs m (whole y) w) e (whole_is m y hy)
 
 compared_fits : (m : RtlModule) (k : CellKind) (n : ℕ) (g : Form) (a b y : Value) → IsComparison k → HasSign a.form → HasSign b.form → HasValue m.wires a → HasValue m.wires b → HasValue m.wires y → y.form.width ≡ 1 → DrawingFits m (compared k n g a b y)

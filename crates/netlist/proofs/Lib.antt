@@ -15,3 +15,4 @@ pub mod Magnitudes
 pub mod Made
 pub mod FittingCells
 pub mod FittingDrawings
+pub mod FittingParts
