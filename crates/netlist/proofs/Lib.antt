@@ -12,7 +12,8 @@ pub mod ReducedOperators
 pub mod ShiftOperators
 pub mod Divisions
 pub mod Magnitudes
-pub mod Made
+pub mod MadeOperators
 pub mod FittingCells
 pub mod FittingDrawings
 pub mod FittingParts
+pub mod NeededBits

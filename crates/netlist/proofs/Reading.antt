@@ -50,7 +50,7 @@ carries_bits wires v x b = λ i h. b.at i h ∙ sym (slice_get-pattern v.form.wi
 
 -- ---- parts of wires, and constants
 
-bit_at-wire_part : (wires : Wires) (id : List ℕ) (low width k : ℕ) → k < width → bit_at (source_value wires) (spec_bits (wire_part id low width)) k ≡ wires id (low + k)
+pub bit_at-wire_part : (wires : Wires) (id : List ℕ) (low width k : ℕ) → k < width → bit_at (source_value wires) (spec_bits (wire_part id low width)) k ≡ wires id (low + k)
 bit_at-wire_part wires id low width k h = ap (option_and_then (source_value wires)) (slice_get-wire_part id low width k h)
 
 -- bits of a wire from a place on, which are those of the integer divided by a power of two
@@ -79,7 +79,7 @@ replicate-snoc : {A : Type 0} (a : A) (n : ℕ) → replicate n a ++ (a ∷ []) 
 replicate-snoc a zero = refl
 replicate-snoc a (suc n) = ap (λ s. a ∷ s) (replicate-snoc a n)
 
-slice_get-replicate : {A : Type 0} (a : A) (n k : ℕ) → k < n → slice_get (replicate n a) k ≡ Some a
+pub slice_get-replicate : {A : Type 0} (a : A) (n k : ℕ) → k < n → slice_get (replicate n a) k ≡ Some a
 slice_get-replicate a zero k h = absurd (omega arith)
 slice_get-replicate a (suc n) zero h = refl
 slice_get-replicate a (suc n) (suc k) h = slice_get-replicate a n k (omega arith)
@@ -88,7 +88,7 @@ length-replicate : {A : Type 0} (a : A) (n : ℕ) → length (replicate n a) ≡
 length-replicate a zero = refl
 length-replicate a (suc n) = ap suc (length-replicate a n)
 
-spec_bits-replicate : (id : List ℕ) (place n : ℕ) → spec_bits (replicate n (parts.Wire id place 1)) ≡ replicate n (Net id place)
+pub spec_bits-replicate : (id : List ℕ) (place n : ℕ) → spec_bits (replicate n (parts.Wire id place 1)) ≡ replicate n (Net id place)
 spec_bits-replicate id place zero = refl
 spec_bits-replicate id place (suc n) = ap (λ s. s ++ (Net id place ∷ [])) (spec_bits-replicate id place n) ∙ replicate-snoc (Net id place) n
 
@@ -111,11 +111,11 @@ bit_at-filling wires id false w n k x some f b h =
 
 -- ---- at a width
 
-bit_at_left : (wires : Wires) (high low : List SigPart) (k : ℕ) → k < length (spec_bits low) → bit_at (source_value wires) (spec_bits (high ++ low)) k ≡ bit_at (source_value wires) (spec_bits low) k
+pub bit_at_left : (wires : Wires) (high low : List SigPart) (k : ℕ) → k < length (spec_bits low) → bit_at (source_value wires) (spec_bits (high ++ low)) k ≡ bit_at (source_value wires) (spec_bits low) k
 bit_at_left wires high low k h =
     ap (option_and_then (source_value wires)) (ap (λ s. slice_get s k) (spec_bits-append high low) ∙ slice_get-append_left (spec_bits low) (spec_bits high) k h)
 
-bit_at_right : (wires : Wires) (high low : List SigPart) (w k : ℕ) → length (spec_bits low) ≡ w → bit_at (source_value wires) (spec_bits (high ++ low)) (w + k) ≡ bit_at (source_value wires) (spec_bits high) k
+pub bit_at_right : (wires : Wires) (high low : List SigPart) (w k : ℕ) → length (spec_bits low) ≡ w → bit_at (source_value wires) (spec_bits (high ++ low)) (w + k) ≡ bit_at (source_value wires) (spec_bits high) k
 bit_at_right wires high low w k e =
     ap (λ j. bit_at (source_value wires) (spec_bits (high ++ low)) (j + k)) (sym e)
     ∙ ap (option_and_then (source_value wires)) (ap (λ s. slice_get s (length (spec_bits low) + k)) (spec_bits-append high low) ∙ slice_get-append_right (spec_bits low) (spec_bits high) k)

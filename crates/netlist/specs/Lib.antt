@@ -5,3 +5,4 @@ pub mod Operators
 pub mod Carried
 pub mod Fits
 pub mod Expressions
+pub mod Made
