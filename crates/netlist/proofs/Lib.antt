@@ -17,3 +17,4 @@ pub mod FittingCells
 pub mod FittingDrawings
 pub mod FittingParts
 pub mod NeededBits
+pub mod Linked
