@@ -22,7 +22,7 @@ pub form_sign : (f : Form) → IsForm f.width f.signed → HasSign f
 form_sign f i = sign_some f.width f.signed i
 
 -- a result with bits is drawn
-operator_drawing-some : (o : Op) (n : ℕ) (a b y : Value) → 1 ≤ y.form.width → operator_drawing o n a b y ≡ operated o n (work_form o a.form b.form) a b y
+pub operator_drawing-some : (o : Op) (n : ℕ) (a b y : Value) → 1 ≤ y.form.width → operator_drawing o n a b y ≡ operated o n (work_form o a.form b.form) a b y
 unfolding operator_drawing
 operator_drawing-some o n a b y h =
     let d : Drawing = operated o n (work_form o a.form b.form) a b y in

@@ -18,3 +18,5 @@ pub mod FittingDrawings
 pub mod FittingParts
 pub mod NeededBits
 pub mod Linked
+pub mod OperatorExpressions
+pub mod Choices

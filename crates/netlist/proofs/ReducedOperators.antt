@@ -37,7 +37,7 @@ pub record IsReduction (k : CellKind) (f : List Bool → Bool) : Type 0 where
   pub output : output_of k ≡ codes "\\Y"
   pub bit : (value : Source → Option Bool) (c : RtlCell) (width : ℕ) → cell_bit value c width 0 k ≡ option_and_then (λ bits. Some (f bits)) (read value (end_bits c (codes "\\A")))
 
-or_reduction : IsReduction kind.ReduceOr (λ bits. list_any (λ b. b) bits)
+pub or_reduction : IsReduction kind.ReduceOr (λ bits. list_any (λ b. b) bits)
 or_reduction = record { output = refl; bit = λ value c width. refl }
 
 and_reduction : IsReduction kind.ReduceAnd (λ bits. list_all (λ b. b) bits)
@@ -69,7 +69,7 @@ reduced_bits wires k f empty n a y x t kind one c bits none =
 
 -- ---- where there are no bits
 
-empty_pattern : (width : ℕ) (x : ℤ) → width ≡ 0 → pattern width x ≡ 0
+pub empty_pattern : (width : ℕ) (x : ℤ) → width ≡ 0 → pattern width x ≡ 0
 empty_pattern width x e = let h : pattern 0 x < 2 ^ 0 = pattern_below 0 x in ap (λ w. pattern w x) e ∙ (let d : pattern 0 x ≡ 0 = omega arith in d)
 
 empty_any : (s : Bool) (width : ℕ) (x : ℤ) → IsOf s width x → width ≡ 0 → pos 0 ≡ truth (not (is_zero x))
