@@ -36,7 +36,7 @@ add_whole = record { output = refl; bit = λ value c width i. refl }
 pub sub_whole : IsWhole kind.Sub
 sub_whole = record { output = refl; bit = λ value c width i. refl }
 
-mul_whole : IsWhole kind.Mul
+pub mul_whole : IsWhole kind.Mul
 mul_whole = record { output = refl; bit = λ value c width i. refl }
 
 pub makes_add : MakesOperator op.Add

@@ -23,7 +23,7 @@ use Rattle.netlist.proofs.Drawn.{MakesBits, makes_bits, form_sign, first_cell}
 
 -- ---- equal is at most in both directions
 
-zero_false : (z : ℤ) → (z ≡ pos 0 → ⊥) → is_zero z ≡ false
+pub zero_false : (z : ℤ) → (z ≡ pos 0 → ⊥) → is_zero z ≡ false
 zero_false (pos zero) h = absurd (h refl)
 zero_false (pos (suc n)) h = refl
 zero_false (negsuc n) h = refl

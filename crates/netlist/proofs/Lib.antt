@@ -20,3 +20,5 @@ pub mod NeededBits
 pub mod Linked
 pub mod OperatorExpressions
 pub mod Choices
+pub mod Selections
+pub mod Items

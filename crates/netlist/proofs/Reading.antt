@@ -84,7 +84,7 @@ slice_get-replicate a zero k h = absurd (omega arith)
 slice_get-replicate a (suc n) zero h = refl
 slice_get-replicate a (suc n) (suc k) h = slice_get-replicate a n k (omega arith)
 
-length-replicate : {A : Type 0} (a : A) (n : ℕ) → length (replicate n a) ≡ n
+pub length-replicate : {A : Type 0} (a : A) (n : ℕ) → length (replicate n a) ≡ n
 length-replicate a zero = refl
 length-replicate a (suc n) = ap suc (length-replicate a n)
 

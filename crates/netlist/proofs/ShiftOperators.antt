@@ -72,7 +72,7 @@ bit_of-shifted width x j i h =
       (cases_lt i j))
 
 -- an amount without bits is 0
-no_amount : (s : Bool) (z : ℤ) → s ≡ false → (width : ℕ) → width ≡ 0 → IsOf s width z → unsigned_abs z ≡ 0
+pub no_amount : (s : Bool) (z : ℤ) → s ≡ false → (width : ℕ) → width ≡ 0 → IsOf s width z → unsigned_abs z ≡ 0
 no_amount true z e width w f = cc
 no_amount false (pos n) e width w f = let h : n < 2 ^ 0 = subst (λ (v : ℕ). n < 2 ^ v) w f in omega arith
 no_amount false (negsuc n) e width w f = absurd f
@@ -91,7 +91,7 @@ makes_shl =
 
 -- ---- down
 
-by_one : (x : ℤ) (j : ℕ) → j ≡ 0 → x ≡ floor_quotient x (2 ^ j)
+pub by_one : (x : ℤ) (j : ℕ) → j ≡ 0 → x ≡ floor_quotient x (2 ^ j)
 by_one (pos n) j e = ap pos (sym (div-one n)) ∙ ap (λ (i : ℕ). pos (n / 2 ^ i)) (sym e)
 by_one (negsuc n) j e = ap negsuc (sym (div-one n)) ∙ ap (λ (i : ℕ). negsuc (n / 2 ^ i)) (sym e)
 
