@@ -22,3 +22,5 @@ pub mod OperatorExpressions
 pub mod Choices
 pub mod Selections
 pub mod Items
+pub mod Patterns
+pub mod MadeExpressions
