@@ -1,12 +1,11 @@
 -- Whether a value is not 0, and choices by it.
-use Rattle.std.proofs.Common.{◌≡◌, ℕ, zero, suc, ◌+◌, ◌<◌, ◌≤◌, ◌%◌, ◌==◌, Bool, true, false, cond, not, ◌||◌, List, [], ◌∷◌, ◌++◌, refl, sym, ◌∙◌, ap, subst, arith, ℤ, pos}
-use Rattle.std.specs.Prelude.{Some, slice_get, All}
-use Rattle.std.specs.List.{AllByRecursion, list_any}
-use Rattle.std.proofs.lemmas.Bool.{eqb-true, eqb-false}
+use Rattle.std.proofs.Common.{◌≡◌, ℕ, ◌+◌, ◌%◌, ◌==◌, Bool, true, false, cond, not, ◌||◌, List, [], ◌∷◌, ◌++◌, refl, sym, ◌∙◌, ap, subst, arith, ℤ, pos}
+use Rattle.std.specs.Prelude.{Some}
+use Rattle.std.specs.List.{list_any}
+use Rattle.std.proofs.lemmas.Bool.{eqb-true}
 use Rattle.std.proofs.lemmas.Option.{same_Some}
 use Rattle.std.proofs.lemmas.List.Elements.{All-from_recursion, recursion_from_All}
 use Rattle.amh_bits.specs.Patterns.{pattern, IsOf}
-use Rattle.shape_rules.specs.Forms.{Form, common}
 use Rattle.shape_rules.specs.Operators.{is_zero}
 use Rattle.shape_rules.specs.declared.cell.CellKind.TheVariants as kind
 use Rattle.design_ir.specs.declared.ids.ExprId.{ExprId}
@@ -15,9 +14,8 @@ use Rattle.design_ir.specs.Targets.{Bit}
 use Rattle.design_ir.specs.Needed.{extended, every}
 use Rattle.rtlil_text.specs.declared.sig.SigPart.{SigPart}
 use Rattle.rtlil_text.specs.declared.cell.RtlCell.{RtlCell}
-use Rattle.rtlil_text.specs.declared.module.RtlLink.{RtlLink}
 use Rattle.rtlil_text.specs.Sources.{spec_bits}
-use Rattle.rtlil_text.specs.Cells.{number_bits, bit_at}
+use Rattle.rtlil_text.specs.Cells.{bit_at}
 use Rattle.rtlil_text.specs.Meaning.{source_value}
 use Rattle.rtlil_text.specs.History.{Wires}
 use Rattle.netlist.specs.Ids.{part_id}
@@ -25,8 +23,8 @@ use Rattle.netlist.specs.Cells.{unary_cell, mux_cell}
 use Rattle.netlist.specs.Operands.{const_spec, at_width}
 use Rattle.netlist.specs.Operators.{Value, Drawing, nothing, inner_wire, whole, one_bit, as_form}
 use Rattle.netlist.specs.Carried.{IsIn, ObeysCell, ObeysLink, Obeys}
-use Rattle.netlist.specs.Expressions.{and_also, truth_spec, truth_drawing, chosen}
-use Rattle.netlist.specs.Made.{Known, known_form, SignalHas, Follows, IsMade, MakesExpression}
+use Rattle.netlist.specs.Expressions.{and_also, truth_spec, truth_drawing}
+use Rattle.netlist.specs.Made.{known_form, SignalHas, MakesExpression}
 use Rattle.netlist.proofs.Reading.{bit_of, HasBits, reads_const, slice_get-pattern, bit_at-wire_part}
 use Rattle.netlist.proofs.Drawn.{first_cell}
 use Rattle.netlist.proofs.Bitwise.{mux_cell_bit}

@@ -1,6 +1,6 @@
 -- Cells whose ends have their widths keep the rules of their kinds.
-use Rattle.std.proofs.Common.{◌≡◌, ℕ, zero, suc, ◌+◌, ◌-◌, ◌<◌, ◌≤◌, Bool, true, false, List, [], ◌∷◌, ◌++◌, map, length, replicate, refl, sym, ◌∙◌, ap, arith, ℤ}
-use Rattle.std.specs.Prelude.{All, Contains, codes, nat_lt, None}
+use Rattle.std.proofs.Common.{◌≡◌, ℕ, zero, suc, ◌+◌, ◌-◌, ◌≤◌, Bool, true, false, List, [], ◌∷◌, ◌++◌, length, replicate, refl, sym, ◌∙◌, ap, arith, ℤ}
+use Rattle.std.specs.Prelude.{Contains, codes, nat_lt}
 use Rattle.std.proofs.lemmas.Bool.{cond_both, ltb-true, ltb-false}
 use Rattle.std.proofs.lemmas.List.Elements.{All-nil, All-cons, All-append, All-replicate, All-from_recursion}
 use Rattle.shape_rules.specs.Forms.{Form}
@@ -11,18 +11,15 @@ use Rattle.rtlil_text.specs.declared.sig.SigPart.{SigPart}
 use Rattle.rtlil_text.specs.declared.sig.SigPart.TheVariants as parts
 use Rattle.rtlil_text.specs.declared.cell.RtlParameter.{RtlParameter}
 use Rattle.rtlil_text.specs.declared.cell.RtlEnd.{RtlEnd}
-use Rattle.rtlil_text.specs.declared.cell.RtlCell.{RtlCell}
-use Rattle.rtlil_text.specs.declared.module.RtlWire.{RtlWire}
 use Rattle.rtlil_text.specs.declared.module.RtlModule.{RtlModule}
-use Rattle.rtlil_text.specs.declared.module.RtlLink.{RtlLink}
 use Rattle.rtlil_text.specs.Sources.{spec_bits}
 use Rattle.rtlil_text.specs.Cells.{number_bits}
 use Rattle.rtlil_text.specs.CellTables.{binary_parameters, unary_parameters, unary_ends, parameters_of, ends_of}
-use Rattle.rtlil_text.specs.CellRules.{HasUnaryWidths, HasBinaryWidths, FitsNot, FitsReduction, FitsArithmetic, FitsComparison, FitsShift, FitsMux}
+use Rattle.rtlil_text.specs.CellRules.{HasUnaryWidths, HasBinaryWidths, FitsNot, FitsReduction, FitsArithmetic, FitsComparison, FitsShift}
 use Rattle.rtlil_text.specs.Rules.{WireFits, SpecFits, PartFits, ValueFits, KindFits, CellFits, LinkFits}
 use Rattle.rtlil_text.proofs.CellLaws.{length-number_bits}
-use Rattle.netlist.specs.Cells.{Operand, number_parameter, end_at, flag, unary_cell, binary_cell, mux_cell}
-use Rattle.netlist.specs.Operands.{wire_part, const_part, const_spec, filling, at_width, at_form, const_operand}
+use Rattle.netlist.specs.Cells.{Operand, flag, unary_cell, binary_cell, mux_cell}
+use Rattle.netlist.specs.Operands.{wire_part, const_part, const_spec, filling, at_width}
 use Rattle.netlist.specs.Operators.{Value, whole, inner_wire, linked}
 use Rattle.netlist.specs.Fits.{HasWire, HasValue, DrawingFits}
 use Rattle.netlist.proofs.Places.{length-wire_part, length-const_part, length-spec_append}

@@ -1,9 +1,9 @@
 -- The drawing of each operator keeps the rules of a module.
-use Rattle.std.proofs.Common.{◌≡◌, ℕ, zero, suc, ◌+◌, ◌<◌, ◌≤◌, ◌==◌, max, Bool, true, false, List, [], ◌∷◌, refl, sym, ◌∙◌, ap, subst, arith, ℤ, pos}
+use Rattle.std.proofs.Common.{◌≡◌, ℕ, suc, ◌≤◌, ◌==◌, max, Bool, true, false, List, [], ◌∷◌, refl, sym, ◌∙◌, ap, subst, arith, ℤ, pos}
 use Rattle.std.specs.Prelude.{All, Contains, codes}
 use Rattle.std.proofs.lemmas.Bool.{cond_both, eqb-false}
-use Rattle.std.proofs.lemmas.List.Elements.{All-nil, All-cons, All-head, All-tail}
-use Rattle.shape_rules.specs.Forms.{Form, IsForm, unsigned, common, common_width}
+use Rattle.std.proofs.lemmas.List.Elements.{All-nil, All-cons}
+use Rattle.shape_rules.specs.Forms.{Form, IsForm, common, common_width}
 use Rattle.shape_rules.specs.Operators.{form_of, work_form}
 use Rattle.shape_rules.specs.Stops.{IsTaken}
 use Rattle.shape_rules.specs.declared.op.Op.{Op}
@@ -12,21 +12,18 @@ use Rattle.shape_rules.specs.declared.cell.CellKind.{CellKind}
 use Rattle.shape_rules.specs.declared.cell.CellKind.TheVariants as kind
 use Rattle.rtlil_text.specs.declared.sig.SigPart.{SigPart}
 use Rattle.rtlil_text.specs.declared.cell.RtlCell.{RtlCell}
-use Rattle.rtlil_text.specs.declared.module.RtlWire.{RtlWire}
 use Rattle.rtlil_text.specs.declared.module.RtlModule.{RtlModule}
 use Rattle.rtlil_text.specs.CellTables.{binary_parameters, unary_parameters, unary_ends, parameters_of, ends_of}
 use Rattle.rtlil_text.specs.CellRules.{FitsReduction, FitsArithmetic, FitsComparison, FitsShift}
 use Rattle.rtlil_text.specs.Rules.{WireFits, KindFits, CellFits, LinkFits}
 use Rattle.netlist.specs.Ids.{part_id}
-use Rattle.netlist.specs.Cells.{Operand, flag, unary_cell, binary_cell, mux_cell}
-use Rattle.netlist.specs.Operands.{wire_part, const_spec, at_width, at_form, const_operand}
-use Rattle.netlist.specs.Operators.{Value, Drawing, nothing, inner_wire, whole, one_bit, as_form, one_cell, linked, at_least_one, alike, opposite, compared, reduced, shifted, unequal, divided, magnitude, operated, operator_drawing}
-use Rattle.netlist.specs.Fits.{HasWire, HasValue, DrawingFits, FitsOperator}
+use Rattle.netlist.specs.Cells.{Operand, flag, unary_cell, binary_cell}
+use Rattle.netlist.specs.Operands.{const_spec, at_width, at_form, const_operand}
+use Rattle.netlist.specs.Operators.{Value, Drawing, nothing, whole, as_form, one_cell, linked, at_least_one, alike, compared, reduced, shifted, operated, operator_drawing}
+use Rattle.netlist.specs.Fits.{HasValue, DrawingFits, FitsOperator}
 use Rattle.netlist.proofs.Reading.{HasSign}
 use Rattle.netlist.proofs.Drawn.{form_sign}
-use Rattle.netlist.proofs.Widths.{common_width_left, common_width_right}
-use Rattle.netlist.proofs.BitOperators.{result_within}
-use Rattle.netlist.proofs.FittingCells.{SpecIs, wire_is, whole_is, const_is, at_width_is, binary_fits, unary_fits, mux_fits, arithmetic_rules, comparison_rules, shift_rules, not_rules, reduction_rules, linked_fits, inner_fits, inner_held}
+use Rattle.netlist.proofs.FittingCells.{SpecIs, whole_is, const_is, at_width_is, binary_fits, unary_fits, arithmetic_rules, comparison_rules, shift_rules, not_rules, reduction_rules, linked_fits}
 
 -- the same law for a result with bits
 abbrev pub FitsDrawn : Op → Type 0

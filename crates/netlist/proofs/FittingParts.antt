@@ -1,10 +1,10 @@
 -- Drawings of several cells keep the rules, and so does the drawing of each operator.
-use Rattle.std.proofs.Common.{◌≡◌, ℕ, zero, suc, ◌+◌, ◌<◌, ◌≤◌, max, Bool, true, false, List, [], ◌∷◌, refl, sym, ◌∙◌, ap, subst, arith, ℤ, pos}
+use Rattle.std.proofs.Common.{◌≡◌, ℕ, ◌+◌, ◌≤◌, max, List, [], ◌∷◌, refl, sym, ap, subst, arith, pos}
 use Rattle.std.specs.Prelude.{All, Contains}
 use Rattle.std.proofs.lemmas.Bool.{cond_both}
 use Rattle.std.proofs.lemmas.List.Elements.{All-nil, All-head, All-tail, All-from_recursion}
 use Rattle.shape_rules.specs.Forms.{Form, unsigned}
-use Rattle.shape_rules.specs.Operators.{form_of, work_form}
+use Rattle.shape_rules.specs.Operators.{work_form}
 use Rattle.shape_rules.specs.declared.op.Op.{Op}
 use Rattle.shape_rules.specs.declared.op.Op.TheVariants as op
 use Rattle.shape_rules.specs.declared.cell.CellKind.{CellKind}
@@ -13,7 +13,6 @@ use Rattle.rtlil_text.specs.declared.module.RtlWire.{RtlWire}
 use Rattle.rtlil_text.specs.declared.module.RtlModule.{RtlModule}
 use Rattle.rtlil_text.specs.Rules.{WireFits, CellFits, LinkFits}
 use Rattle.netlist.specs.Ids.{part_id}
-use Rattle.netlist.specs.Cells.{binary_cell, unary_cell}
 use Rattle.netlist.specs.Operands.{wire_part, const_spec, at_width, at_form, const_operand}
 use Rattle.netlist.specs.Operators.{Value, Drawing, inner_wire, whole, one_bit, as_form, linked, at_least_one, unequal, divided, magnitude}
 use Rattle.netlist.specs.Fits.{HasWire, HasValue, DrawingFits, FitsOperator}
@@ -22,7 +21,7 @@ use Rattle.netlist.proofs.Drawn.{form_sign}
 use Rattle.netlist.proofs.Widths.{common_width_left, common_width_right}
 use Rattle.netlist.proofs.BitOperators.{result_within}
 use Rattle.netlist.proofs.FittingCells.{SpecIs, wire_is, whole_is, const_is, at_width_is, unary_fits, mux_fits, not_rules, linked_fits, inner_fits, inner_held}
-use Rattle.netlist.proofs.FittingDrawings.{FitsDrawn, fits_drawn, IsArithmetic, arithmetic_fits, comparison_fits, one_is, sub_kind, div_kind, mod_kind, eq_kind, lt_kind, fits_add, fits_sub, fits_neg, fits_mul, fits_and, fits_or, fits_xor, fits_not, fits_eq, fits_lt, fits_le, fits_gt, fits_ge, fits_any, fits_all, fits_parity, fits_shl, fits_shr}
+use Rattle.netlist.proofs.FittingDrawings.{fits_drawn, IsArithmetic, arithmetic_fits, comparison_fits, one_is, sub_kind, div_kind, mod_kind, eq_kind, lt_kind, fits_add, fits_sub, fits_neg, fits_mul, fits_and, fits_or, fits_xor, fits_not, fits_eq, fits_lt, fits_le, fits_gt, fits_ge, fits_any, fits_all, fits_parity, fits_shl, fits_shr}
 
 -- ---- the inner wires of a drawing
 

@@ -1,9 +1,9 @@
 -- Items by an index.
 use Rattle.std.proofs.Common.{◌≡◌, ℕ, zero, suc, ◌+◌, ◌-◌, ◌<◌, ◌≤◌, ◌^◌, ◌==◌, min, Bool, true, false, cond, List, [], ◌∷◌, ◌++◌, map, length, take, get_or, refl, sym, ◌∙◌, ap, subst, arith, ⊎_elim, ℤ, pos, negsuc, ◌-ℤ◌, unsigned_abs}
-use Rattle.std.specs.Prelude.{Some, None, ⊤}
+use Rattle.std.specs.Prelude.{⊤}
 use Rattle.std.specs.List.{AllByRecursion, flat_map}
 use Rattle.std.proofs.lemmas.Int.{ints}
-use Rattle.std.proofs.lemmas.Bool.{eq-eqb, ne_eqb, eqb-true, eqb-false, false≢true, cases_eq, cases_lt}
+use Rattle.std.proofs.lemmas.Bool.{eq-eqb, ne_eqb, eqb-true, eqb-false, cases_eq}
 use Rattle.std.proofs.lemmas.Nat.{pow_pos}
 use Rattle.amh_bits.specs.Patterns.{IsOf}
 use Rattle.shape_rules.specs.Forms.{Form}
@@ -11,20 +11,18 @@ use Rattle.shape_rules.specs.Operators.{is_zero, truth, int_same}
 use Rattle.shape_rules.specs.declared.cell.CellKind.TheVariants as kind
 use Rattle.design_ir.specs.declared.ids.ExprId.{ExprId}
 use Rattle.design_ir.specs.declared.expr.Expr.TheVariants as expr
-use Rattle.design_ir.specs.PoolRules.{shape_stop}
 use Rattle.design_ir.specs.Targets.{Bit}
 use Rattle.design_ir.specs.Needed.{every}
 use Rattle.design_ir.specs.Values as values
-use Rattle.rtlil_text.specs.declared.cell.RtlCell.{RtlCell}
 use Rattle.rtlil_text.specs.History.{Wires}
 use Rattle.netlist.specs.Ids.{part_id}
 use Rattle.netlist.specs.Cells.{binary_cell, mux_cell}
 use Rattle.netlist.specs.Operands.{wire_part, at_width, const_operand}
 use Rattle.netlist.specs.Operators.{Value, Drawing, inner_wire, whole, one_bit, as_form}
 use Rattle.netlist.specs.Carried.{IsIn, Obeys}
-use Rattle.netlist.specs.Expressions.{and_also, picked, picked_of, in_reach}
-use Rattle.netlist.specs.Made.{Known, known_form, SignalHas, Follows, IsMade, MakesExpression}
-use Rattle.netlist.proofs.Reading.{bit_of, HasBits, HasSign, reads_low, reads_const, reads_at_width}
+use Rattle.netlist.specs.Expressions.{picked, picked_of}
+use Rattle.netlist.specs.Made.{Known, known_form, SignalHas, IsMade, MakesExpression}
+use Rattle.netlist.proofs.Reading.{HasBits, HasSign, reads_low, reads_const, reads_at_width}
 use Rattle.netlist.proofs.Whole.{signed_cell}
 use Rattle.netlist.proofs.Drawn.{form_sign, first_cell, second_cell}
 use Rattle.netlist.proofs.Bitwise.{mux_cell_bits}

@@ -1,13 +1,12 @@
 -- Expressions that are links: constants, signals, parts, joins and readings of others.
-use Rattle.std.proofs.Common.{◌≡◌, ℕ, zero, suc, ◌+◌, ◌-◌, ◌*◌, ◌<◌, ◌≤◌, ◌^◌, ◌%◌, ◌==◌, Bool, true, false, cond, List, [], ◌∷◌, ◌++◌, refl, sym, ◌∙◌, ap, subst, arith, ⊎_elim, ℤ, pos}
-use Rattle.std.specs.Prelude.{Some, nat_lt}
+use Rattle.std.proofs.Common.{◌≡◌, ℕ, ◌+◌, ◌-◌, ◌*◌, ◌<◌, ◌≤◌, ◌^◌, ◌==◌, Bool, cond, List, [], ◌∷◌, ◌++◌, refl, sym, ◌∙◌, ap, subst, arith, ⊎_elim, ℤ, pos}
+use Rattle.std.specs.Prelude.{Some}
 use Rattle.std.specs.List.{AllByRecursion}
 use Rattle.std.proofs.lemmas.Bool.{cond_below, cond_above, cases_lt, ne_eqb}
 use Rattle.std.proofs.lemmas.List.Elements.{All-head}
 use Rattle.std.proofs.Math.Nat.{mul_comm}
 use Rattle.amh_bits.specs.Integers.{floor_quotient}
 use Rattle.amh_bits.specs.Patterns.{pattern, nat_bit, int_bit, wrap}
-use Rattle.amh_bits.specs.BitVectors.{BitVector}
 use Rattle.amh_bits.proofs.BitsOf.{bit_pattern, int_bit_down, nat_bit_joined_low, nat_bit_joined_high}
 use Rattle.amh_bits.proofs.Wraps.{pattern_below}
 use Rattle.shape_rules.specs.Forms.{Form}

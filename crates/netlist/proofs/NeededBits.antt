@@ -1,24 +1,20 @@
 -- What follows where the bits that are needed are there.
 use Rattle.std.proofs.Common.{◌≡◌, ℕ, zero, suc, ◌+◌, ◌-◌, ◌<◌, ◌≤◌, ◌==◌, Bool, true, false, cond, List, [], ◌∷◌, ◌++◌, refl, sym, ◌∙◌, ap, arith, ⊎_elim, ℤ}
-use Rattle.std.specs.Prelude.{Some, nat_lt, ⊤, length, slice_get, option_map, option_and_then, replicate}
+use Rattle.std.specs.Prelude.{Some, nat_lt, length, slice_get, option_map, option_and_then, replicate}
 use Rattle.std.specs.List.{AllByRecursion, flat_map, range_with_len}
-use Rattle.std.proofs.lemmas.Bool.{cond_below, cond_above, cond_both, ltb-true, ltb-false, cases_lt}
-use Rattle.amh_bits.specs.Patterns.{int_bit, IsOf}
+use Rattle.std.proofs.lemmas.Bool.{cond_below, cond_above, cond_both, ltb-true, cases_lt}
+use Rattle.amh_bits.specs.Patterns.{IsOf}
 use Rattle.amh_bits.proofs.Same.{past_unsigned, past_signed}
 use Rattle.shape_rules.specs.Forms.{Form, IsForm}
 use Rattle.design_ir.specs.declared.ids.ExprId.{ExprId}
 use Rattle.design_ir.specs.Targets.{Bit}
 use Rattle.design_ir.specs.Needed.{extended, every}
-use Rattle.rtlil_text.specs.declared.sig.SigPart.{SigPart}
-use Rattle.rtlil_text.specs.declared.sig.SigPart.TheVariants as parts
 use Rattle.rtlil_text.specs.Sources.{Constant, Net, spec_bits}
 use Rattle.rtlil_text.specs.Cells.{bit_at}
 use Rattle.rtlil_text.specs.Meaning.{source_value}
 use Rattle.rtlil_text.specs.History.{Wires}
 use Rattle.netlist.specs.Operands.{wire_part, filling, at_width}
-use Rattle.netlist.specs.Operators.{Value}
-use Rattle.netlist.specs.Carried.{IsIn}
-use Rattle.netlist.specs.Made.{Known, known_form, HasBit, SignalHas, Follows, IsMade}
+use Rattle.netlist.specs.Made.{Known, known_form, SignalHas, IsMade}
 use Rattle.netlist.proofs.Places.{length-wire_part, slice_get-const_part}
 use Rattle.netlist.proofs.Reading.{bit_of, HasBits, bit_at-wire_part, bit_at_left, bit_at_right, slice_get-replicate, spec_bits-replicate}
 

@@ -1,14 +1,12 @@
 -- Expressions that are operators.
-use Rattle.std.proofs.Common.{◌≡◌, ℕ, zero, suc, ◌+◌, ◌<◌, ◌≤◌, ◌==◌, Bool, true, false, cond, not, ◌&&◌, ◌||◌, max, List, [], ◌∷◌, ◌++◌, refl, sym, ◌∙◌, ap, subst, arith, ⊎_elim, ℤ, pos}
+use Rattle.std.proofs.Common.{◌≡◌, ℕ, ◌<◌, ◌≤◌, Bool, true, false, cond, ◌&&◌, ◌||◌, List, [], ◌++◌, refl, ◌∙◌, ap, subst, arith, ⊎_elim, ℤ, pos}
 use Rattle.std.specs.Prelude.{Some, None}
 use Rattle.std.specs.List.{AllByRecursion}
-use Rattle.std.proofs.lemmas.Bool.{cond_below, cond_above, cases_lt}
+use Rattle.std.proofs.lemmas.Bool.{cond_below, cases_lt}
 use Rattle.amh_bits.specs.Integers.{int_and, int_or, int_xor}
-use Rattle.amh_bits.specs.Patterns.{IsOf}
 use Rattle.amh_bits.proofs.InShape.{of_zero}
 use Rattle.shape_rules.specs.Forms.{Form, IsForm, unsigned}
-use Rattle.shape_rules.specs.Operators.{form_of, work_form, integer_of, turned}
-use Rattle.shape_rules.specs.Rows.{operand_count}
+use Rattle.shape_rules.specs.Operators.{work_form, integer_of, turned}
 use Rattle.shape_rules.specs.Stops.{IsTaken, is_shift, is_bad_operand, widest}
 use Rattle.shape_rules.specs.declared.op.Op.{Op}
 use Rattle.shape_rules.specs.declared.op.Op.TheVariants as op
@@ -27,10 +25,10 @@ use Rattle.rtlil_text.specs.History.{Wires}
 use Rattle.netlist.specs.Ids.{part_id}
 use Rattle.netlist.specs.Cells.{unary_cell, binary_cell}
 use Rattle.netlist.specs.Operands.{at_width}
-use Rattle.netlist.specs.Operators.{Value, as_form, whole, alike, one_cell, operator_drawing}
+use Rattle.netlist.specs.Operators.{Value, as_form, whole, alike}
 use Rattle.netlist.specs.Carried.{Carries, Obeys}
-use Rattle.netlist.specs.Made.{Known, known_form, SignalHas, Follows, IsMade, MakesExpression}
-use Rattle.netlist.proofs.Reading.{bit_of, HasBits, has_carried, carries_bits}
+use Rattle.netlist.specs.Made.{Known, known_form, SignalHas, IsMade, MakesExpression}
+use Rattle.netlist.proofs.Reading.{bit_of, has_carried, carries_bits}
 use Rattle.netlist.proofs.Drawn.{operator_drawing-some, first_cell}
 use Rattle.netlist.proofs.Bitwise.{IsBitwise, IsByBits, bitwise_bit, not_bit, and_bitwise, or_bitwise, xor_bitwise, and_by_bits, or_by_bits, xor_by_bits}
 use Rattle.netlist.proofs.Widths.{common_width_left}

@@ -1,7 +1,7 @@
 -- Whether a value has one of several patterns.
-use Rattle.std.proofs.Common.{◌≡◌, ℕ, zero, suc, ◌+◌, ◌<◌, ◌≤◌, ◌^◌, ◌==◌, max, Bool, true, false, cond, ◌&&◌, ◌||◌, List, [], ◌∷◌, refl, sym, ◌∙◌, ap, arith, ℤ, pos, bit_and}
+use Rattle.std.proofs.Common.{◌≡◌, ℕ, ◌+◌, ◌<◌, ◌≤◌, ◌^◌, ◌==◌, max, Bool, false, ◌&&◌, ◌||◌, List, [], ◌∷◌, refl, sym, ◌∙◌, ap, arith, ℤ, pos, bit_and}
 use Rattle.std.specs.Prelude.{Some, nat_lt}
-use Rattle.std.specs.List.{AllByRecursion, list_any}
+use Rattle.std.specs.List.{list_any}
 use Rattle.std.proofs.lemmas.Bool.{cond_both, ltb-true, ltb-false, ne_eqb, false≢true}
 use Rattle.std.proofs.lemmas.Nat.{and_comm, and_le_l}
 use Rattle.std.proofs.lemmas.List.Elements.{All-nil}
@@ -16,7 +16,6 @@ use Rattle.shape_rules.specs.declared.cell.CellKind.TheVariants as kind
 use Rattle.design_ir.specs.declared.ids.ExprId.{ExprId}
 use Rattle.design_ir.specs.declared.expr.Pattern.{Pattern}
 use Rattle.design_ir.specs.declared.expr.Expr.TheVariants as expr
-use Rattle.design_ir.specs.Targets.{Bit}
 use Rattle.design_ir.specs.Needed.{every}
 use Rattle.design_ir.specs.Values.{matches}
 use Rattle.rtlil_text.specs.declared.cell.RtlCell.{RtlCell}
@@ -27,7 +26,7 @@ use Rattle.netlist.specs.Operands.{wire_part, const_spec, at_width, at_form, con
 use Rattle.netlist.specs.Operators.{Value, Drawing, inner_wire, whole, one_bit, linked}
 use Rattle.netlist.specs.Carried.{ObeysCell, Obeys}
 use Rattle.netlist.specs.Expressions.{and_also, matched, no_match, matched_within, matched_any}
-use Rattle.netlist.specs.Made.{Known, known_form, SignalHas, Follows, IsMade, MakesExpression}
+use Rattle.netlist.specs.Made.{known_form, MakesExpression}
 use Rattle.netlist.proofs.Reading.{HasBits, reads_const, reads_at_width}
 use Rattle.netlist.proofs.Whole.{signed_cell}
 use Rattle.netlist.proofs.Drawn.{first_cell, second_cell}

@@ -1,7 +1,6 @@
 -- Specs that read as the low bits of an integer.
-use Rattle.std.proofs.Math.Numerals.{sub-one}
-use Rattle.std.proofs.Common.{◌≡◌, ℕ, zero, suc, ◌+◌, ◌-◌, ◌<◌, ◌≤◌, ◌/◌, ◌^◌, ◌==◌, Bool, true, false, List, [], ◌∷◌, ◌++◌, map, length, replicate, refl, sym, ◌∙◌, ap, subst, arith, ⊎_elim, ℤ, pos, add-zero}
-use Rattle.std.specs.Prelude.{Option, Some, None, slice_get, option_map, option_and_then, nat_lt}
+use Rattle.std.proofs.Common.{◌≡◌, ℕ, zero, suc, ◌+◌, ◌-◌, ◌<◌, ◌≤◌, ◌^◌, ◌==◌, Bool, true, false, List, [], ◌∷◌, ◌++◌, length, replicate, refl, sym, ◌∙◌, ap, arith, ⊎_elim, ℤ}
+use Rattle.std.specs.Prelude.{Option, Some, slice_get, option_map, option_and_then, nat_lt}
 use Rattle.std.proofs.lemmas.Bool.{cond_both, ltb-true, ltb-false, cases_lt}
 use Rattle.amh_bits.specs.Integers.{floor_quotient}
 use Rattle.amh_bits.specs.Patterns.{pattern, int_bit, IsOf}
@@ -11,12 +10,12 @@ use Rattle.shape_rules.specs.Forms.{Form}
 use Rattle.rtlil_text.specs.declared.sig.SigPart.{SigPart}
 use Rattle.rtlil_text.specs.declared.sig.SigPart.TheVariants as parts
 use Rattle.rtlil_text.specs.Sources.{Source, Constant, Net, spec_bits}
-use Rattle.rtlil_text.specs.Cells.{number_bits, bit_at, read, all_of}
+use Rattle.rtlil_text.specs.Cells.{number_bits, bit_at, read}
 use Rattle.rtlil_text.specs.Meaning.{source_value}
 use Rattle.rtlil_text.specs.History.{Wires}
 use Rattle.rtlil_text.proofs.CellLaws.{slice_get-number_bits, length-number_bits}
-use Rattle.netlist.specs.Operands.{wire_part, const_part, const_spec, filling, at_width}
-use Rattle.netlist.specs.Operators.{Value, whole}
+use Rattle.netlist.specs.Operands.{wire_part, const_spec, filling, at_width}
+use Rattle.netlist.specs.Operators.{Value}
 use Rattle.netlist.specs.Carried.{IsIn, Carries}
 use Rattle.netlist.proofs.Places.{slice_get-append_left, slice_get-append_right, length-wire_part, slice_get-wire_part, length-const_part, slice_get-const_part, spec_bits-append, length-spec_append}
 

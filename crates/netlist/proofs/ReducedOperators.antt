@@ -1,23 +1,20 @@
 -- Operators that make one bit from all bits of a value.
-use Rattle.std.proofs.Common.{◌≡◌, ℕ, zero, suc, ◌-◌, ◌<◌, ◌≤◌, ◌^◌, ◌%◌, ◌==◌, Bool, true, false, cond, not, List, [], ◌∷◌, refl, sym, ◌∙◌, ap, subst, arith, ℤ, pos, count_ones}
+use Rattle.std.proofs.Common.{◌≡◌, ℕ, zero, suc, ◌-◌, ◌<◌, ◌≤◌, ◌^◌, ◌%◌, ◌==◌, Bool, not, List, [], refl, sym, ◌∙◌, ap, arith, ℤ, pos, count_ones}
 use lib.Count.{ones}
 use Rattle.std.specs.Prelude.{Option, Some, option_and_then, codes}
 use Rattle.std.specs.List.{list_any, list_all}
-use Rattle.std.proofs.lemmas.Bool.{cond_both, eqb-true, eqb-false}
+use Rattle.std.proofs.lemmas.Bool.{cond_both, eqb-true}
 use Rattle.std.proofs.lemmas.Nat.{mod_below}
 use Rattle.amh_bits.specs.Patterns.{pattern, IsOf}
 use Rattle.amh_bits.proofs.Wraps.{pattern_below}
 use Rattle.shape_rules.specs.Forms.{Form}
 use Rattle.shape_rules.specs.Operators.{truth, is_zero}
-use Rattle.shape_rules.specs.declared.op.Op.{Op}
 use Rattle.shape_rules.specs.declared.op.Op.TheVariants as op
 use Rattle.shape_rules.specs.declared.cell.CellKind.{CellKind}
 use Rattle.shape_rules.specs.declared.cell.CellKind.TheVariants as kind
-use Rattle.rtlil_text.specs.declared.sig.SigPart.{SigPart}
 use Rattle.rtlil_text.specs.declared.cell.RtlCell.{RtlCell}
 use Rattle.rtlil_text.specs.Sources.{Source, spec_bits, end_bits}
 use Rattle.rtlil_text.specs.CellTables.{output_of}
-use Rattle.rtlil_text.specs.Cells as cells
 use Rattle.rtlil_text.specs.Cells.{number_bits, cell_bit, read, parity}
 use Rattle.rtlil_text.specs.Meaning.{source_value}
 use Rattle.rtlil_text.specs.History.{Wires}
@@ -25,10 +22,10 @@ use Rattle.netlist.specs.Ids.{part_id}
 use Rattle.netlist.specs.Cells.{Operand, unary_cell}
 use Rattle.netlist.specs.Operands.{wire_part, const_spec}
 use Rattle.netlist.specs.Operators.{Value, Drawing, as_form, whole, one_cell, linked, reduced}
-use Rattle.netlist.specs.Carried.{IsIn, ObeysCell, Obeys, MakesOperator}
+use Rattle.netlist.specs.Carried.{ObeysCell, Obeys, MakesOperator}
 use Rattle.netlist.proofs.Reading.{HasBits, Reads, reads_const, reads_whole}
 use Rattle.netlist.proofs.Whole.{driven}
-use Rattle.netlist.proofs.Drawn.{MakesBits, makes_bits, first_cell}
+use Rattle.netlist.proofs.Drawn.{makes_bits, first_cell}
 use Rattle.netlist.proofs.Widths.{reads_narrow, has_equal, has_truth, linked_bits}
 use Rattle.netlist.proofs.ReducedBits.{pattern-is_zero, any-pattern, all-pattern, parity-pattern}
 

@@ -1,40 +1,36 @@
 -- Parts of values at an offset.
-use Rattle.std.proofs.Common.{◌≡◌, ℕ, zero, suc, ◌+◌, ◌-◌, ◌*◌, ◌<◌, ◌≤◌, ◌^◌, ◌==◌, max, Bool, true, false, cond, List, [], ◌∷◌, ◌++◌, length, replicate, refl, sym, ◌∙◌, ap, subst, arith, ℤ, pos, ◌*ℤ◌, unsigned_abs}
+use Rattle.std.proofs.Common.{◌≡◌, ℕ, ◌+◌, ◌*◌, ◌<◌, ◌≤◌, ◌^◌, ◌==◌, max, Bool, true, false, cond, List, [], ◌∷◌, ◌++◌, replicate, refl, sym, ◌∙◌, ap, subst, arith, ℤ, pos, ◌*ℤ◌, unsigned_abs}
 use Rattle.std.specs.Prelude.{Some, None, option_map, option_and_then}
 use Rattle.design_ir.specs.PoolRules.{shape_stop}
-use Rattle.std.specs.List.{AllByRecursion}
 use Rattle.std.proofs.lemmas.Int.{unsigned_abs-mul}
-use Rattle.std.proofs.lemmas.Bool.{eqb-true, eqb-false, false≢true, cases_Bool}
+use Rattle.std.proofs.lemmas.Bool.{eqb-true, false≢true}
 use Rattle.std.proofs.lemmas.List.Elements.{All-nil}
 use Rattle.amh_bits.specs.Integers.{floor_quotient}
-use Rattle.amh_bits.specs.Patterns.{pattern, IsOf}
+use Rattle.amh_bits.specs.Patterns.{IsOf}
 use Rattle.amh_bits.proofs.BitsOf.{bit_pattern}
 use Rattle.amh_bits.proofs.InShape.{of_wider, of-mul_unsigned}
 use Rattle.amh_bits.proofs.Same.{past_unsigned}
 use Rattle.shape_rules.specs.Forms.{Form}
-use Rattle.shape_rules.specs.declared.cell.CellKind.{CellKind}
 use Rattle.shape_rules.specs.declared.cell.CellKind.TheVariants as kind
 use Rattle.design_ir.specs.declared.ids.ExprId.{ExprId}
 use Rattle.design_ir.specs.declared.expr.Expr.TheVariants as expr
 use Rattle.design_ir.specs.Targets.{Bit}
 use Rattle.design_ir.specs.Needed.{every}
 use Rattle.design_ir.specs.Values.{bits_from}
-use Rattle.rtlil_text.specs.declared.sig.SigPart.{SigPart}
 use Rattle.rtlil_text.specs.declared.cell.RtlCell.{RtlCell}
-use Rattle.rtlil_text.specs.Sources.{Constant, spec_bits}
-use Rattle.rtlil_text.specs.Cells.{number_bits, integer, sign_read, bit_at}
+use Rattle.rtlil_text.specs.Sources.{Constant}
 use Rattle.rtlil_text.specs.Meaning.{source_value}
 use Rattle.rtlil_text.specs.History.{Wires}
 use Rattle.netlist.specs.Ids.{part_id}
-use Rattle.netlist.specs.Cells.{Operand, flag, binary_cell}
+use Rattle.netlist.specs.Cells.{Operand, binary_cell}
 use Rattle.netlist.specs.Operands.{wire_part, const_part, const_spec, at_width, at_form}
 use Rattle.netlist.specs.Operators.{Value, Drawing, nothing, inner_wire, whole, as_form, linked}
 use Rattle.netlist.specs.Carried.{IsIn, ObeysCell, Obeys}
-use Rattle.netlist.specs.Expressions.{and_also, stride_form, stride_operand, amount_operand, amount_drawing, part_form, selected}
-use Rattle.netlist.specs.Made.{Known, known_form, SignalHas, Follows, IsMade, MakesExpression}
+use Rattle.netlist.specs.Expressions.{and_also, stride_form, stride_operand, amount_operand, amount_drawing, part_form}
+use Rattle.netlist.specs.Made.{known_form, SignalHas, MakesExpression}
 use Rattle.netlist.proofs.Places.{length-const_part, slice_get-const_part}
-use Rattle.netlist.proofs.Reading.{bit_of, HasBits, HasSign, Reads, reads_low, reads_const, reads_above, reads_at_width, bit_at-wire_part, slice_get-replicate, length-replicate}
-use Rattle.netlist.proofs.Whole.{IsWhole, whole_cell, signed_cell, integer_read}
+use Rattle.netlist.proofs.Reading.{bit_of, HasBits, HasSign, Reads, reads_low, reads_const, reads_above, reads_at_width, slice_get-replicate, length-replicate}
+use Rattle.netlist.proofs.Whole.{whole_cell, signed_cell, integer_read}
 use Rattle.netlist.proofs.Drawn.{form_sign, first_cell}
 use Rattle.netlist.proofs.Arithmetic.{mul_whole}
 use Rattle.netlist.proofs.Widths.{reads_narrow}

@@ -1,10 +1,8 @@
 -- Cells that take their operands whole: the bits of the output are those of the integer result.
-use Rattle.std.proofs.Common.{◌≡◌, ℕ, zero, suc, ◌+◌, ◌<◌, ◌≤◌, ◌^◌, ◌==◌, Bool, true, false, cond, List, [], ◌∷◌, length, refl, sym, ◌∙◌, ap, subst, arith, ℤ, pos}
-use Rattle.std.specs.Prelude.{Option, Some, None, slice_get, option_map, option_and_then, codes}
+use Rattle.std.proofs.Common.{◌≡◌, ℕ, ◌+◌, ◌<◌, ◌==◌, Bool, true, false, List, length, refl, ◌∙◌, ap, arith, ℤ}
+use Rattle.std.specs.Prelude.{Option, Some, slice_get, codes}
 use Rattle.amh_bits.specs.Patterns.{pattern, IsOf}
-use Rattle.shape_rules.specs.Forms.{Form}
 use Rattle.shape_rules.specs.declared.cell.CellKind.{CellKind}
-use Rattle.rtlil_text.specs.declared.sig.SigPart.{SigPart}
 use Rattle.rtlil_text.specs.declared.cell.RtlCell.{RtlCell}
 use Rattle.rtlil_text.specs.Sources.{Source, Net, spec_bits, end_bits, number_at}
 use Rattle.rtlil_text.specs.CellTables.{output_of}
@@ -16,7 +14,7 @@ use Rattle.netlist.specs.Cells.{Operand, binary_cell, flag}
 use Rattle.netlist.specs.Operands.{wire_part}
 use Rattle.netlist.specs.Carried.{IsIn, ObeysCell}
 use Rattle.netlist.proofs.Places.{length-wire_part, slice_get-wire_part}
-use Rattle.netlist.proofs.Reading.{bit_of, HasBits, Reads, slice_get-pattern, reads_whole}
+use Rattle.netlist.proofs.Reading.{HasBits, Reads, slice_get-pattern, reads_whole}
 
 -- what a cell drives onto the low bits of a wire
 pub driven : (wires : Wires) (c : RtlCell) (id : List ℕ) (w : ℕ) → end_bits c (output_of c.kind) ≡ spec_bits (wire_part id 0 w) → ObeysCell wires c

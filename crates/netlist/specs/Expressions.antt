@@ -1,18 +1,16 @@
 -- The wires, cells and links of each expression.
-use Rattle.std.specs.Prelude.{ℕ, zero, suc, ◌+◌, ◌-◌, ◌*◌, ◌^◌, ◌==◌, Bool, true, false, max, min, if◌then◌else◌, nat_lt, List, [], ◌∷◌, ◌++◌, length, map, take, replicate, ℤ, pos}
-use Rattle.shape_rules.specs.Forms.{Form, unsigned, common}
+use Rattle.std.specs.Prelude.{ℕ, suc, ◌+◌, ◌*◌, ◌^◌, ◌==◌, false, max, if◌then◌else◌, nat_lt, List, [], ◌∷◌, ◌++◌, length, map, take, replicate, pos}
+use Rattle.shape_rules.specs.Forms.{Form, unsigned}
 use Rattle.shape_rules.specs.declared.cell.CellKind.TheVariants as kind
 use Rattle.design_ir.specs.declared.ids.ExprId.{ExprId}
 use Rattle.design_ir.specs.declared.expr.Pattern.{Pattern}
 use Rattle.design_ir.specs.declared.expr.Expr.{Expr}
 use Rattle.design_ir.specs.declared.expr.Expr.TheVariants as expr
 use Rattle.rtlil_text.specs.declared.sig.SigPart.{SigPart}
-use Rattle.rtlil_text.specs.declared.module.RtlWire.{RtlWire}
-use Rattle.rtlil_text.specs.declared.cell.RtlCell.{RtlCell}
 use Rattle.netlist.specs.Ids.{part_id}
 use Rattle.netlist.specs.Cells.{Operand, unary_cell, binary_cell, mux_cell}
 use Rattle.netlist.specs.Operands.{wire_part, const_part, const_spec, at_width, at_form, const_operand}
-use Rattle.netlist.specs.Operators.{Value, Drawing, nothing, inner_wire, whole, one_bit, as_form, linked, at_least_one, operator_drawing}
+use Rattle.netlist.specs.Operators.{Value, Drawing, nothing, inner_wire, whole, one_bit, as_form, linked, operator_drawing}
 
 -- one drawing and another
 abbrev pub and_also : Drawing → Drawing → Drawing

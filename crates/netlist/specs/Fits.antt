@@ -1,6 +1,6 @@
 -- Drawings that keep the rules of a module.
 use Rattle.std.specs.Prelude.{◌≡◌, ◌≤◌, ℕ, List, All, Contains}
-use Rattle.shape_rules.specs.Forms.{Form, IsForm}
+use Rattle.shape_rules.specs.Forms.{IsForm}
 use Rattle.shape_rules.specs.Operators.{form_of}
 use Rattle.shape_rules.specs.Stops.{IsTaken}
 use Rattle.shape_rules.specs.declared.op.Op.{Op}
