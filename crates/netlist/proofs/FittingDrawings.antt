@@ -32,7 +32,7 @@ FitsDrawn o =
     → HasValue m.wires a → HasValue m.wires b → HasValue m.wires y → 1 ≤ y.form.width → All (Contains m.wires) (operated o n (work_form o a.form b.form) a b y).wires
     → DrawingFits m (operated o n (work_form o a.form b.form) a b y)
 
-nothing_fits : (m : RtlModule) → DrawingFits m nothing
+pub nothing_fits : (m : RtlModule) → DrawingFits m nothing
 nothing_fits m = record { wires = All-nil WireFits; cells = All-nil (CellFits m); links = All-nil (LinkFits m) }
 
 pub fits_drawn : (o : Op) → FitsDrawn o → FitsOperator o
@@ -42,7 +42,7 @@ fits_drawn o law m n a b y p q t e ha hb hy =
     (λ none wires. nothing_fits m)
     (λ some wires. let wide : 1 ≤ y.form.width = omega (arith, eqb-false y.form.width 0 some) in law m n a b y p q t e ha hb hy wide wires)
 
-one_fits : (m : RtlModule) (c : RtlCell) → CellFits m c → DrawingFits m (one_cell c)
+pub one_fits : (m : RtlModule) (c : RtlCell) → CellFits m c → DrawingFits m (one_cell c)
 one_fits m c f = record { wires = All-nil WireFits; cells = All-cons (CellFits m) c [] f (All-nil (CellFits m)); links = All-nil (LinkFits m) }
 
 -- the kinds of two operands

@@ -25,17 +25,17 @@ use Rattle.netlist.proofs.FittingDrawings.{fits_drawn, IsArithmetic, arithmetic_
 
 -- ---- the inner wires of a drawing
 
-first_held : (m : RtlModule) (id : List ℕ) (width : ℕ) (more : List RtlWire) → All (Contains m.wires) (inner_wire id width ∷ more) → HasWire m.wires id width
+pub first_held : (m : RtlModule) (id : List ℕ) (width : ℕ) (more : List RtlWire) → All (Contains m.wires) (inner_wire id width ∷ more) → HasWire m.wires id width
 first_held m id width more h = inner_held m id width (All-head (Contains m.wires) (inner_wire id width) more h)
 
-others_held : (m : RtlModule) (w : RtlWire) (more : List RtlWire) → All (Contains m.wires) (w ∷ more) → All (Contains m.wires) more
+pub others_held : (m : RtlModule) (w : RtlWire) (more : List RtlWire) → All (Contains m.wires) (w ∷ more) → All (Contains m.wires) more
 others_held m w more h = All-tail (Contains m.wires) w more h
 
 -- all of an inner wire, and it at a width
-inner_is : (m : RtlModule) (id : List ℕ) (width : ℕ) → HasWire m.wires id width → SpecIs m (wire_part id 0 width) width
+pub inner_is : (m : RtlModule) (id : List ℕ) (width : ℕ) → HasWire m.wires id width → SpecIs m (wire_part id 0 width) width
 inner_is m id width h = wire_is m id 0 width width (λ some. h) (omega arith)
 
-inner_at : (m : RtlModule) (id : List ℕ) (g : Form) (width : ℕ) → 1 ≤ g.width → HasWire m.wires id g.width → SpecIs m (at_width id g width) width
+pub inner_at : (m : RtlModule) (id : List ℕ) (g : Form) (width : ℕ) → 1 ≤ g.width → HasWire m.wires id g.width → SpecIs m (at_width id g width) width
 inner_at m id g width some h = at_width_is m id g width (λ w. h) (λ sign. some)
 
 -- ---- unequal

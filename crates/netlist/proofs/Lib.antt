@@ -24,3 +24,4 @@ pub mod Selections
 pub mod Items
 pub mod Patterns
 pub mod MadeExpressions
+pub mod FittingExpressions

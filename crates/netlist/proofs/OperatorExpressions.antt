@@ -47,14 +47,14 @@ accepted_is false w e =
 taken_of : (o : Op) (a b : Form) → is_bad_operand o b ≡ false → widest o a b ≤ 128 → IsTaken o a b
 taken_of o a b ok le = record { operand = ok; result = omega arith; work = omega arith }
 
-taken : (o : Op) (a b : Form) → shape_stop (is_bad_operand o b) (widest o a b) ≡ None → IsTaken o a b
+pub taken : (o : Op) (a b : Form) → shape_stop (is_bad_operand o b) (widest o a b) ≡ None → IsTaken o a b
 taken o a b e = let h = accepted_is (is_bad_operand o b) (widest o a b) e in taken_of o a b h.0 h.1
 
 and-false : (t : Bool) → (t && false) ≡ false
 and-false true = refl
 and-false false = refl
 
-unary_taken : (o : Op) (a : Form) → shape_stop false (widest o a (unsigned 0)) ≡ None → IsTaken o a (unsigned 0)
+pub unary_taken : (o : Op) (a : Form) → shape_stop false (widest o a (unsigned 0)) ≡ None → IsTaken o a (unsigned 0)
 unary_taken o a e = taken_of o a (unsigned 0) (and-false (is_shift o)) (accepted_is false (widest o a (unsigned 0)) e).1
 
 -- ---- operators that need all bits

@@ -36,11 +36,11 @@ flag_is false = refl
 pub integer_read : (b : Bool) (width : ℕ) (x : ℤ) → IsOf b width x → integer (flag b) (number_bits width (pattern width x)) ≡ x
 integer_read b width x h = integer-number_bits (flag b) width x (rw (flag_is b) h)
 
-whole_bit_is : (value : Source → Option Bool) (c : RtlCell) (width i : ℕ) (us vs : List Bool) (x z r : ℤ)
+whole_bit_is : (value : Source → Option Bool) (c : RtlCell) (width i : ℕ) (us vs : List Bool) (r : ℤ)
     → read value (end_bits c (codes "\\A")) ≡ Some us → read value (end_bits c (codes "\\B")) ≡ Some vs
     → result_of c.kind (integer (sign_read c.kind (number_at c (codes "\\A_SIGNED"))) us) (integer (number_at c (codes "\\B_SIGNED")) vs) ≡ Some r
     → whole_bit value c width i ≡ slice_get (number_bits width (pattern width r)) i
-whole_bit_is value c width i us vs x z r p q e = rw (p, q, e) refl
+whole_bit_is value c width i us vs r p q e = rw (p, q, e) refl
 
 -- a cell whose operands read as x and z, of which it makes the integer r
 pub whole_cell : (wires : Wires) (k : CellKind) (name : List ℕ) (a b : Operand) (width : ℕ) (id : List ℕ) (w : ℕ) (x z u r : ℤ) → IsWhole k
@@ -52,7 +52,7 @@ whole_cell wires k name a b width id w x z u r kind p q e f makes o = record {
   at = λ i h.
     driven wires (binary_cell k name a b width (wire_part id 0 w)) id w (ap (end_bits (binary_cell k name a b width (wire_part id 0 w))) kind.output) o i h
     ∙ kind.bit (source_value wires) (binary_cell k name a b width (wire_part id 0 w)) w i
-    ∙ whole_bit_is (source_value wires) (binary_cell k name a b width (wire_part id 0 w)) w i (number_bits a.form.width (pattern a.form.width x)) (number_bits b.form.width (pattern b.form.width z)) x z r
+    ∙ whole_bit_is (source_value wires) (binary_cell k name a b width (wire_part id 0 w)) w i (number_bits a.form.width (pattern a.form.width x)) (number_bits b.form.width (pattern b.form.width z)) r
       (reads_whole wires a.spec a.form.width x p) (reads_whole wires b.spec b.form.width z q)
       (rw (e, integer_read b.form.signed b.form.width z f) makes)
     ∙ slice_get-pattern w r i h;

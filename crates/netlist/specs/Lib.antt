@@ -3,6 +3,6 @@ pub mod Cells
 pub mod Operands
 pub mod Operators
 pub mod Carried
-pub mod Fits
 pub mod Expressions
+pub mod Fits
 pub mod Made
