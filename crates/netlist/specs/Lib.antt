@@ -4,3 +4,6 @@ pub mod Operands
 pub mod Operators
 pub mod Carried
 pub mod Expressions
+pub mod Latest
+pub mod Spelled
+pub mod Module
