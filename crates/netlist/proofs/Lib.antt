@@ -13,3 +13,5 @@ pub mod ShiftOperators
 pub mod Divisions
 pub mod Magnitudes
 pub mod Made
+pub mod SpelledLaws
+pub mod FixedTargets
