@@ -15,3 +15,4 @@ pub mod Magnitudes
 pub mod Made
 pub mod SpelledLaws
 pub mod FixedTargets
+pub mod BitWrites
