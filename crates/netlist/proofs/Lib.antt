@@ -16,3 +16,4 @@ pub mod Made
 pub mod SpelledLaws
 pub mod FixedTargets
 pub mod BitWrites
+pub mod PutSources
