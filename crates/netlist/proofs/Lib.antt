@@ -17,3 +17,6 @@ pub mod SpelledLaws
 pub mod FixedTargets
 pub mod BitWrites
 pub mod PutSources
+pub mod OneDriver
+pub mod Driven
+pub mod SettledWires

@@ -67,6 +67,14 @@ source_at_is wires v k x h =
     (λ e. b.at k (ltb-true k v.form.width e))
     (λ e. behind wires v.id v.form.signed v.form.width k x h.sign h.fits b (ltb-false k v.form.width e))
 
+-- ---- blocks
+
+-- what a block assigns has this
+abbrev pub AreGiven : (ExprId → Type 0) → Block → Type 0
+AreGiven P done = ⊤
+AreGiven P (next (assign target source place) rest) = P source × AreGiven P rest
+AreGiven P (next (choose arms) rest) = AreGiven P rest
+
 -- ---- one bit
 
 module _ (wires : Wires) (pool : Pooled) where
@@ -117,12 +125,6 @@ module _ (wires : Wires) (pool : Pooled) where
       (one_sourced b (source_at v k) (nat_bit (pattern m x) k) latest cur count inside.0 (nat_bit_low (pattern m x) k) is s h)
 
   -- ---- a block
-
-  -- what a block assigns has this
-  abbrev pub AreGiven : (ExprId → Type 0) → Block → Type 0
-  AreGiven P done = ⊤
-  AreGiven P (next (assign target source place) rest) = P source × AreGiven P rest
-  AreGiven P (next (choose arms) rest) = AreGiven P rest
 
   module _ (env : List ℤ) (value : ℕ → Value) where
     assigned : (t v : ExprId) (latest : Latest) (cur : List ℤ) (s : ℕ) → is_fixed pool t.0 ≡ true → IsShown wires (value v.0) (num pool env v.0) → length cur ≡ length pool.signals
