@@ -20,3 +20,4 @@ pub mod PutSources
 pub mod OneDriver
 pub mod Driven
 pub mod SettledWires
+pub mod ResetLaws

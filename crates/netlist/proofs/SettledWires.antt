@@ -2,8 +2,9 @@
 use Rattle.std.specs.Prelude.{◌≡◌, refl, ℕ, zero, suc, ◌+◌, ◌<◌, ◌≤◌, ◌==◌, ◌&&◌, ◌||◌, Bool, true, false, cond, List, [], ◌∷◌, ◌++◌, map, length, slice_get, ℤ, Option, Some, None, is_some, is_none, nat_lt, fold, unwrap_or, option_map, option_and_then}
 use Rattle.std.specs.List.{AllByRecursion, find, range_with_len}
 use Rattle.std.proofs.Common.{sym, ◌∙◌, ap, arith, subst}
-use Rattle.std.proofs.lemmas.Bool.{false≢true, and_parts, or_parts, or_from, cond_both, lt-ltb}
+use Rattle.std.proofs.lemmas.Bool.{false≢true, and_parts, or_parts, or_right, cond_both, lt-ltb}
 use Rattle.std.proofs.lemmas.List.{length-map}
+use Rattle.std.proofs.lemmas.List.Elements.{All-nil}
 use Rattle.std.proofs.lemmas.List.FromFn.{length-range_with_len, get_or-range_with_len}
 use Rattle.std.proofs.lemmas.Option.{slice_get-map, slice_get-get_or}
 use Rattle.amh_bits.specs.Patterns.{pattern}
@@ -31,7 +32,8 @@ use Rattle.rtlil_text.specs.Meaning.{source_value}
 use Rattle.rtlil_text.specs.History.{Wires}
 use Rattle.rtlil_text.proofs.CellLaws.{length-number_bits}
 use Rattle.netlist.specs.Operators.{Drawing, nothing, linked}
-use Rattle.netlist.specs.Carried.{Carries, Obeys}
+use Rattle.netlist.specs.Carried.{Carries, ObeysCell}
+use Rattle.netlist.specs.CombDrawings.{ObeysComb}
 use Rattle.netlist.specs.Latest.{Latest, latest_of, is_fixed, is_plain}
 use Rattle.netlist.specs.Spelled.{spec_of}
 use Rattle.netlist.specs.Module.{signal_value, expr_value, drives, driving_by, driving, Driving, ByEvents, ByComb, ByClock, ByNothing, init_bits, at_first, at_last, bits_at_last, link_to, driving_drawing, signal_drawing}
@@ -133,6 +135,13 @@ at-starts c st s x e h =
     ∙ ap (λ j. cond (is_held c j) (at st.held j) x.init) (let d : 0 + s ≡ s = omega arith in d)
     ∙ ap (λ t. cond t (at st.held s) x.init) h
 
+-- one that is held begins as it is
+at-starts_held : (c : Circuit) (st : State) (s : ℕ) (x : Sig) → slice_get c.pool.signals s ≡ Some x → is_held c s ≡ true → at (starts c st 0 c.pool.signals) s ≡ at st.held s
+at-starts_held c st s x e h =
+    starts_at c st 0 c.pool.signals s x e
+    ∙ ap (λ j. cond (is_held c j) (at st.held j) x.init) (let d : 0 + s ≡ s = omega arith in d)
+    ∙ ap (λ t. cond t (at st.held s) x.init) h
+
 -- ---- the drawing of a signal with bits
 
 signal_drawing-some : (c : Circuit) (s : ℕ) (d : Driving) → 1 ≤ (signal_form c.pool.signals s).width → driving c s ≡ d → signal_drawing c s ≡ driving_drawing c s d
@@ -172,7 +181,7 @@ module _ (wires : Wires) (c : Circuit) (env : List ℤ) (design : IsDesign c) (r
     comb_others : (cur : List ℤ) (p : DesignProcess) → is_among (driven_by c p) s ≡ false → at (comb_process c.pool env cur p) s ≡ at cur s
     comb_others cur p h = cond_both (is_none p.domain) (put c.pool env p.body cur) cur (λ xs. at xs s ≡ at cur s) (λ e. put_other c.pool env p.body cur s h) (λ e. refl)
 
-    module _ (held : is_held c s ≡ false) (some : 1 ≤ (signal_form c.pool.signals s).width) (obeys : Obeys wires (signal_drawing c s)) where
+    module _ (held : is_held c s ≡ false) (some : 1 ≤ (signal_form c.pool.signals s).width) (obeys : ObeysComb wires (signal_drawing c s)) where
       w : ℕ
       w = (signal_form c.pool.signals s).width
 
@@ -182,12 +191,12 @@ module _ (wires : Wires) (c : Circuit) (env : List ℤ) (design : IsDesign c) (r
       no_input : is_input c s ≡ false
       no_input = (or_parts (is_input c s) (is_register c s) held).0
 
-      obeys_driving : (d : Driving) → driving c s ≡ d → Obeys wires (driving_drawing c s d)
-      obeys_driving d e = subst (Obeys wires) (signal_drawing-some c s d some e) obeys
+      obeys_driving : (d : Driving) → driving c s ≡ d → ObeysComb wires (driving_drawing c s d)
+      obeys_driving d e = subst (ObeysComb wires) (signal_drawing-some c s d some e) obeys
 
-      from_link : (right : List SigPart) (x : ℤ) → Reads wires right (signal_form c.pool.signals s).width x → at env s ≡ x → Obeys wires (link_to c s right) → Carries wires (signal_value c s) (at env s)
+      from_link : (right : List SigPart) (x : ℤ) → Reads wires right (signal_form c.pool.signals s).width x → at env s ≡ x → ObeysComb wires (link_to c s right) → Carries wires (signal_value c s) (at env s)
       from_link right x r e o =
-          subst (Carries wires (signal_value c s)) (sym e) (carries_bits wires (signal_value c s) x (linked_bits wires (signal_value c s) right (signal_form c.pool.signals s).width x r (omega arith) o))
+          subst (Carries wires (signal_value c s)) (sym e) (carries_bits wires (signal_value c s) x (linked_bits wires (signal_value c s) right (signal_form c.pool.signals s).width x r (omega arith) (record { cells = All-nil (ObeysCell wires); links = o.links })))
 
       by_nothing : find (drives c s) c.processes ≡ None → Carries wires (signal_value c s) (at env s)
       unfolding begin
@@ -226,12 +235,22 @@ module _ (wires : Wires) (c : Circuit) (env : List ℤ) (design : IsDesign c) (r
       by_found None e = by_nothing e
       by_found (Some p) e = by_domain p p.domain e refl
 
+    -- a register is in the environment as it is in the state
+    pub settled_register : (p : DesignProcess) (d : DomainId) → s < length c.pool.signals → IsOnly (driven_by c) s c.processes p → p.domain ≡ Some d → at env s ≡ at st.held s
+    unfolding begin
+    settled_register p d there o e =
+        let x = element c.pool.signals s there in
+        let r = fold_only (driven_by c) s (comb_process c.pool env) comb_count comb_others c.processes p begin o in
+        let stays : comb_process c.pool env r.then p ≡ r.then = ap (λ t. cond (is_none t) (put c.pool env p.body r.then) r.then) e in
+        let register : is_register c s ≡ true = is_register-only c flat s p o ∙ ap is_some e in
+        ap (λ xs. at xs s) (sym settled_is) ∙ r.result ∙ ap (λ xs. at xs s) stays ∙ r.same ∙ at-starts_held c st s x.0 x.1 (or_right (is_input c s) (is_register c s) register)
+
     -- the wire of a signal that no state holds carries its number
-    pub settled_signal : is_held c s ≡ false → Obeys wires (signal_drawing c s) → Carries wires (signal_value c s) (at env s)
+    pub settled_signal : is_held c s ≡ false → ObeysComb wires (signal_drawing c s) → Carries wires (signal_value c s) (at env s)
     settled_signal held obeys i l = by_found held (omega arith) obeys (find (drives c s) c.processes) refl i l
 
     -- so the wire of each signal does, where those of inputs and registers do
-    pub settled_wire : (is_held c s ≡ true → Carries wires (signal_value c s) (at env s)) → Obeys wires (signal_drawing c s) → Carries wires (signal_value c s) (at env s)
+    pub settled_wire : (is_held c s ≡ true → Carries wires (signal_value c s) (at env s)) → ObeysComb wires (signal_drawing c s) → Carries wires (signal_value c s) (at env s)
     settled_wire held obeys = by_held (is_held c s) refl
       where
         by_held : (t : Bool) → is_held c s ≡ t → Carries wires (signal_value c s) (at env s)

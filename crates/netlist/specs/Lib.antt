@@ -6,4 +6,5 @@ pub mod Carried
 pub mod Expressions
 pub mod Latest
 pub mod Spelled
+pub mod CombDrawings
 pub mod Module
