@@ -25,3 +25,11 @@ pub mod Items
 pub mod Patterns
 pub mod MadeExpressions
 pub mod FittingExpressions
+pub mod SpelledLaws
+pub mod FixedTargets
+pub mod BitWrites
+pub mod PutSources
+pub mod OneDriver
+pub mod Driven
+pub mod SettledWires
+pub mod ResetLaws

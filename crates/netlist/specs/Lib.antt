@@ -6,3 +6,7 @@ pub mod Carried
 pub mod Expressions
 pub mod Fits
 pub mod Made
+pub mod Latest
+pub mod Spelled
+pub mod CombDrawings
+pub mod Module
