@@ -13,3 +13,5 @@ pub mod ShiftOperators
 pub mod Divisions
 pub mod Magnitudes
 pub mod Made
+pub mod Permuted
+pub mod Fresh
