@@ -15,3 +15,4 @@ pub mod Magnitudes
 pub mod Made
 pub mod Permuted
 pub mod Fresh
+pub mod Drives
