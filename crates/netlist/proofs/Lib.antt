@@ -16,3 +16,5 @@ pub mod Made
 pub mod Permuted
 pub mod Fresh
 pub mod Drives
+pub mod DrawnCells
+pub mod OperatorsDrawn
