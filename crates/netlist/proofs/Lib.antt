@@ -18,3 +18,6 @@ pub mod Fresh
 pub mod Drives
 pub mod DrawnCells
 pub mod OperatorsDrawn
+pub mod ExpressionsDrawn
+pub mod ManyDrawn
+pub mod SignalsDrawn
