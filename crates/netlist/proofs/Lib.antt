@@ -33,3 +33,11 @@ pub mod OneDriver
 pub mod Driven
 pub mod SettledWires
 pub mod ResetLaws
+pub mod Permuted
+pub mod Fresh
+pub mod Drives
+pub mod DrawnCells
+pub mod OperatorsDrawn
+pub mod ExpressionsDrawn
+pub mod ManyDrawn
+pub mod SignalsDrawn

@@ -160,7 +160,12 @@ part_count (expr.Cast a signed) = 0
 part_count (expr.Matches a patterns) = 6 * length patterns
 part_count (expr.Reset domain place) = 0
 
--- what gives y the expression, where the wires of signals and of other expressions are known
+-- how many all of them take
+abbrev pub part_total : List Expr → ℕ
+part_total [] = 0
+part_total (e ∷ es) = part_count e + part_total es
+
+-- what gives y the expression, where the wires of signals and of other expressions are known; a reset that nothing uses is 0
 abbrev pub shown : (signal value : ℕ → Value) → ℕ → Value → Expr → Drawing
 shown signal value n y (expr.Const c s) = linked y (const_spec s.width c)
 shown signal value n y (expr.Sig s) = linked y (whole (signal s.0))

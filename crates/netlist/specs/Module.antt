@@ -65,13 +65,13 @@ pub data Driving : Type 0 where
 abbrev pub drives : Circuit → ℕ → DesignProcess → Bool
 drives c s p = is_among (driven c.pool p.body) s
 
+abbrev pub driving_at : DesignProcess → Option DomainId → Driving
+driving_at p None = ByComb p
+driving_at p (Some d) = ByClock p d
+
 abbrev pub driving_by : Option DesignProcess → Driving
 driving_by None = ByNothing
 driving_by (Some p) = driving_at p p.domain
-  where
-    driving_at : DesignProcess → Option DomainId → Driving
-    driving_at p None = ByComb p
-    driving_at p (Some d) = ByClock p d
 
 abbrev pub driving : Circuit → ℕ → Driving
 driving c s = if is_input c s then ByEvents else driving_by (find (drives c s) c.processes)
