@@ -25,3 +25,4 @@ pub mod Items
 pub mod Patterns
 pub mod MadeExpressions
 pub mod FittingExpressions
+pub mod FittingSelections
