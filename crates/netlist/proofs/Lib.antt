@@ -26,3 +26,5 @@ pub mod Patterns
 pub mod MadeExpressions
 pub mod FittingExpressions
 pub mod FittingSelections
+pub mod PoolNeeds
+pub mod PoolsMade

@@ -6,3 +6,4 @@ pub mod Carried
 pub mod Expressions
 pub mod Fits
 pub mod Made
+pub mod PoolsDrawn
