@@ -28,3 +28,4 @@ pub mod FittingExpressions
 pub mod FittingSelections
 pub mod PoolNeeds
 pub mod PoolsMade
+pub mod Driving

@@ -7,3 +7,4 @@ pub mod Expressions
 pub mod Fits
 pub mod Made
 pub mod PoolsDrawn
+pub mod Drives
