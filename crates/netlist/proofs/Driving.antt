@@ -1,5 +1,5 @@
 -- The drawing of each operator drives its inner wires and its result, each bit once.
-use Rattle.std.proofs.Common.{◌≡◌, ℕ, zero, ◌+◌, ◌==◌, Bool, true, false, List, [], ◌∷◌, ◌++◌, refl, sym, ◌∙◌, ap, append_assoc, append-nil, ℤ, pos}
+use Rattle.std.proofs.Common.{◌≡◌, ℕ, ◌+◌, ◌==◌, Bool, true, false, List, [], ◌++◌, refl, sym, ◌∙◌, ap, append_assoc, append-nil, ℤ, pos}
 use Rattle.std.specs.List.{flat_map}
 use Rattle.std.proofs.lemmas.Bool.{cond_both, eqb-true}
 use Rattle.shape_rules.specs.Forms.{Form}
@@ -10,13 +10,12 @@ use Rattle.shape_rules.specs.declared.cell.CellKind.{CellKind}
 use Rattle.shape_rules.specs.declared.cell.CellKind.TheVariants as kind
 use Rattle.rtlil_text.specs.declared.sig.SigPart.{SigPart}
 use Rattle.rtlil_text.specs.declared.cell.RtlCell.{RtlCell}
-use Rattle.rtlil_text.specs.Sources.{Source, spec_bits, end_bits}
-use Rattle.rtlil_text.specs.CellTables.{output_of}
+use Rattle.rtlil_text.specs.Sources.{Source, spec_bits}
 use Rattle.rtlil_text.specs.Drivers.{output_bits, wire_bits}
 use Rattle.netlist.specs.Ids.{part_id}
 use Rattle.netlist.specs.Cells.{unary_cell, binary_cell}
 use Rattle.netlist.specs.Operands.{wire_part, const_spec, at_width, at_form}
-use Rattle.netlist.specs.Operators.{Value, Drawing, nothing, inner_wire, whole, one_bit, as_form, one_cell, linked, reduced, shifted, unequal, divided, magnitude, operated, operator_drawing}
+use Rattle.netlist.specs.Operators.{Value, Drawing, nothing, inner_wire, whole, as_form, one_cell, linked, reduced, shifted, unequal, divided, magnitude, operated, operator_drawing}
 use Rattle.netlist.specs.Drives.{drawn_bits, DrivesOperator}
 use Rattle.netlist.proofs.Places.{spec_bits-wire_part}
 

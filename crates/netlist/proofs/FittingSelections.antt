@@ -1,6 +1,6 @@
 -- Drawings of selections, items and patterns keep the rules, and so does the drawing of each expression.
-use Rattle.std.proofs.Common.{◌≡◌, ℕ, zero, suc, ◌+◌, ◌<◌, ◌≤◌, ◌^◌, ◌==◌, max, Bool, true, false, cond, List, [], ◌∷◌, ◌++◌, map, take, length, replicate, refl, sym, ◌∙◌, ap, subst, arith, ℤ, pos}
-use Rattle.std.specs.Prelude.{All, Contains, nat_lt, ⊤}
+use Rattle.std.proofs.Common.{◌≡◌, ℕ, zero, suc, ◌+◌, ◌≤◌, ◌^◌, ◌==◌, max, Bool, true, false, cond, List, [], ◌∷◌, ◌++◌, map, take, replicate, refl, sym, ◌∙◌, ap, subst, arith, pos}
+use Rattle.std.specs.Prelude.{All, Contains, nat_lt}
 use Rattle.std.specs.List.{AllByRecursion}
 use Rattle.std.proofs.lemmas.Bool.{cond_both, false≢true}
 use Rattle.std.proofs.lemmas.List.Elements.{All-nil, All-append, All-from_recursion}
@@ -10,8 +10,6 @@ use Rattle.design_ir.specs.declared.ids.ExprId.{ExprId}
 use Rattle.design_ir.specs.declared.expr.Pattern.{Pattern}
 use Rattle.design_ir.specs.declared.expr.Expr.{Expr}
 use Rattle.design_ir.specs.declared.expr.Expr.TheVariants as expr
-use Rattle.design_ir.specs.Values as values
-use Rattle.rtlil_text.specs.declared.module.RtlWire.{RtlWire}
 use Rattle.rtlil_text.specs.declared.module.RtlModule.{RtlModule}
 use Rattle.rtlil_text.specs.Rules.{WireFits, PartFits, CellFits, LinkFits}
 use Rattle.netlist.specs.Ids.{part_id}
@@ -25,7 +23,7 @@ use Rattle.netlist.proofs.Reading.{length-replicate}
 use Rattle.netlist.proofs.Drawn.{form_sign}
 use Rattle.netlist.proofs.Selections.{part_accepted}
 use Rattle.netlist.proofs.FittingCells.{SpecIs, wire_is, whole_is, const_is, const_parts, at_width_is, binary_fits, mux_fits, shift_rules, linked_fits, inner_fits}
-use Rattle.netlist.proofs.FittingDrawings.{nothing_fits, one_fits, arithmetic_fits, comparison_fits, mul_kind, and_kind, or_kind, eq_kind}
+use Rattle.netlist.proofs.FittingDrawings.{nothing_fits, arithmetic_fits, comparison_fits, mul_kind, and_kind, or_kind, eq_kind}
 use Rattle.netlist.proofs.FittingParts.{first_held, others_held, inner_is, inner_at}
 use Rattle.netlist.proofs.FittingExpressions.{also_fits, first_wires, second_wires, fits_shown, fits_const, fits_reset, fits_sig, fits_cast, fits_slice, fits_cat, fits_unary, fits_binary, fits_mux}
 
@@ -47,15 +45,15 @@ record AmountFits (m : RtlModule) (d : Drawing) (o : Operand) : Type 0 where
 
 amount_by : (m : RtlModule) (n : ℕ) (offset : Value) (stride : ℕ) (t : Bool) → offset.form.signed ≡ false → HasValue m.wires offset
     → All (Contains m.wires) (cond t nothing (record {
-        wires = inner_wire (part_id (n + 1)) (stride_form offset.form).width ∷ [];
-        cells = binary_cell kind.Mul (part_id n) (as_form offset (stride_form offset.form)) (stride_operand offset.form stride) (stride_form offset.form).width (wire_part (part_id (n + 1)) 0 (stride_form offset.form).width) ∷ [];
-        links = [];
-      })).wires
+      wires = inner_wire (part_id (n + 1)) (stride_form offset.form).width ∷ [];
+      cells = binary_cell kind.Mul (part_id n) (as_form offset (stride_form offset.form)) (stride_operand offset.form stride) (stride_form offset.form).width (wire_part (part_id (n + 1)) 0 (stride_form offset.form).width) ∷ [];
+      links = [];
+    })).wires
     → AmountFits m (cond t nothing (record {
-        wires = inner_wire (part_id (n + 1)) (stride_form offset.form).width ∷ [];
-        cells = binary_cell kind.Mul (part_id n) (as_form offset (stride_form offset.form)) (stride_operand offset.form stride) (stride_form offset.form).width (wire_part (part_id (n + 1)) 0 (stride_form offset.form).width) ∷ [];
-        links = [];
-      })) (cond t (as_form offset offset.form) (at_form (part_id (n + 1)) (stride_form offset.form) (stride_form offset.form)))
+      wires = inner_wire (part_id (n + 1)) (stride_form offset.form).width ∷ [];
+      cells = binary_cell kind.Mul (part_id n) (as_form offset (stride_form offset.form)) (stride_operand offset.form stride) (stride_form offset.form).width (wire_part (part_id (n + 1)) 0 (stride_form offset.form).width) ∷ [];
+      links = [];
+    })) (cond t (as_form offset offset.form) (at_form (part_id (n + 1)) (stride_form offset.form) (stride_form offset.form)))
 amount_by m n offset stride true u h wires = record {
   drawing = nothing_fits m;
   spec = at_width_is m offset.id offset.form offset.form.width h (λ signed. absurd (false≢true (sym u ∙ signed)));
@@ -70,7 +68,9 @@ amount_by m n offset stride false u h wires =
         wires = All-from_recursion WireFits (inner_wire (part_id (n + 1)) g.width ∷ []) (inner_fits (part_id (n + 1)) g.width (omega arith), tt);
         cells = All-from_recursion (CellFits m) (cell ∷ []) (
           arithmetic_fits m kind.Mul (part_id n) (as_form offset g) (stride_operand offset.form stride) g.width (wire_part (part_id (n + 1)) 0 g.width) mul_kind
-            (at_width_is m offset.id offset.form g.width h (λ signed. absurd (false≢true (sym u ∙ signed)))) (stride_is m offset.form stride) (inner_is m (part_id (n + 1)) g.width w) refl refl, tt);
+              (at_width_is m offset.id offset.form g.width h (λ signed. absurd (false≢true (sym u ∙ signed)))) (stride_is m offset.form stride) (inner_is m (part_id (n + 1)) g.width w) refl refl,
+          tt,
+        );
         links = All-nil (LinkFits m);
       };
       spec = inner_at m (part_id (n + 1)) g g.width (omega arith) w;
@@ -97,20 +97,22 @@ selected_fits m n a offset stride y shape u ha ho hy some =
     cond_both (offset.form.width == 0) (linked y (at_width a.id a.form y.form.width)) (and_also first rest) (λ (d : Drawing). All (Contains m.wires) d.wires → DrawingFits m d)
     (λ none wires. linked_fits m y (at_width a.id a.form y.form.width) hy (at_width_is m a.id a.form y.form.width ha (form_sign a.form shape)))
     (λ bits wires.
-      let amount = amount_fits m n offset stride u ho (first_wires m first.wires rest.wires wires) in
-      let w : HasWire m.wires (part_id (n + 3)) g.width = first_held m (part_id (n + 3)) g.width [] (second_wires m first.wires rest.wires wires) in
-      let low = wire_is m (part_id (n + 3)) 0 y.form.width g.width (λ one. w) (omega arith) in
-      also_fits m first rest amount.drawing (record {
-        wires = All-from_recursion WireFits rest.wires (inner_fits (part_id (n + 3)) g.width (omega arith), tt);
-        cells = All-from_recursion (CellFits m) rest.cells (
-          shift_fits m (part_id (n + 2)) (as_form a g) (amount_operand n offset stride) g.width (part_id (n + 3)) a.form.signed refl (at_width_is m a.id a.form g.width ha (form_sign a.form shape)) amount.spec (inner_is m (part_id (n + 3)) g.width w) refl amount.unsigned, tt);
-        links = All-from_recursion (LinkFits m) rest.links (record { left = (whole_is m y hy).parts; right = low.parts; equal = (whole_is m y hy).wide ∙ sym low.wide }, tt);
-      }))
+    let amount = amount_fits m n offset stride u ho (first_wires m first.wires rest.wires wires) in
+    let w : HasWire m.wires (part_id (n + 3)) g.width = first_held m (part_id (n + 3)) g.width [] (second_wires m first.wires rest.wires wires) in
+    let low = wire_is m (part_id (n + 3)) 0 y.form.width g.width (λ one. w) (omega arith) in
+    also_fits m first rest amount.drawing (record {
+      wires = All-from_recursion WireFits rest.wires (inner_fits (part_id (n + 3)) g.width (omega arith), tt);
+      cells = All-from_recursion (CellFits m) rest.cells (
+        shift_fits m (part_id (n + 2)) (as_form a g) (amount_operand n offset stride) g.width (part_id (n + 3)) a.form.signed refl (at_width_is m a.id a.form g.width ha (form_sign a.form shape)) amount.spec (inner_is m (part_id (n + 3)) g.width w) refl amount.unsigned,
+        tt,
+      );
+      links = All-from_recursion (LinkFits m) rest.links (record { left = (whole_is m y hy).parts; right = low.parts; equal = (whole_is m y hy).wide ∙ sym low.wide }, tt);
+    }))
 
 pub fits_part : (a offset : ExprId) (width stride : ℕ) → FitsExpression (expr.Part a offset width stride)
 fits_part a offset width stride m signals signal value n y forms held range accepted e made hy =
     fits_shown m signal value n y (expr.Part a offset width stride) (λ some wires.
-      selected_fits m n (value a.0) (value offset.0) stride y made.0.shape (part_accepted (value offset.0).form.signed width accepted) made.0.wire made.1.0.wire hy some wires)
+    selected_fits m n (value a.0) (value offset.0) stride y made.0.shape (part_accepted (value offset.0).form.signed width accepted) made.0.wire made.1.0.wire hy some wires)
 
 -- ---- items by an index
 
@@ -136,9 +138,13 @@ picked_fits m n index i first (second ∷ more) into p q rs h some wires =
       wires = All-from_recursion WireFits here.wires (inner_fits (part_id (n + 1)) 1 (omega arith), (inner_fits (part_id (n + 3)) w some, tt));
       cells = All-from_recursion (CellFits m) here.cells (
         comparison_fits m kind.Eq (part_id n) (as_form index index.form) (const_operand index.form (pos i)) (one_bit (part_id (n + 1))) eq_kind (at_width_is m index.id index.form index.form.width p.wire (form_sign index.form p.shape)) (const_is m index.form.width (pos i))
-          (inner_is m (part_id (n + 1)) 1 bit) refl,
-        (mux_fits m (part_id (n + 2)) w (wire_part (part_id (n + 3)) 0 w) (at_width first.id first.form w) (one_bit (part_id (n + 1))) (whole into) (inner_is m (part_id (n + 3)) w wire) (at_width_is m first.id first.form w q.wire (form_sign first.form q.shape))
-          (inner_is m (part_id (n + 1)) 1 bit) (whole_is m into h), tt));
+            (inner_is m (part_id (n + 1)) 1 bit) refl,
+        (
+          mux_fits m (part_id (n + 2)) w (wire_part (part_id (n + 3)) 0 w) (at_width first.id first.form w) (one_bit (part_id (n + 1))) (whole into) (inner_is m (part_id (n + 3)) w wire) (at_width_is m first.id first.form w q.wire (form_sign first.form q.shape))
+              (inner_is m (part_id (n + 1)) 1 bit) (whole_is m into h),
+          tt,
+        ),
+      );
       links = All-nil (LinkFits m);
     }) (picked_fits m (n + 4) index (suc i) second more others p rs.0 rs.1 (λ one. wire) some (second_wires m here.wires rest.wires wires))
 
@@ -154,7 +160,7 @@ items_fit m value (e ∷ es) (suc n) h = (record { shape = h.0.shape; wire = h.0
 pub fits_pick : (index : ExprId) (es : List ExprId) → FitsExpression (expr.Pick index es)
 fits_pick index es m signals signal value n y forms held range accepted e made hy =
     fits_shown m signal value n y (expr.Pick index es) (λ some wires.
-      picked_of_fits m n (value index.0) (take (2 ^ (value index.0).form.width) (map (λ (e : ExprId). value e.0) es)) y (record { shape = made.0.shape; wire = made.0.wire }) (items_fit m value es (2 ^ (value index.0).form.width) made.1) hy some wires)
+    picked_of_fits m n (value index.0) (take (2 ^ (value index.0).form.width) (map (λ (e : ExprId). value e.0) es)) y (record { shape = made.0.shape; wire = made.0.wire }) (items_fit m value es (2 ^ (value index.0).form.width) made.1) hy some wires)
 
 -- ---- patterns
 
@@ -167,8 +173,9 @@ matched_fits m n w a p h some out wires =
       wires = All-from_recursion WireFits (matched n u a p).wires (inner_fits (part_id (n + 1)) w some, (inner_fits (part_id (n + 3)) 1 (omega arith), tt));
       cells = All-from_recursion (CellFits m) (matched n u a p).cells (
         arithmetic_fits m kind.And (part_id n) left (const_operand u (pos p.mask)) w (wire_part (part_id (n + 1)) 0 w) and_kind (at_width_is m a.id (unsigned a.form.width) w h (λ signed. absurd (false≢true signed))) (const_is m w (pos p.mask))
-          (inner_is m (part_id (n + 1)) w under) refl refl,
-        (comparison_fits m kind.Eq (part_id (n + 2)) (at_form (part_id (n + 1)) u u) (const_operand u (pos p.bits)) (one_bit (part_id (n + 3))) eq_kind (inner_at m (part_id (n + 1)) u w some under) (const_is m w (pos p.bits)) (inner_is m (part_id (n + 3)) 1 out) refl, tt));
+            (inner_is m (part_id (n + 1)) w under) refl refl,
+        (comparison_fits m kind.Eq (part_id (n + 2)) (at_form (part_id (n + 1)) u u) (const_operand u (pos p.bits)) (one_bit (part_id (n + 3))) eq_kind (inner_at m (part_id (n + 1)) u w some under) (const_is m w (pos p.bits)) (inner_is m (part_id (n + 3)) 1 out) refl, tt),
+      );
       links = All-nil (LinkFits m);
     }
 
@@ -181,20 +188,20 @@ within_fits : (m : RtlModule) (n w : ℕ) (a : Value) (p : Pattern) → HasValue
 within_fits m n w a p h some =
     cond_both (nat_lt p.bits (2 ^ w)) (matched n (unsigned w) a p) (no_match n) (λ (d : Drawing). All (Contains m.wires) d.wires → WithinFits m n d)
     (λ e wires.
-      let out : HasWire m.wires (part_id (n + 3)) 1 = first_held m (part_id (n + 3)) 1 [] (others_held m (inner_wire (part_id (n + 1)) w) (inner_wire (part_id (n + 3)) 1 ∷ []) wires) in
-      record { drawing = matched_fits m n w a p h some out wires; wire = out })
+    let out : HasWire m.wires (part_id (n + 3)) 1 = first_held m (part_id (n + 3)) 1 [] (others_held m (inner_wire (part_id (n + 1)) w) (inner_wire (part_id (n + 3)) 1 ∷ []) wires) in
+    record { drawing = matched_fits m n w a p h some out wires; wire = out })
     (λ e wires.
-      let out : HasWire m.wires (part_id (n + 3)) 1 = first_held m (part_id (n + 3)) 1 [] wires in
-      let bit = inner_is m (part_id (n + 3)) 1 out in
-      let none = const_is m 1 (pos 0) in
-      record {
-        drawing = record {
-          wires = All-from_recursion WireFits (no_match n).wires (inner_fits (part_id (n + 3)) 1 (omega arith), tt);
-          cells = All-nil (CellFits m);
-          links = All-from_recursion (LinkFits m) (no_match n).links (record { left = bit.parts; right = none.parts; equal = bit.wide ∙ sym none.wide }, tt);
-        };
-        wire = out;
-      })
+    let out : HasWire m.wires (part_id (n + 3)) 1 = first_held m (part_id (n + 3)) 1 [] wires in
+    let bit = inner_is m (part_id (n + 3)) 1 out in
+    let none = const_is m 1 (pos 0) in
+    record {
+      drawing = record {
+        wires = All-from_recursion WireFits (no_match n).wires (inner_fits (part_id (n + 3)) 1 (omega arith), tt);
+        cells = All-nil (CellFits m);
+        links = All-from_recursion (LinkFits m) (no_match n).links (record { left = bit.parts; right = none.parts; equal = bit.wide ∙ sym none.wide }, tt);
+      };
+      wire = out;
+    })
 
 any_fits : (m : RtlModule) (n : ℕ) (a : Value) (ps : List Pattern) (into : Value) → HasValue m.wires a → HasValue m.wires into → into.form.width ≡ 1 → All (Contains m.wires) (matched_any n a ps into).wires → DrawingFits m (matched_any n a ps into)
 any_fits m n a [] into h hi one wires = linked_fits m into (const_spec 1 (pos 0)) hi (subst (λ (v : ℕ). SpecIs m (const_spec 1 (pos 0)) v) (sym one) (const_is m 1 (pos 0)))
@@ -215,7 +222,9 @@ any_fits m n a (p ∷ ps) into h hi one wires =
       wires = All-from_recursion WireFits here.wires (inner_fits (part_id (n + 5)) 1 (omega arith), tt);
       cells = All-from_recursion (CellFits m) here.cells (
         arithmetic_fits m kind.Or (part_id (n + 4)) left right 1 (whole into) or_kind (inner_at m (part_id (n + 3)) (unsigned 1) 1 (omega arith) within.wire) (inner_at m (part_id (n + 5)) (unsigned 1) 1 (omega arith) others)
-          (subst (λ (v : ℕ). SpecIs m (whole into) v) one (whole_is m into hi)) refl refl, tt);
+            (subst (λ (v : ℕ). SpecIs m (whole into) v) one (whole_is m into hi)) refl refl,
+        tt,
+      );
       links = All-nil (LinkFits m);
     }) (any_fits m (n + 6) a ps out h (λ some. others) refl (second_wires m here.wires rest.wires behind)))
 

@@ -1,5 +1,5 @@
 -- What a bit of an expression needs is given by what the bits of the expressions that it names need.
-use Rattle.std.proofs.Common.{◌≡◌, ℕ, ◌+◌, ◌-◌, ◌<◌, List, [], ◌∷◌, ◌++◌, cond, refl, sym, ap}
+use Rattle.std.proofs.Common.{◌≡◌, ℕ, ◌+◌, ◌-◌, ◌<◌, List, [], ◌∷◌, ◌++◌, cond, refl}
 use Rattle.std.specs.Prelude.{Some, slice_get, nat_lt}
 use Rattle.std.specs.List.{flat_map}
 use Rattle.shape_rules.specs.Forms.{Form}

@@ -1,17 +1,15 @@
 -- The drawings of all expressions of a pool make them.
-use Rattle.std.proofs.Common.{◌≡◌, ℕ, zero, suc, ◌<◌, List, [], ◌∷◌, length, refl, arith, ℤ}
+use Rattle.std.proofs.Common.{ℕ, zero, suc, ◌<◌, List, [], ◌∷◌, length, refl, arith, ℤ}
 use Rattle.std.specs.List.{AllByRecursion}
 use Rattle.design_ir.specs.declared.ids.ExprId.{ExprId}
 use Rattle.design_ir.specs.Named.{named, AllBelow}
 use Rattle.design_ir.specs.Pools.{Pooled}
 use Rattle.design_ir.specs.PoolRules.{IsPool}
-use Rattle.design_ir.specs.Needed.{needed}
-use Rattle.design_ir.specs.Values.{num}
 use Rattle.design_ir.proofs.Equations.{standing, form_is, num_is}
 use Rattle.design_ir.proofs.NumbersFit.{FitsSignals, element, has_shape, num_fits}
 use Rattle.rtlil_text.specs.History.{Wires}
-use Rattle.netlist.specs.Made.{Known, Follows, IsMade}
-use Rattle.netlist.specs.PoolsDrawn.{signal_wire, expr_wire, IsDrawn, known_of, AllFollow}
+use Rattle.netlist.specs.Made.{IsMade}
+use Rattle.netlist.specs.PoolsDrawn.{expr_wire, IsDrawn, known_of, AllFollow}
 use Rattle.netlist.proofs.MadeExpressions.{makes_expression}
 use Rattle.netlist.proofs.PoolNeeds.{needed_is}
 
@@ -31,8 +29,8 @@ module _ (wires : Wires) (p : Pooled) (env : List ℤ) (signals values : ℕ →
         shape = has_shape p env rules fit e there;
         integer = num_fits p env rules fit e there;
         bits =
-          rw (needed_is p e.0 x.0 rules x.1, num_is p env e.0 x.0 rules x.1)
-          (makes_expression x.0 wires (known_of p env signals values) (parts e.0) (expr_wire p values e.0) (λ s. refl) stands.askable.parts stands.accepted d.0 (form_is p e.0 x.0 rules x.1) earlier d.1);
+            rw (needed_is p e.0 x.0 rules x.1, num_is p env e.0 x.0 rules x.1)
+            (makes_expression x.0 wires (known_of p env signals values) (parts e.0) (expr_wire p values e.0) (λ s. refl) stands.askable.parts stands.accepted d.0 (form_is p e.0 x.0 rules x.1) earlier d.1);
       }
 
   pub all_follow : AllFollow wires p env signals values
