@@ -41,20 +41,20 @@ mul_whole = record { output = refl; bit = λ value c width i. refl }
 pub makes_add : MakesOperator op.Add
 makes_add =
     makes_bits op.Add (λ wires n a b y x z p q t e f g c d some o.
-      alike_bits wires kind.Add n (work_form op.Add a.form b.form) a b y x z (x +ℤ z) add_whole (λ s. refl) (form_sign a.form p) (form_sign b.form q) f g
-      (work_holds_left op.Add a.form b.form q x f) (work_holds_right op.Add a.form b.form refl p z g) c d refl o)
+    alike_bits wires kind.Add n (work_form op.Add a.form b.form) a b y x z (x +ℤ z) add_whole (λ s. refl) (form_sign a.form p) (form_sign b.form q) f g
+    (work_holds_left op.Add a.form b.form q x f) (work_holds_right op.Add a.form b.form refl p z g) c d refl o)
 
 pub makes_sub : MakesOperator op.Sub
 makes_sub =
     makes_bits op.Sub (λ wires n a b y x z p q t e f g c d some o.
-      alike_bits wires kind.Sub n (work_form op.Sub a.form b.form) a b y x z (x -ℤ z) sub_whole (λ s. refl) (form_sign a.form p) (form_sign b.form q) f g
-      (work_holds_left op.Sub a.form b.form q x f) (work_holds_right op.Sub a.form b.form refl p z g) c d refl o)
+    alike_bits wires kind.Sub n (work_form op.Sub a.form b.form) a b y x z (x -ℤ z) sub_whole (λ s. refl) (form_sign a.form p) (form_sign b.form q) f g
+    (work_holds_left op.Sub a.form b.form q x f) (work_holds_right op.Sub a.form b.form refl p z g) c d refl o)
 
 pub makes_mul : MakesOperator op.Mul
 makes_mul =
     makes_bits op.Mul (λ wires n a b y x z p q t e f g c d some o.
-      alike_bits wires kind.Mul n (work_form op.Mul a.form b.form) a b y x z (x *ℤ z) mul_whole (λ s. refl) (form_sign a.form p) (form_sign b.form q) f g
-      (work_holds_left op.Mul a.form b.form q x f) (work_holds_right op.Mul a.form b.form refl p z g) c d refl o)
+    alike_bits wires kind.Mul n (work_form op.Mul a.form b.form) a b y x z (x *ℤ z) mul_whole (λ s. refl) (form_sign a.form p) (form_sign b.form q) f g
+    (work_holds_left op.Mul a.form b.form q x f) (work_holds_right op.Mul a.form b.form refl p z g) c d refl o)
 
 -- 0 less a number
 pub zero-minus : (x : ℤ) → pos 0 -ℤ x ≡ neg_ℤ x
@@ -63,7 +63,7 @@ zero-minus x = omega (arith, ints)
 pub makes_neg : MakesOperator op.Neg
 makes_neg =
     makes_bits op.Neg (λ wires n a b y x z p q t e f g c d some o.
-      let w : Form = work_form op.Neg a.form b.form in
-      signed_cell wires kind.Sub (part_id n) (const_operand w (pos 0)) (as_form a w) y.form.width y.id y.form.width (pos 0) x (neg_ℤ x) sub_whole (λ s. refl)
-      (reads_const wires w.width (pos 0)) (reads_at_width wires a.id a.form w.width x (form_sign a.form p) f c) (of_zero w.signed w.width) (work_holds_left op.Neg a.form b.form q x f) (ap Some (zero-minus x))
-      (first_cell wires (binary_cell kind.Sub (part_id n) (const_operand w (pos 0)) (as_form a w) y.form.width (whole y)) [] o.cells))
+    let w : Form = work_form op.Neg a.form b.form in
+    signed_cell wires kind.Sub (part_id n) (const_operand w (pos 0)) (as_form a w) y.form.width y.id y.form.width (pos 0) x (neg_ℤ x) sub_whole (λ s. refl)
+    (reads_const wires w.width (pos 0)) (reads_at_width wires a.id a.form w.width x (form_sign a.form p) f c) (of_zero w.signed w.width) (work_holds_left op.Neg a.form b.form q x f) (ap Some (zero-minus x))
+    (first_cell wires (binary_cell kind.Sub (part_id n) (const_operand w (pos 0)) (as_form a w) y.form.width (whole y)) [] o.cells))

@@ -43,20 +43,20 @@ result_within o a b y e le = let d : y.width ≡ (form_of o a b).width = ap (λ 
 pub makes_and : MakesOperator op.And
 makes_and =
     makes_bits op.And (λ wires n a b y x z p q t e f g c d some o.
-      alike_bitwise wires kind.And ◌&&◌ int_and n (work_form op.And a.form b.form) a b y x z and_bitwise and_by_bits (form_sign a.form p) (form_sign b.form q) f g c d
-      (result_within op.And a.form b.form y.form e (common_width_left _ _ _ _)) o)
+    alike_bitwise wires kind.And ◌&&◌ int_and n (work_form op.And a.form b.form) a b y x z and_bitwise and_by_bits (form_sign a.form p) (form_sign b.form q) f g c d
+    (result_within op.And a.form b.form y.form e (common_width_left _ _ _ _)) o)
 
 pub makes_or : MakesOperator op.Or
 makes_or =
     makes_bits op.Or (λ wires n a b y x z p q t e f g c d some o.
-      alike_bitwise wires kind.Or ◌||◌ int_or n (work_form op.Or a.form b.form) a b y x z or_bitwise or_by_bits (form_sign a.form p) (form_sign b.form q) f g c d
-      (result_within op.Or a.form b.form y.form e (common_width_left _ _ _ _)) o)
+    alike_bitwise wires kind.Or ◌||◌ int_or n (work_form op.Or a.form b.form) a b y x z or_bitwise or_by_bits (form_sign a.form p) (form_sign b.form q) f g c d
+    (result_within op.Or a.form b.form y.form e (common_width_left _ _ _ _)) o)
 
 pub makes_xor : MakesOperator op.Xor
 makes_xor =
     makes_bits op.Xor (λ wires n a b y x z p q t e f g c d some o.
-      alike_bitwise wires kind.Xor xor int_xor n (work_form op.Xor a.form b.form) a b y x z xor_bitwise xor_by_bits (form_sign a.form p) (form_sign b.form q) f g c d
-      (result_within op.Xor a.form b.form y.form e (common_width_left _ _ _ _)) o)
+    alike_bitwise wires kind.Xor xor int_xor n (work_form op.Xor a.form b.form) a b y x z xor_bitwise xor_by_bits (form_sign a.form p) (form_sign b.form q) f g c d
+    (result_within op.Xor a.form b.form y.form e (common_width_left _ _ _ _)) o)
 
 -- ---- each bit turned
 
@@ -78,16 +78,16 @@ bit_of-turned f x i p h = turned_bit (int_bit x i) (int_bit_low x i) ∙ ap (λ 
 pub makes_not : MakesOperator op.Not
 makes_not =
     makes_bits op.Not (λ wires n a b y x z p q t e f g c d some o.
-      let w : Form = work_form op.Not a.form b.form in
-      let same : y.form.width ≡ a.form.width = ap (λ (f : Form). f.width) e in
-      let wide : a.form.width ≤ w.width = common_width_left _ _ _ _ in
-      let read = reads_at_width wires a.id a.form w.width x (form_sign a.form p) f c in
-      record {
-        at = λ i h.
+    let w : Form = work_form op.Not a.form b.form in
+    let same : y.form.width ≡ a.form.width = ap (λ (f : Form). f.width) e in
+    let wide : a.form.width ≤ w.width = common_width_left _ _ _ _ in
+    let read = reads_at_width wires a.id a.form w.width x (form_sign a.form p) f c in
+    record {
+      at = λ i h.
           not_bit wires (part_id n) (as_form a w) y.form.width y.id y.form.width i (bit_of x i) (read.at i (omega arith)) h
           (first_cell wires (unary_cell kind.Not (part_id n) (as_form a w) y.form.width (whole y)) [] o.cells)
           ∙ ap Some (bit_of-turned a.form x i f (omega arith));
-      })
+    })
 
 -- ---- unequal: the turned bit of equal
 
@@ -97,16 +97,16 @@ unequal_bits wires n g a b y x z s t f g' fx gz c d one o =
     let compare = binary_cell kind.Eq (part_id n) (as_form a (at_least_one g)) (as_form b (at_least_one g)) 1 (one_bit (part_id (n + 1))) in
     let turn = unary_cell kind.Not (part_id (n + 2)) (at_form (part_id (n + 1)) (unsigned 1) (unsigned 1)) 1 (whole y) in
     let equal : HasBits wires (part_id (n + 1)) 1 (truth (int_same x z)) =
-      signed_cell wires kind.Eq (part_id n) (as_form a (at_least_one g)) (as_form b (at_least_one g)) 1 (part_id (n + 1)) 1 x z (truth (int_same x z)) eq_whole (λ s. refl)
-      (reads_at_width wires a.id a.form (at_least_one g).width x s f c) (reads_at_width wires b.id b.form (at_least_one g).width z t g' d) (in_some g x fx) (in_some g z gz) (eq_result x z)
-      (first_cell wires compare (turn ∷ []) o.cells) in
+    signed_cell wires kind.Eq (part_id n) (as_form a (at_least_one g)) (as_form b (at_least_one g)) 1 (part_id (n + 1)) 1 x z (truth (int_same x z)) eq_whole (λ s. refl)
+    (reads_at_width wires a.id a.form (at_least_one g).width x s f c) (reads_at_width wires b.id b.form (at_least_one g).width z t g' d) (in_some g x fx) (in_some g z gz) (eq_result x z)
+    (first_cell wires compare (turn ∷ []) o.cells) in
     let read = reads_narrow wires (part_id (n + 1)) (unsigned 1) 1 (truth (int_same x z)) (omega arith) equal in
     has_truth wires y.id y.form.width (not (int_same x z)) one
     (not_bit wires (part_id (n + 2)) (at_form (part_id (n + 1)) (unsigned 1) (unsigned 1)) 1 y.id y.form.width 0 (int_same x z) (read.at 0 (omega arith) ∙ ap Some (bit_of-truth (int_same x z))) (omega arith)
-      (second_cell wires compare turn [] o.cells))
+    (second_cell wires compare turn [] o.cells))
 
 pub makes_ne : MakesOperator op.Ne
 makes_ne =
     makes_bits op.Ne (λ wires n a b y x z p q t e f g c d some o.
-      unequal_bits wires n (work_form op.Ne a.form b.form) a b y x z (form_sign a.form p) (form_sign b.form q) f g
-      (work_holds_left op.Ne a.form b.form q x f) (work_holds_right op.Ne a.form b.form refl p z g) c d (ap (λ (f : Form). f.width) e) o)
+    unequal_bits wires n (work_form op.Ne a.form b.form) a b y x z (form_sign a.form p) (form_sign b.form q) f g
+    (work_holds_left op.Ne a.form b.form q x f) (work_holds_right op.Ne a.form b.form refl p z g) c d (ap (λ (f : Form). f.width) e) o)

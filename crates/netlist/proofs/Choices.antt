@@ -75,7 +75,7 @@ truth_by wires n s x false false d e f b o =
     let cell = unary_cell kind.ReduceOr (part_id n) (as_form s s.form) 1 (one_bit (part_id (n + 1))) in
     bit_at-wire_part wires (part_id (n + 1)) 0 1 0 (omega arith)
     ∙ reduction_bit wires kind.ReduceOr (λ bits. list_any (λ b. b) bits) (part_id n) (as_form s s.form) 1 (part_id (n + 1)) 1 x or_reduction (reads_narrow wires s.id s.form s.form.width x (omega arith) b) (omega arith)
-      (first_cell wires cell [] o.cells)
+    (first_cell wires cell [] o.cells)
     ∙ ap Some (any-pattern s.form.signed s.form.width x f)
 
 -- the bit that says whether a value is not 0
@@ -93,17 +93,17 @@ makes_mux s a b wires c n y signals range accepted stride e made =
     let whole_s : List Bit = every (known_form c s.0) (c.needed s.0) in
     let holds : Bit → Type 0 = SignalHas wires c in
     follows_shown wires c n y (expr.Mux s a b) (λ k. whole_s ++ extended (known_form c a.0) (c.needed a.0) k ++ extended (known_form c b.0) (c.needed b.0) k) (cond (is_zero (c.num s.0)) (c.num b.0) (c.num a.0)) (λ some o k h needs.
-      let left : List Bit = extended (known_form c a.0) (c.needed a.0) k in
-      let right : List Bit = extended (known_form c b.0) (c.needed b.0) k in
-      let first = all_left holds (whole_s ++ left) right needs in
-      let w : ℕ = y.form.width in
-      let high : List SigPart = at_width (c.value a.0).id (known_form c a.0) w in
-      let low : List SigPart = at_width (c.value b.0).id (known_form c b.0) w in
-      let cell : RtlCell = mux_cell (part_id (n + 2)) w low high (truth_spec n (c.value s.0)) (whole y) in
-      let rest : Drawing = record { wires = []; cells = cell ∷ []; links = [] } in
-      mux_cell_bit wires (part_id (n + 2)) w low high (truth_spec n (c.value s.0)) y.id w k (not (is_zero (c.num s.0))) (bit_of (c.num b.0) k) (bit_of (c.num a.0) k)
-      (truth_is wires n (c.value s.0) (c.num s.0) made.0.integer (made_every wires c s made.0 (all_left holds whole_s left first)) (also_first wires (truth_drawing n (c.value s.0)) rest o))
-      (made_extended wires c b w k made.1.1.0 h (all_right holds (whole_s ++ left) right needs))
-      (made_extended wires c a w k made.1.0 h (all_right holds whole_s left first)) h
-      (first_cell wires cell [] (also_second wires (truth_drawing n (c.value s.0)) rest o).cells)
-      ∙ ap Some (other_way (is_zero (c.num s.0)) (c.num a.0) (c.num b.0) k))
+    let left : List Bit = extended (known_form c a.0) (c.needed a.0) k in
+    let right : List Bit = extended (known_form c b.0) (c.needed b.0) k in
+    let first = all_left holds (whole_s ++ left) right needs in
+    let w : ℕ = y.form.width in
+    let high : List SigPart = at_width (c.value a.0).id (known_form c a.0) w in
+    let low : List SigPart = at_width (c.value b.0).id (known_form c b.0) w in
+    let cell : RtlCell = mux_cell (part_id (n + 2)) w low high (truth_spec n (c.value s.0)) (whole y) in
+    let rest : Drawing = record { wires = []; cells = cell ∷ []; links = [] } in
+    mux_cell_bit wires (part_id (n + 2)) w low high (truth_spec n (c.value s.0)) y.id w k (not (is_zero (c.num s.0))) (bit_of (c.num b.0) k) (bit_of (c.num a.0) k)
+    (truth_is wires n (c.value s.0) (c.num s.0) made.0.integer (made_every wires c s made.0 (all_left holds whole_s left first)) (also_first wires (truth_drawing n (c.value s.0)) rest o))
+    (made_extended wires c b w k made.1.1.0 h (all_right holds (whole_s ++ left) right needs))
+    (made_extended wires c a w k made.1.0 h (all_right holds whole_s left first)) h
+    (first_cell wires cell [] (also_second wires (truth_drawing n (c.value s.0)) rest o).cells)
+    ∙ ap Some (other_way (is_zero (c.num s.0)) (c.num a.0) (c.num b.0) k))

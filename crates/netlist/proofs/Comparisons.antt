@@ -63,29 +63,29 @@ compared_bits wires k n g a b y x z r kind sign s t f g' fx gz c d makes o =
 pub makes_eq : MakesOperator op.Eq
 makes_eq =
     makes_bits op.Eq (λ wires n a b y x z p q t e f g c d some o.
-      compared_bits wires kind.Eq n (work_form op.Eq a.form b.form) a b y x z (truth (int_same x z)) eq_whole (λ s. refl) (form_sign a.form p) (form_sign b.form q) f g
-      (work_holds_left op.Eq a.form b.form q x f) (work_holds_right op.Eq a.form b.form refl p z g) c d (eq_result x z) o)
+    compared_bits wires kind.Eq n (work_form op.Eq a.form b.form) a b y x z (truth (int_same x z)) eq_whole (λ s. refl) (form_sign a.form p) (form_sign b.form q) f g
+    (work_holds_left op.Eq a.form b.form q x f) (work_holds_right op.Eq a.form b.form refl p z g) c d (eq_result x z) o)
 
 pub makes_lt : MakesOperator op.Lt
 makes_lt =
     makes_bits op.Lt (λ wires n a b y x z p q t e f g c d some o.
-      compared_bits wires kind.Lt n (work_form op.Lt a.form b.form) a b y x z (truth (int_lt x z)) lt_whole (λ s. refl) (form_sign a.form p) (form_sign b.form q) f g
-      (work_holds_left op.Lt a.form b.form q x f) (work_holds_right op.Lt a.form b.form refl p z g) c d refl o)
+    compared_bits wires kind.Lt n (work_form op.Lt a.form b.form) a b y x z (truth (int_lt x z)) lt_whole (λ s. refl) (form_sign a.form p) (form_sign b.form q) f g
+    (work_holds_left op.Lt a.form b.form q x f) (work_holds_right op.Lt a.form b.form refl p z g) c d refl o)
 
 pub makes_le : MakesOperator op.Le
 makes_le =
     makes_bits op.Le (λ wires n a b y x z p q t e f g c d some o.
-      compared_bits wires kind.Le n (work_form op.Le a.form b.form) a b y x z (truth (int_le x z)) le_whole (λ s. refl) (form_sign a.form p) (form_sign b.form q) f g
-      (work_holds_left op.Le a.form b.form q x f) (work_holds_right op.Le a.form b.form refl p z g) c d refl o)
+    compared_bits wires kind.Le n (work_form op.Le a.form b.form) a b y x z (truth (int_le x z)) le_whole (λ s. refl) (form_sign a.form p) (form_sign b.form q) f g
+    (work_holds_left op.Le a.form b.form q x f) (work_holds_right op.Le a.form b.form refl p z g) c d refl o)
 
 pub makes_gt : MakesOperator op.Gt
 makes_gt =
     makes_bits op.Gt (λ wires n a b y x z p q t e f g c d some o.
-      compared_bits wires kind.Lt n (work_form op.Gt a.form b.form) b a y z x (truth (int_lt z x)) lt_whole (λ s. refl) (form_sign b.form q) (form_sign a.form p) g f
-      (work_holds_right op.Gt a.form b.form refl p z g) (work_holds_left op.Gt a.form b.form q x f) d c refl o)
+    compared_bits wires kind.Lt n (work_form op.Gt a.form b.form) b a y z x (truth (int_lt z x)) lt_whole (λ s. refl) (form_sign b.form q) (form_sign a.form p) g f
+    (work_holds_right op.Gt a.form b.form refl p z g) (work_holds_left op.Gt a.form b.form q x f) d c refl o)
 
 pub makes_ge : MakesOperator op.Ge
 makes_ge =
     makes_bits op.Ge (λ wires n a b y x z p q t e f g c d some o.
-      compared_bits wires kind.Le n (work_form op.Ge a.form b.form) b a y z x (truth (int_le z x)) le_whole (λ s. refl) (form_sign b.form q) (form_sign a.form p) g f
-      (work_holds_right op.Ge a.form b.form refl p z g) (work_holds_left op.Ge a.form b.form q x f) d c refl o)
+    compared_bits wires kind.Le n (work_form op.Ge a.form b.form) b a y z x (truth (int_le z x)) le_whole (λ s. refl) (form_sign b.form q) (form_sign a.form p) g f
+    (work_holds_right op.Ge a.form b.form refl p z g) (work_holds_left op.Ge a.form b.form q x f) d c refl o)

@@ -108,30 +108,30 @@ divided_bits wires k of n g a b y x z law s t f g' fx gz c d some le o =
     let u : ℤ = divisor g z in
     let reads_b : Reads wires (at_width b.id b.form g.width) g.width z = reads_at_width wires b.id b.form g.width z t g' d in
     let none : HasBits wires (part_id (n + 1)) 1 (truth (is_zero z)) =
-      has_equal wires (part_id (n + 1)) 1 (truth (int_same z (pos 0))) (truth (is_zero z)) (ap truth (int_same-zero z))
-      (signed_cell wires kind.Eq (part_id n) (as_form b g) (const_operand g (pos 0)) 1 (part_id (n + 1)) 1 z (pos 0) (truth (int_same z (pos 0))) eq_whole (λ s. refl)
-        reads_b (reads_const wires g.width (pos 0)) gz (of_zero g.signed g.width) (eq_result z (pos 0)) (first_cell wires is_none (guard ∷ divide ∷ choose ∷ []) o.cells)) in
+    has_equal wires (part_id (n + 1)) 1 (truth (int_same z (pos 0))) (truth (is_zero z)) (ap truth (int_same-zero z))
+    (signed_cell wires kind.Eq (part_id n) (as_form b g) (const_operand g (pos 0)) 1 (part_id (n + 1)) 1 z (pos 0) (truth (int_same z (pos 0))) eq_whole (λ s. refl)
+    reads_b (reads_const wires g.width (pos 0)) gz (of_zero g.signed g.width) (eq_result z (pos 0)) (first_cell wires is_none (guard ∷ divide ∷ choose ∷ []) o.cells)) in
     let test = one_bit_is wires (part_id (n + 1)) (is_zero z) none in
     let guarded : HasBits wires (part_id (n + 3)) g.width u =
-      mux_cell_bits wires (part_id (n + 2)) g.width (at_width b.id b.form g.width) (const_spec g.width (pos 1)) (one_bit (part_id (n + 1))) (part_id (n + 3)) g.width (is_zero z) z (wrap g.signed g.width (pos 1)) test
-      reads_b (reads_same wires (const_spec g.width (pos 1)) g.width (pos 1) (wrap g.signed g.width (pos 1)) (λ i h. sym (bit_of-wrap g.signed g.width (pos 1) i h)) (reads_const wires g.width (pos 1)))
-      (second_cell wires is_none guard (divide ∷ choose ∷ []) o.cells) in
+    mux_cell_bits wires (part_id (n + 2)) g.width (at_width b.id b.form g.width) (const_spec g.width (pos 1)) (one_bit (part_id (n + 1))) (part_id (n + 3)) g.width (is_zero z) z (wrap g.signed g.width (pos 1)) test
+    reads_b (reads_same wires (const_spec g.width (pos 1)) g.width (pos 1) (wrap g.signed g.width (pos 1)) (λ i h. sym (bit_of-wrap g.signed g.width (pos 1) i h)) (reads_const wires g.width (pos 1)))
+    (second_cell wires is_none guard (divide ∷ choose ∷ []) o.cells) in
     let result : HasBits wires (part_id (n + 5)) g.width (of x u) =
-      signed_cell wires k (part_id (n + 4)) (as_form a g) (at_form (part_id (n + 3)) g g) g.width (part_id (n + 5)) g.width x u (of x u) law.cell law.sign
-      (reads_at_width wires a.id a.form g.width x s f c) (reads_narrow wires (part_id (n + 3)) g g.width u (omega arith) guarded) fx (divisor_in g z gz) (law.some x u (divisor_some g z (omega arith)))
-      (third_cell wires is_none guard divide (choose ∷ []) o.cells) in
+    signed_cell wires k (part_id (n + 4)) (as_form a g) (at_form (part_id (n + 3)) g g) g.width (part_id (n + 5)) g.width x u (of x u) law.cell law.sign
+    (reads_at_width wires a.id a.form g.width x s f c) (reads_narrow wires (part_id (n + 3)) g g.width u (omega arith) guarded) fx (divisor_in g z gz) (law.some x u (divisor_some g z (omega arith)))
+    (third_cell wires is_none guard divide (choose ∷ []) o.cells) in
     has_equal wires y.id y.form.width (cond (is_zero z) (pos 0) (of x u)) (of x z) (chosen_result k of x z (wrap g.signed g.width (pos 1)) (is_zero z) law refl)
     (mux_cell_bits wires (part_id (n + 6)) y.form.width (at_width (part_id (n + 5)) g y.form.width) (const_spec y.form.width (pos 0)) (one_bit (part_id (n + 1))) y.id y.form.width (is_zero z) (of x u) (pos 0) test
-      (reads_narrow wires (part_id (n + 5)) g y.form.width (of x u) le result) (reads_const wires y.form.width (pos 0)) (fourth_cell wires is_none guard divide choose [] o.cells))
+    (reads_narrow wires (part_id (n + 5)) g y.form.width (of x u) le result) (reads_const wires y.form.width (pos 0)) (fourth_cell wires is_none guard divide choose [] o.cells))
 
 pub makes_div : MakesOperator op.Div
 makes_div =
     makes_bits op.Div (λ wires n a b y x z p q t e f g c d some o.
-      divided_bits wires kind.DivFloor floor_div n (work_form op.Div a.form b.form) a b y x z quotient (form_sign a.form p) (form_sign b.form q) f g
-      (work_holds_left op.Div a.form b.form q x f) (work_holds_right op.Div a.form b.form refl p z g) c d some (result_within op.Div a.form b.form y.form e (common_width_right _ _ _ _)) o)
+    divided_bits wires kind.DivFloor floor_div n (work_form op.Div a.form b.form) a b y x z quotient (form_sign a.form p) (form_sign b.form q) f g
+    (work_holds_left op.Div a.form b.form q x f) (work_holds_right op.Div a.form b.form refl p z g) c d some (result_within op.Div a.form b.form y.form e (common_width_right _ _ _ _)) o)
 
 pub makes_mod : MakesOperator op.Mod
 makes_mod =
     makes_bits op.Mod (λ wires n a b y x z p q t e f g c d some o.
-      divided_bits wires kind.ModFloor floor_rem n (work_form op.Mod a.form b.form) a b y x z remainder (form_sign a.form p) (form_sign b.form q) f g
-      (work_holds_left op.Mod a.form b.form q x f) (work_holds_right op.Mod a.form b.form refl p z g) c d some (result_within op.Mod a.form b.form y.form e (common_width_right _ _ _ _)) o)
+    divided_bits wires kind.ModFloor floor_rem n (work_form op.Mod a.form b.form) a b y x z remainder (form_sign a.form p) (form_sign b.form q) f g
+    (work_holds_left op.Mod a.form b.form q x f) (work_holds_right op.Mod a.form b.form refl p z g) c d some (result_within op.Mod a.form b.form y.form e (common_width_right _ _ _ _)) o)

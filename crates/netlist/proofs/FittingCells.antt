@@ -44,7 +44,7 @@ wire_is m id low n width w le = record { wide = length-wire_part id low n; parts
 pub whole_is : (m : RtlModule) (v : Value) → HasValue m.wires v → SpecIs m (whole v) v.form.width
 whole_is m v w = wire_is m v.id 0 v.form.width v.form.width w (omega arith)
 
-const_parts : (m : RtlModule) (bits : List Bool) → SpecFits m.wires (const_part bits)
+pub const_parts : (m : RtlModule) (bits : List Bool) → SpecFits m.wires (const_part bits)
 const_parts m [] = All-nil (PartFits m.wires)
 const_parts m (b ∷ bits) = All-cons (PartFits m.wires) (parts.Const (b ∷ bits)) [] tt (All-nil (PartFits m.wires))
 
@@ -66,11 +66,11 @@ at_width_is' m id s w width h some =
     (λ e. wire_is m id 0 width w h (omega (arith, ltb-true width w e)))
     (λ e. record {
       wide =
-        let le : w ≤ width = ltb-false width w e in
-        length-spec_append (filling id (record { width = w; signed = s }) (width - w)) (wire_part id 0 w)
-        ∙ (let d : length (spec_bits (wire_part id 0 w)) + length (spec_bits (filling id (record { width = w; signed = s }) (width - w))) ≡ width = omega (arith, length-wire_part id 0 w, length-filling id s w (width - w)) in d);
+          let le : w ≤ width = ltb-false width w e in
+          length-spec_append (filling id (record { width = w; signed = s }) (width - w)) (wire_part id 0 w)
+          ∙ (let d : length (spec_bits (wire_part id 0 w)) + length (spec_bits (filling id (record { width = w; signed = s }) (width - w))) ≡ width = omega (arith, length-wire_part id 0 w, length-filling id s w (width - w)) in d);
       parts =
-        All-append (PartFits m.wires) (filling id (record { width = w; signed = s }) (width - w)) (wire_part id 0 w) (filling_parts m id s w (width - w) h some) (part_is m id 0 w w h (omega arith));
+          All-append (PartFits m.wires) (filling id (record { width = w; signed = s }) (width - w)) (wire_part id 0 w) (filling_parts m id s w (width - w) h some) (part_is m id 0 w w h (omega arith));
     })
 
 pub at_width_is : (m : RtlModule) (id : List ℕ) (f : Form) (width : ℕ) → (1 ≤ f.width → HasWire m.wires id f.width) → HasSign f → SpecIs m (at_width id f width) width

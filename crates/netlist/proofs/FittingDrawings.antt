@@ -75,7 +75,7 @@ add_kind = record { binary = record { parameters = refl; ends = refl }; rules = 
 pub sub_kind : IsArithmetic kind.Sub
 sub_kind = record { binary = record { parameters = refl; ends = refl }; rules = λ m c f. f }
 
-mul_kind : IsArithmetic kind.Mul
+pub mul_kind : IsArithmetic kind.Mul
 mul_kind = record { binary = record { parameters = refl; ends = refl }; rules = λ m c f. f }
 
 pub div_kind : IsArithmetic kind.DivFloor
@@ -84,10 +84,10 @@ div_kind = record { binary = record { parameters = refl; ends = refl }; rules = 
 pub mod_kind : IsArithmetic kind.ModFloor
 mod_kind = record { binary = record { parameters = refl; ends = refl }; rules = λ m c f. f }
 
-and_kind : IsArithmetic kind.And
+pub and_kind : IsArithmetic kind.And
 and_kind = record { binary = record { parameters = refl; ends = refl }; rules = λ m c f. f }
 
-or_kind : IsArithmetic kind.Or
+pub or_kind : IsArithmetic kind.Or
 or_kind = record { binary = record { parameters = refl; ends = refl }; rules = λ m c f. f }
 
 xor_kind : IsArithmetic kind.Xor
@@ -128,54 +128,54 @@ same_width o a b y e w = w ∙ sym (ap (λ (f : Form). f.width) e)
 pub fits_add : FitsOperator op.Add
 fits_add =
     fits_drawn op.Add (λ m n a b y p q t e ha hb hy some wires.
-      alike_fits m kind.Add n (work_form op.Add a.form b.form) a b y add_kind (form_sign a.form p) (form_sign b.form q) ha hb hy
-      (same_width op.Add a.form b.form y.form e (common_width-more (common a.form b.form).signed (common a.form b.form).width)))
+    alike_fits m kind.Add n (work_form op.Add a.form b.form) a b y add_kind (form_sign a.form p) (form_sign b.form q) ha hb hy
+    (same_width op.Add a.form b.form y.form e (common_width-more (common a.form b.form).signed (common a.form b.form).width)))
 
 pub fits_sub : FitsOperator op.Sub
 fits_sub =
     fits_drawn op.Sub (λ m n a b y p q t e ha hb hy some wires.
-      alike_fits m kind.Sub n (work_form op.Sub a.form b.form) a b y sub_kind (form_sign a.form p) (form_sign b.form q) ha hb hy
-      (same_width op.Sub a.form b.form y.form e (common_width-signed (common a.form b.form).signed (common a.form b.form).width)))
+    alike_fits m kind.Sub n (work_form op.Sub a.form b.form) a b y sub_kind (form_sign a.form p) (form_sign b.form q) ha hb hy
+    (same_width op.Sub a.form b.form y.form e (common_width-signed (common a.form b.form).signed (common a.form b.form).width)))
 
 pub fits_mul : FitsOperator op.Mul
 fits_mul =
     fits_drawn op.Mul (λ m n a b y p q t e ha hb hy some wires.
-      alike_fits m kind.Mul n (work_form op.Mul a.form b.form) a b y mul_kind (form_sign a.form p) (form_sign b.form q) ha hb hy (same_width op.Mul a.form b.form y.form e refl))
+    alike_fits m kind.Mul n (work_form op.Mul a.form b.form) a b y mul_kind (form_sign a.form p) (form_sign b.form q) ha hb hy (same_width op.Mul a.form b.form y.form e refl))
 
 pub fits_and : FitsOperator op.And
 fits_and =
     fits_drawn op.And (λ m n a b y p q t e ha hb hy some wires.
-      alike_fits m kind.And n (work_form op.And a.form b.form) a b y and_kind (form_sign a.form p) (form_sign b.form q) ha hb hy
-      (same_width op.And a.form b.form y.form e (common_width-same (common a.form b.form).signed (common a.form b.form).width)))
+    alike_fits m kind.And n (work_form op.And a.form b.form) a b y and_kind (form_sign a.form p) (form_sign b.form q) ha hb hy
+    (same_width op.And a.form b.form y.form e (common_width-same (common a.form b.form).signed (common a.form b.form).width)))
 
 pub fits_or : FitsOperator op.Or
 fits_or =
     fits_drawn op.Or (λ m n a b y p q t e ha hb hy some wires.
-      alike_fits m kind.Or n (work_form op.Or a.form b.form) a b y or_kind (form_sign a.form p) (form_sign b.form q) ha hb hy
-      (same_width op.Or a.form b.form y.form e (common_width-same (common a.form b.form).signed (common a.form b.form).width)))
+    alike_fits m kind.Or n (work_form op.Or a.form b.form) a b y or_kind (form_sign a.form p) (form_sign b.form q) ha hb hy
+    (same_width op.Or a.form b.form y.form e (common_width-same (common a.form b.form).signed (common a.form b.form).width)))
 
 pub fits_xor : FitsOperator op.Xor
 fits_xor =
     fits_drawn op.Xor (λ m n a b y p q t e ha hb hy some wires.
-      alike_fits m kind.Xor n (work_form op.Xor a.form b.form) a b y xor_kind (form_sign a.form p) (form_sign b.form q) ha hb hy
-      (same_width op.Xor a.form b.form y.form e (common_width-same (common a.form b.form).signed (common a.form b.form).width)))
+    alike_fits m kind.Xor n (work_form op.Xor a.form b.form) a b y xor_kind (form_sign a.form p) (form_sign b.form q) ha hb hy
+    (same_width op.Xor a.form b.form y.form e (common_width-same (common a.form b.form).signed (common a.form b.form).width)))
 
 pub fits_neg : FitsOperator op.Neg
 fits_neg =
     fits_drawn op.Neg (λ m n a b y p q t e ha hb hy some wires.
-      let g : Form = work_form op.Neg a.form b.form in
-      one_fits m (binary_cell kind.Sub (part_id n) (const_operand g (pos 0)) (as_form a g) y.form.width (whole y))
-      (arithmetic_fits m kind.Sub (part_id n) (const_operand g (pos 0)) (as_form a g) y.form.width (whole y) sub_kind (const_is m g.width (pos 0)) (at_width_is m a.id a.form g.width ha (form_sign a.form p)) (whole_is m y hy) refl
-        (same_width op.Neg a.form b.form y.form e (common_width-signed a.form.signed a.form.width))))
+    let g : Form = work_form op.Neg a.form b.form in
+    one_fits m (binary_cell kind.Sub (part_id n) (const_operand g (pos 0)) (as_form a g) y.form.width (whole y))
+    (arithmetic_fits m kind.Sub (part_id n) (const_operand g (pos 0)) (as_form a g) y.form.width (whole y) sub_kind (const_is m g.width (pos 0)) (at_width_is m a.id a.form g.width ha (form_sign a.form p)) (whole_is m y hy) refl
+    (same_width op.Neg a.form b.form y.form e (common_width-signed a.form.signed a.form.width))))
 
 pub fits_not : FitsOperator op.Not
 fits_not =
     fits_drawn op.Not (λ m n a b y p q t e ha hb hy some wires.
-      let g : Form = work_form op.Not a.form b.form in
-      let read = at_width_is m a.id a.form g.width ha (form_sign a.form p) in
-      one_fits m (unary_cell kind.Not (part_id n) (as_form a g) y.form.width (whole y))
-      (unary_fits m kind.Not (part_id n) (as_form a g) y.form.width (whole y) refl refl read (whole_is m y hy)
-        (not_rules m (part_id n) (as_form a g) y.form.width (whole y) read (whole_is m y hy) (same_width op.Not a.form b.form y.form e (common_width-same a.form.signed a.form.width)))))
+    let g : Form = work_form op.Not a.form b.form in
+    let read = at_width_is m a.id a.form g.width ha (form_sign a.form p) in
+    one_fits m (unary_cell kind.Not (part_id n) (as_form a g) y.form.width (whole y))
+    (unary_fits m kind.Not (part_id n) (as_form a g) y.form.width (whole y) refl refl read (whole_is m y hy)
+    (not_rules m (part_id n) (as_form a g) y.form.width (whole y) read (whole_is m y hy) (same_width op.Not a.form b.form y.form e (common_width-same a.form.signed a.form.width)))))
 
 -- ---- comparisons
 
@@ -191,27 +191,27 @@ compared_fits m k n g a b y kind s t ha hb hy one =
 pub fits_eq : FitsOperator op.Eq
 fits_eq =
     fits_drawn op.Eq (λ m n a b y p q t e ha hb hy some wires.
-      compared_fits m kind.Eq n (work_form op.Eq a.form b.form) a b y eq_kind (form_sign a.form p) (form_sign b.form q) ha hb hy (ap (λ (f : Form). f.width) e))
+    compared_fits m kind.Eq n (work_form op.Eq a.form b.form) a b y eq_kind (form_sign a.form p) (form_sign b.form q) ha hb hy (ap (λ (f : Form). f.width) e))
 
 pub fits_lt : FitsOperator op.Lt
 fits_lt =
     fits_drawn op.Lt (λ m n a b y p q t e ha hb hy some wires.
-      compared_fits m kind.Lt n (work_form op.Lt a.form b.form) a b y lt_kind (form_sign a.form p) (form_sign b.form q) ha hb hy (ap (λ (f : Form). f.width) e))
+    compared_fits m kind.Lt n (work_form op.Lt a.form b.form) a b y lt_kind (form_sign a.form p) (form_sign b.form q) ha hb hy (ap (λ (f : Form). f.width) e))
 
 pub fits_le : FitsOperator op.Le
 fits_le =
     fits_drawn op.Le (λ m n a b y p q t e ha hb hy some wires.
-      compared_fits m kind.Le n (work_form op.Le a.form b.form) a b y le_kind (form_sign a.form p) (form_sign b.form q) ha hb hy (ap (λ (f : Form). f.width) e))
+    compared_fits m kind.Le n (work_form op.Le a.form b.form) a b y le_kind (form_sign a.form p) (form_sign b.form q) ha hb hy (ap (λ (f : Form). f.width) e))
 
 pub fits_gt : FitsOperator op.Gt
 fits_gt =
     fits_drawn op.Gt (λ m n a b y p q t e ha hb hy some wires.
-      compared_fits m kind.Lt n (work_form op.Gt a.form b.form) b a y lt_kind (form_sign b.form q) (form_sign a.form p) hb ha hy (ap (λ (f : Form). f.width) e))
+    compared_fits m kind.Lt n (work_form op.Gt a.form b.form) b a y lt_kind (form_sign b.form q) (form_sign a.form p) hb ha hy (ap (λ (f : Form). f.width) e))
 
 pub fits_ge : FitsOperator op.Ge
 fits_ge =
     fits_drawn op.Ge (λ m n a b y p q t e ha hb hy some wires.
-      compared_fits m kind.Le n (work_form op.Ge a.form b.form) b a y le_kind (form_sign b.form q) (form_sign a.form p) hb ha hy (ap (λ (f : Form). f.width) e))
+    compared_fits m kind.Le n (work_form op.Ge a.form b.form) b a y le_kind (form_sign b.form q) (form_sign a.form p) hb ha hy (ap (λ (f : Form). f.width) e))
 
 -- ---- reductions
 
@@ -231,17 +231,17 @@ reduced_fits m k empty n a y kind s ha hy one =
 pub fits_any : FitsOperator op.Any
 fits_any =
     fits_drawn op.Any (λ m n a b y p q t e ha hb hy some wires.
-      reduced_fits m kind.ReduceOr (pos 0) n a y (record { parameters = refl; ends = refl; rules = λ m c f. f }) (form_sign a.form p) ha hy (ap (λ (f : Form). f.width) e))
+    reduced_fits m kind.ReduceOr (pos 0) n a y (record { parameters = refl; ends = refl; rules = λ m c f. f }) (form_sign a.form p) ha hy (ap (λ (f : Form). f.width) e))
 
 pub fits_all : FitsOperator op.All
 fits_all =
     fits_drawn op.All (λ m n a b y p q t e ha hb hy some wires.
-      reduced_fits m kind.ReduceAnd (pos 1) n a y (record { parameters = refl; ends = refl; rules = λ m c f. f }) (form_sign a.form p) ha hy (ap (λ (f : Form). f.width) e))
+    reduced_fits m kind.ReduceAnd (pos 1) n a y (record { parameters = refl; ends = refl; rules = λ m c f. f }) (form_sign a.form p) ha hy (ap (λ (f : Form). f.width) e))
 
 pub fits_parity : FitsOperator op.Parity
 fits_parity =
     fits_drawn op.Parity (λ m n a b y p q t e ha hb hy some wires.
-      reduced_fits m kind.ReduceXor (pos 0) n a y (record { parameters = refl; ends = refl; rules = λ m c f. f }) (form_sign a.form p) ha hy (ap (λ (f : Form). f.width) e))
+    reduced_fits m kind.ReduceXor (pos 0) n a y (record { parameters = refl; ends = refl; rules = λ m c f. f }) (form_sign a.form p) ha hy (ap (λ (f : Form). f.width) e))
 
 -- ---- shifts
 
@@ -260,7 +260,7 @@ shifted_fits m k signed n a b y kind s t amount ha hb hy =
     cond_both (b.form.width == 0) (linked y (at_width a.id a.form y.form.width)) (one_cell cell) (λ (d : Drawing). DrawingFits m d)
     (λ none. linked_fits m y (at_width a.id a.form y.form.width) hy read)
     (λ some. one_fits m cell (binary_fits m k (part_id n) x (as_form b b.form) y.form.width (whole y) kind.binary.parameters kind.binary.ends read by (whole_is m y hy)
-      (kind.rules m (part_id n) x (as_form b b.form) y.form.width (whole y) refl (shift_rules m k (part_id n) x (as_form b b.form) y.form.width (whole y) read by (whole_is m y hy) refl amount))))
+    (kind.rules m (part_id n) x (as_form b b.form) y.form.width (whole y) refl (shift_rules m k (part_id n) x (as_form b b.form) y.form.width (whole y) read by (whole_is m y hy) refl amount))))
 
 shl_kind : (s : Bool) → IsShift kind.Shl s
 shl_kind s = record { binary = record { parameters = refl; ends = refl }; rules = λ m name a b width y e f. f }
@@ -274,11 +274,11 @@ sshr_kind = record { binary = record { parameters = refl; ends = refl }; rules =
 pub fits_shl : FitsOperator op.Shl
 fits_shl =
     fits_drawn op.Shl (λ m n a b y p q t e ha hb hy some wires.
-      shifted_fits m kind.Shl a.form.signed n a b y (shl_kind a.form.signed) (form_sign a.form p) (form_sign b.form q) t.operand ha hb hy)
+    shifted_fits m kind.Shl a.form.signed n a b y (shl_kind a.form.signed) (form_sign a.form p) (form_sign b.form q) t.operand ha hb hy)
 
 pub fits_shr : FitsOperator op.Shr
 fits_shr =
     fits_drawn op.Shr (λ m n a b y p q t e ha hb hy some wires.
-      cond_both a.form.signed (shifted kind.Sshr true n a b y) (shifted kind.Shr false n a b y) (λ (d : Drawing). DrawingFits m d)
-      (λ sign. shifted_fits m kind.Sshr true n a b y sshr_kind (form_sign a.form p) (form_sign b.form q) t.operand ha hb hy)
-      (λ sign. shifted_fits m kind.Shr false n a b y shr_kind (form_sign a.form p) (form_sign b.form q) t.operand ha hb hy))
+    cond_both a.form.signed (shifted kind.Sshr true n a b y) (shifted kind.Shr false n a b y) (λ (d : Drawing). DrawingFits m d)
+    (λ sign. shifted_fits m kind.Sshr true n a b y sshr_kind (form_sign a.form p) (form_sign b.form q) t.operand ha hb hy)
+    (λ sign. shifted_fits m kind.Shr false n a b y shr_kind (form_sign a.form p) (form_sign b.form q) t.operand ha hb hy))

@@ -1,5 +1,5 @@
 -- Drawings of links, operators and choices keep the rules of a module.
-use Rattle.std.proofs.Common.{◌≡◌, ℕ, zero, suc, ◌+◌, ◌<◌, ◌≤◌, ◌==◌, Bool, true, false, cond, List, [], ◌∷◌, ◌++◌, length, refl, sym, ◌∙◌, ap, subst, arith, ℤ, pos}
+use Rattle.std.proofs.Common.{◌≡◌, ℕ, ◌+◌, ◌≤◌, ◌==◌, Bool, true, false, cond, List, [], ◌∷◌, ◌++◌, length, refl, sym, ◌∙◌, ap, subst, arith, ℤ, pos}
 use Rattle.std.specs.Prelude.{All, Contains}
 use Rattle.std.specs.List.{AllByRecursion}
 use Rattle.std.proofs.lemmas.Bool.{cond_both, eqb-true, eqb-false}
@@ -22,7 +22,7 @@ use Rattle.netlist.specs.Ids.{part_id}
 use Rattle.netlist.specs.Cells.{unary_cell, mux_cell}
 use Rattle.netlist.specs.Operands.{wire_part, const_spec, at_width}
 use Rattle.netlist.specs.Operators.{Value, Drawing, nothing, whole, linked, one_bit, inner_wire, as_form}
-use Rattle.netlist.specs.Expressions.{and_also, truth_spec, truth_drawing, chosen, joined, shown, drawn}
+use Rattle.netlist.specs.Expressions.{and_also, truth_spec, truth_drawing, joined, shown, drawn}
 use Rattle.netlist.specs.Fits.{HasWire, HasValue, HasWires, DrawingFits, FitsExpression}
 use Rattle.netlist.proofs.Places.{length-spec_append}
 use Rattle.netlist.proofs.Drawn.{form_sign}
@@ -70,7 +70,7 @@ fits_reset domain place m signals signal value n y forms held range accepted e m
 pub fits_sig : (s : SigId) → FitsExpression (expr.Sig s)
 fits_sig s m signals signal value n y forms held range accepted e made hy =
     fits_shown m signal value n y (expr.Sig s) (λ some wires.
-      link_fits m y (whole (signal s.0)) (signal s.0).form.width hy (whole_is m (signal s.0) (held s.0 range)) (ap (λ (f : Form). f.width) e ∙ sym (ap (λ (f : Form). f.width) (forms s.0))))
+    link_fits m y (whole (signal s.0)) (signal s.0).form.width hy (whole_is m (signal s.0) (held s.0 range)) (ap (λ (f : Form). f.width) e ∙ sym (ap (λ (f : Form). f.width) (forms s.0))))
 
 pub fits_cast : (a : ExprId) (signed : Bool) → FitsExpression (expr.Cast a signed)
 fits_cast a signed m signals signal value n y forms held range accepted e made hy =
@@ -79,7 +79,7 @@ fits_cast a signed m signals signal value n y forms held range accepted e made h
 pub fits_slice : (a : ExprId) (low width : ℕ) → FitsExpression (expr.Slice a low width)
 fits_slice a low width m signals signal value n y forms held range accepted e made hy =
     fits_shown m signal value n y (expr.Slice a low width) (λ some wires.
-      link_fits m y (wire_part (value a.0).id low width) width hy (wire_is m (value a.0).id low width (value a.0).form.width made.0.wire range) (ap (λ (f : Form). f.width) e))
+    link_fits m y (wire_part (value a.0).id low width) width hy (wire_is m (value a.0).id low width (value a.0).form.width made.0.wire range) (ap (λ (f : Form). f.width) e))
 
 joined_is : (m : RtlModule) (value : ℕ → Value) (es : List ExprId) → AllByRecursion (HasWires m value) es → SpecIs m (joined value es) (total_width (λ k. (value k).form) es)
 joined_is m value [] made = record { wide = refl; parts = All-nil (PartFits m.wires) }
@@ -88,9 +88,9 @@ joined_is m value (e ∷ es) made =
     let first = whole_is m (value e.0) made.0.wire in
     record {
       wide =
-        length-spec_append (joined value es) (whole (value e.0))
-        ∙ ap (λ j. j + length (spec_bits (joined value es))) first.wide
-        ∙ ap (λ j. (value e.0).form.width + j) more.wide;
+          length-spec_append (joined value es) (whole (value e.0))
+          ∙ ap (λ j. j + length (spec_bits (joined value es))) first.wide
+          ∙ ap (λ j. (value e.0).form.width + j) more.wide;
       parts = All-append (PartFits m.wires) (joined value es) (whole (value e.0)) more.parts first.parts;
     }
 
@@ -121,7 +121,7 @@ record TruthFits (m : RtlModule) (d : Drawing) (spec : List SigPart) : Type 0 wh
 truth_by : (m : RtlModule) (n : ℕ) (s : Value) (t u : Bool) → (s.form.width == 0) ≡ t → (s.form.width == 1) ≡ u → IsForm s.form.width s.form.signed → HasValue m.wires s
     → All (Contains m.wires) (cond t nothing (cond u nothing (record { wires = inner_wire (part_id (n + 1)) 1 ∷ []; cells = unary_cell kind.ReduceOr (part_id n) (as_form s s.form) 1 (one_bit (part_id (n + 1))) ∷ []; links = [] }))).wires
     → TruthFits m (cond t nothing (cond u nothing (record { wires = inner_wire (part_id (n + 1)) 1 ∷ []; cells = unary_cell kind.ReduceOr (part_id n) (as_form s s.form) 1 (one_bit (part_id (n + 1))) ∷ []; links = [] })))
-      (cond t (const_spec 1 (pos 0)) (cond u (whole s) (one_bit (part_id (n + 1)))))
+    (cond t (const_spec 1 (pos 0)) (cond u (whole s) (one_bit (part_id (n + 1)))))
 truth_by m n s true u d e shape h wires = record { drawing = nothing_fits m; bit = const_is m 1 (pos 0) }
 truth_by m n s false true d e shape h wires = record { drawing = nothing_fits m; bit = subst (λ (w : ℕ). SpecIs m (whole s) w) (eqb-true s.form.width 1 e) (whole_is m s h) }
 truth_by m n s false false d e shape h wires =
@@ -144,12 +144,12 @@ truth_fits m n s shape h wires = truth_by m n s (s.form.width == 0) (s.form.widt
 pub fits_mux : (s a b : ExprId) → FitsExpression (expr.Mux s a b)
 fits_mux s a b m signals signal value n y forms held range accepted e made hy =
     fits_shown m signal value n y (expr.Mux s a b) (λ some wires.
-      let w : ℕ = y.form.width in
-      let high : List SigPart = at_width (value a.0).id (value a.0).form w in
-      let low : List SigPart = at_width (value b.0).id (value b.0).form w in
-      let test = truth_fits m n (value s.0) made.0.shape made.0.wire (first_wires m (truth_drawing n (value s.0)).wires [] wires) in
-      let cell = mux_cell (part_id (n + 2)) w low high (truth_spec n (value s.0)) (whole y) in
-      let rest : Drawing = record { wires = []; cells = cell ∷ []; links = [] } in
-      also_fits m (truth_drawing n (value s.0)) rest test.drawing
-      (one_fits m cell (mux_fits m (part_id (n + 2)) w low high (truth_spec n (value s.0)) (whole y) (at_width_is m (value b.0).id (value b.0).form w made.1.1.0.wire (form_sign (value b.0).form made.1.1.0.shape))
-        (at_width_is m (value a.0).id (value a.0).form w made.1.0.wire (form_sign (value a.0).form made.1.0.shape)) test.bit (whole_is m y hy))))
+    let w : ℕ = y.form.width in
+    let high : List SigPart = at_width (value a.0).id (value a.0).form w in
+    let low : List SigPart = at_width (value b.0).id (value b.0).form w in
+    let test = truth_fits m n (value s.0) made.0.shape made.0.wire (first_wires m (truth_drawing n (value s.0)).wires [] wires) in
+    let cell = mux_cell (part_id (n + 2)) w low high (truth_spec n (value s.0)) (whole y) in
+    let rest : Drawing = record { wires = []; cells = cell ∷ []; links = [] } in
+    also_fits m (truth_drawing n (value s.0)) rest test.drawing
+    (one_fits m cell (mux_fits m (part_id (n + 2)) w low high (truth_spec n (value s.0)) (whole y) (at_width_is m (value b.0).id (value b.0).form w made.1.1.0.wire (form_sign (value b.0).form made.1.1.0.shape))
+    (at_width_is m (value a.0).id (value a.0).form w made.1.0.wire (form_sign (value a.0).form made.1.0.shape)) test.bit (whole_is m y hy))))

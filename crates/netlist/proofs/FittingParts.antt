@@ -49,16 +49,20 @@ unequal_fits m n g a b y s t ha hb hy one wires =
       wires = All-from_recursion WireFits (unequal n g a b y).wires (inner_fits (part_id (n + 1)) 1 (omega arith), tt);
       cells = All-from_recursion (CellFits m) (unequal n g a b y).cells (
         comparison_fits m kind.Eq (part_id n) (as_form a (at_least_one g)) (as_form b (at_least_one g)) (one_bit (part_id (n + 1))) eq_kind (at_width_is m a.id a.form (max 1 g.width) ha s) (at_width_is m b.id b.form (max 1 g.width) hb t)
-          (inner_is m (part_id (n + 1)) 1 w) refl,
-        (unary_fits m kind.Not (part_id (n + 2)) (at_form (part_id (n + 1)) (unsigned 1) (unsigned 1)) 1 (whole y) refl refl read (one_is m y hy one)
-          (not_rules m (part_id (n + 2)) (at_form (part_id (n + 1)) (unsigned 1) (unsigned 1)) 1 (whole y) read (one_is m y hy one) refl), tt));
+            (inner_is m (part_id (n + 1)) 1 w) refl,
+        (
+          unary_fits m kind.Not (part_id (n + 2)) (at_form (part_id (n + 1)) (unsigned 1) (unsigned 1)) 1 (whole y) refl refl read (one_is m y hy one)
+              (not_rules m (part_id (n + 2)) (at_form (part_id (n + 1)) (unsigned 1) (unsigned 1)) 1 (whole y) read (one_is m y hy one) refl),
+          tt,
+        ),
+      );
       links = All-nil (LinkFits m);
     }
 
 pub fits_ne : FitsOperator op.Ne
 fits_ne =
     fits_drawn op.Ne (λ m n a b y p q t e ha hb hy some wires.
-      unequal_fits m n (work_form op.Ne a.form b.form) a b y (form_sign a.form p) (form_sign b.form q) ha hb hy (ap (λ (f : Form). f.width) e) wires)
+    unequal_fits m n (work_form op.Ne a.form b.form) a b y (form_sign a.form p) (form_sign b.form q) ha hb hy (ap (λ (f : Form). f.width) e) wires)
 
 -- ---- quotients and remainders
 
@@ -69,7 +73,7 @@ divided_fits m k n g a b y arithmetic s t ha hb hy some wires =
     let rest = others_held m (inner_wire (part_id (n + 1)) 1) (inner_wire (part_id (n + 3)) g.width ∷ inner_wire (part_id (n + 5)) g.width ∷ []) wires in
     let guarded : HasWire m.wires (part_id (n + 3)) g.width = first_held m (part_id (n + 3)) g.width (inner_wire (part_id (n + 5)) g.width ∷ []) rest in
     let result : HasWire m.wires (part_id (n + 5)) g.width =
-      first_held m (part_id (n + 5)) g.width [] (others_held m (inner_wire (part_id (n + 3)) g.width) (inner_wire (part_id (n + 5)) g.width ∷ []) rest) in
+    first_held m (part_id (n + 5)) g.width [] (others_held m (inner_wire (part_id (n + 3)) g.width) (inner_wire (part_id (n + 5)) g.width ∷ []) rest) in
     let left = at_width_is m a.id a.form g.width ha s in
     let right = at_width_is m b.id b.form g.width hb t in
     let test = inner_is m (part_id (n + 1)) 1 w in
@@ -77,25 +81,30 @@ divided_fits m k n g a b y arithmetic s t ha hb hy some wires =
       wires = All-from_recursion WireFits (divided k n g a b y).wires (inner_fits (part_id (n + 1)) 1 (omega arith), (inner_fits (part_id (n + 3)) g.width some, (inner_fits (part_id (n + 5)) g.width some, tt)));
       cells = All-from_recursion (CellFits m) (divided k n g a b y).cells (
         comparison_fits m kind.Eq (part_id n) (as_form b g) (const_operand g (pos 0)) (one_bit (part_id (n + 1))) eq_kind right (const_is m g.width (pos 0)) test refl,
-        (mux_fits m (part_id (n + 2)) g.width (at_width b.id b.form g.width) (const_spec g.width (pos 1)) (one_bit (part_id (n + 1))) (wire_part (part_id (n + 3)) 0 g.width) right (const_is m g.width (pos 1)) test (inner_is m (part_id (n + 3)) g.width guarded),
-        (arithmetic_fits m k (part_id (n + 4)) (as_form a g) (at_form (part_id (n + 3)) g g) g.width (wire_part (part_id (n + 5)) 0 g.width) arithmetic left (inner_at m (part_id (n + 3)) g g.width some guarded) (inner_is m (part_id (n + 5)) g.width result) refl refl,
-        (mux_fits m (part_id (n + 6)) y.form.width (at_width (part_id (n + 5)) g y.form.width) (const_spec y.form.width (pos 0)) (one_bit (part_id (n + 1))) (whole y) (inner_at m (part_id (n + 5)) g y.form.width some result) (const_is m y.form.width (pos 0)) test (whole_is m y hy), tt))));
+        (
+          mux_fits m (part_id (n + 2)) g.width (at_width b.id b.form g.width) (const_spec g.width (pos 1)) (one_bit (part_id (n + 1))) (wire_part (part_id (n + 3)) 0 g.width) right (const_is m g.width (pos 1)) test (inner_is m (part_id (n + 3)) g.width guarded),
+          (
+            arithmetic_fits m k (part_id (n + 4)) (as_form a g) (at_form (part_id (n + 3)) g g) g.width (wire_part (part_id (n + 5)) 0 g.width) arithmetic left (inner_at m (part_id (n + 3)) g g.width some guarded) (inner_is m (part_id (n + 5)) g.width result) refl refl,
+            (mux_fits m (part_id (n + 6)) y.form.width (at_width (part_id (n + 5)) g y.form.width) (const_spec y.form.width (pos 0)) (one_bit (part_id (n + 1))) (whole y) (inner_at m (part_id (n + 5)) g y.form.width some result) (const_is m y.form.width (pos 0)) test (whole_is m y hy), tt),
+          ),
+        ),
+      );
       links = All-nil (LinkFits m);
     }
 
 pub fits_div : FitsOperator op.Div
 fits_div =
     fits_drawn op.Div (λ m n a b y p q t e ha hb hy some wires.
-      let g : Form = work_form op.Div a.form b.form in
-      let wide : y.form.width ≤ g.width = result_within op.Div a.form b.form y.form e (common_width_right _ _ _ _) in
-      divided_fits m kind.DivFloor n g a b y div_kind (form_sign a.form p) (form_sign b.form q) ha hb hy (omega arith) wires)
+    let g : Form = work_form op.Div a.form b.form in
+    let wide : y.form.width ≤ g.width = result_within op.Div a.form b.form y.form e (common_width_right _ _ _ _) in
+    divided_fits m kind.DivFloor n g a b y div_kind (form_sign a.form p) (form_sign b.form q) ha hb hy (omega arith) wires)
 
 pub fits_mod : FitsOperator op.Mod
 fits_mod =
     fits_drawn op.Mod (λ m n a b y p q t e ha hb hy some wires.
-      let g : Form = work_form op.Mod a.form b.form in
-      let wide : y.form.width ≤ g.width = result_within op.Mod a.form b.form y.form e (common_width_right _ _ _ _) in
-      divided_fits m kind.ModFloor n g a b y mod_kind (form_sign a.form p) (form_sign b.form q) ha hb hy (omega arith) wires)
+    let g : Form = work_form op.Mod a.form b.form in
+    let wide : y.form.width ≤ g.width = result_within op.Mod a.form b.form y.form e (common_width_right _ _ _ _) in
+    divided_fits m kind.ModFloor n g a b y mod_kind (form_sign a.form p) (form_sign b.form q) ha hb hy (omega arith) wires)
 
 -- ---- the size of a number
 
@@ -104,28 +113,34 @@ magnitude_fits : (m : RtlModule) (n : ℕ) (g : Form) (a y : Value) → HasSign 
 magnitude_fits m n g a y s ha hy same some wires =
     let w : HasWire m.wires (part_id (n + 1)) 1 = first_held m (part_id (n + 1)) 1 (inner_wire (part_id (n + 3)) g.width ∷ []) wires in
     let turned : HasWire m.wires (part_id (n + 3)) g.width =
-      first_held m (part_id (n + 3)) g.width [] (others_held m (inner_wire (part_id (n + 1)) 1) (inner_wire (part_id (n + 3)) g.width ∷ []) wires) in
+    first_held m (part_id (n + 3)) g.width [] (others_held m (inner_wire (part_id (n + 1)) 1) (inner_wire (part_id (n + 3)) g.width ∷ []) wires) in
     let read = at_width_is m a.id a.form g.width ha s in
     let test = inner_is m (part_id (n + 1)) 1 w in
     record {
       wires = All-from_recursion WireFits (magnitude n g a y).wires (inner_fits (part_id (n + 1)) 1 (omega arith), (inner_fits (part_id (n + 3)) g.width some, tt));
       cells = All-from_recursion (CellFits m) (magnitude n g a y).cells (
         comparison_fits m kind.Lt (part_id n) (as_form a g) (const_operand g (pos 0)) (one_bit (part_id (n + 1))) lt_kind read (const_is m g.width (pos 0)) test refl,
-        (arithmetic_fits m kind.Sub (part_id (n + 2)) (const_operand g (pos 0)) (as_form a g) g.width (wire_part (part_id (n + 3)) 0 g.width) sub_kind (const_is m g.width (pos 0)) read (inner_is m (part_id (n + 3)) g.width turned) refl refl,
-        (mux_fits m (part_id (n + 4)) y.form.width (whole a) (at_width (part_id (n + 3)) g y.form.width) (one_bit (part_id (n + 1))) (whole y) (subst (λ (v : ℕ). SpecIs m (whole a) v) (sym same) (whole_is m a ha))
-          (inner_at m (part_id (n + 3)) g y.form.width some turned) test (whole_is m y hy), tt)));
+        (
+          arithmetic_fits m kind.Sub (part_id (n + 2)) (const_operand g (pos 0)) (as_form a g) g.width (wire_part (part_id (n + 3)) 0 g.width) sub_kind (const_is m g.width (pos 0)) read (inner_is m (part_id (n + 3)) g.width turned) refl refl,
+          (
+            mux_fits m (part_id (n + 4)) y.form.width (whole a) (at_width (part_id (n + 3)) g y.form.width) (one_bit (part_id (n + 1))) (whole y) (subst (λ (v : ℕ). SpecIs m (whole a) v) (sym same) (whole_is m a ha))
+                (inner_at m (part_id (n + 3)) g y.form.width some turned) test (whole_is m y hy),
+            tt,
+          ),
+        ),
+      );
       links = All-nil (LinkFits m);
     }
 
 pub fits_abs : FitsOperator op.Abs
 fits_abs =
     fits_drawn op.Abs (λ m n a b y p q t e ha hb hy some.
-      let g : Form = work_form op.Abs a.form b.form in
-      let same : y.form.width ≡ a.form.width = ap (λ (f : Form). f.width) e in
-      let wide : a.form.width ≤ g.width = common_width_left _ _ _ _ in
-      cond_both a.form.signed (magnitude n g a y) (linked y (whole a)) (λ (d : Drawing). All (Contains m.wires) d.wires → DrawingFits m d)
-      (λ sign wires. magnitude_fits m n g a y (form_sign a.form p) ha hy same (omega arith) wires)
-      (λ sign wires. linked_fits m y (whole a) hy (subst (λ (v : ℕ). SpecIs m (whole a) v) (sym same) (whole_is m a ha))))
+    let g : Form = work_form op.Abs a.form b.form in
+    let same : y.form.width ≡ a.form.width = ap (λ (f : Form). f.width) e in
+    let wide : a.form.width ≤ g.width = common_width_left _ _ _ _ in
+    cond_both a.form.signed (magnitude n g a y) (linked y (whole a)) (λ (d : Drawing). All (Contains m.wires) d.wires → DrawingFits m d)
+    (λ sign wires. magnitude_fits m n g a y (form_sign a.form p) ha hy same (omega arith) wires)
+    (λ sign wires. linked_fits m y (whole a) hy (subst (λ (v : ℕ). SpecIs m (whole a) v) (sym same) (whole_is m a ha))))
 
 -- ---- all operators
 

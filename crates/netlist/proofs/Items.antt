@@ -107,12 +107,12 @@ picked_bits wires n index m i first (second ∷ more) into x (y ∷ ys) unsigned
     let rest : Drawing = picked (n + 4) index (suc i) second more others in
     let cells = also_first wires here rest o in
     let chosen : HasBits wires (part_id (n + 3)) w (pick_from m (suc i) y ys) =
-      picked_bits wires (n + 4) index m (suc i) second more others y ys unsigned f b h.0 h.1 (omega arith) (also_second wires here rest o) in
+    picked_bits wires (n + 4) index m (suc i) second more others y ys unsigned f b h.0 h.1 (omega arith) (also_second wires here rest o) in
     let equal : HasBits wires (part_id (n + 1)) 1 (truth (m == i)) =
-      has_equal wires (part_id (n + 1)) 1 (truth (int_same (pos m) (pos i))) (truth (m == i)) (ap truth (same_pos m i))
-      (signed_cell wires kind.Eq (part_id n) (as_form index index.form) (const_operand index.form (pos i)) 1 (part_id (n + 1)) 1 (pos m) (pos i) (truth (int_same (pos m) (pos i))) eq_whole (λ s. refl)
-        (reads_narrow wires index.id index.form index.form.width (pos m) (omega arith) b) (reads_const wires index.form.width (pos i)) f (below_in index.form i unsigned (omega arith)) (eq_result (pos m) (pos i))
-        (first_cell wires test (choose ∷ []) cells.cells)) in
+    has_equal wires (part_id (n + 1)) 1 (truth (int_same (pos m) (pos i))) (truth (m == i)) (ap truth (same_pos m i))
+    (signed_cell wires kind.Eq (part_id n) (as_form index index.form) (const_operand index.form (pos i)) 1 (part_id (n + 1)) 1 (pos m) (pos i) (truth (int_same (pos m) (pos i))) eq_whole (λ s. refl)
+    (reads_narrow wires index.id index.form index.form.width (pos m) (omega arith) b) (reads_const wires index.form.width (pos i)) f (below_in index.form i unsigned (omega arith)) (eq_result (pos m) (pos i))
+    (first_cell wires test (choose ∷ []) cells.cells)) in
     mux_cell_bits wires (part_id (n + 2)) w (wire_part (part_id (n + 3)) 0 w) (at_width first.id first.form w) (one_bit (part_id (n + 1))) into.id w (m == i) (pick_from m (suc i) y ys) x (one_bit_is wires (part_id (n + 1)) (m == i) equal)
     (reads_low wires (part_id (n + 3)) w w (pick_from m (suc i) y ys) (omega arith) chosen) (reads_at_width wires first.id first.form w x p.sign p.inside p.bits) (second_cell wires test choose [] cells.cells)
 
@@ -174,11 +174,11 @@ makes_pick index es wires c n y signals range accepted stride e made =
     let size = unsigned_is f v unsigned made.0.integer in
     let reach : ℕ = 2 ^ f.width in
     follows_shown wires c n y (expr.Pick index es) (λ k. left ++ right) (values.picked (pos 0) xs m) (λ some o k h needs.
-      let bits : HasBits wires (c.value index.0).id f.width (pos m) = has_equal wires (c.value index.0).id f.width v (pos m) (sym size.0) (made_every wires c index made.0 (all_left holds left right needs)) in
-      let all = all_take wires reach vs xs (all_made wires c es made.1 (all_right holds left right needs)) in
-      let lx : length (take reach xs) ≡ min reach (length xs) = length-take_is reach xs in
-      let lv : length (take reach vs) ≡ min reach (length vs) = length-take_is reach vs in
-      let le : length xs ≡ length es = length-mapped (λ (e : ExprId). c.num e.0) es in
-      let there : 1 ≤ length (take reach xs) = omega (arith, pow_pos f.width, some_items es range) in
-      (has_equal wires y.id y.form.width (get_or (take reach xs) (min m (length (take reach xs) - 1)) (pos 0)) (values.picked (pos 0) xs m) (reached reach m xs (pos 0) size.1)
-        (picked_of_bits wires n (c.value index.0) m (take reach vs) (take reach xs) y (pos 0) unsigned (below_in f m unsigned size.1) bits all there (omega arith) o)).at k h)
+    let bits : HasBits wires (c.value index.0).id f.width (pos m) = has_equal wires (c.value index.0).id f.width v (pos m) (sym size.0) (made_every wires c index made.0 (all_left holds left right needs)) in
+    let all = all_take wires reach vs xs (all_made wires c es made.1 (all_right holds left right needs)) in
+    let lx : length (take reach xs) ≡ min reach (length xs) = length-take_is reach xs in
+    let lv : length (take reach vs) ≡ min reach (length vs) = length-take_is reach vs in
+    let le : length xs ≡ length es = length-mapped (λ (e : ExprId). c.num e.0) es in
+    let there : 1 ≤ length (take reach xs) = omega (arith, pow_pos f.width, some_items es range) in
+    (has_equal wires y.id y.form.width (get_or (take reach xs) (min m (length (take reach xs) - 1)) (pos 0)) (values.picked (pos 0) xs m) (reached reach m xs (pos 0) size.1)
+    (picked_of_bits wires n (c.value index.0) m (take reach vs) (take reach xs) y (pos 0) unsigned (below_in f m unsigned size.1) bits all there (omega arith) o)).at k h)

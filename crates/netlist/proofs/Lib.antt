@@ -41,3 +41,7 @@ pub mod OperatorsDrawn
 pub mod ExpressionsDrawn
 pub mod ManyDrawn
 pub mod SignalsDrawn
+pub mod FittingSelections
+pub mod PoolNeeds
+pub mod PoolsMade
+pub mod Driving

@@ -54,27 +54,27 @@ width_of f g e = ap (λ (f : Form). f.width) e
 pub makes_const : (x : ℤ) (s : Form) → MakesExpression (expr.Const x s)
 makes_const x s wires c n y signals range accepted stride e made =
     follows_shown wires c n y (expr.Const x s) (λ k. []) x (λ some o k h needs.
-      let same : y.form.width ≡ s.width = width_of y.form s e in
-      linked_bit wires y (const_spec s.width x) k o h ∙ (reads_const wires s.width x).at k (omega arith))
+    let same : y.form.width ≡ s.width = width_of y.form s e in
+    linked_bit wires y (const_spec s.width x) k o h ∙ (reads_const wires s.width x).at k (omega arith))
 
 pub makes_reset : (domain : List ℕ) (place : Place) → MakesExpression (expr.Reset domain place)
 makes_reset domain place wires c n y signals range accepted stride e made =
     follows_shown wires c n y (expr.Reset domain place) (λ k. []) (pos 0) (λ some o k h needs.
-      let same : y.form.width ≡ 1 = ap (λ (f : Form). f.width) e in
-      linked_bit wires y (const_spec 1 (pos 0)) k o h ∙ (reads_const wires 1 (pos 0)).at k (omega arith))
+    let same : y.form.width ≡ 1 = ap (λ (f : Form). f.width) e in
+    linked_bit wires y (const_spec 1 (pos 0)) k o h ∙ (reads_const wires 1 (pos 0)).at k (omega arith))
 
 pub makes_sig : (s : SigId) → MakesExpression (expr.Sig s)
 makes_sig s wires c n y signals range accepted stride e made =
     follows_shown wires c n y (expr.Sig s) (λ k. record { sig = s.0; index = k } ∷ []) (at c.env s.0) (λ some o k h needs.
-      let same : y.form.width ≡ (c.signal s.0).form.width = ap (λ (f : Form). f.width) e ∙ sym (ap (λ (f : Form). f.width) (signals s.0)) in
-      linked_bit wires y (whole (c.signal s.0)) k o h ∙ bit_at-whole wires (c.signal s.0) k (omega arith) ∙ needs.0)
+    let same : y.form.width ≡ (c.signal s.0).form.width = ap (λ (f : Form). f.width) e ∙ sym (ap (λ (f : Form). f.width) (signals s.0)) in
+    linked_bit wires y (whole (c.signal s.0)) k o h ∙ bit_at-whole wires (c.signal s.0) k (omega arith) ∙ needs.0)
 
 pub makes_cast : (a : ExprId) (signed : Bool) → MakesExpression (expr.Cast a signed)
 makes_cast a signed wires c n y signals range accepted stride e made =
     follows_shown wires c n y (expr.Cast a signed) (c.needed a.0) (wrap signed (known_form c a.0).width (c.num a.0)) (λ some o k h needs.
-      let same : y.form.width ≡ (known_form c a.0).width = ap (λ (f : Form). f.width) e in
-      linked_bit wires y (whole (c.value a.0)) k o h ∙ bit_at-whole wires (c.value a.0) k (omega arith) ∙ made.0.bits k (omega arith) needs
-      ∙ ap Some (sym (bit_of-wrap signed (known_form c a.0).width (c.num a.0) k (omega arith))))
+    let same : y.form.width ≡ (known_form c a.0).width = ap (λ (f : Form). f.width) e in
+    linked_bit wires y (whole (c.value a.0)) k o h ∙ bit_at-whole wires (c.value a.0) k (omega arith) ∙ made.0.bits k (omega arith) needs
+    ∙ ap Some (sym (bit_of-wrap signed (known_form c a.0).width (c.num a.0) k (omega arith))))
 
 -- ---- parts
 
@@ -84,9 +84,9 @@ bit_of-part low width x k h = ap (λ b. b == 1) (bit_pattern (floor_quotient x (
 pub makes_slice : (a : ExprId) (low width : ℕ) → MakesExpression (expr.Slice a low width)
 makes_slice a low width wires c n y signals range accepted stride e made =
     follows_shown wires c n y (expr.Slice a low width) (λ k. c.needed a.0 (low + k)) (pos (bits_from low width (c.num a.0))) (λ some o k h needs.
-      let same : y.form.width ≡ width = ap (λ (f : Form). f.width) e in
-      linked_bit wires y (wire_part (c.value a.0).id low width) k o h ∙ bit_at-wire_part wires (c.value a.0).id low width k (omega arith)
-      ∙ made.0.bits (low + k) (omega (arith, range)) needs ∙ ap Some (sym (bit_of-part low width (c.num a.0) k (omega arith))))
+    let same : y.form.width ≡ width = ap (λ (f : Form). f.width) e in
+    linked_bit wires y (wire_part (c.value a.0).id low width) k o h ∙ bit_at-wire_part wires (c.value a.0).id low width k (omega arith)
+    ∙ made.0.bits (low + k) (omega (arith, range)) needs ∙ ap Some (sym (bit_of-part low width (c.num a.0) k (omega arith))))
 
 -- ---- one above the other
 
@@ -113,21 +113,21 @@ joined_bit wires c (e ∷ es) k made h needs =
     let more : List Bit = joined_bits (known_form c) c.needed es (k - w) in
     ⊎_elim
     (λ (low : k < w).
-      bit_at_left wires (joined c.value es) (whole (c.value e.0)) k (rw (length-wire_part (c.value e.0).id 0 w) low)
-      ∙ bit_at-whole wires (c.value e.0) k low
-      ∙ made.0.bits k low (rw (← cond_below k w (c.needed e.0 k) more low) at needs)
-      ∙ ap (λ b. Some (b == 1)) (sym (joined_low w (total_width (known_form c) es) (c.num e.0) rest k low)))
+    bit_at_left wires (joined c.value es) (whole (c.value e.0)) k (rw (length-wire_part (c.value e.0).id 0 w) low)
+    ∙ bit_at-whole wires (c.value e.0) k low
+    ∙ made.0.bits k low (rw (← cond_below k w (c.needed e.0 k) more low) at needs)
+    ∙ ap (λ b. Some (b == 1)) (sym (joined_low w (total_width (known_form c) es) (c.num e.0) rest k low)))
     (λ (le : w ≤ k).
-      let d : w + (k - w) ≡ k = omega arith in
-      ap (bit_at (source_value wires) (spec_bits (joined c.value es ++ whole (c.value e.0)))) (sym d)
-      ∙ bit_at_right wires (joined c.value es) (whole (c.value e.0)) w (k - w) (length-wire_part (c.value e.0).id 0 w)
-      ∙ joined_bit wires c es (k - w) made.1 (omega arith) (rw (← cond_above k w (c.needed e.0 k) more more le refl) at needs)
-      ∙ ap (λ b. Some (b == 1)) (sym (joined_high w (total_width (known_form c) es) (c.num e.0) rest (k - w)))
-      ∙ ap (λ j. Some (nat_bit (pattern w (c.num e.0) + 2 ^ w * rest) j == 1)) d)
+    let d : w + (k - w) ≡ k = omega arith in
+    ap (bit_at (source_value wires) (spec_bits (joined c.value es ++ whole (c.value e.0)))) (sym d)
+    ∙ bit_at_right wires (joined c.value es) (whole (c.value e.0)) w (k - w) (length-wire_part (c.value e.0).id 0 w)
+    ∙ joined_bit wires c es (k - w) made.1 (omega arith) (rw (← cond_above k w (c.needed e.0 k) more more le refl) at needs)
+    ∙ ap (λ b. Some (b == 1)) (sym (joined_high w (total_width (known_form c) es) (c.num e.0) rest (k - w)))
+    ∙ ap (λ j. Some (nat_bit (pattern w (c.num e.0) + 2 ^ w * rest) j == 1)) d)
     (cases_lt k w)
 
 pub makes_cat : (es : List ExprId) → MakesExpression (expr.Cat es)
 makes_cat es wires c n y signals range accepted stride e made =
     follows_shown wires c n y (expr.Cat es) (joined_bits (known_form c) c.needed es) (pos (values.joined (known_form c) c.num es)) (λ some o k h needs.
-      let same : y.form.width ≡ total_width (known_form c) es = ap (λ (f : Form). f.width) e in
-      linked_bit wires y (joined c.value es) k o h ∙ joined_bit wires c es k made (omega arith) needs)
+    let same : y.form.width ≡ total_width (known_form c) es = ap (λ (f : Form). f.width) e in
+    linked_bit wires y (joined c.value es) k o h ∙ joined_bit wires c es k made (omega arith) needs)

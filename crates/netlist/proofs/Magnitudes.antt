@@ -43,23 +43,23 @@ magnitude_bits wires n g a y x s f fx c same le o =
     let zero_read = reads_const wires g.width (pos 0) in
     let zero_in = of_zero g.signed g.width in
     let negative : HasBits wires (part_id (n + 1)) 1 (truth (int_lt x (pos 0))) =
-      signed_cell wires kind.Lt (part_id n) (as_form a g) (const_operand g (pos 0)) 1 (part_id (n + 1)) 1 x (pos 0) (truth (int_lt x (pos 0))) lt_whole (λ s. refl) read zero_read fx zero_in refl
-      (first_cell wires is_negative (turn ∷ choose ∷ []) o.cells) in
+    signed_cell wires kind.Lt (part_id n) (as_form a g) (const_operand g (pos 0)) 1 (part_id (n + 1)) 1 x (pos 0) (truth (int_lt x (pos 0))) lt_whole (λ s. refl) read zero_read fx zero_in refl
+    (first_cell wires is_negative (turn ∷ choose ∷ []) o.cells) in
     let opposite : HasBits wires (part_id (n + 3)) g.width (neg_ℤ x) =
-      signed_cell wires kind.Sub (part_id (n + 2)) (const_operand g (pos 0)) (as_form a g) g.width (part_id (n + 3)) g.width (pos 0) x (neg_ℤ x) sub_whole (λ s. refl) zero_read read zero_in fx (ap Some (zero-minus x))
-      (second_cell wires is_negative turn (choose ∷ []) o.cells) in
+    signed_cell wires kind.Sub (part_id (n + 2)) (const_operand g (pos 0)) (as_form a g) g.width (part_id (n + 3)) g.width (pos 0) x (neg_ℤ x) sub_whole (λ s. refl) zero_read read zero_in fx (ap Some (zero-minus x))
+    (second_cell wires is_negative turn (choose ∷ []) o.cells) in
     let kept : Reads wires (whole a) y.form.width x = rw same (reads_low wires a.id a.form.width a.form.width x (omega arith) c) in
     has_equal wires y.id y.form.width (cond (int_lt x (pos 0)) (neg_ℤ x) x) (pos (unsigned_abs x)) (size_is x)
     (mux_cell_bits wires (part_id (n + 4)) y.form.width (whole a) (at_width (part_id (n + 3)) g y.form.width) (one_bit (part_id (n + 1))) y.id y.form.width (int_lt x (pos 0)) x (neg_ℤ x)
-      (one_bit_is wires (part_id (n + 1)) (int_lt x (pos 0)) negative) kept (reads_narrow wires (part_id (n + 3)) g y.form.width (neg_ℤ x) le opposite) (third_cell wires is_negative turn choose [] o.cells))
+    (one_bit_is wires (part_id (n + 1)) (int_lt x (pos 0)) negative) kept (reads_narrow wires (part_id (n + 3)) g y.form.width (neg_ℤ x) le opposite) (third_cell wires is_negative turn choose [] o.cells))
 
 pub makes_abs : MakesOperator op.Abs
 makes_abs =
     makes_bits op.Abs (λ wires n a b y x z p q t e f g c d some.
-      let w : Form = work_form op.Abs a.form b.form in
-      let same : y.form.width ≡ a.form.width = ap (λ (f : Form). f.width) e in
-      let wide : a.form.width ≤ w.width = common_width_left _ _ _ _ in
-      cond_both a.form.signed (magnitude n w a y) (linked y (whole a)) (λ (drawing : Drawing). Obeys wires drawing → HasBits wires y.id y.form.width (pos (unsigned_abs x)))
-      (λ sign. magnitude_bits wires n w a y x (form_sign a.form p) f (work_holds_left op.Abs a.form b.form q x f) c same (omega arith))
-      (λ sign o. has_equal wires y.id y.form.width x (pos (unsigned_abs x)) (unsigned_is a.form.signed a.form.width x sign f)
-        (linked_bits wires y (whole a) a.form.width x (reads_low wires a.id a.form.width a.form.width x (omega arith) c) (omega arith) o)))
+    let w : Form = work_form op.Abs a.form b.form in
+    let same : y.form.width ≡ a.form.width = ap (λ (f : Form). f.width) e in
+    let wide : a.form.width ≤ w.width = common_width_left _ _ _ _ in
+    cond_both a.form.signed (magnitude n w a y) (linked y (whole a)) (λ (drawing : Drawing). Obeys wires drawing → HasBits wires y.id y.form.width (pos (unsigned_abs x)))
+    (λ sign. magnitude_bits wires n w a y x (form_sign a.form p) f (work_holds_left op.Abs a.form b.form q x f) c same (omega arith))
+    (λ sign o. has_equal wires y.id y.form.width x (pos (unsigned_abs x)) (unsigned_is a.form.signed a.form.width x sign f)
+    (linked_bits wires y (whole a) a.form.width x (reads_low wires a.id a.form.width a.form.width x (omega arith) c) (omega arith) o)))

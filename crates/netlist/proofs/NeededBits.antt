@@ -65,8 +65,8 @@ bit_at-past wires id s w width k h past =
     cond_both (nat_lt width w) (wire_part id 0 width) (filling id (record { width = w; signed = s }) (width - w) ++ wire_part id 0 w) (λ spec. bit_at (source_value wires) (spec_bits spec) k ≡ cond s (wires id (w - 1)) (Some false))
     (λ t. absurd (omega (arith, ltb-true width w t)))
     (λ t. ap (bit_at (source_value wires) (spec_bits (filling id (record { width = w; signed = s }) (width - w) ++ wire_part id 0 w))) (sym e)
-      ∙ bit_at_right wires (filling id (record { width = w; signed = s }) (width - w)) (wire_part id 0 w) w (k - w) (length-wire_part id 0 w)
-      ∙ filled wires id s w (width - w) (k - w) (omega arith))
+    ∙ bit_at_right wires (filling id (record { width = w; signed = s }) (width - w)) (wire_part id 0 w) w (k - w) (length-wire_part id 0 w)
+    ∙ filled wires id s w (width - w) (k - w) (omega arith))
 
 -- past the width, what is needed is the highest bit of a signed number, and nothing of an unsigned one
 past_has : (wires : Wires) (c : Known) (id : List ℕ) (s : Bool) (w k : ℕ) (x : ℤ) (bits : ℕ → List Bit) → IsForm w s → IsOf s w x
@@ -86,5 +86,5 @@ made_extended wires c e width k m wide h =
     ⊎_elim
     (λ (low : k < f.width). bit_at-low wires id f.signed f.width width k wide low ∙ m.bits k low (rw (← cond_below k f.width (c.needed e.0 k) past low) at h))
     (λ (le : f.width ≤ k). bit_at-past wires id f.signed f.width width k wide le
-      ∙ past_has wires c id f.signed f.width k (c.num e.0) (c.needed e.0) m.shape m.integer m.bits le (rw (← cond_above k f.width (c.needed e.0 k) past past le refl) at h))
+    ∙ past_has wires c id f.signed f.width k (c.num e.0) (c.needed e.0) m.shape m.integer m.bits le (rw (← cond_above k f.width (c.needed e.0 k) past past le refl) at h))
     (cases_lt k f.width)

@@ -67,11 +67,11 @@ binary_whole o a b other wires c n y signals range accepted stride e made =
     let right : List Bit = every (known_form c b.0) (c.needed b.0) in
     follows_shown wires c n y (expr.Binary o a b) (λ k. cond (is_bitwise o) (extended (known_form c a.0) (c.needed a.0) k ++ extended (known_form c b.0) (c.needed b.0) k) (left ++ right)) (integer_of o (known_form c a.0) x (known_form c b.0) z)
     (λ some obeys k h needs.
-      let all = subst (λ (t : Bool). AllByRecursion (SignalHas wires c) (cond t (extended (known_form c a.0) (c.needed a.0) k ++ extended (known_form c b.0) (c.needed b.0) k) (left ++ right))) other needs in
-      let p = carries_bits wires (c.value a.0) x (made_every wires c a made.0 (all_left (SignalHas wires c) left right all)) in
-      let q = carries_bits wires (c.value b.0) z (made_every wires c b made.1.0 (all_right (SignalHas wires c) left right all)) in
-      let law = makes_operator o wires n (c.value a.0) (c.value b.0) y x z made.0.shape made.1.0.shape (taken o (known_form c a.0) (known_form c b.0) accepted) e made.0.integer made.1.0.integer p q obeys in
-      (has_carried wires y (integer_of o (known_form c a.0) x (known_form c b.0) z) law).at k h)
+    let all = subst (λ (t : Bool). AllByRecursion (SignalHas wires c) (cond t (extended (known_form c a.0) (c.needed a.0) k ++ extended (known_form c b.0) (c.needed b.0) k) (left ++ right))) other needs in
+    let p = carries_bits wires (c.value a.0) x (made_every wires c a made.0 (all_left (SignalHas wires c) left right all)) in
+    let q = carries_bits wires (c.value b.0) z (made_every wires c b made.1.0 (all_right (SignalHas wires c) left right all)) in
+    let law = makes_operator o wires n (c.value a.0) (c.value b.0) y x z made.0.shape made.1.0.shape (taken o (known_form c a.0) (known_form c b.0) accepted) e made.0.integer made.1.0.integer p q obeys in
+    (has_carried wires y (integer_of o (known_form c a.0) x (known_form c b.0) z) law).at k h)
 
 unary_whole : (o : Op) (a : ExprId) → is_bitwise o ≡ false → MakesExpression (expr.Unary o a)
 unary_whole o a other wires c n y signals range accepted stride e made =
@@ -80,12 +80,12 @@ unary_whole o a other wires c n y signals range accepted stride e made =
     let none : Value = record { id = []; form = unsigned 0 } in
     follows_shown wires c n y (expr.Unary o a) (λ k. cond (is_bitwise o) (c.needed a.0 k) all_bits) (integer_of o (known_form c a.0) x (unsigned 0) (pos 0))
     (λ some obeys k h needs.
-      let all = subst (λ (t : Bool). AllByRecursion (SignalHas wires c) (cond t (c.needed a.0 k) all_bits)) other needs in
-      let p = carries_bits wires (c.value a.0) x (made_every wires c a made.0 all) in
-      let q : Carries wires none (pos 0) = λ i l. absurd (omega arith) in
-      let shape : IsForm 0 false = omega arith in
-      let law = makes_operator o wires n (c.value a.0) none y x (pos 0) made.0.shape shape (unary_taken o (known_form c a.0) accepted) e made.0.integer (of_zero false 0) p q obeys in
-      (has_carried wires y (integer_of o (known_form c a.0) x (unsigned 0) (pos 0)) law).at k h)
+    let all = subst (λ (t : Bool). AllByRecursion (SignalHas wires c) (cond t (c.needed a.0 k) all_bits)) other needs in
+    let p = carries_bits wires (c.value a.0) x (made_every wires c a made.0 all) in
+    let q : Carries wires none (pos 0) = λ i l. absurd (omega arith) in
+    let shape : IsForm 0 false = omega arith in
+    let law = makes_operator o wires n (c.value a.0) none y x (pos 0) made.0.shape shape (unary_taken o (known_form c a.0) accepted) e made.0.integer (of_zero false 0) p q obeys in
+    (has_carried wires y (integer_of o (known_form c a.0) x (unsigned 0) (pos 0)) law).at k h)
 
 -- ---- operators that go bit by bit
 
@@ -109,38 +109,38 @@ alike_follows wires c k f of n g a b y i kind law p q le o h needs =
 and_bits : (a b : ExprId) → MakesExpression (expr.Binary op.And a b)
 and_bits a b wires c n y signals range accepted stride e made =
     follows_shown wires c n y (expr.Binary op.And a b) (λ k. extended (known_form c a.0) (c.needed a.0) k ++ extended (known_form c b.0) (c.needed b.0) k) (int_and (c.num a.0) (c.num b.0)) (λ some obeys k h needs.
-      let g : Form = work_form op.And (known_form c a.0) (known_form c b.0) in
-      alike_follows wires c kind.And ◌&&◌ int_and n g a b y k and_bitwise and_by_bits made.0 made.1.0 (result_within op.And (known_form c a.0) (known_form c b.0) y.form e (common_width_left _ _ _ _))
-      (subst (Obeys wires) (operator_drawing-some op.And n (c.value a.0) (c.value b.0) y some) obeys) h needs)
+    let g : Form = work_form op.And (known_form c a.0) (known_form c b.0) in
+    alike_follows wires c kind.And ◌&&◌ int_and n g a b y k and_bitwise and_by_bits made.0 made.1.0 (result_within op.And (known_form c a.0) (known_form c b.0) y.form e (common_width_left _ _ _ _))
+    (subst (Obeys wires) (operator_drawing-some op.And n (c.value a.0) (c.value b.0) y some) obeys) h needs)
 
 or_bits : (a b : ExprId) → MakesExpression (expr.Binary op.Or a b)
 or_bits a b wires c n y signals range accepted stride e made =
     follows_shown wires c n y (expr.Binary op.Or a b) (λ k. extended (known_form c a.0) (c.needed a.0) k ++ extended (known_form c b.0) (c.needed b.0) k) (int_or (c.num a.0) (c.num b.0)) (λ some obeys k h needs.
-      let g : Form = work_form op.Or (known_form c a.0) (known_form c b.0) in
-      alike_follows wires c kind.Or ◌||◌ int_or n g a b y k or_bitwise or_by_bits made.0 made.1.0 (result_within op.Or (known_form c a.0) (known_form c b.0) y.form e (common_width_left _ _ _ _))
-      (subst (Obeys wires) (operator_drawing-some op.Or n (c.value a.0) (c.value b.0) y some) obeys) h needs)
+    let g : Form = work_form op.Or (known_form c a.0) (known_form c b.0) in
+    alike_follows wires c kind.Or ◌||◌ int_or n g a b y k or_bitwise or_by_bits made.0 made.1.0 (result_within op.Or (known_form c a.0) (known_form c b.0) y.form e (common_width_left _ _ _ _))
+    (subst (Obeys wires) (operator_drawing-some op.Or n (c.value a.0) (c.value b.0) y some) obeys) h needs)
 
 xor_bits : (a b : ExprId) → MakesExpression (expr.Binary op.Xor a b)
 xor_bits a b wires c n y signals range accepted stride e made =
     follows_shown wires c n y (expr.Binary op.Xor a b) (λ k. extended (known_form c a.0) (c.needed a.0) k ++ extended (known_form c b.0) (c.needed b.0) k) (int_xor (c.num a.0) (c.num b.0)) (λ some obeys k h needs.
-      let g : Form = work_form op.Xor (known_form c a.0) (known_form c b.0) in
-      alike_follows wires c kind.Xor xor int_xor n g a b y k xor_bitwise xor_by_bits made.0 made.1.0 (result_within op.Xor (known_form c a.0) (known_form c b.0) y.form e (common_width_left _ _ _ _))
-      (subst (Obeys wires) (operator_drawing-some op.Xor n (c.value a.0) (c.value b.0) y some) obeys) h needs)
+    let g : Form = work_form op.Xor (known_form c a.0) (known_form c b.0) in
+    alike_follows wires c kind.Xor xor int_xor n g a b y k xor_bitwise xor_by_bits made.0 made.1.0 (result_within op.Xor (known_form c a.0) (known_form c b.0) y.form e (common_width_left _ _ _ _))
+    (subst (Obeys wires) (operator_drawing-some op.Xor n (c.value a.0) (c.value b.0) y some) obeys) h needs)
 
 not_bits : (a : ExprId) → MakesExpression (expr.Unary op.Not a)
 not_bits a wires c n y signals range accepted stride e made =
     follows_shown wires c n y (expr.Unary op.Not a) (c.needed a.0) (turned (known_form c a.0) (c.num a.0)) (λ some obeys k h needs.
-      let f : Form = known_form c a.0 in
-      let g : Form = work_form op.Not f (unsigned 0) in
-      let none : Value = record { id = []; form = unsigned 0 } in
-      let v : Value = c.value a.0 in
-      let same : y.form.width ≡ f.width = ap (λ (f : Form). f.width) e in
-      let wide : f.width ≤ g.width = common_width_left _ _ _ _ in
-      let o = subst (Obeys wires) (operator_drawing-some op.Not n v none y some) obeys in
-      not_bit wires (part_id n) (as_form v g) y.form.width y.id y.form.width k (bit_of (c.num a.0) k)
-      (bit_at-low wires v.id f.signed f.width g.width k (omega arith) (omega arith) ∙ made.0.bits k (omega arith) needs) h
-      (first_cell wires (unary_cell kind.Not (part_id n) (as_form v g) y.form.width (whole y)) [] o.cells)
-      ∙ ap Some (bit_of-turned f (c.num a.0) k made.0.integer (omega arith)))
+    let f : Form = known_form c a.0 in
+    let g : Form = work_form op.Not f (unsigned 0) in
+    let none : Value = record { id = []; form = unsigned 0 } in
+    let v : Value = c.value a.0 in
+    let same : y.form.width ≡ f.width = ap (λ (f : Form). f.width) e in
+    let wide : f.width ≤ g.width = common_width_left _ _ _ _ in
+    let o = subst (Obeys wires) (operator_drawing-some op.Not n v none y some) obeys in
+    not_bit wires (part_id n) (as_form v g) y.form.width y.id y.form.width k (bit_of (c.num a.0) k)
+    (bit_at-low wires v.id f.signed f.width g.width k (omega arith) (omega arith) ∙ made.0.bits k (omega arith) needs) h
+    (first_cell wires (unary_cell kind.Not (part_id n) (as_form v g) y.form.width (whole y)) [] o.cells)
+    ∙ ap Some (bit_of-turned f (c.num a.0) k made.0.integer (omega arith)))
 
 -- ---- all operators
 

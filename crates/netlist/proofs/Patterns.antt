@@ -57,14 +57,14 @@ matched_bits wires n g a p x plain le b small o =
     let mask = binary_cell kind.And (part_id n) left (const_operand u (pos p.mask)) w (wire_part (part_id (n + 1)) 0 w) in
     let test = binary_cell kind.Eq (part_id (n + 2)) (at_form (part_id (n + 1)) u u) (const_operand u (pos p.bits)) 1 (one_bit (part_id (n + 3))) in
     let under : HasBits wires (part_id (n + 1)) w (pos (bit_and m p.mask)) =
-      bitwise_cell wires kind.And ◌&&◌ int_and (part_id n) left (const_operand u (pos p.mask)) w (part_id (n + 1)) w w (pos m) (pos p.mask) and_bitwise and_by_bits
-      (reads_at_width wires a.id (unsigned a.form.width) w (pos m) (λ signed. absurd (false≢true signed)) (pattern_below a.form.width x) (has_pattern wires a.id a.form.width x b)) (reads_const wires w (pos p.mask)) (omega arith)
-      (first_cell wires mask (test ∷ []) o.cells) in
+    bitwise_cell wires kind.And ◌&&◌ int_and (part_id n) left (const_operand u (pos p.mask)) w (part_id (n + 1)) w w (pos m) (pos p.mask) and_bitwise and_by_bits
+    (reads_at_width wires a.id (unsigned a.form.width) w (pos m) (λ signed. absurd (false≢true signed)) (pattern_below a.form.width x) (has_pattern wires a.id a.form.width x b)) (reads_const wires w (pos p.mask)) (omega arith)
+    (first_cell wires mask (test ∷ []) o.cells) in
     has_equal wires (part_id (n + 3)) 1 (truth (int_same (pos (bit_and m p.mask)) (pos p.bits))) (truth (matches p m))
     (ap truth (same_pos (bit_and m p.mask) p.bits ∙ ap (λ j. j == p.bits) (and_comm m p.mask)))
     (signed_cell wires kind.Eq (part_id (n + 2)) (at_form (part_id (n + 1)) u u) (const_operand u (pos p.bits)) 1 (part_id (n + 3)) 1 (pos (bit_and m p.mask)) (pos p.bits) (truth (int_same (pos (bit_and m p.mask)) (pos p.bits))) eq_whole (λ s. refl)
-      (reads_narrow wires (part_id (n + 1)) u w (pos (bit_and m p.mask)) (omega arith) under) (reads_const wires w (pos p.bits)) (masked_below a.form.width w p.mask x le) small (eq_result (pos (bit_and m p.mask)) (pos p.bits))
-      (second_cell wires mask test [] o.cells))
+    (reads_narrow wires (part_id (n + 1)) u w (pos (bit_and m p.mask)) (omega arith) under) (reads_const wires w (pos p.bits)) (masked_below a.form.width w p.mask x le) small (eq_result (pos (bit_and m p.mask)) (pos p.bits))
+    (second_cell wires mask test [] o.cells))
 
 -- bits behind the value are never there
 unmatched : (w v : ℕ) (p : Pattern) (x : ℤ) → w ≤ v → 2 ^ v ≤ p.bits → matches p (pattern w x) ≡ false
@@ -76,10 +76,10 @@ within_bits wires n w a p x le b =
     cond_both (nat_lt p.bits (2 ^ w)) (matched n (unsigned w) a p) (no_match n) (λ (d : Drawing). Obeys wires d → HasBits wires (part_id (n + 3)) 1 (truth (matches p (pattern a.form.width x))))
     (λ e o. matched_bits wires n (unsigned w) a p x refl le b (ltb-true p.bits (2 ^ w) e) o)
     (λ e o.
-      let out : Value = record { id = part_id (n + 3); form = unsigned 1 } in
-      let link : Obeys wires (linked out (const_spec 1 (pos 0))) = record { cells = All-nil (ObeysCell wires); links = o.links } in
-      has_equal wires (part_id (n + 3)) 1 (pos 0) (truth (matches p (pattern a.form.width x))) (ap truth (sym (unmatched a.form.width w p x le (ltb-false p.bits (2 ^ w) e))))
-      (linked_bits wires out (const_spec 1 (pos 0)) 1 (pos 0) (reads_const wires 1 (pos 0)) (omega arith) link))
+    let out : Value = record { id = part_id (n + 3); form = unsigned 1 } in
+    let link : Obeys wires (linked out (const_spec 1 (pos 0))) = record { cells = All-nil (ObeysCell wires); links = o.links } in
+    has_equal wires (part_id (n + 3)) 1 (pos 0) (truth (matches p (pattern a.form.width x))) (ap truth (sym (unmatched a.form.width w p x le (ltb-false p.bits (2 ^ w) e))))
+    (linked_bits wires out (const_spec 1 (pos 0)) 1 (pos 0) (reads_const wires 1 (pos 0)) (omega arith) link))
 
 -- ---- several
 
@@ -105,11 +105,11 @@ any_bits wires n a (p ∷ ps) into x one b o =
     let more_read = reads_narrow wires (part_id (n + 5)) (unsigned 1) 1 (truth u) (omega arith) more_has in
     has_truth wires into.id into.form.width (t || u) one
     (bitwise_bit wires kind.Or ◌||◌ (part_id (n + 4)) left right 1 into.id into.form.width 0 t u or_bitwise (one_read.at 0 (omega arith) ∙ ap Some (bit_of-truth t)) (more_read.at 0 (omega arith) ∙ ap Some (bit_of-truth u)) (omega arith)
-      (first_cell wires cell [] (also_first wires here rest behind).cells))
+    (first_cell wires cell [] (also_first wires here rest behind).cells))
 
 pub makes_matches : (a : ExprId) (ps : List Pattern) → MakesExpression (expr.Matches a ps)
 makes_matches a ps wires c n y signals range accepted stride e made =
     let x : ℤ = c.num a.0 in
     let same : y.form.width ≡ 1 = ap (λ (f : Form). f.width) e in
     follows_shown wires c n y (expr.Matches a ps) (λ k. every (known_form c a.0) (c.needed a.0)) (truth (list_any (λ p. matches p (pattern (known_form c a.0).width x)) ps)) (λ some o k h needs.
-      (any_bits wires n (c.value a.0) ps y x same (made_every wires c a made.0 needs) o).at k h)
+    (any_bits wires n (c.value a.0) ps y x same (made_every wires c a made.0 needs) o).at k h)

@@ -125,10 +125,10 @@ pub reads_above : (wires : Wires) (high low : List SigPart) (w n width : ℕ) (x
 reads_above wires high low w n width x e r wide above = record {
   wide = length-spec_append high low ∙ (let d : length (spec_bits low) + length (spec_bits high) ≡ width = omega (arith, wide, r.wide) in d);
   at = λ k h. ⊎_elim
-    (λ (below : k < w). bit_at_left wires high low k (rw r.wide below) ∙ r.at k below)
-    (λ (le : w ≤ k). let d : w + (k - w) ≡ k = omega arith in
+      (λ (below : k < w). bit_at_left wires high low k (rw r.wide below) ∙ r.at k below)
+      (λ (le : w ≤ k). let d : w + (k - w) ≡ k = omega arith in
       ap (bit_at (source_value wires) (spec_bits (high ++ low))) (sym d) ∙ bit_at_right wires high low w (k - w) r.wide ∙ above (k - w) (omega arith) ∙ ap (λ j. Some (bit_of x j)) d)
-    (cases_lt k w);
+      (cases_lt k w);
 }
 
 at_width_reads : (wires : Wires) (id : List ℕ) (s : Bool) (w width : ℕ) (x : ℤ) → (s ≡ true → 1 ≤ w) → IsOf s w x → HasBits wires id w x → Reads wires (at_width id (record { width = w; signed = s }) width) width x
@@ -136,7 +136,7 @@ at_width_reads wires id s w width x some f b =
     cond_both (nat_lt width w) (wire_part id 0 width) (filling id (record { width = w; signed = s }) (width - w) ++ wire_part id 0 w) (λ spec. Reads wires spec width x)
     (λ e. reads_low wires id w width x (omega (arith, ltb-true width w e)) b)
     (λ e. reads_above wires (filling id (record { width = w; signed = s }) (width - w)) (wire_part id 0 w) w (width - w) width x (omega (arith, ltb-false width w e)) (reads_low wires id w w x (omega arith) b) (length-filling id s w (width - w))
-      (λ k h. bit_at-filling wires id s w (width - w) k x some f b h))
+    (λ k h. bit_at-filling wires id s w (width - w) k x some f b h))
 
 -- the number of a wire of a shape, at any width
 pub reads_at_width : (wires : Wires) (id : List ℕ) (f : Form) (width : ℕ) (x : ℤ) → HasSign f → IsIn f x → HasBits wires id f.width x → Reads wires (at_width id f width) width x

@@ -62,7 +62,7 @@ reduced_bits wires k f empty n a y x t kind one c bits none =
     cond_both (a.form.width == 0) (linked y (const_spec 1 empty)) (one_cell cell) (λ (d : Drawing). Obeys wires d → HasBits wires y.id y.form.width (truth t))
     (λ e o. has_equal wires y.id y.form.width empty (truth t) (none (eqb-true a.form.width 0 e)) (linked_bits wires y (const_spec 1 empty) 1 empty (reads_const wires 1 empty) (omega arith) o))
     (λ e o. has_truth wires y.id y.form.width t one
-      (reduction_bit wires k f (part_id n) (as_form a a.form) 1 y.id y.form.width x kind (reads_narrow wires a.id a.form a.form.width x (omega arith) c) (omega arith) (first_cell wires cell [] o.cells) ∙ ap Some bits))
+    (reduction_bit wires k f (part_id n) (as_form a a.form) 1 y.id y.form.width x kind (reads_narrow wires a.id a.form a.form.width x (omega arith) c) (omega arith) (first_cell wires cell [] o.cells) ∙ ap Some bits))
 
 -- ---- where there are no bits
 
@@ -92,18 +92,18 @@ empty_parity width x e = ap (λ n. truth (count_ones n % 2 == 1)) (sym (empty_pa
 pub makes_any : MakesOperator op.Any
 makes_any =
     makes_bits op.Any (λ wires n a b y x z p q t e f g c d some o.
-      reduced_bits wires kind.ReduceOr (λ bits. list_any (λ b. b) bits) (pos 0) n a y x (not (is_zero x)) or_reduction (ap (λ (f : Form). f.width) e) c (any-pattern a.form.signed a.form.width x f)
-      (empty_any a.form.signed a.form.width x f) o)
+    reduced_bits wires kind.ReduceOr (λ bits. list_any (λ b. b) bits) (pos 0) n a y x (not (is_zero x)) or_reduction (ap (λ (f : Form). f.width) e) c (any-pattern a.form.signed a.form.width x f)
+    (empty_any a.form.signed a.form.width x f) o)
 
 pub makes_all : MakesOperator op.All
 makes_all =
     makes_bits op.All (λ wires n a b y x z p q t e f g c d some o.
-      reduced_bits wires kind.ReduceAnd (λ bits. list_all (λ b. b) bits) (pos 1) n a y x (pattern a.form.width x == 2 ^ a.form.width - 1) and_reduction (ap (λ (f : Form). f.width) e) c (all-pattern a.form.width x)
-      (empty_all a.form.width x) o)
+    reduced_bits wires kind.ReduceAnd (λ bits. list_all (λ b. b) bits) (pos 1) n a y x (pattern a.form.width x == 2 ^ a.form.width - 1) and_reduction (ap (λ (f : Form). f.width) e) c (all-pattern a.form.width x)
+    (empty_all a.form.width x) o)
 
 pub makes_parity : MakesOperator op.Parity
 makes_parity =
     makes_bits op.Parity (λ wires n a b y x z p q t e f g c d some o.
-      has_equal wires y.id y.form.width (truth (count_ones (pattern a.form.width x) % 2 == 1)) (pos (count_ones (pattern a.form.width x) % 2)) (parity_truth (count_ones (pattern a.form.width x)))
-      (reduced_bits wires kind.ReduceXor parity (pos 0) n a y x (count_ones (pattern a.form.width x) % 2 == 1) xor_reduction (ap (λ (f : Form). f.width) e) c (parity-pattern a.form.width x)
-        (empty_parity a.form.width x) o))
+    has_equal wires y.id y.form.width (truth (count_ones (pattern a.form.width x) % 2 == 1)) (pos (count_ones (pattern a.form.width x) % 2)) (parity_truth (count_ones (pattern a.form.width x)))
+    (reduced_bits wires kind.ReduceXor parity (pos 0) n a y x (count_ones (pattern a.form.width x) % 2 == 1) xor_reduction (ap (λ (f : Form). f.width) e) c (parity-pattern a.form.width x)
+    (empty_parity a.form.width x) o))

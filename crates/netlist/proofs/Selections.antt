@@ -55,8 +55,8 @@ reads_stride wires f stride small =
     reads_above wires (const_part (replicate n false)) (const_spec 8 (pos stride)) 8 n (n + 8) (pos stride) (omega arith) (reads_const wires 8 (pos stride))
     (length-const_part (replicate n false) ∙ length-replicate false n)
     (λ k h.
-      ap (option_and_then (source_value wires)) (slice_get-const_part (replicate n false) k ∙ ap (option_map Constant) (slice_get-replicate false n k h))
-      ∙ ap (λ d. Some (d == 1)) (sym (past_unsigned 8 (8 + k) (pos stride) small (omega arith))))
+    ap (option_and_then (source_value wires)) (slice_get-const_part (replicate n false) k ∙ ap (option_map Constant) (slice_get-replicate false n k h))
+    ∙ ap (λ d. Some (d == 1)) (sym (past_unsigned 8 (8 + k) (pos stride) small (omega arith))))
 
 stride_in : (f : Form) (v : ℤ) (stride : ℕ) → f.signed ≡ false → IsIn f v → stride < 256 → IsIn (stride_form f) v × IsIn (stride_form f) (pos stride) × IsIn (stride_form f) (v *ℤ pos stride)
 stride_in f v stride unsigned i small =
@@ -68,10 +68,10 @@ stride_in f v stride unsigned i small =
 
 amount_by : (wires : Wires) (n : ℕ) (offset : Value) (v : ℤ) (stride : ℕ) (t : Bool) → (stride == 1) ≡ t → offset.form.signed ≡ false → stride < 256 → IsIn offset.form v → HasBits wires offset.id offset.form.width v
     → Obeys wires (cond t nothing (record {
-        wires = inner_wire (part_id (n + 1)) (stride_form offset.form).width ∷ [];
-        cells = binary_cell kind.Mul (part_id n) (as_form offset (stride_form offset.form)) (stride_operand offset.form stride) (stride_form offset.form).width (wire_part (part_id (n + 1)) 0 (stride_form offset.form).width) ∷ [];
-        links = [];
-      }))
+      wires = inner_wire (part_id (n + 1)) (stride_form offset.form).width ∷ [];
+      cells = binary_cell kind.Mul (part_id n) (as_form offset (stride_form offset.form)) (stride_operand offset.form stride) (stride_form offset.form).width (wire_part (part_id (n + 1)) 0 (stride_form offset.form).width) ∷ [];
+      links = [];
+    }))
     → Amount wires (cond t (as_form offset offset.form) (at_form (part_id (n + 1)) (stride_form offset.form) (stride_form offset.form))) (unsigned_abs v * stride)
 amount_by wires n offset v stride true d unsigned small i b o = record {
   number = v;
@@ -84,8 +84,8 @@ amount_by wires n offset v stride false d unsigned small i b o =
     let fits = stride_in offset.form v stride unsigned i small in
     let cell = binary_cell kind.Mul (part_id n) (as_form offset g) (stride_operand offset.form stride) g.width (wire_part (part_id (n + 1)) 0 g.width) in
     let product : HasBits wires (part_id (n + 1)) g.width (v *ℤ pos stride) =
-      signed_cell wires kind.Mul (part_id n) (as_form offset g) (stride_operand offset.form stride) g.width (part_id (n + 1)) g.width v (pos stride) (v *ℤ pos stride) mul_whole (λ s. refl)
-      (reads_at_width wires offset.id offset.form g.width v (λ signed. absurd (false≢true (sym unsigned ∙ signed))) i b) (reads_stride wires offset.form stride small) fits.0 fits.1 refl (first_cell wires cell [] o.cells) in
+    signed_cell wires kind.Mul (part_id n) (as_form offset g) (stride_operand offset.form stride) g.width (part_id (n + 1)) g.width v (pos stride) (v *ℤ pos stride) mul_whole (λ s. refl)
+    (reads_at_width wires offset.id offset.form g.width v (λ signed. absurd (false≢true (sym unsigned ∙ signed))) i b) (reads_stride wires offset.form stride small) fits.0 fits.1 refl (first_cell wires cell [] o.cells) in
     record {
       number = v *ℤ pos stride;
       reads = reads_narrow wires (part_id (n + 1)) g g.width (v *ℤ pos stride) (omega arith) product;
@@ -113,10 +113,10 @@ shift_by wires name a b id w u x false e some i c m le o =
 selected_by : (wires : Wires) (n : ℕ) (a offset : Value) (stride : ℕ) (y : Value) (x v : ℤ) (k : ℕ) (t : Bool) → (offset.form.width == 0) ≡ t → HasSign a.form → offset.form.signed ≡ false → stride < 256 → IsIn a.form x → IsIn offset.form v
     → HasBits wires a.id a.form.width x → HasBits wires offset.id offset.form.width v
     → Obeys wires (cond t (linked y (at_width a.id a.form y.form.width)) (and_also (amount_drawing n offset stride) (record {
-        wires = inner_wire (part_id (n + 3)) (part_form a.form y.form.width).width ∷ [];
-        cells = binary_cell (cond a.form.signed kind.Sshr kind.Shr) (part_id (n + 2)) (as_form a (part_form a.form y.form.width)) (amount_operand n offset stride) (part_form a.form y.form.width).width (wire_part (part_id (n + 3)) 0 (part_form a.form y.form.width).width) ∷ [];
-        links = record { left = whole y; right = wire_part (part_id (n + 3)) 0 y.form.width } ∷ [];
-      })))
+      wires = inner_wire (part_id (n + 3)) (part_form a.form y.form.width).width ∷ [];
+      cells = binary_cell (cond a.form.signed kind.Sshr kind.Shr) (part_id (n + 2)) (as_form a (part_form a.form y.form.width)) (amount_operand n offset stride) (part_form a.form y.form.width).width (wire_part (part_id (n + 3)) 0 (part_form a.form y.form.width).width) ∷ [];
+      links = record { left = whole y; right = wire_part (part_id (n + 3)) 0 y.form.width } ∷ [];
+    })))
     → k < y.form.width → wires y.id k ≡ Some (bit_of (floor_quotient x (2 ^ (unsigned_abs v * stride))) k)
 selected_by wires n a offset stride y x v k true d s unsigned small i j b c o h =
     let none : unsigned_abs v ≡ 0 = no_amount offset.form.signed v unsigned offset.form.width (eqb-true offset.form.width 0 d) j in
@@ -133,7 +133,7 @@ selected_by wires n a offset stride y x v k false d s unsigned small i j b c o h
     let link : Obeys wires (linked y (wire_part (part_id (n + 3)) 0 y.form.width)) = record { cells = All-nil (ObeysCell wires); links = drawn.links } in
     let amount = amount_is wires n offset v stride unsigned small j c (also_first wires (amount_drawing n offset stride) rest o) in
     let result : HasBits wires (part_id (n + 3)) g.width (floor_quotient x (2 ^ u)) =
-      shift_by wires (part_id (n + 2)) a (amount_operand n offset stride) (part_id (n + 3)) g.width u x a.form.signed refl s i b amount (omega arith) (first_cell wires cell [] drawn.cells) in
+    shift_by wires (part_id (n + 2)) a (amount_operand n offset stride) (part_id (n + 3)) g.width u x a.form.signed refl s i b amount (omega arith) (first_cell wires cell [] drawn.cells) in
     linked_bit wires y (wire_part (part_id (n + 3)) 0 y.form.width) k link h ∙ (reads_low wires (part_id (n + 3)) g.width y.form.width (floor_quotient x (2 ^ u)) (omega arith) result).at k h
 
 pub part_accepted : (bad : Bool) (w : ℕ) → shape_stop bad w ≡ None → bad ≡ false
@@ -149,6 +149,6 @@ makes_part a offset width stride wires c n y signals range accepted small e made
     let v : ℤ = c.num offset.0 in
     let same : y.form.width ≡ width = ap (λ (f : Form). f.width) e in
     follows_shown wires c n y (expr.Part a offset width stride) (λ k. left ++ right) (pos (bits_from (unsigned_abs v * stride) width x)) (λ some o k h needs.
-      selected_by wires n (c.value a.0) (c.value offset.0) stride y x v k ((known_form c offset.0).width == 0) refl (form_sign (known_form c a.0) made.0.shape) (part_accepted (known_form c offset.0).signed width accepted) small made.0.integer made.1.0.integer
-      (made_every wires c a made.0 (all_left holds left right needs)) (made_every wires c offset made.1.0 (all_right holds left right needs)) o h
-      ∙ ap (λ b. Some (b == 1)) (sym (bit_pattern (floor_quotient x (2 ^ (unsigned_abs v * stride))) width k (omega arith))))
+    selected_by wires n (c.value a.0) (c.value offset.0) stride y x v k ((known_form c offset.0).width == 0) refl (form_sign (known_form c a.0) made.0.shape) (part_accepted (known_form c offset.0).signed width accepted) small made.0.integer made.1.0.integer
+    (made_every wires c a made.0 (all_left holds left right needs)) (made_every wires c offset made.1.0 (all_right holds left right needs)) o h
+    ∙ ap (λ b. Some (b == 1)) (sym (bit_pattern (floor_quotient x (2 ^ (unsigned_abs v * stride))) width k (omega arith))))

@@ -45,7 +45,7 @@ shifted_bits wires k signed n a b y x z u r kind s f g c d reads makes none =
     cond_both (b.form.width == 0) (linked y (at_width a.id a.form y.form.width)) (one_cell cell) (λ (d : Drawing). Obeys wires d → HasBits wires y.id y.form.width r)
     (λ e o. has_same wires y.id y.form.width x r (none (eqb-true b.form.width 0 e)) (linked_bits wires y (at_width a.id a.form y.form.width) y.form.width x (reads_at_width wires a.id a.form y.form.width x s f c) (omega arith) o))
     (λ e o. whole_cell wires k (part_id n) (at_form a.id a.form form) (as_form b b.form) y.form.width y.id y.form.width x z u r kind
-      (reads_at_width wires a.id a.form y.form.width x s f c) (reads_narrow wires b.id b.form b.form.width z (omega arith) d) reads g makes (first_cell wires cell [] o.cells))
+    (reads_at_width wires a.id a.form y.form.width x s f c) (reads_narrow wires b.id b.form b.form.width z (omega arith) d) reads g makes (first_cell wires cell [] o.cells))
 
 -- ---- up
 
@@ -58,16 +58,16 @@ pub bit_of-shifted : (width : ℕ) (x : ℤ) (j i : ℕ) → i < width → bit_o
 bit_of-shifted width x j i h =
     ap (λ b. b == 1)
     (⊎_elim
-      (λ (below : i < j). int_bit_up_below (pos (pattern width x)) j i below ∙ sym (int_bit_up_below x j i below))
-      (λ (le : j ≤ i).
-        let e : i ≡ j + (i - j) = omega arith in
-        let low : i - j < width = omega arith in
-        ap (int_bit (pos (pattern width x) *ℤ pos (2 ^ j))) e
-        ∙ int_bit_up (pos (pattern width x)) j (i - j)
-        ∙ bit_pattern x width (i - j) low
-        ∙ sym (int_bit_up x j (i - j))
-        ∙ ap (int_bit (x *ℤ pos (2 ^ j))) (sym e))
-      (cases_lt i j))
+    (λ (below : i < j). int_bit_up_below (pos (pattern width x)) j i below ∙ sym (int_bit_up_below x j i below))
+    (λ (le : j ≤ i).
+    let e : i ≡ j + (i - j) = omega arith in
+    let low : i - j < width = omega arith in
+    ap (int_bit (pos (pattern width x) *ℤ pos (2 ^ j))) e
+    ∙ int_bit_up (pos (pattern width x)) j (i - j)
+    ∙ bit_pattern x width (i - j) low
+    ∙ sym (int_bit_up x j (i - j))
+    ∙ ap (int_bit (x *ℤ pos (2 ^ j))) (sym e))
+    (cases_lt i j))
 
 -- an amount without bits is 0
 pub no_amount : (s : Bool) (z : ℤ) → s ≡ false → (width : ℕ) → width ≡ 0 → IsOf s width z → unsigned_abs z ≡ 0
@@ -81,11 +81,11 @@ times_one x j e = (let d : x ≡ x *ℤ pos 1 = omega (arith, ints) in d) ∙ ap
 pub makes_shl : MakesOperator op.Shl
 makes_shl =
     makes_bits op.Shl (λ wires n a b y x z p q t e f g c d some o.
-      let w : ℕ = y.form.width in
-      let j : ℕ = unsigned_abs z in
-      has_same wires y.id w (pos (pattern w x) *ℤ pos (2 ^ j)) (x *ℤ pos (2 ^ j)) (λ i h. bit_of-shifted w x j i h)
-      (shifted_bits wires kind.Shl a.form.signed n a b y x z (pos (pattern w x)) (pos (pattern w x) *ℤ pos (2 ^ j)) shl_whole (form_sign a.form p) f g c d (unsigned_read w x) refl
-        (λ none i h. ap (λ (v : ℤ). bit_of v i) (times_one x j (no_amount b.form.signed z t.operand b.form.width none g)) ∙ sym (bit_of-shifted w x j i h)) o))
+    let w : ℕ = y.form.width in
+    let j : ℕ = unsigned_abs z in
+    has_same wires y.id w (pos (pattern w x) *ℤ pos (2 ^ j)) (x *ℤ pos (2 ^ j)) (λ i h. bit_of-shifted w x j i h)
+    (shifted_bits wires kind.Shl a.form.signed n a b y x z (pos (pattern w x)) (pos (pattern w x) *ℤ pos (2 ^ j)) shl_whole (form_sign a.form p) f g c d (unsigned_read w x) refl
+    (λ none i h. ap (λ (v : ℤ). bit_of v i) (times_one x j (no_amount b.form.signed z t.operand b.form.width none g)) ∙ sym (bit_of-shifted w x j i h)) o))
 
 -- ---- down
 
@@ -103,10 +103,10 @@ read_down s t w v x e d f = integer_read t v x (subst (λ (u : Bool). IsOf u v x
 pub makes_shr : MakesOperator op.Shr
 makes_shr =
     makes_bits op.Shr (λ wires n a b y x z p q t e f g c d some.
-      let r : ℤ = floor_quotient x (2 ^ unsigned_abs z) in
-      let wide : a.form.width ≡ y.form.width = sym (ap (λ (f : Form). f.width) e) in
-      cond_both a.form.signed (shifted kind.Sshr true n a b y) (shifted kind.Shr false n a b y) (λ (drawing : Drawing). Obeys wires drawing → HasBits wires y.id y.form.width r)
-      (λ sign. shifted_bits wires kind.Sshr true n a b y x z x r sshr_whole (form_sign a.form p) f g c d (read_down a.form.signed true a.form.width y.form.width x sign wide f) refl
-        (λ none i h. same_down x z b.form t.operand g none i))
-      (λ sign. shifted_bits wires kind.Shr false n a b y x z x r shr_whole (form_sign a.form p) f g c d (read_down a.form.signed false a.form.width y.form.width x sign wide f) refl
-        (λ none i h. same_down x z b.form t.operand g none i)))
+    let r : ℤ = floor_quotient x (2 ^ unsigned_abs z) in
+    let wide : a.form.width ≡ y.form.width = sym (ap (λ (f : Form). f.width) e) in
+    cond_both a.form.signed (shifted kind.Sshr true n a b y) (shifted kind.Shr false n a b y) (λ (drawing : Drawing). Obeys wires drawing → HasBits wires y.id y.form.width r)
+    (λ sign. shifted_bits wires kind.Sshr true n a b y x z x r sshr_whole (form_sign a.form p) f g c d (read_down a.form.signed true a.form.width y.form.width x sign wide f) refl
+    (λ none i h. same_down x z b.form t.operand g none i))
+    (λ sign. shifted_bits wires kind.Shr false n a b y x z x r shr_whole (form_sign a.form p) f g c d (read_down a.form.signed false a.form.width y.form.width x sign wide f) refl
+    (λ none i h. same_down x z b.form t.operand g none i)))

@@ -50,12 +50,12 @@ pub whole_cell : (wires : Wires) (k : CellKind) (name : List ℕ) (a b : Operand
     → ObeysCell wires (binary_cell k name a b width (wire_part id 0 w)) → HasBits wires id w r
 whole_cell wires k name a b width id w x z u r kind p q e f makes o = record {
   at = λ i h.
-    driven wires (binary_cell k name a b width (wire_part id 0 w)) id w (ap (end_bits (binary_cell k name a b width (wire_part id 0 w))) kind.output) o i h
-    ∙ kind.bit (source_value wires) (binary_cell k name a b width (wire_part id 0 w)) w i
-    ∙ whole_bit_is (source_value wires) (binary_cell k name a b width (wire_part id 0 w)) w i (number_bits a.form.width (pattern a.form.width x)) (number_bits b.form.width (pattern b.form.width z)) r
+      driven wires (binary_cell k name a b width (wire_part id 0 w)) id w (ap (end_bits (binary_cell k name a b width (wire_part id 0 w))) kind.output) o i h
+      ∙ kind.bit (source_value wires) (binary_cell k name a b width (wire_part id 0 w)) w i
+      ∙ whole_bit_is (source_value wires) (binary_cell k name a b width (wire_part id 0 w)) w i (number_bits a.form.width (pattern a.form.width x)) (number_bits b.form.width (pattern b.form.width z)) r
       (reads_whole wires a.spec a.form.width x p) (reads_whole wires b.spec b.form.width z q)
       (rw (e, integer_read b.form.signed b.form.width z f) makes)
-    ∙ slice_get-pattern w r i h;
+      ∙ slice_get-pattern w r i h;
 }
 
 -- the same where the operands are numbers of their shapes, and the cell reads the sign of the first

@@ -38,7 +38,7 @@ narrow wires id s w width x le b =
     cond_both (nat_lt width w) (wire_part id 0 width) (filling id (record { width = w; signed = s }) (width - w) ++ wire_part id 0 w) (λ spec. Reads wires spec width x)
     (λ e. reads_low wires id w width x le b)
     (λ e. reads_above wires (filling id (record { width = w; signed = s }) (width - w)) (wire_part id 0 w) w (width - w) width x (omega (arith, ltb-false width w e)) (reads_low wires id w w x (omega arith) b) (length-filling id s w (width - w))
-      (λ k h. absurd (omega (arith, ltb-false width w e))))
+    (λ k h. absurd (omega (arith, ltb-false width w e))))
 
 pub reads_narrow : (wires : Wires) (id : List ℕ) (f : Form) (width : ℕ) (x : ℤ) → width ≤ f.width → HasBits wires id f.width x → Reads wires (at_width id f width) width x
 reads_narrow wires id f width x le b = narrow wires id f.signed f.width width x le b
@@ -67,8 +67,8 @@ bit_of-wrap s w x i h =
 pub linked_bits : (wires : Wires) (y : Value) (spec : List SigPart) (v : ℕ) (x : ℤ) → Reads wires spec v x → y.form.width ≤ v → Obeys wires (linked y spec) → HasBits wires y.id y.form.width x
 linked_bits wires y spec v x r le o = record {
   at = λ i h.
-    All-head (ObeysLink wires) (record { left = wire_part y.id 0 y.form.width; right = spec }) [] o.links i y.id i (slice_get-wire_part y.id 0 y.form.width i h ∙ ap (λ j. Some (Net y.id j)) (let d : 0 + i ≡ i = omega arith in d))
-    ∙ r.at i (omega arith);
+      All-head (ObeysLink wires) (record { left = wire_part y.id 0 y.form.width; right = spec }) [] o.links i y.id i (slice_get-wire_part y.id 0 y.form.width i h ∙ ap (λ j. Some (Net y.id j)) (let d : 0 + i ≡ i = omega arith in d))
+      ∙ r.at i (omega arith);
 }
 
 -- ---- a wire of one bit

@@ -10,3 +10,5 @@ pub mod Latest
 pub mod Spelled
 pub mod CombDrawings
 pub mod Module
+pub mod PoolsDrawn
+pub mod Drives
