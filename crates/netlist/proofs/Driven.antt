@@ -40,10 +40,10 @@ module _ (c : Circuit) (flat : c.memories ≡ []) where
 
 -- ---- what drives it
 
-by_comb : (p : DesignProcess) → p.domain ≡ None → driving_by (Some p) ≡ ByComb p
+pub by_comb : (p : DesignProcess) → p.domain ≡ None → driving_by (Some p) ≡ ByComb p
 by_comb p e = rw e refl
 
-by_clock : (p : DesignProcess) (d : DomainId) → p.domain ≡ Some d → driving_by (Some p) ≡ ByClock p d
+pub by_clock : (p : DesignProcess) (d : DomainId) → p.domain ≡ Some d → driving_by (Some p) ≡ ByClock p d
 by_clock p d e = rw e refl
 
 module _ (c : Circuit) (s : ℕ) (no_input : is_input c s ≡ false) where

@@ -21,3 +21,4 @@ pub mod OneDriver
 pub mod Driven
 pub mod SettledWires
 pub mod ResetLaws
+pub mod RegisterSteps

@@ -75,7 +75,7 @@ reads_constants wires w x =
 
 -- ---- before any statement
 
-init_bits_are : (c : Circuit) (s : ℕ) (x : Sig) → slice_get c.pool.signals s ≡ Some x → init_bits c s ≡ number_bits (signal_form c.pool.signals s).width (pattern (signal_form c.pool.signals s).width x.init)
+pub init_bits_are : (c : Circuit) (s : ℕ) (x : Sig) → slice_get c.pool.signals s ≡ Some x → init_bits c s ≡ number_bits (signal_form c.pool.signals s).width (pattern (signal_form c.pool.signals s).width x.init)
 init_bits_are c s x e = rw e refl
 
 pub first_sourced : (wires : Wires) (c : Circuit) (s : ℕ) (x : Sig) (cur : List ℤ) → slice_get c.pool.signals s ≡ Some x → at cur s ≡ x.init → IsSourced wires c.pool (at_first c false) cur s
@@ -144,7 +144,7 @@ at-starts_held c st s x e h =
 
 -- ---- the drawing of a signal with bits
 
-signal_drawing-some : (c : Circuit) (s : ℕ) (d : Driving) → 1 ≤ (signal_form c.pool.signals s).width → driving c s ≡ d → signal_drawing c s ≡ driving_drawing c s d
+pub signal_drawing-some : (c : Circuit) (s : ℕ) (d : Driving) → 1 ≤ (signal_form c.pool.signals s).width → driving c s ≡ d → signal_drawing c s ≡ driving_drawing c s d
 signal_drawing-some c s d h e =
     ap (λ t. cond t (driving_drawing c s (driving c s)) nothing) (lt-ltb 0 (signal_form c.pool.signals s).width (omega arith)) ∙ ap (driving_drawing c s) e
 
