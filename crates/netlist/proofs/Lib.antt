@@ -19,6 +19,8 @@ pub mod BitWrites
 pub mod PutSources
 pub mod OneDriver
 pub mod Driven
+pub mod SourcedSpecs
+pub mod Starts
 pub mod SettledWires
 pub mod ResetLaws
 pub mod RegisterSteps

@@ -145,6 +145,12 @@ module _ (wires : Wires) (pool : Pooled) where
         (assigned t v latest cur s parts.0 shown.0 count h)
     put_sourced (next (choose arms) rest) latest cur s plain shown count h = absurd (false≢true plain)
 
+    -- the same of all signals at once
+    pub put_sourced_all : (b : Block) (latest : Latest) (cur : List ℤ) → is_plain pool b ≡ true → AreGiven (λ (e : ExprId). IsShown wires (value e.0) (num pool env e.0)) b
+        → length cur ≡ length pool.signals → Sourced wires pool latest cur → Sourced wires pool (latest_of pool value b latest) (put pool env b cur)
+    put_sourced_all b latest cur plain shown count h =
+        all_sourced wires pool (latest_of pool value b latest) (put pool env b cur) (λ s. put_sourced b latest cur s plain shown count (is_sourced wires pool latest cur s h))
+
 -- ---- signals that the block does not drive
 
 given-other : (v : Value) (ss : List ℕ) (bs : List Bit) (k : ℕ) (latest : Latest) (s i : ℕ) → AllByRecursion (IsOfThese ss) bs → is_among ss s ≡ false → given v bs k latest s i ≡ latest s i
