@@ -1,7 +1,7 @@
 -- What drives each signal of a design without memories, and whether a state holds it.
 use Rattle.std.specs.Prelude.{◌≡◌, refl, ℕ, ◌==◌, ◌&&◌, ◌||◌, Bool, true, false, IsTrue, cond, List, [], ◌∷◌, ◌++◌, map, Option, Some, None, is_some}
 use Rattle.std.specs.List.{AllByRecursion, IsDistinct, list_any, find, flat_map}
-use Rattle.std.proofs.Common.{sym, ◌∙◌, ap, arith, subst, ⊎_elim, append-nil}
+use Rattle.std.proofs.Common.{sym, ◌∙◌, ap, subst, ⊎_elim, append-nil}
 use Rattle.std.proofs.lemmas.Bool.{false≢true, and_parts, or_parts, or_cases, eqb-true}
 use Rattle.std.proofs.lemmas.List.Folds.{list_any-append}
 use Rattle.design_ir.specs.declared.ids.DomainId.{DomainId}
@@ -10,10 +10,10 @@ use Rattle.design_ir.specs.declared.memory.MemRead.{MemRead}
 use Rattle.design_ir.specs.declared.memory.Memory.{Memory}
 use Rattle.design_ir.specs.declared.port.Port.{Port}
 use Rattle.design_ir.specs.Guards.{driven}
-use Rattle.design_ir.specs.Circuits.{Circuit, is_among, is_input, is_register, is_held}
+use Rattle.design_ir.specs.Circuits.{Circuit, is_among, is_input, is_register}
 use Rattle.design_ir.specs.Designs.{share, drivers, IsDesign}
-use Rattle.netlist.specs.Module.{Driving, ByEvents, ByComb, ByClock, ByNothing, drives, driving_by, driving}
-use Rattle.netlist.proofs.OneDriver.{AreNone, IsOnly, find_only, find_none, clocks_it, none_clock, only_clock}
+use Rattle.netlist.specs.Module.{ByEvents, ByComb, ByClock, drives, driving_by, driving}
+use Rattle.netlist.proofs.OneDriver.{AreNone, IsOnly, clocks_it, none_clock, only_clock}
 
 -- the signals that a process drives
 abbrev pub driven_by : Circuit → DesignProcess → List ℕ

@@ -23,4 +23,6 @@ pub mod SourcedSpecs
 pub mod Starts
 pub mod SettledWires
 pub mod ResetLaws
+pub mod SignalBits
 pub mod RegisterSteps
+pub mod ClockEdges

@@ -1,14 +1,13 @@
 -- What a register takes at an edge, on its wires and in the design.
-use Rattle.std.specs.Prelude.{◌≡◌, ◌≢◌, refl, ℕ, zero, suc, ◌+◌, ◌*◌, ◌<◌, ◌≤◌, ◌==◌, ◌&&◌, ◌||◌, ◌⊎◌, Bool, true, false, IsTrue, not, cond, List, [], ◌∷◌, map, length, slice_get, slice_set, ℤ, pos, negsuc, Option, Some, None, is_some, fold, All, codes, ◌-ℤ◌, option_and_then}
+use Rattle.std.specs.Prelude.{◌≡◌, ◌≢◌, refl, ℕ, zero, suc, ◌+◌, ◌*◌, ◌<◌, ◌≤◌, Bool, true, false, not, cond, List, [], ◌∷◌, map, length, slice_get, ℤ, pos, negsuc, Option, Some, None, fold, codes, ◌-ℤ◌, option_and_then}
 use Rattle.std.specs.List.{AllByRecursion, find}
 use Rattle.std.proofs.Common.{sym, ◌∙◌, ap, arith, subst, ⊎_elim}
-use Rattle.std.proofs.lemmas.Bool.{false≢true, cond_both, lt-ltb, cond-true, cond-false}
-use Rattle.std.proofs.lemmas.List.{length-set, get_or-set_other}
+use Rattle.std.proofs.lemmas.Bool.{false≢true, cond_both, cond-true, cond-false}
+use Rattle.std.proofs.lemmas.List.{get_or-set_other}
 use Rattle.std.proofs.lemmas.List.Elements.{All-head}
 use Rattle.amh_bits.specs.Patterns.{IsOf}
 use Rattle.shape_rules.specs.Forms.{Form, unsigned}
 use Rattle.shape_rules.specs.Operators.{is_zero}
-use Rattle.design_ir.specs.declared.ids.SigId.{SigId}
 use Rattle.design_ir.specs.declared.ids.DomainId.{DomainId}
 use Rattle.design_ir.specs.declared.signal.Sig.{Sig}
 use Rattle.design_ir.specs.declared.domain.Domain.{Domain}
@@ -26,24 +25,25 @@ use Rattle.design_ir.proofs.NumbersFit.{element, FitsSignals}
 use Rattle.design_ir.proofs.PutLaws.{put_length, put_other}
 use Rattle.rtlil_text.specs.declared.sig.SigPart.{SigPart}
 use Rattle.rtlil_text.specs.declared.cell.RtlCell.{RtlCell}
-use Rattle.rtlil_text.specs.Sources.{Source, Constant, spec_bits, end_bits}
-use Rattle.rtlil_text.specs.Cells.{bit_at, number_bits}
+use Rattle.rtlil_text.specs.Sources.{Constant, spec_bits, end_bits}
+use Rattle.rtlil_text.specs.Cells.{bit_at}
 use Rattle.rtlil_text.specs.Meaning.{source_value}
 use Rattle.rtlil_text.specs.History.{Wires}
 use Rattle.netlist.specs.Ids.{step_id}
 use Rattle.netlist.specs.Cells.{mux_cell}
 use Rattle.netlist.specs.Operands.{wire_part}
-use Rattle.netlist.specs.Operators.{Value, whole}
+use Rattle.netlist.specs.Operators.{whole}
 use Rattle.netlist.specs.Carried.{Carries}
 use Rattle.netlist.specs.CombDrawings.{ObeysUnkept, ObeysComb}
 use Rattle.netlist.specs.Spelled.{spec_of}
-use Rattle.netlist.specs.Module.{signal_value, drives, driving_by, driving, Driving, ByEvents, ByComb, ByClock, ByNothing, init_bits, bits_at_last, reset_of, clock_of, register_cell, register_drawing, driving_drawing, signal_drawing}
+use Rattle.netlist.specs.Module.{signal_value, drives, driving_by, driving, ByEvents, ByComb, ByClock, ByNothing, init_bits, bits_at_last, reset_of, clock_of, register_cell, register_drawing, signal_drawing}
 use Rattle.netlist.proofs.Places.{slice_get-wire_part}
 use Rattle.netlist.proofs.Reading.{bit_of, HasBits, Reads, has_carried, reads_low}
 use Rattle.netlist.proofs.Widths.{has_equal}
 use Rattle.netlist.proofs.Bitwise.{mux_cell_bits}
 use Rattle.netlist.proofs.BitWrites.{some_signal}
-use Rattle.netlist.proofs.OneDriver.{AreNone, IsOnly, IsFolded, find_only, fold_only}
+use Rattle.netlist.proofs.SignalBits.{bit_at-signal}
+use Rattle.netlist.proofs.OneDriver.{IsOnly, IsFolded, find_only, fold_only}
 use Rattle.netlist.proofs.Driven.{driven_by, distinct_processes, by_comb, by_clock}
 use Rattle.netlist.proofs.ResetLaws.{length-reset_all, reset_all-other, reset_all-less, reset_all-full, IsResetOf, is_reset-of, reset_of-some, reset_of-none}
 use Rattle.netlist.proofs.SettledWires.{Shows, ArePlain, reads_next, signal_drawing-some}
@@ -86,7 +86,7 @@ module _ (c : Circuit) (p : DesignProcess) (d : DomainId) where
 -- ---- what an edge does to other numbers
 
 module _ (c : Circuit) (env : List ℤ) (listed : List DomainId) (s : ℕ) where
-  clocked_at-other : (p : DesignProcess) (cur : List ℤ) (o : Option DomainId) → is_among (driven_by c p) s ≡ false → at (clocked_at c env listed p cur o) s ≡ at cur s
+  pub clocked_at-other : (p : DesignProcess) (cur : List ℤ) (o : Option DomainId) → is_among (driven_by c p) s ≡ false → at (clocked_at c env listed p cur o) s ≡ at cur s
   clocked_at-other p cur None h = refl
   clocked_at-other p cur (Some d) h =
       let left : List ℤ = put c.pool env p.body cur in
@@ -95,7 +95,7 @@ module _ (c : Circuit) (env : List ℤ) (listed : List DomainId) (s : ℕ) where
       (λ e. cond_both (is_reset c env d.0) (reset_all c.pool.signals left (driven c.pool p.body)) left (λ xs. at xs s ≡ at cur s) (λ f. reset_all-other c.pool.signals s (driven c.pool p.body) left h ∙ put_same) (λ f. put_same))
       (λ e. refl)
 
-  length-clocked_at : (p : DesignProcess) (cur : List ℤ) (o : Option DomainId) → length (clocked_at c env listed p cur o) ≡ length cur
+  pub length-clocked_at : (p : DesignProcess) (cur : List ℤ) (o : Option DomainId) → length (clocked_at c env listed p cur o) ≡ length cur
   length-clocked_at p cur None = refl
   length-clocked_at p cur (Some d) =
       let left : List ℤ = put c.pool env p.body cur in
@@ -112,7 +112,7 @@ module _ (c : Circuit) (env : List ℤ) (listed : List DomainId) (s : ℕ) where
   toggles-other [] cur h = refl
   toggles-other (d ∷ ds) cur h = toggles-other ds (toggle c.domains cur d) h ∙ toggle_at-other cur (slice_get c.domains d.0) (λ x e. h d x e)
 
-all_at : {A : Type 0} (P : A → Type 0) (xs : List A) (k : ℕ) (x : A) → AllByRecursion P xs → slice_get xs k ≡ Some x → P x
+pub all_at : {A : Type 0} (P : A → Type 0) (xs : List A) (k : ℕ) (x : A) → AllByRecursion P xs → slice_get xs k ≡ Some x → P x
 all_at P [] k x h e = cc
 all_at P (y ∷ xs) zero x h e = let same : y ≡ x = cc in subst P same h.0
 all_at P (y ∷ xs) (suc k) x h e = all_at P xs k x h.1 e
@@ -122,14 +122,6 @@ no_clock : (c : Circuit) (s : ℕ) → AllByRecursion (IsClockDomain c) c.domain
 no_clock c s h none d x e same =
     let input : is_input c x.clk.0 ≡ true = (all_at (IsClockDomain c) c.domains d.0 x h e).clock_input in
     false≢true (sym none ∙ ap (is_input c) same ∙ input)
-
--- ---- one bit that is a number
-
-bit_zero : (x : ℤ) → IsOf false 1 x → bit_of x 0 ≡ not (is_zero x)
-bit_zero (pos zero) h = refl
-bit_zero (pos (suc zero)) h = refl
-bit_zero (pos (suc (suc n))) h = absurd (omega arith)
-bit_zero (negsuc n) h = absurd h
 
 -- ---- a register at an edge
 
@@ -208,11 +200,7 @@ module _ (c : Circuit) (design : IsDesign c) (flat : c.memories ≡ []) (s : ℕ
             let rules_of : IsClockDomain c h.domain = all_at (IsClockDomain c) c.domains d.0 h.domain design.domains h.listed in
             let reset : IsSignalOf c (unsigned 1) h.signal = subst (IsReset c) h.has rules_of.reset in
             let shape : signal_form c.pool.signals r ≡ unsigned 1 = ap (signal_form c.pool.signals) (sym h.number) ∙ reset.shape in
-            let wide : (signal_form c.pool.signals r).width ≡ 1 = ap (λ (g : Form). g.width) shape in
-            let fits : IsOf false 1 (at env r) = subst (λ (g : Form). IsOf g.signed g.width (at env r)) shape (fit r (subst (λ n. n < length c.pool.signals) h.number reset.there)) in
-            ap (option_and_then (source_value wires)) (slice_get-wire_part (signal_value c r).id 0 (signal_form c.pool.signals r).width 0 (omega (arith, wide)))
-            ∙ (has_carried wires (signal_value c r) (at env r) (carried r)).at 0 (omega (arith, wide))
-            ∙ ap Some (bit_zero (at env r) fits)
+            bit_at-signal wires c r (at env r) shape (fit r (subst (λ n. n < length c.pool.signals) h.number reset.there)) (carried r)
 
         reads_init : Reads wires (spec_of (map Constant (init_bits c s))) (signal_form c.pool.signals s).width sig.0.init
         reads_init =
