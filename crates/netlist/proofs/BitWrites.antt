@@ -1,12 +1,11 @@
 -- The bits of a signal's number after one of its bits is written.
-use Rattle.std.specs.Prelude.{◌≡◌, ◌≢◌, refl, ℕ, zero, suc, ◌+◌, ◌-◌, ◌*◌, ◌/◌, ◌%◌, ◌^◌, ◌<◌, ◌≤◌, ◌==◌, Bool, cond, List, [], ◌∷◌, length, slice_set, slice_index_or, ℤ, pos}
+use Rattle.std.specs.Prelude.{◌≡◌, ◌≢◌, ℕ, zero, suc, ◌+◌, ◌-◌, ◌*◌, ◌/◌, ◌%◌, ◌^◌, ◌<◌, ◌≤◌, Bool, List, [], ◌∷◌, length, ℤ, pos}
 use Rattle.std.proofs.Common.{sym, ◌∙◌, ap, arith, ⊎_elim}
-use Rattle.std.proofs.lemmas.Bool.{cases_eq, cases_lt}
+use Rattle.std.proofs.lemmas.Bool.{cases_lt}
 use Rattle.std.proofs.lemmas.Nat.{pow_pos, mod_below}
 use Rattle.std.proofs.Math.Nat.{div-one}
 use Rattle.std.proofs.lemmas.List.{get_or-set_same, get_or-set_other}
 use Rattle.amh_bits.specs.Patterns.{pattern, number, nat_bit, int_bit}
-use Rattle.amh_bits.specs.BitVectors.{BitVector}
 use Rattle.amh_bits.proofs.BitsOf.{bit_pattern, nat_bit_mod, int_bit_down, nat_bit_joined_low, nat_bit_joined_high}
 use Rattle.amh_bits.proofs.Wraps.{pattern_below, pattern_number}
 use Rattle.shape_rules.specs.Forms.{Form}

@@ -1,19 +1,19 @@
 -- A fixed target stands for the same bits in every environment: bits of its signals, each within its signal.
-use Rattle.std.specs.Prelude.{◌≡◌, refl, ℕ, zero, suc, ◌+◌, ◌<◌, ◌≤◌, ◌&&◌, Bool, true, false, IsTrue, ⊤, List, [], ◌∷◌, ◌++◌, map, take, drop, ℤ, Option, Some, None, slice_index_or}
+use Rattle.std.specs.Prelude.{◌≡◌, refl, ℕ, zero, suc, ◌+◌, ◌<◌, ◌≤◌, Bool, true, false, IsTrue, ⊤, List, [], ◌∷◌, ◌++◌, map, take, drop, ℤ, Option, Some, slice_index_or}
 use Rattle.std.specs.List.{AllByRecursion, flat_map, list_all, range_with_len}
 use Rattle.std.proofs.Common.{sym, ◌∙◌, ap, arith}
-use Rattle.std.proofs.lemmas.Bool.{false≢true, and_parts, or_left, or_right, eq-eqb}
+use Rattle.std.proofs.lemmas.Bool.{false≢true, and_parts}
 use Rattle.std.proofs.lemmas.List.{map-append, take-map, drop-map}
 use Rattle.shape_rules.specs.Forms.{Form}
 use Rattle.design_ir.specs.declared.ids.ExprId.{ExprId}
 use Rattle.design_ir.specs.declared.expr.Expr.{Expr}
 use Rattle.design_ir.specs.declared.expr.Expr.TheVariants as expr
-use Rattle.design_ir.specs.Pools.{Pooled, answers, answer}
+use Rattle.design_ir.specs.Pools.{Pooled, answers}
 use Rattle.design_ir.specs.Values.{form, num, signal_form}
-use Rattle.design_ir.specs.Targets.{Bit, bits_of, target_step, target_bits, target_test, is_target, signals_step, target_signals}
+use Rattle.design_ir.specs.Targets.{Bit, target_step, target_bits, target_test, is_target, signals_step, target_signals}
 use Rattle.design_ir.specs.Circuits.{is_among}
 use Rattle.design_ir.proofs.Related.{related}
-use Rattle.design_ir.proofs.PutLaws.{IsWithin, AreWithin, target_within}
+use Rattle.design_ir.proofs.PutLaws.{AreWithin, target_within}
 use Rattle.netlist.specs.Latest.{fixed_step, is_fixed, places_step, places}
 
 -- ---- the same bits in every environment

@@ -31,6 +31,8 @@ pub mod BitWrites
 pub mod PutSources
 pub mod OneDriver
 pub mod Driven
+pub mod SourcedSpecs
+pub mod Starts
 pub mod SettledWires
 pub mod ResetLaws
 pub mod Permuted
@@ -45,3 +47,6 @@ pub mod FittingSelections
 pub mod PoolNeeds
 pub mod PoolsMade
 pub mod Driving
+pub mod SignalBits
+pub mod RegisterSteps
+pub mod ClockEdges

@@ -1,12 +1,10 @@
 -- A signal that one process alone drives, or none: what the processes leave of its number, one after another.
-use Rattle.std.specs.Prelude.{◌≡◌, refl, ℕ, zero, suc, ◌==◌, ◌&&◌, ◌||◌, Bool, true, false, cond, List, [], ◌∷◌, ◌++◌, map, length, ℤ, Option, Some, None, is_some, fold}
-use Rattle.std.specs.List.{AllByRecursion, IsDistinct, list_any, find, flat_map}
-use Rattle.std.proofs.Common.{sym, ◌∙◌, ap, arith, subst, ⊎_elim, append-nil}
+use Rattle.std.specs.Prelude.{◌≡◌, refl, ℕ, ◌==◌, ◌&&◌, ◌||◌, Bool, true, false, cond, List, [], ◌∷◌, ◌++◌, map, length, ℤ, Some, None, is_some, fold}
+use Rattle.std.specs.List.{AllByRecursion, IsDistinct, list_any, find}
+use Rattle.std.proofs.Common.{sym, ◌∙◌, ap, subst, ⊎_elim}
 use Rattle.std.proofs.lemmas.Bool.{false≢true, or_parts, or_cases, or_from, and_right, eqb-true}
 use Rattle.std.proofs.lemmas.Map.Keys.{IsDistinct-head, IsDistinct-tail}
 use Rattle.design_ir.specs.declared.process.DesignProcess.{DesignProcess}
-use Rattle.design_ir.specs.declared.memory.MemRead.{MemRead}
-use Rattle.design_ir.specs.declared.memory.Memory.{Memory}
 use Rattle.design_ir.specs.Circuits.{at, is_among}
 use Rattle.design_ir.specs.Designs.{share}
 use Rattle.design_ir.proofs.GuardLaws.{fold_append}

@@ -1,19 +1,18 @@
 -- Sources that carry the numbers of signals, before and after the statements of a plain block.
-use Rattle.std.specs.Prelude.{◌≡◌, ◌≢◌, refl, ℕ, zero, suc, ◌+◌, ◌-◌, ◌<◌, ◌≤◌, ◌==◌, ◌&&◌, ◌||◌, ⊤, Bool, true, false, cond, IsTrue, List, [], ◌∷◌, ◌++◌, map, length, slice_get, ℤ, Option, Some, None, nat_lt}
-use Rattle.std.specs.List.{AllByRecursion, flat_map}
+use Rattle.std.specs.Prelude.{◌≡◌, ◌≢◌, refl, ℕ, zero, suc, ◌+◌, ◌-◌, ◌<◌, ◌≤◌, ◌==◌, ◌&&◌, ⊤, Bool, true, false, cond, List, [], ◌∷◌, map, length, slice_get, ℤ, Some, nat_lt}
+use Rattle.std.specs.List.{AllByRecursion}
 use Rattle.std.proofs.Common.{sym, ◌∙◌, ap, arith, subst, ⊎_elim}
-use Rattle.std.proofs.lemmas.Bool.{false≢true, cases_eq, cases_lt, cond_both, and_parts, and_right, and_left, ne_eqb, eq-eqb, ltb-true, ltb-false}
+use Rattle.std.proofs.lemmas.Bool.{false≢true, cases_eq, cond_both, and_parts, and_right, ne_eqb, eq-eqb, ltb-true, ltb-false}
 use Rattle.std.proofs.lemmas.List.{length-map, length-set}
-use Rattle.amh_bits.specs.Patterns.{pattern, nat_bit, int_bit, IsOf}
+use Rattle.amh_bits.specs.Patterns.{pattern, nat_bit, IsOf}
 use Rattle.amh_bits.proofs.BitsOf.{bit_pattern, nat_bit_low}
 use Rattle.amh_bits.proofs.Same.{past_unsigned, past_signed}
-use Rattle.shape_rules.specs.Forms.{Form}
 use Rattle.design_ir.specs.declared.ids.ExprId.{ExprId}
 use Rattle.design_ir.specs.Pools.{Pooled}
 use Rattle.design_ir.specs.Values.{num, signal_form}
 use Rattle.design_ir.specs.Targets.{Bit, target_bits, target_signals}
-use Rattle.design_ir.specs.Trees.{Statement, assign, choose, Choices, Block, done, next}
-use Rattle.design_ir.specs.Guards.{Guarded, guarded, guarded_in, driven, block_exprs, statement_exprs}
+use Rattle.design_ir.specs.Trees.{assign, choose, Block, done, next}
+use Rattle.design_ir.specs.Guards.{driven}
 use Rattle.design_ir.specs.Put.{put, put_statement, put_number, put_bits, put_bit}
 use Rattle.design_ir.specs.Circuits.{at, is_among}
 use Rattle.design_ir.proofs.PutLaws.{put_length, among_parts, apart}
@@ -144,6 +143,12 @@ module _ (wires : Wires) (pool : Pooled) where
         put_sourced rest (given (value v.0) (places pool t.0) 0 latest) (put_statement pool env (assign t v p) cur) s parts.1 shown.1 (put_length pool env (next (assign t v p) done) cur ∙ count)
         (assigned t v latest cur s parts.0 shown.0 count h)
     put_sourced (next (choose arms) rest) latest cur s plain shown count h = absurd (false≢true plain)
+
+    -- the same of all signals at once
+    pub put_sourced_all : (b : Block) (latest : Latest) (cur : List ℤ) → is_plain pool b ≡ true → AreGiven (λ (e : ExprId). IsShown wires (value e.0) (num pool env e.0)) b
+        → length cur ≡ length pool.signals → Sourced wires pool latest cur → Sourced wires pool (latest_of pool value b latest) (put pool env b cur)
+    put_sourced_all b latest cur plain shown count h =
+        all_sourced wires pool (latest_of pool value b latest) (put pool env b cur) (λ s. put_sourced b latest cur s plain shown count (is_sourced wires pool latest cur s h))
 
 -- ---- signals that the block does not drive
 

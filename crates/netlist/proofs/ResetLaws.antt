@@ -1,6 +1,5 @@
 -- What a reset leaves of a register: its init, but where it is reset-less.
-use Rattle.std.specs.Prelude.{◌≡◌, ◌≢◌, refl, ℕ, zero, suc, ◌<◌, ◌==◌, ◌||◌, ◌⊎◌, Bool, true, false, not, cond, List, [], ◌∷◌, length, slice_get, slice_set, ℤ, pos, Option, Some, None, option_map, option_and_then, unwrap_or}
-use Rattle.std.specs.List.{AllByRecursion}
+use Rattle.std.specs.Prelude.{◌≡◌, ◌≢◌, refl, ℕ, ◌<◌, ◌==◌, ◌⊎◌, Bool, true, false, not, cond, List, [], ◌∷◌, length, slice_get, slice_set, ℤ, pos, Option, Some, None, option_map, option_and_then, unwrap_or}
 use Rattle.std.proofs.Common.{sym, ◌∙◌, ap, arith, subst, ⊎_elim, inl, inr}
 use Rattle.std.proofs.lemmas.Bool.{false≢true, or_parts, or_cases, cond_both, cases_eq, eqb-true, eqb-false}
 use Rattle.std.proofs.lemmas.List.{length-set, get_or-set_same, get_or-set_other}

@@ -1,14 +1,9 @@
 -- Wires that carry an environment in which every combinational equation holds.
-use Rattle.std.specs.Prelude.{◌≡◌, refl, ℕ, zero, suc, ◌+◌, ◌<◌, ◌≤◌, ◌==◌, ◌&&◌, ◌||◌, Bool, true, false, cond, List, [], ◌∷◌, ◌++◌, map, length, slice_get, ℤ, Option, Some, None, is_some, is_none, nat_lt, fold, unwrap_or, option_map, option_and_then}
-use Rattle.std.specs.List.{AllByRecursion, find, range_with_len}
-use Rattle.std.proofs.Common.{sym, ◌∙◌, ap, arith, subst}
-use Rattle.std.proofs.lemmas.Bool.{false≢true, and_parts, or_parts, or_right, cond_both, lt-ltb}
-use Rattle.std.proofs.lemmas.List.{length-map}
+use Rattle.std.specs.Prelude.{◌≡◌, refl, ℕ, ◌<◌, ◌≤◌, Bool, true, false, cond, List, [], map, length, slice_get, ℤ, Option, Some, None, is_some, is_none, fold}
+use Rattle.std.specs.List.{AllByRecursion, find}
+use Rattle.std.proofs.Common.{sym, ◌∙◌, ap, arith, subst, ⊎_elim}
+use Rattle.std.proofs.lemmas.Bool.{false≢true, and_parts, or_parts, or_left, or_right, or_cases, cond_both, lt-ltb}
 use Rattle.std.proofs.lemmas.List.Elements.{All-nil}
-use Rattle.std.proofs.lemmas.List.FromFn.{length-range_with_len, get_or-range_with_len}
-use Rattle.std.proofs.lemmas.Option.{slice_get-map, slice_get-get_or}
-use Rattle.amh_bits.specs.Patterns.{pattern}
-use Rattle.shape_rules.specs.Forms.{Form}
 use Rattle.design_ir.specs.declared.ids.ExprId.{ExprId}
 use Rattle.design_ir.specs.declared.ids.DomainId.{DomainId}
 use Rattle.design_ir.specs.declared.signal.Sig.{Sig}
@@ -16,81 +11,33 @@ use Rattle.design_ir.specs.declared.memory.Memory.{Memory}
 use Rattle.design_ir.specs.declared.process.DesignProcess.{DesignProcess}
 use Rattle.design_ir.specs.Pools.{Pooled}
 use Rattle.design_ir.specs.PoolRules.{IsPool}
-use Rattle.design_ir.specs.Trees.{Statement, assign, choose, Choices, Block, done, next}
-use Rattle.design_ir.specs.Guards.{driven, block_exprs}
+use Rattle.design_ir.specs.Trees.{assign, choose, Block, done, next}
+use Rattle.design_ir.specs.Guards.{block_exprs}
 use Rattle.design_ir.specs.Values.{form, num, signal_form}
 use Rattle.design_ir.specs.Put.{put}
 use Rattle.design_ir.specs.Circuits.{Circuit, State, at, is_among, is_input, is_register, is_held}
 use Rattle.design_ir.specs.Designs.{IsUsable, IsProcess, IsDesign}
-use Rattle.design_ir.specs.Settled.{starts, comb_process, comb_reads, delta, Settled}
+use Rattle.design_ir.specs.Settled.{starts, comb_process, comb_reads, Settled}
 use Rattle.design_ir.proofs.NumbersFit.{element, FitsSignals, has_shape, num_fits}
 use Rattle.design_ir.proofs.PutLaws.{put_length, put_other}
 use Rattle.rtlil_text.specs.declared.sig.SigPart.{SigPart}
-use Rattle.rtlil_text.specs.Sources.{Source, Constant, Net, spec_bits}
-use Rattle.rtlil_text.specs.Cells.{number_bits, bit_at}
-use Rattle.rtlil_text.specs.Meaning.{source_value}
+use Rattle.rtlil_text.specs.Sources.{Constant}
 use Rattle.rtlil_text.specs.History.{Wires}
-use Rattle.rtlil_text.proofs.CellLaws.{length-number_bits}
-use Rattle.netlist.specs.Operators.{Drawing, nothing, linked}
+use Rattle.netlist.specs.Operators.{nothing}
 use Rattle.netlist.specs.Carried.{Carries, ObeysCell}
 use Rattle.netlist.specs.CombDrawings.{ObeysComb}
 use Rattle.netlist.specs.Latest.{Latest, latest_of, is_fixed, is_plain}
 use Rattle.netlist.specs.Spelled.{spec_of}
-use Rattle.netlist.specs.Module.{signal_value, expr_value, drives, driving_by, driving, Driving, ByEvents, ByComb, ByClock, ByNothing, init_bits, at_first, at_last, bits_at_last, link_to, driving_drawing, signal_drawing}
-use Rattle.netlist.proofs.Reading.{bit_of, HasBits, Reads, has_carried, carries_bits, slice_get-pattern}
+use Rattle.netlist.specs.Module.{signal_value, expr_value, drives, driving, Driving, ByComb, ByNothing, init_bits, at_first, at_last, bits_at_last, link_to, driving_drawing, signal_drawing}
+use Rattle.netlist.proofs.Reading.{Reads, carries_bits}
 use Rattle.netlist.proofs.Drawn.{form_sign}
 use Rattle.netlist.proofs.Widths.{linked_bits}
-use Rattle.netlist.proofs.SpelledLaws.{spec_bits-spec_of}
 use Rattle.netlist.proofs.BitWrites.{some_signal}
 use Rattle.netlist.proofs.PutSources.{IsSourced, IsShown, AreGiven, put_sourced}
-use Rattle.netlist.proofs.OneDriver.{AreNone, IsOnly, IsFolded, find_only, find_none, fold_none, fold_only, only_holds}
-use Rattle.netlist.proofs.Driven.{driven_by, distinct_processes, is_register-none, is_register-only, driving-found, driving-comb}
-
--- ---- specs of sourced bits
-
-from_zero : (n k : ℕ) → k < n → slice_get (range_with_len 0 n) k ≡ Some k
-from_zero n k h =
-    slice_get-get_or (range_with_len 0 n) k 0 (rw (length-range_with_len 0 n) h) ∙ ap Some (get_or-range_with_len 0 n k 0 h ∙ (let e : 0 + k ≡ k = omega arith in e))
-
-pub reads_sources : (wires : Wires) (sources : ℕ → Source) (w : ℕ) (x : ℤ) → ((i : ℕ) → i < w → source_value wires (sources i) ≡ Some (bit_of x i)) → Reads wires (spec_of (map sources (range_with_len 0 w))) w x
-reads_sources wires sources w x h =
-    let all : List Source = map sources (range_with_len 0 w) in
-    record {
-      wide = ap length (spec_bits-spec_of all) ∙ length-map (range_with_len 0 w) sources ∙ length-range_with_len 0 w;
-      at = λ k l.
-        ap (λ ss. option_and_then (source_value wires) (slice_get ss k)) (spec_bits-spec_of all)
-        ∙ ap (option_and_then (source_value wires)) (slice_get-map sources (range_with_len 0 w) k ∙ ap (option_map sources) (from_zero w k l))
-        ∙ h k l;
-    }
-
-pub reads_constants : (wires : Wires) (w : ℕ) (x : ℤ) → Reads wires (spec_of (map Constant (number_bits w (pattern w x)))) w x
-reads_constants wires w x =
-    let bits : List Bool = number_bits w (pattern w x) in
-    record {
-      wide = ap length (spec_bits-spec_of (map Constant bits)) ∙ length-map bits Constant ∙ length-number_bits w (pattern w x);
-      at = λ k l.
-        ap (λ ss. option_and_then (source_value wires) (slice_get ss k)) (spec_bits-spec_of (map Constant bits))
-        ∙ ap (option_and_then (source_value wires)) (slice_get-map Constant bits k ∙ ap (option_map Constant) (slice_get-pattern w x k l));
-    }
-
--- ---- before any statement
-
-init_bits_are : (c : Circuit) (s : ℕ) (x : Sig) → slice_get c.pool.signals s ≡ Some x → init_bits c s ≡ number_bits (signal_form c.pool.signals s).width (pattern (signal_form c.pool.signals s).width x.init)
-init_bits_are c s x e = rw e refl
-
-pub first_sourced : (wires : Wires) (c : Circuit) (s : ℕ) (x : Sig) (cur : List ℤ) → slice_get c.pool.signals s ≡ Some x → at cur s ≡ x.init → IsSourced wires c.pool (at_first c false) cur s
-first_sourced wires c s x cur e is = record {
-  bits = λ i l.
-    let w : ℕ = (signal_form c.pool.signals s).width in
-    ap (λ bits. Some (unwrap_or (slice_get bits i) false)) (init_bits_are c s x e)
-    ∙ ap (λ o. Some (unwrap_or o false)) (slice_get-pattern w x.init i l)
-    ∙ ap (λ z. Some (bit_of z i)) (sym is);
-}
-
-pub held_sourced : (wires : Wires) (c : Circuit) (s : ℕ) (cur : List ℤ) (x : ℤ) → Carries wires (signal_value c s) x → at cur s ≡ x → IsSourced wires c.pool (at_first c true) cur s
-held_sourced wires c s cur x carried is = record {
-  bits = λ i l. (has_carried wires (signal_value c s) x carried).at i l ∙ ap (λ z. Some (bit_of z i)) (sym is);
-}
+use Rattle.netlist.proofs.OneDriver.{IsOnly, find_only, find_none, fold_none, fold_only, only_holds}
+use Rattle.netlist.proofs.Driven.{driven_by, distinct_processes, input_none, is_register-none, is_register-only, driving-found, driving-comb}
+use Rattle.netlist.proofs.SourcedSpecs.{reads_sources, reads_constants, init_bits_are, first_sourced, held_sourced}
+use Rattle.netlist.proofs.Starts.{length-starts, at-starts, at-starts_held}
 
 -- ---- what expressions carry
 
@@ -114,37 +61,9 @@ block_given P Q pool done f plain h = tt
 block_given P Q pool (next (assign t v p) rest) f plain h = (f v h.1.0, block_given P Q pool rest f (and_parts (is_fixed pool t.0) (is_plain pool rest) plain).1 h.1.1)
 block_given P Q pool (next (choose arms) rest) f plain h = absurd (false≢true plain)
 
--- ---- the numbers that comb processes begin with
-
-starts_at : (c : Circuit) (st : State) (k : ℕ) (sigs : List Sig) (s : ℕ) (x : Sig) → slice_get sigs s ≡ Some x → at (starts c st k sigs) s ≡ cond (is_held c (k + s)) (at st.held (k + s)) x.init
-starts_at c st k [] s x e = cc
-starts_at c st k (y ∷ sigs) zero x e =
-    let same : y ≡ x = cc in
-    ap (λ (z : Sig). cond (is_held c k) (at st.held k) z.init) same ∙ ap (λ j. cond (is_held c j) (at st.held j) x.init) (let d : k ≡ k + 0 = omega arith in d)
-starts_at c st k (y ∷ sigs) (suc s) x e =
-    starts_at c st (suc k) sigs s x e ∙ ap (λ j. cond (is_held c j) (at st.held j) x.init) (let d : suc k + s ≡ k + suc s = omega arith in d)
-
-length-starts : (c : Circuit) (st : State) (k : ℕ) (sigs : List Sig) → length (starts c st k sigs) ≡ length sigs
-length-starts c st k [] = refl
-length-starts c st k (y ∷ sigs) = ap suc (length-starts c st (suc k) sigs)
-
--- a signal that is not held begins at its init
-at-starts : (c : Circuit) (st : State) (s : ℕ) (x : Sig) → slice_get c.pool.signals s ≡ Some x → is_held c s ≡ false → at (starts c st 0 c.pool.signals) s ≡ x.init
-at-starts c st s x e h =
-    starts_at c st 0 c.pool.signals s x e
-    ∙ ap (λ j. cond (is_held c j) (at st.held j) x.init) (let d : 0 + s ≡ s = omega arith in d)
-    ∙ ap (λ t. cond t (at st.held s) x.init) h
-
--- one that is held begins as it is
-at-starts_held : (c : Circuit) (st : State) (s : ℕ) (x : Sig) → slice_get c.pool.signals s ≡ Some x → is_held c s ≡ true → at (starts c st 0 c.pool.signals) s ≡ at st.held s
-at-starts_held c st s x e h =
-    starts_at c st 0 c.pool.signals s x e
-    ∙ ap (λ j. cond (is_held c j) (at st.held j) x.init) (let d : 0 + s ≡ s = omega arith in d)
-    ∙ ap (λ t. cond t (at st.held s) x.init) h
-
 -- ---- the drawing of a signal with bits
 
-signal_drawing-some : (c : Circuit) (s : ℕ) (d : Driving) → 1 ≤ (signal_form c.pool.signals s).width → driving c s ≡ d → signal_drawing c s ≡ driving_drawing c s d
+pub signal_drawing-some : (c : Circuit) (s : ℕ) (d : Driving) → 1 ≤ (signal_form c.pool.signals s).width → driving c s ≡ d → signal_drawing c s ≡ driving_drawing c s d
 signal_drawing-some c s d h e =
     ap (λ t. cond t (driving_drawing c s (driving c s)) nothing) (lt-ltb 0 (signal_form c.pool.signals s).width (omega arith)) ∙ ap (driving_drawing c s) e
 
@@ -244,6 +163,31 @@ module _ (wires : Wires) (c : Circuit) (env : List ℤ) (design : IsDesign c) (r
         let stays : comb_process c.pool env r.then p ≡ r.then = ap (λ t. cond (is_none t) (put c.pool env p.body r.then) r.then) e in
         let register : is_register c s ≡ true = is_register-only c flat s p o ∙ ap is_some e in
         ap (λ xs. at xs s) (sym settled_is) ∙ r.result ∙ ap (λ xs. at xs s) stays ∙ r.same ∙ at-starts_held c st s x.0 x.1 (or_right (is_input c s) (is_register c s) register)
+
+    settled_input : s < length c.pool.signals → is_input c s ≡ true → at env s ≡ at st.held s
+    unfolding begin
+    settled_input there e =
+        let x = element c.pool.signals s there in
+        ap (λ xs. at xs s) (sym settled_is)
+        ∙ fold_none (driven_by c) s (comb_process c.pool env) comb_count comb_others c.processes begin (input_none c s design e)
+        ∙ at-starts_held c st s x.0 x.1 (or_left (is_input c s) (is_register c s) e)
+
+    -- so is whatever the state holds
+    pub settled_held : s < length c.pool.signals → is_held c s ≡ true → at env s ≡ at st.held s
+    settled_held there held = ⊎_elim
+      (λ (e : is_input c s ≡ true). settled_input there e)
+      (λ (e : is_register c s ≡ true). by_found (find (drives c s) c.processes) refl e)
+      (or_cases (is_input c s) (is_register c s) held)
+      where
+        by_domain : (p : DesignProcess) (d : Option DomainId) → find (drives c s) c.processes ≡ Some p → p.domain ≡ d → is_register c s ≡ true → at env s ≡ at st.held s
+        by_domain p None f d e =
+            let o : IsOnly (driven_by c) s c.processes p = find_only (driven_by c) s c.processes p (distinct_processes c flat design) f in
+            absurd (false≢true (sym (is_register-only c flat s p o ∙ ap is_some d) ∙ e))
+        by_domain p (Some x) f d e = settled_register p x there (find_only (driven_by c) s c.processes p (distinct_processes c flat design) f) d
+
+        by_found : (o : Option DesignProcess) → find (drives c s) c.processes ≡ o → is_register c s ≡ true → at env s ≡ at st.held s
+        by_found None f e = absurd (false≢true (sym (is_register-none c flat s (find_none (driven_by c) s c.processes f)) ∙ e))
+        by_found (Some p) f e = by_domain p p.domain f refl e
 
     -- the wire of a signal that no state holds carries its number
     pub settled_signal : is_held c s ≡ false → ObeysComb wires (signal_drawing c s) → Carries wires (signal_value c s) (at env s)
