@@ -21,3 +21,5 @@ pub mod OperatorsDrawn
 pub mod ExpressionsDrawn
 pub mod ManyDrawn
 pub mod SignalsDrawn
+pub mod ColumnSignals
+pub mod ModuleIds
