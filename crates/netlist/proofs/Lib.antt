@@ -23,3 +23,5 @@ pub mod ManyDrawn
 pub mod SignalsDrawn
 pub mod ColumnSignals
 pub mod ModuleIds
+pub mod ModuleWires
+pub mod ModuleDrivers

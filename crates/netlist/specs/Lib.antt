@@ -7,3 +7,4 @@ pub mod Expressions
 pub mod Latest
 pub mod Spelled
 pub mod Module
+pub mod Corresponds
