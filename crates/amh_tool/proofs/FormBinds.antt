@@ -1,6 +1,7 @@
 -- One step of the component form after another.
 use Rattle.std.proofs.Common.{◌≡◌, refl, ℕ}
 use Rattle.std.specs.Prelude.{Option, Some, None, option_and_then, Result, Ok, Err}
+use Rattle.std.specs.Option.{option_map}
 use Rattle.amh_tool.specs.Component.{◌>>=◌}
 
 -- what follows where two steps are refused: the first was, or the second was
@@ -20,3 +21,9 @@ pub bind-some : {A B : Type 0} (o : Option A) (k : A → Option B) (b : B) (P : 
     → ((a : A) → o ≡ Some a → k a ≡ Some b → P) → option_and_then k o ≡ Some b → P
 bind-some None k b P both h = absurd (cc)
 bind-some (Some a) k b P both h = both a refl h
+
+-- what follows where a thing that was found is changed
+pub map-some : {A B : Type 0} (f : A → B) (o : Option A) (b : B) (P : Type 0)
+    → ((a : A) → o ≡ Some a → f a ≡ b → P) → option_map f o ≡ Some b → P
+map-some f None b P both h = absurd (cc)
+map-some f (Some a) b P both h = both a refl (cc)

@@ -1,27 +1,28 @@
--- The text that spells a gate is read as that gate.
-use Rattle.std.proofs.Common.{◌≡◌, refl, ℕ, zero, suc, ◌<◌, ◌≤◌, List, [], ◌∷◌, ◌++◌, length, map, take, drop, Bool, true, false, not, ◌&&◌, ap, sym, ◌∙◌, subst, arith}
-use Rattle.std.specs.Prelude.{Some, None, Ok, IsAscii, bytes_eq, codes, position, nat_lt, ◌==◌}
+-- The text that spells a sound component is read as that component.
+use Rattle.std.proofs.Common.{◌≡◌, refl, ℕ, zero, suc, ◌<◌, ◌≤◌, ◌+◌, List, [], ◌∷◌, ◌++◌, length, map, take, drop, get_or, Bool, true, false, cond, not, ◌&&◌, ◌||◌, ap, sym, ◌∙◌, subst, arith, All, ⊎_elim}
+use Rattle.std.specs.Prelude.{Option, Some, None, Ok, IsAscii, bytes_eq, codes, nat_lt, nat_le, option_and_then, ◌==◌}
 use Rattle.std.specs.List.{flat_map, list_all, prefix_len}
 use Rattle.std.proofs.lemmas.Bool.{and_parts, and_from, eqb-true, eq-eqb, false≢true, false_from_ne_true}
 use Rattle.std.proofs.lemmas.Bool.Decides.{nat_tests}
 use Rattle.std.proofs.lemmas.List.{append_assoc}
+use Rattle.std.proofs.lemmas.List.Elements.{All-head, All-tail}
 use Rattle.std.proofs.lemmas.List.Folds.{prefix_len-append}
-use Rattle.std.proofs.lemmas.List.Sums.{prefix_len_is}
 use Rattle.std.proofs.lemmas.Slice.Eq.{bytes_eq-Decides}
 use Rattle.std.proofs.lemmas.Str.{IsUtf8-from_ascii}
 use Rattle.amh_tool.specs.FormNames.{is_name, is_name_byte}
-use Rattle.amh_tool.specs.Form.{IsOf, IsInput, IsOutput, IsConjunction, IsOneConjunction, HasDistinctNames, IsGate, member_at, no_member}
-use Rattle.amh_tool.specs.FormLines.{Line, with_byte, lines_in, behind, cut_name, name_behind, class_in, side_in, member_in, number_of, same_side, number_on_side, names_in, assignment_in, top_line}
-use Rattle.amh_tool.specs.Component.{one_line, fixed, declared_in, first_twin, distinct_of, members_part, form, import_lines, elaborate_lines, return_lines, component}
-use Rattle.amh_tool.specs.FormText.{class_line, member_line, assignment_line, spelled_lines, IsSpelling}
+use Rattle.amh_tool.specs.Form.{IsOutput, IsReadable, IsAllowed, IsSound, HasDistinctNames, member_at, no_member, side_of, operands, uses_sync, signal_count}
+use Rattle.amh_tool.specs.FormLines.{Line, with_byte, lines_in, behind, cut_name, name_behind, class_in, side_in, member_in, number_of, output_of, side_behind, operand_behind, not_in, ends_with, right_behind, right_in, assignment_in, top_line}
+use Rattle.amh_tool.specs.Component.{one_line, fixed, declared_in, first_twin, distinct_of, members_part, same_side, is_readable, is_allowed, first_wrong, assigned_in, assignments_part, within_limit, form, import_lines, elaborate_lines, return_lines, component}
+use Rattle.amh_tool.specs.FormText.{class_line, member_line, right_text, assignment_line, spelled_lines, ReadsEachComponent}
 use Rattle.amh_tool.specs.declared.form.Member.{Member}
 use Rattle.amh_tool.specs.declared.form.Right.{Right}
 use Rattle.amh_tool.specs.declared.form.Right.TheVariants.{Copy, Not, And, Or}
 use Rattle.amh_tool.specs.declared.form.Assignment.{Assignment}
 use Rattle.amh_tool.specs.declared.form.Component.{Component}
 use Rattle.amh_tool.proofs.FormNameLaws.{is_name-bytes, cut_name-some}
-use Rattle.amh_tool.proofs.FormSpelling.{conjunction_line, assignment_line-and}
-use Rattle.amh_tool.proofs.ComponentLaws.{component-text, within_limit-few}
+use Rattle.amh_tool.proofs.FormSideLaws.{position-absent, position-at, no_assignment}
+use Rattle.amh_tool.proofs.FormAssignments.{side_text}
+use Rattle.amh_tool.proofs.ComponentLaws.{component-text}
 
 -- ---- lines that end once
 
@@ -174,23 +175,11 @@ length-here : (xs : List Member) (y : Member) (ys : List Member) → length xs <
 length-here [] y ys = omega arith
 length-here (x ∷ xs) y ys = omega (arith, length-here xs y ys)
 
-position-absent : (p : Member → Bool) (xs : List Member) → ((i : ℕ) → i < length xs → p (member_at xs i) ≡ false) → position p xs ≡ None
-position-absent p xs none =
-    let all : prefix_len (λ x. not (p x)) xs ≡ length xs = prefix_len_is (λ x. not (p x)) xs (length xs) no_member (omega arith) (λ k held. rw (none k held) refl) (λ h. absurd (omega arith)) in
-    let last : nat_lt (length xs) (length xs) ≡ false = grind (arith, nat_tests) in
-    rw (all, last) refl
-
-position-at : (p : Member → Bool) (xs : List Member) (k : ℕ) → k < length xs → ((i : ℕ) → i < k → p (member_at xs i) ≡ false) → p (member_at xs k) ≡ true → position p xs ≡ Some k
-position-at p xs k held none here =
-    let all : prefix_len (λ x. not (p x)) xs ≡ k = prefix_len_is (λ x. not (p x)) xs k no_member (omega arith) (λ i before. rw (none i before) refl) (λ h. rw here refl) in
-    let last : nat_lt k (length xs) ≡ true = grind (arith, nat_tests) in
-    rw (all, last) refl
-
 first_twin-absent : (before later : List Member) → HasDistinctNames (before ++ later) → first_twin before later ≡ None
 first_twin-absent before [] distinct = refl
 first_twin-absent before (m ∷ later) distinct =
     let all = before ++ m ∷ later in
-    let fresh : number_of before m.name ≡ None = position-absent (λ k. bytes_eq m.name k.name) before (λ i held.
+    let fresh : number_of before m.name ≡ None = position-absent (λ k. bytes_eq m.name k.name) before no_member (λ i held.
     false_from_ne_true (bytes_eq m.name (member_at before i).name) (λ e.
     let same : m.name ≡ (member_at before i).name = (bytes_eq-Decides m.name (member_at before i).name).0 e in
     let there : (member_at all i).name ≡ (member_at all (length before)).name = ap (λ (k : Member). k.name) (get_or-front before (m ∷ later) i held) ∙ sym same ∙ sym (ap (λ (k : Member). k.name) (get_or-here before m later)) in
@@ -201,46 +190,140 @@ first_twin-absent before (m ∷ later) distinct =
 
 number_of-at : (ms : List Member) (k : ℕ) → HasDistinctNames ms → k < length ms → number_of ms (member_at ms k).name ≡ Some k
 number_of-at ms k distinct held =
-    position-at (λ m. bytes_eq (member_at ms k).name m.name) ms k held
+    position-at (λ m. bytes_eq (member_at ms k).name m.name) ms k no_member held
     (λ i before. false_from_ne_true (bytes_eq (member_at ms k).name (member_at ms i).name) (λ e.
     let equal : k ≡ i = distinct k i held (omega arith) ((bytes_eq-Decides (member_at ms k).name (member_at ms i).name).0 e) in
     omega arith))
     ((bytes_eq-Decides (member_at ms k).name (member_at ms k).name).1 refl)
 
-same_side-same : (side : Bool) → same_side side side ≡ true
+-- ---- an assignment is read as it is spelled
+
+-- members by whose names lines are read
+record AreNamed (ms : List Member) : Type 0 where
+  names : HasNames ms
+  distinct : HasDistinctNames ms
+
+operand_behind-at : (ms : List Member) (front : List ℕ) (k : ℕ) (rest : List ℕ) → AreNamed ms → k < length ms → prefix_len is_name_byte rest ≡ 0
+    → operand_behind ms front (front ++ ((member_at ms k).name ++ rest)) ≡ Some (k, rest)
+unfolding operand_behind
+operand_behind-at ms front k rest are held stops =
+    rw (name_behind-append front (member_at ms k).name rest (are.names k held) stops, number_of-at ms k are.distinct held) refl
+
+output_of-at : (ms : List Member) (k : ℕ) → AreNamed ms → IsOutput ms k → output_of ms (member_at ms k).name ≡ Some k
+output_of-at ms k are is = rw (number_of-at ms k are.distinct is.held, is.side) refl
+
+right_behind-copy : (ms : List Member) (a : ℕ) → right_behind ms (a, codes ")\n") ≡ Some (Copy a)
+unfolding right_behind
+right_behind-copy ms a = refl
+
+right_behind-and : (ms : List Member) (a b : ℕ) → AreNamed ms → b < length ms → right_behind ms (a, codes " & self." ++ ((member_at ms b).name ++ codes ")\n")) ≡ Some (And a b)
+unfolding right_behind
+right_behind-and ms a b are held = ap (ends_with ms (And a)) (operand_behind-at ms (codes " & self.") b (codes ")\n") are held refl)
+
+right_behind-or : (ms : List Member) (a b : ℕ) → AreNamed ms → b < length ms → right_behind ms (a, codes " | self." ++ ((member_at ms b).name ++ codes ")\n")) ≡ Some (Or a b)
+unfolding right_behind
+right_behind-or ms a b are held = ap (ends_with ms (Or a)) (operand_behind-at ms (codes " | self.") b (codes ")\n") are held refl)
+
+-- a right side that begins with an operand
+right_in-operand : (ms : List Member) (a : ℕ) (rest : List ℕ) (r : Right) → AreNamed ms → a < length ms → prefix_len is_name_byte rest ≡ 0 → right_behind ms (a, rest) ≡ Some r
+    → right_in ms (codes "self." ++ ((member_at ms a).name ++ rest)) ≡ Some r
+unfolding right_in
+right_in-operand ms a rest r are held stops behind = ap (option_and_then (right_behind ms)) (operand_behind-at ms (codes "self.") a rest are held stops) ∙ behind
+
+right_in-not : (ms : List Member) (a : ℕ) → AreNamed ms → a < length ms → right_in ms (codes "~self." ++ ((member_at ms a).name ++ codes ")\n")) ≡ Some (Not a)
+unfolding right_in not_in
+right_in-not ms a are held = rw (operand_behind-at ms (codes "~self.") a (codes ")\n") are held refl) refl
+
+right_in-text : (ms : List Member) (r : Right) → AreNamed ms → All (λ i. i < length ms) (operands r) → right_in ms (right_text ms r ++ codes ")\n") ≡ Some r
+right_in-text ms (Copy a) are held = right_in-operand ms a (codes ")\n") (Copy a) are (held 0 0 (omega arith)) refl (right_behind-copy ms a)
+right_in-text ms (Not a) are held = right_in-not ms a are (held 0 0 (omega arith))
+right_in-text ms (And a b) are held =
+    let tail : List ℕ = codes " & self." ++ (member_at ms b).name in
+    ap (λ (t : List ℕ). right_in ms (codes "self." ++ t)) (append_assoc (member_at ms a).name tail (codes ")\n"))
+    ∙ right_in-operand ms a (tail ++ codes ")\n") (And a b) are (held 0 0 (omega arith)) refl (right_behind-and ms a b are (held 1 0 (omega arith)))
+right_in-text ms (Or a b) are held =
+    let tail : List ℕ = codes " | self." ++ (member_at ms b).name in
+    ap (λ (t : List ℕ). right_in ms (codes "self." ++ t)) (append_assoc (member_at ms a).name tail (codes ")\n"))
+    ∙ right_in-operand ms a (tail ++ codes ")\n") (Or a b) are (held 0 0 (omega arith)) refl (right_behind-or ms a b are (held 1 0 (omega arith)))
+
+side_behind-text : (clocked : Bool) (rest : List ℕ) → side_behind (side_text clocked ++ (codes " += self." ++ rest)) ≡ Some (clocked, rest)
+unfolding side_behind
+side_behind-text true rest = refl
+side_behind-text false rest = refl
+
+-- an assignment to an output, by members
+record IsOver (ms : List Member) (a : Assignment) : Type 0 where
+  target : IsOutput ms a.target
+  operands : All (λ i. i < length ms) (operands a.right)
+
+assignment_in-line : (ms : List Member) (a : Assignment) → AreNamed ms → IsOver ms a → assignment_in ms (assignment_line ms a) ≡ Some a
+unfolding assignment_in
+assignment_in-line ms a are over =
+    let name = (member_at ms a.target).name in
+    let expression = right_text ms a.right ++ codes ")\n" in
+    let after_name = codes ".eq(" ++ expression in
+    let after_side = name ++ after_name in
+    rw (
+      side_behind-text a.clocked after_side,
+      cut_name-append name after_name (are.names a.target over.target.held) refl,
+      output_of-at ms a.target are over.target,
+      right_in-text ms a.right are over.operands,
+    ) refl
+
+over_allowed : (ms : List Member) (all : List Assignment) (a : Assignment) → IsAllowed ms all a → IsOver ms a
+over_allowed ms all a is = record { target = is.target; operands = λ k d held. (is.reads k d held).held }
+
+assigned_in-lines : (ms : List Member) (all : List Assignment) (rest : List Line) → AreNamed ms → All (IsOver ms) all → assigned_in ms rest ≡ []
+    → assigned_in ms (map (assignment_line ms) all ++ rest) ≡ all
+assigned_in-lines ms [] rest are over h = h
+assigned_in-lines ms (a ∷ all) rest are over h =
+    rw (assignment_in-line ms a are (All-head (IsOver ms) a all over))
+    (ap (λ (k : List Assignment). a ∷ k) (assigned_in-lines ms all rest are (All-tail (IsOver ms) a all over) h))
+
+drop-lines : (ms : List Member) (all : List Assignment) (rest : List Line) → drop (length all) (map (assignment_line ms) all ++ rest) ≡ rest
+drop-lines ms [] rest = refl
+drop-lines ms (a ∷ all) rest = drop-lines ms all rest
+
+-- ---- what is allowed passes
+
+is_readable-true : (ms : List Member) (all : List Assignment) (i : ℕ) → IsReadable ms all i → is_readable ms all i ≡ true
+is_readable-true ms all i is =
+    ⊎_elim (λ input. ap (λ (b : Bool). b || same_side true (side_of all i)) input)
+    (λ kept. ap (λ (o : Option Bool). (member_at ms i).is_input || same_side true o) kept ∙ here (member_at ms i).is_input)
+    is.kept
+  where
+    here : (b : Bool) → (b || true) ≡ true
+    here true = refl
+    here false = refl
+
+all_readable : (ms : List Member) (all : List Assignment) (xs : List ℕ) → All (IsReadable ms all) xs → list_all (is_readable ms all) xs ≡ true
+all_readable ms all [] reads = refl
+all_readable ms all (x ∷ xs) reads =
+    and_from (is_readable ms all x) (list_all (is_readable ms all) xs) (is_readable-true ms all x (All-head (IsReadable ms all) x xs reads))
+    (all_readable ms all xs (All-tail (IsReadable ms all) x xs reads))
+
+same_side-same : (clocked : Bool) → same_side clocked (Some clocked) ≡ true
 same_side-same true = refl
 same_side-same false = refl
 
-number_on_side-at : (side : Bool) (ms : List Member) (k : ℕ) → HasDistinctNames ms → IsOf side ms k → number_on_side side ms (member_at ms k).name ≡ Some k
-unfolding number_on_side
-number_on_side-at side ms k distinct is = rw (number_of-at ms k distinct is.held, is.side, same_side-same side) refl
+is_allowed-true : (ms : List Member) (all : List Assignment) (a : Assignment) → IsAllowed ms all a → is_allowed ms all a ≡ true
+is_allowed-true ms all a is =
+    and_from (same_side a.clocked (side_of all a.target)) (list_all (is_readable ms all) (operands a.right))
+    (ap (same_side a.clocked) is.side ∙ same_side-same a.clocked) (all_readable ms all (operands a.right) is.reads)
 
-names_in-line : (target left right : List ℕ) → is_name target ≡ true → is_name left ≡ true → is_name right ≡ true → names_in (conjunction_line target left right) ≡ Some (target, left, right)
-unfolding names_in conjunction_line
-names_in-line target left right t l r =
-    rw (
-      name_behind-append (codes "        m.d.comb += self.") target (codes ".eq(self." ++ (left ++ (codes " & self." ++ (right ++ codes ")\n")))) t refl,
-      name_behind-append (codes ".eq(self.") left (codes " & self." ++ (right ++ codes ")\n")) l refl,
-      name_behind-append (codes " & self.") right (codes ")\n") r refl,
-    ) refl
+first_wrong-allowed : (ms : List Member) (all : List Assignment) → All (IsAllowed ms all) all → first_wrong ms all ≡ None
+first_wrong-allowed ms all allowed =
+    position-absent (λ (a : Assignment). not (is_allowed ms all a)) all no_assignment
+    (λ i held. ap not (is_allowed-true ms all (get_or all i no_assignment) (allowed i no_assignment held)))
 
--- the assignment of a conjunction
-abbrev conjunction : ℕ → ℕ → ℕ → Assignment
-conjunction t l r = record { clocked = false; target = t; right = And l r }
+assignments_part-lines : (ms : List Member) (all : List Assignment) (rest : List Line) → AreNamed ms → All (IsAllowed ms all) all → assigned_in ms rest ≡ []
+    → assignments_part ms (map (assignment_line ms) all ++ rest) ≡ Ok (all, rest)
+unfolding assignments_part
+assignments_part-lines ms all rest are allowed h =
+    let over : All (IsOver ms) all = λ k d held. over_allowed ms all (get_or all k d) (allowed k d held) in
+    rw (assigned_in-lines ms all rest are over h, first_wrong-allowed ms all allowed, drop-lines ms all rest) refl
 
-assignment_in-line : (ms : List Member) (t l r : ℕ) → HasNames ms → HasDistinctNames ms → IsOutput ms t → IsInput ms l → IsInput ms r
-    → assignment_in ms (assignment_line ms (conjunction t l r)) ≡ Some (conjunction t l r)
-unfolding assignment_in
-assignment_in-line ms t l r names distinct target left right =
-    rw (
-      assignment_line-and ms t l r,
-      names_in-line (member_at ms t).name (member_at ms l).name (member_at ms r).name (names t target.held) (names l left.held) (names r right.held),
-      number_on_side-at false ms t distinct target,
-      number_on_side-at true ms l distinct left,
-      number_on_side-at true ms r distinct right,
-    ) refl
-
--- ---- the parts are read as they are spelled
+-- ---- the parts
 
 fixed-append : (ws rest : List Line) → fixed ws (ws ++ rest) ≡ Ok rest
 fixed-append [] rest = refl
@@ -261,29 +344,28 @@ unfolding members_part
 members_part-lines ms rest names distinct some =
     rw (declared_in-lines ms (elaborate_lines ++ rest) names (elaborate-ends rest), first_twin-absent [] ms distinct) (some_members ms (elaborate_lines ++ rest) some)
 
--- the component of one conjunction
-abbrev gate_of : List Member → ℕ → ℕ → ℕ → Component
-gate_of ms t l r = record { members = ms; assignments = conjunction t l r ∷ [] }
+-- the end of the assignments
+return-ends : (ms : List Member) (rest : List Line) → assigned_in ms (return_lines ++ rest) ≡ []
+unfolding return_lines assignment_in
+return-ends ms rest = refl
 
-form-lines : (class : List ℕ) (ms : List Member) (t l r : ℕ) → is_name class ≡ true → HasNames ms → HasDistinctNames ms → IsOutput ms t → IsInput ms l → IsInput ms r
-    → form (spelled_lines class (gate_of ms t l r)) ≡ Ok (gate_of ms t l r)
+form-lines : (class : List ℕ) (ms : List Member) (all : List Assignment) → is_name class ≡ true → 0 < length ms → AreNamed ms → All (IsAllowed ms all) all
+    → form (spelled_lines class (record { members = ms; assignments = all })) ≡ Ok (record { members = ms; assignments = all })
 unfolding form
-form-lines class ms t l r name names distinct target left right =
-    let line = assignment_line ms (conjunction t l r) in
+form-lines class ms all name some are allowed =
     let after_return : List Line = top_line class ∷ [] in
-    let after_assignment : List Line = return_lines ++ after_return in
-    let after_elaborate : List Line = line ∷ after_assignment in
+    let after_assignments : List Line = return_lines ++ after_return in
+    let after_elaborate : List Line = map (assignment_line ms) all ++ after_assignments in
     let after_members : List Line = elaborate_lines ++ after_elaborate in
     let after_class : List Line = map member_line ms ++ after_members in
     let after_imports : List Line = class_line class ∷ after_class in
     let class_read : one_line class_in after_imports ≡ Ok (class, after_class) = rw (class_in-line class name) refl in
-    let assigned : one_line (assignment_in ms) after_elaborate ≡ Ok (conjunction t l r, after_assignment) = rw (assignment_in-line ms t l r names distinct target left right) refl in
     rw (
       fixed-append import_lines after_imports,
       class_read,
-      members_part-lines ms after_elaborate names distinct (omega (arith, target.held)),
+      members_part-lines ms after_elaborate are.names are.distinct some,
       fixed-append elaborate_lines after_elaborate,
-      assigned,
+      assignments_part-lines ms all after_assignments are allowed (return-ends ms after_return),
       fixed-append return_lines after_return,
       fixed-append (top_line class ∷ []) [],
     ) refl
@@ -318,57 +400,88 @@ members-full [] names = refl
 members-full (m ∷ ms) names =
     and_from (full (member_line m)) (list_all full (map member_line ms)) (member-full m.name m.is_input (names 0 (omega arith))) (members-full ms (λ i held. names (suc i) (omega arith)))
 
-conjunction-full : (target left right : List ℕ) → is_name target ≡ true → is_name left ≡ true → is_name right ≡ true → full (conjunction_line target left right) ≡ true
-unfolding conjunction_line
-conjunction-full target left right t l r =
-    let third = right ++ codes ")\n" in
-    let second = left ++ (codes " & self." ++ third) in
-    let first = target ++ (codes ".eq(self." ++ second) in
-    full-append (codes "        m.d.comb += self.") first refl (full-append target (codes ".eq(self." ++ second) (name-plain target t)
-    (full-append (codes ".eq(self.") second refl (full-append left (codes " & self." ++ third) (name-plain left l)
-    (full-append (codes " & self.") third refl (full-append right (codes ")\n") (name-plain right r) refl)))))
+operand-full : (ms : List Member) (front : List ℕ) (a : ℕ) (rest : List ℕ) → HasNames ms → a < length ms → list_all plain front ≡ true → full rest ≡ true
+    → full (front ++ ((member_at ms a).name ++ rest)) ≡ true
+operand-full ms front a rest names held h k = full-append front ((member_at ms a).name ++ rest) h (full-append (member_at ms a).name rest (name-plain (member_at ms a).name (names a held)) k)
 
-spelled-full : (class : List ℕ) (ms : List Member) (t l r : ℕ) → is_name class ≡ true → HasNames ms → IsOutput ms t → IsInput ms l → IsInput ms r
-    → list_all full (spelled_lines class (gate_of ms t l r)) ≡ true
-spelled-full class ms t l r name names target left right =
-    let line = assignment_line ms (conjunction t l r) in
-    let whole : full line ≡ true = ap full (assignment_line-and ms t l r) ∙ conjunction-full (member_at ms t).name (member_at ms l).name (member_at ms r).name (names t target.held) (names l left.held) (names r right.held) in
-    let last : list_all full (top_line class ∷ []) ≡ true = and_from (full (top_line class)) true (top-full class name) refl in
-    let returns = list_all-append full return_lines (top_line class ∷ []) return-full last in
-    let assigns = and_from (full line) (list_all full (return_lines ++ top_line class ∷ [])) whole returns in
-    let elaborates = list_all-append full elaborate_lines (line ∷ (return_lines ++ top_line class ∷ [])) elaborate-full assigns in
-    let declares = list_all-append full (map member_line ms) (elaborate_lines ++ (line ∷ (return_lines ++ top_line class ∷ []))) (members-full ms names) elaborates in
-    let classes = and_from (full (class_line class)) (list_all full (map member_line ms ++ (elaborate_lines ++ (line ∷ (return_lines ++ top_line class ∷ []))))) (class-full class name) declares in
-    list_all-append full import_lines (class_line class ∷ (map member_line ms ++ (elaborate_lines ++ (line ∷ (return_lines ++ top_line class ∷ []))))) import-full classes
+-- two operands with an operator between them
+pair-full : (ms : List Member) (operator : List ℕ) (a b : ℕ) → HasNames ms → a < length ms → b < length ms → list_all plain operator ≡ true
+    → full ((codes "self." ++ ((member_at ms a).name ++ (operator ++ (member_at ms b).name))) ++ codes ")\n") ≡ true
+pair-full ms operator a b names held_a held_b h =
+    let left = (member_at ms a).name in
+    let right = (member_at ms b).name in
+    let split : (left ++ (operator ++ right)) ++ codes ")\n" ≡ left ++ (operator ++ (right ++ codes ")\n")) =
+    append_assoc left (operator ++ right) (codes ")\n") ∙ ap (λ (t : List ℕ). left ++ t) (append_assoc operator right (codes ")\n")) in
+    ap (λ (t : List ℕ). full (codes "self." ++ t)) split
+    ∙ operand-full ms (codes "self.") a (operator ++ (right ++ codes ")\n")) names held_a refl (operand-full ms operator b (codes ")\n") names held_b h refl)
 
-component-lines : (class : List ℕ) (ms : List Member) (t l r : ℕ) → is_name class ≡ true → HasNames ms → HasDistinctNames ms → length ms ≤ 16384
-    → IsOutput ms t → IsInput ms l → IsInput ms r
-    → component (flat_map (λ (k : Line). k) (spelled_lines class (gate_of ms t l r))) ≡ Ok (gate_of ms t l r)
-component-lines class ms t l r name names distinct few target left right =
-    let lines = spelled_lines class (gate_of ms t l r) in
-    let whole = spelled-full class ms t l r name names target left right in
+right-full : (ms : List Member) (r : Right) → HasNames ms → All (λ i. i < length ms) (operands r) → full (right_text ms r ++ codes ")\n") ≡ true
+right-full ms (Copy a) names held = operand-full ms (codes "self.") a (codes ")\n") names (held 0 0 (omega arith)) refl refl
+right-full ms (Not a) names held = operand-full ms (codes "~self.") a (codes ")\n") names (held 0 0 (omega arith)) refl refl
+right-full ms (And a b) names held = pair-full ms (codes " & self.") a b names (held 0 0 (omega arith)) (held 1 0 (omega arith)) refl
+right-full ms (Or a b) names held = pair-full ms (codes " | self.") a b names (held 0 0 (omega arith)) (held 1 0 (omega arith)) refl
+
+side-plain : (clocked : Bool) → list_all plain (side_text clocked) ≡ true
+side-plain true = refl
+side-plain false = refl
+
+assignment-full : (ms : List Member) (a : Assignment) → HasNames ms → IsOver ms a → full (assignment_line ms a) ≡ true
+assignment-full ms a names over =
+    let expression = right_text ms a.right ++ codes ")\n" in
+    let after_side = codes " += self." ++ ((member_at ms a.target).name ++ (codes ".eq(" ++ expression)) in
+    full-append (codes "        m.d.") (side_text a.clocked ++ after_side) refl
+    (full-append (side_text a.clocked) after_side (side-plain a.clocked)
+    (operand-full ms (codes " += self.") a.target (codes ".eq(" ++ expression) names over.target.held refl
+    (full-append (codes ".eq(") expression refl (right-full ms a.right names over.operands))))
+
+assignments-full : (ms : List Member) (all : List Assignment) → HasNames ms → All (IsOver ms) all → list_all full (map (assignment_line ms) all) ≡ true
+assignments-full ms [] names over = refl
+assignments-full ms (a ∷ all) names over =
+    and_from (full (assignment_line ms a)) (list_all full (map (assignment_line ms) all)) (assignment-full ms a names (All-head (IsOver ms) a all over))
+    (assignments-full ms all names (All-tail (IsOver ms) a all over))
+
+spelled-full : (class : List ℕ) (ms : List Member) (all : List Assignment) → is_name class ≡ true → HasNames ms → All (IsOver ms) all
+    → list_all full (spelled_lines class (record { members = ms; assignments = all })) ≡ true
+spelled-full class ms all name names over =
+    let after_return : List Line = top_line class ∷ [] in
+    let after_assignments : List Line = return_lines ++ after_return in
+    let after_elaborate : List Line = map (assignment_line ms) all ++ after_assignments in
+    let after_members : List Line = elaborate_lines ++ after_elaborate in
+    let after_class : List Line = map member_line ms ++ after_members in
+    let last : list_all full after_return ≡ true = and_from (full (top_line class)) true (top-full class name) refl in
+    let returns = list_all-append full return_lines after_return return-full last in
+    let assigns = list_all-append full (map (assignment_line ms) all) after_assignments (assignments-full ms all names over) returns in
+    let elaborates = list_all-append full elaborate_lines after_elaborate elaborate-full assigns in
+    let declares = list_all-append full (map member_line ms) after_members (members-full ms names) elaborates in
+    let classes = and_from (full (class_line class)) (list_all full after_class) (class-full class name) declares in
+    list_all-append full import_lines (class_line class ∷ after_class) import-full classes
+
+-- ---- the text
+
+most-is : (n : ℕ) → n ≤ 16384 → nat_le n 16384 ≡ true
+most-is n h = grind (arith, nat_tests)
+
+within_limit-few : (c : Component) → signal_count c ≤ 16384 → within_limit c ≡ Ok c
+within_limit-few c few =
+    let members : length c.members ≤ 16384 = here (uses_sync c.assignments) few in
+    rw (most-is (length c.members) members, most-is (signal_count c) few) refl
+  where
+    here : (t : Bool) → cond t 2 0 + length c.members ≤ 16384 → length c.members ≤ 16384
+    here true h = omega arith
+    here false h = omega arith
+
+component-lines : (class : List ℕ) (ms : List Member) (all : List Assignment) → is_name class ≡ true → IsSound (record { members = ms; assignments = all })
+    → component (flat_map (λ (k : Line). k) (spelled_lines class (record { members = ms; assignments = all }))) ≡ Ok (record { members = ms; assignments = all })
+component-lines class ms all name is =
+    let c : Component = record { members = ms; assignments = all } in
+    let lines = spelled_lines class c in
+    let are : AreNamed ms = record { names = is.names; distinct = is.distinct } in
+    let over : All (IsOver ms) all = λ k d held. over_allowed ms all (get_or all k d) (is.assignments k d held) in
+    let whole = spelled-full class ms all name are.names over in
     let text = flat_map (λ (k : Line). k) lines in
     let utf8 = IsUtf8-from_ascii text (ascii-is text (ascii-flat lines whole)) in
-    rw (component-text text utf8, lines_in-flat lines whole, form-lines class ms t l r name names distinct target left right) (within_limit-few (gate_of ms t l r) few)
+    rw (component-text text utf8, lines_in-flat lines whole, form-lines class ms all name is.some are is.assignments) (within_limit-few c is.few)
 
-by_right : (class : List ℕ) (ms : List Member) (clocked : Bool) (t : ℕ) (right : Right) → is_name class ≡ true → HasNames ms → HasDistinctNames ms → length ms ≤ 16384
-    → IsConjunction ms (record { clocked = clocked; target = t; right = right })
-    → component (flat_map (λ (k : Line). k) (spelled_lines class (record { members = ms; assignments = record { clocked = clocked; target = t; right = right } ∷ [] })))
-    ≡ Ok (record { members = ms; assignments = record { clocked = clocked; target = t; right = right } ∷ [] })
-by_right class ms true t right name names distinct few is = absurd (false≢true (sym is.comb))
-by_right class ms false t (Copy a) name names distinct few is = absurd is.right
-by_right class ms false t (Not a) name names distinct few is = absurd is.right
-by_right class ms false t (And l r) name names distinct few is = component-lines class ms t l r name names distinct few is.target is.right.0 is.right.1
-by_right class ms false t (Or l r) name names distinct few is = absurd is.right
-
-by_assignments : (class : List ℕ) (ms : List Member) (all : List Assignment) → is_name class ≡ true → HasNames ms → HasDistinctNames ms → length ms ≤ 16384
-    → IsOneConjunction ms all
-    → component (flat_map (λ (k : Line). k) (spelled_lines class (record { members = ms; assignments = all }))) ≡ Ok (record { members = ms; assignments = all })
-by_assignments class ms [] name names distinct few is = absurd is
-by_assignments class ms (a ∷ []) name names distinct few is = by_right class ms a.clocked a.target a.right name names distinct few is
-by_assignments class ms (a ∷ b ∷ rest) name names distinct few is = absurd is
-
--- a text that spells a gate is read as it
-pub reads_each_gate : (text : List ℕ) (c : Component) → IsGate c → IsSpelling text c → component text ≡ Ok c
-reads_each_gate text c gate spelling =
-    ap component spelling.lines ∙ by_assignments spelling.class c.members c.assignments spelling.name gate.names gate.distinct gate.few gate.assignment
+-- a text that spells a sound component is read as it
+pub reads_each_component : (text : List ℕ) → ReadsEachComponent text
+reads_each_component text c is spelling = ap component spelling.lines ∙ component-lines spelling.class c.members c.assignments spelling.name is

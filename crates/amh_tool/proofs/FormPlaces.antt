@@ -2,12 +2,13 @@
 use Rattle.std.proofs.Common.{◌≡◌, ℕ, suc, ◌≤◌, ◌-◌, List, [], ◌∷◌, length, drop, Bool, true, false, cond, ap, arith}
 use Rattle.std.specs.Prelude.{Option, Some, None, Ok, Err, bytes_eq}
 use Rattle.std.proofs.lemmas.List.{length-drop}
-use Rattle.amh_tool.specs.FormLines.{Line, class_in, assignment_in, top_line}
-use Rattle.amh_tool.specs.Component.{passed, one_line, fixed, at_end, declared_in, first_twin, distinct_of, members_part, form, import_lines, elaborate_lines, return_lines}
+use Rattle.amh_tool.specs.FormLines.{Line, class_in, top_line}
+use Rattle.amh_tool.specs.Component.{passed, one_line, fixed, at_end, declared_in, first_twin, distinct_of, members_part, assignments_part, form, import_lines, elaborate_lines, return_lines}
 use Rattle.amh_tool.specs.declared.form.Member.{Member}
 use Rattle.amh_tool.proofs.FormBinds.{bind-err}
+use Rattle.amh_tool.proofs.FormAssignments.{assignments_part-left, assignments_part-rest}
 
-fixed-rest : (ws ls rest : List Line) → fixed ws ls ≡ Ok rest → length rest ≤ length ls
+pub fixed-rest : (ws ls rest : List Line) → fixed ws ls ≡ Ok rest → length rest ≤ length ls
 fixed-rest [] ls rest h = let e : ls ≡ rest = cc in omega (arith, ap (λ (k : List Line). length k) e)
 fixed-rest (w ∷ ws) [] rest h = absurd (cc)
 fixed-rest (w ∷ ws) (l ∷ ls) rest h = here (bytes_eq l w) (fixed-rest ws ls rest) h
@@ -33,7 +34,7 @@ passed-left : {A : Type 0} (ls : List Line) (o : Option A) (n : ℕ) → passed 
 passed-left ls None n h = cc
 passed-left ls (Some b) n h = absurd (cc)
 
-one_line-rest : {A : Type 0} (says : Line → Option A) (ls : List Line) (r : A × List Line) → one_line says ls ≡ Ok r → length r.1 ≤ length ls
+pub one_line-rest : {A : Type 0} (says : Line → Option A) (ls : List Line) (r : A × List Line) → one_line says ls ≡ Ok r → length r.1 ≤ length ls
 one_line-rest says [] r h = absurd (cc)
 one_line-rest says (l ∷ ls) r h = let e = passed-rest ls (says l) r.0 r.1 h in omega (arith, ap (λ (k : List Line). length k) e)
 
@@ -51,7 +52,7 @@ distinct_of-left ls [] twin n h = let e : length ls ≡ n = cc in omega arith
 distinct_of-left ls (m ∷ ms) None n h = absurd (cc)
 distinct_of-left ls (m ∷ ms) (Some k) n h = let e : length ls - k ≡ n = cc in omega arith
 
-members_part-rest : (ls : List Line) (r : List Member × List Line) → members_part ls ≡ Ok r → length r.1 ≤ length ls
+pub members_part-rest : (ls : List Line) (r : List Member × List Line) → members_part ls ≡ Ok r → length r.1 ≤ length ls
 unfolding members_part
 members_part-rest ls r h = distinct_of-rest ls (declared_in ls) (first_twin [] (declared_in ls)) r h
 
@@ -72,8 +73,8 @@ form-left ls n h =
     bind-err (members_part b.1) _ n (n ≤ length ls) (λ e. omega (arith, fixed-rest import_lines ls a ea, one_line-rest class_in a b eb, members_part-left b.1 n e)) (λ d ed.
     let upto_d : length d.1 ≤ length ls = omega (arith, fixed-rest import_lines ls a ea, one_line-rest class_in a b eb, members_part-rest b.1 d ed) in
     bind-err (fixed elaborate_lines d.1) _ n (n ≤ length ls) (λ e. omega (arith, fixed-left elaborate_lines d.1 n e)) (λ f ef.
-    bind-err (one_line (assignment_in d.0) f) _ n (n ≤ length ls) (λ e. omega (arith, fixed-rest elaborate_lines d.1 f ef, one_line-left (assignment_in d.0) f n e)) (λ g eg.
-    let upto_g : length g.1 ≤ length ls = omega (arith, fixed-rest elaborate_lines d.1 f ef, one_line-rest (assignment_in d.0) f g eg) in
+    bind-err (assignments_part d.0 f) _ n (n ≤ length ls) (λ e. omega (arith, fixed-rest elaborate_lines d.1 f ef, assignments_part-left d.0 f n e)) (λ g eg.
+    let upto_g : length g.1 ≤ length ls = omega (arith, fixed-rest elaborate_lines d.1 f ef, assignments_part-rest d.0 f g eg) in
     bind-err (fixed return_lines g.1) _ n (n ≤ length ls) (λ e. omega (arith, fixed-left return_lines g.1 n e)) (λ i ei.
     bind-err (fixed (top_line b.0 ∷ []) i) _ n (n ≤ length ls) (λ e. omega (arith, fixed-rest return_lines g.1 i ei, fixed-left (top_line b.0 ∷ []) i n e)) (λ j ej.
     bind-err (at_end j) _ n (n ≤ length ls) (λ e. omega (arith, fixed-rest return_lines g.1 i ei, fixed-rest (top_line b.0 ∷ []) i j ej, at_end-left j n e)) (λ u eu last.

@@ -1,24 +1,25 @@
--- A component that is read is one AND gate.
-use Rattle.std.proofs.Common.{◌≡◌, refl, ℕ, zero, suc, ◌<◌, ◌≤◌, ◌+◌, List, [], ◌∷◌, ◌++◌, length, take, drop, get_or, Bool, true, false, cond, not, ap, sym, ◌∙◌, subst, arith}
-use Rattle.std.specs.Prelude.{Option, Some, None, Result, Ok, Err, bytes_eq, codes, position, is_some, IsTrue, nat_lt, nat_le, option_and_then, count_by, ◌==◌}
-use Rattle.std.specs.List.{prefix_len}
-use Rattle.std.proofs.lemmas.Bool.{false≢true}
+-- A component that is read is sound.
+use Rattle.std.proofs.Common.{◌≡◌, refl, ℕ, zero, suc, ◌<◌, ◌≤◌, ◌+◌, List, [], ◌∷◌, ◌++◌, length, take, drop, get_or, Bool, true, false, cond, not, ◌||◌, ap, sym, ◌∙◌, subst, arith, inl, inr, All}
+use Rattle.std.specs.Prelude.{Option, Some, None, Result, Ok, Err, bytes_eq, codes, position, is_some, nat_lt, nat_le, option_and_then, count_by, ◌==◌}
+use Rattle.std.specs.List.{prefix_len, list_all}
+use Rattle.std.specs.Str.Lossy.{utf8_valid_len}
+use Rattle.std.proofs.lemmas.Bool.{and_parts, false≢true}
 use Rattle.std.proofs.lemmas.Bool.Decides.{nat_tests}
 use Rattle.std.proofs.lemmas.List.{append-nil, append_assoc, get_or-take, length-take-le}
+use Rattle.std.proofs.lemmas.List.Elements.{All-nil, All-cons, All-head, All-tail}
 use Rattle.std.proofs.lemmas.List.Sums.{prefix_len_passes, prefix_len-le-length}
 use Rattle.std.proofs.lemmas.Slice.Eq.{bytes_eq-Decides}
-use Rattle.amh_tool.specs.FormNames.{is_name, is_name_byte}
-use Rattle.amh_tool.specs.Form.{IsOf, IsConjunction, HasDistinctNames, IsGate, member_at, no_member}
-use Rattle.amh_tool.specs.FormLines.{Line, behind, cut_name, name_behind, lines_in, class_in, side_in, member_in, number_of, same_side, number_on_side, names_in, assignment_in, top_line}
-use Rattle.amh_tool.specs.Component.{passed, one_line, fixed, at_end, declared_in, with_member, first_twin, distinct_of, members_part, form, import_lines, elaborate_lines, return_lines, refused, within_limit, placed, component}
-use Rattle.amh_tool.specs.declared.form.Member.{Member}
-use Rattle.amh_tool.specs.declared.form.Right.TheVariants.{And}
-use Rattle.amh_tool.specs.declared.form.Assignment.{Assignment}
 use Rattle.amh_host.specs.declared.place.Kind.TheVariants.{Text, Limit}
-use Rattle.std.specs.Str.Lossy.{utf8_valid_len}
+use Rattle.amh_tool.specs.FormNames.{is_name, is_name_byte}
+use Rattle.amh_tool.specs.Form.{IsOutput, IsReadable, IsAllowed, HasDistinctNames, IsSound, member_at, no_member, side_of, operands, signal_count}
+use Rattle.amh_tool.specs.FormLines.{Line, with_byte, behind, cut_name, name_behind, lines_in, side_in, member_in, number_of, class_in, top_line}
+use Rattle.amh_tool.specs.Component.{fixed, one_line, at_end, declared_in, with_member, first_twin, distinct_of, members_part, same_side, is_readable, is_allowed, assignments_part, form, import_lines, elaborate_lines, return_lines, refused, within_limit, placed, component}
+use Rattle.amh_tool.specs.declared.form.Member.{Member}
+use Rattle.amh_tool.specs.declared.form.Assignment.{Assignment}
 use Rattle.amh_tool.specs.declared.form.Component.{Component}
-use Rattle.amh_tool.proofs.FormBinds.{bind-ok, bind-some}
-use Rattle.amh_tool.proofs.FormRuleLaws.{number_of-within}
+use Rattle.amh_tool.proofs.FormBinds.{bind-ok}
+use Rattle.amh_tool.proofs.FormPlaces.{fixed-rest, one_line-rest, members_part-rest}
+use Rattle.amh_tool.proofs.FormAssignments.{assignment_in-is, assigned_in-all, AreAllowed, assignments_part-is, assignments_part-few}
 
 -- ---- names
 
@@ -113,119 +114,150 @@ first_twin-distinct ms h i j held_i held_j same = here (nat_lt i j) refl (nat_lt
     here false e true f = absurd (earlier-apart ms h j i (grind (arith, nat_tests)) held_i (sym same))
     here false e false f = grind (arith, nat_tests)
 
--- ---- the assignment
+-- ---- the assignments
 
-same_side-is : (side is : Bool) → same_side side is ≡ true → is ≡ side
-same_side-is true is h = h
-same_side-is false true h = absurd (false≢true h)
-same_side-is false false h = refl
-
-number_on_side-is : (side : Bool) (ms : List Member) (name : List ℕ) (n : ℕ) → number_on_side side ms name ≡ Some n → IsOf side ms n
-unfolding number_on_side
-number_on_side-is side ms name n h =
-    bind-some (number_of ms name) _ n (IsOf side ms n) (λ k e last. here (same_side side (member_at ms k).is_input) k refl e last) h
+is_readable-is : (ms : List Member) (all : List Assignment) (i : ℕ) → i < length ms → is_readable ms all i ≡ true → IsReadable ms all i
+is_readable-is ms all i held h = here (member_at ms i).is_input refl (side_of all i) refl h
   where
-    here : (t : Bool) (k : ℕ) → same_side side (member_at ms k).is_input ≡ t → number_of ms name ≡ Some k → cond t (Some k) None ≡ Some n → IsOf side ms n
-    here true k e f last =
-        let same : k ≡ n = cc in
-        let there : IsOf side ms k = record { held = number_of-within ms name k f; side = same_side-is side (member_at ms k).is_input e } in
-        subst (λ (j : ℕ). IsOf side ms j) same there
-    here false k e f last = absurd (cc)
+    here : (b : Bool) → (member_at ms i).is_input ≡ b → (o : Option Bool) → side_of all i ≡ o → (b || same_side true o) ≡ true → IsReadable ms all i
+    here true e o f k = record { held = held; kept = inl e }
+    here false e None f k = absurd (false≢true k)
+    here false e (Some side) f k = record { held = held; kept = inr (f ∙ ap (λ (b : Bool). Some b) k) }
 
--- an assignment that is read gives an output the conjunction of two inputs
-pub assignment_in-conjunction : (ms : List Member) (line : Line) (a : Assignment) → assignment_in ms line ≡ Some a → IsConjunction ms a
-unfolding assignment_in
-assignment_in-conjunction ms line a h =
-    bind-some (names_in line) _ a (IsConjunction ms a) (λ names e_names.
-    bind-some (number_on_side false ms names.0) _ a (IsConjunction ms a) (λ target e_target.
-    bind-some (number_on_side true ms names.1) _ a (IsConjunction ms a) (λ left e_left.
-    bind-some (number_on_side true ms names.2) _ a (IsConjunction ms a) (λ right e_right last.
-    let same : ◌≡◌ {A = Assignment} (record { clocked = false; target = target; right = And left right }) a = cc in
-    subst (λ (x : Assignment). IsConjunction ms x) same (record {
-      comb = refl;
-      target = number_on_side-is false ms names.0 target e_target;
-      right = (number_on_side-is true ms names.1 left e_left, number_on_side-is true ms names.2 right e_right);
-    }))))) h
+same_side-is : (clocked : Bool) (o : Option Bool) → same_side clocked o ≡ true → o ≡ Some clocked
+same_side-is true None h = absurd (false≢true h)
+same_side-is true (Some side) h = ap (λ (b : Bool). Some b) h
+same_side-is false None h = absurd (false≢true h)
+same_side-is false (Some true) h = absurd (false≢true h)
+same_side-is false (Some false) h = refl
+
+reads_readable : (ms : List Member) (all : List Assignment) (xs : List ℕ) → All (λ i. i < length ms) xs → list_all (is_readable ms all) xs ≡ true → All (IsReadable ms all) xs
+reads_readable ms all [] within h = All-nil (IsReadable ms all)
+reads_readable ms all (x ∷ xs) within h =
+    let p = and_parts (is_readable ms all x) (list_all (is_readable ms all) xs) h in
+    All-cons (IsReadable ms all) x xs (is_readable-is ms all x (All-head (λ i. i < length ms) x xs within) p.0)
+    (reads_readable ms all xs (All-tail (λ i. i < length ms) x xs within) p.1)
+
+is_allowed-is : (ms : List Member) (all : List Assignment) (a : Assignment) → IsOutput ms a.target → All (λ i. i < length ms) (operands a.right) → is_allowed ms all a ≡ true → IsAllowed ms all a
+is_allowed-is ms all a target within h =
+    let p = and_parts (same_side a.clocked (side_of all a.target)) (list_all (is_readable ms all) (operands a.right)) h in
+    record { target = target; side = same_side-is a.clocked (side_of all a.target) p.0; reads = reads_readable ms all (operands a.right) within p.1 }
+
+true_of : (b : Bool) → not b ≡ false → b ≡ true
+true_of true h = refl
+true_of false h = absurd (false≢true (sym h))
+
+-- the assignments that are read are allowed
+are_allowed : (ms : List Member) (ls : List Line) (r : List Assignment × List Line) → AreAllowed ms ls r → All (IsAllowed ms r.0) r.0
+are_allowed ms ls r is k d held =
+    let said_targets = assigned_in-all (λ (a : Assignment). IsOutput ms a.target) ms (λ line a h. (assignment_in-is ms line a h).target) ls in
+    let said_operands = assigned_in-all (λ (a : Assignment). All (λ i. i < length ms) (operands a.right)) ms (λ line a h. (assignment_in-is ms line a h).operands) ls in
+    let targets = subst (λ (all : List Assignment). All (λ (a : Assignment). IsOutput ms a.target) all) is.assigned said_targets in
+    let within = subst (λ (all : List Assignment). All (λ (a : Assignment). All (λ i. i < length ms) (operands a.right)) all) is.assigned said_operands in
+    let passed = position-none (λ (a : Assignment). not (is_allowed ms r.0 a)) r.0 k d is.right held in
+    is_allowed-is ms r.0 (get_or r.0 k d) (targets k d held) (within k d held) (true_of (is_allowed ms r.0 (get_or r.0 k d)) passed)
 
 -- ---- the form
 
-passed-says : {A : Type 0} (ls : List Line) (o : Option A) (r : A × List Line) → passed ls o ≡ Ok r → o ≡ Some r.0
-passed-says ls None r h = absurd (cc)
-passed-says {A} ls (Some a) r h = let same : ◌≡◌ {A = A × List Line} (a, ls) r = cc in ap (λ (p : A × List Line). Some p.0) same
-
--- what one line says holds where it is read
-one_line-says : {A : Type 0} (says : Line → Option A) (ls : List Line) (r : A × List Line) (P : Type 0) → ((l : Line) → says l ≡ Some r.0 → P) → one_line says ls ≡ Ok r → P
-one_line-says says [] r P each h = absurd (cc)
-one_line-says says (l ∷ ls) r P each h = each l (passed-says ls (says l) r h)
-
-distinct_of-is : (ls : List Line) (ms : List Member) (twin : Option ℕ) (r : List Member × List Line) → distinct_of ls ms twin ≡ Ok r → (ms ≡ r.0) × (twin ≡ None)
+distinct_of-is : (ls : List Line) (ms : List Member) (twin : Option ℕ) (r : List Member × List Line) → distinct_of ls ms twin ≡ Ok r → (ms ≡ r.0) × (twin ≡ None) × (0 < length r.0)
 distinct_of-is ls [] twin r h = absurd (cc)
 distinct_of-is ls (m ∷ ms) None r h =
     let same : ◌≡◌ {A = List Member × List Line} (m ∷ ms, drop (length (m ∷ ms)) ls) r = cc in
-    (ap (λ (p : List Member × List Line). p.0) same, refl)
+    let members : m ∷ ms ≡ r.0 = ap (λ (p : List Member × List Line). p.0) same in
+    let some : 0 < length (m ∷ ms) = omega arith in
+    (members, refl, subst (λ (k : List Member). 0 < length k) members some)
 distinct_of-is ls (m ∷ ms) (Some k) r h = absurd (cc)
 
-members_part-is : (ls : List Line) (r : List Member × List Line) → members_part ls ≡ Ok r → (declared_in ls ≡ r.0) × (first_twin [] (declared_in ls) ≡ None)
+-- what is known of members that are read
+record AreMembers (ms : List Member) : Type 0 where
+  some : 0 < length ms
+  names : (i : ℕ) → i < length ms → is_name (member_at ms i).name ≡ true
+  distinct : HasDistinctNames ms
+
+members_part-is : (ls : List Line) (r : List Member × List Line) → members_part ls ≡ Ok r → AreMembers r.0
 unfolding members_part
-members_part-is ls r h = distinct_of-is ls (declared_in ls) (first_twin [] (declared_in ls)) r h
+members_part-is ls r h =
+    let is = distinct_of-is ls (declared_in ls) (first_twin [] (declared_in ls)) r h in
+    record {
+      some = is.2;
+      names = subst (λ (ms : List Member). (i : ℕ) → i < length ms → is_name (member_at ms i).name ≡ true) is.0 (declared_in-names ls);
+      distinct = subst (λ (ms : List Member). HasDistinctNames ms) is.0 (first_twin-distinct (declared_in ls) is.1);
+    }
 
--- the members that are read have names, no two of them one name
-pub members_part-names : (ls : List Line) (r : List Member × List Line) → members_part ls ≡ Ok r → (i : ℕ) → i < length r.0 → is_name (member_at r.0 i).name ≡ true
-members_part-names ls r h =
-    let is = members_part-is ls r h in
-    subst (λ (ms : List Member). (i : ℕ) → i < length ms → is_name (member_at ms i).name ≡ true) is.0 (declared_in-names ls)
+sound : (ms : List Member) (all : List Assignment) (c : Component) → ◌≡◌ {A = Component} (record { members = ms; assignments = all }) c → AreMembers ms → All (IsAllowed ms all) all
+    → length all ≤ 1048576 → signal_count c ≤ 16384 → IsSound c
+sound ms all c same are allowed short few =
+    let count : signal_count (record { members = ms; assignments = all }) ≤ 16384 = subst (λ (x : Component). signal_count x ≤ 16384) (sym same) few in
+    subst (λ (x : Component). IsSound x) same (record { some = are.some; assignments = allowed; names = are.names; distinct = are.distinct; few = count; short = short })
 
-pub members_part-distinct : (ls : List Line) (r : List Member × List Line) → members_part ls ≡ Ok r → HasDistinctNames r.0
-members_part-distinct ls r h =
-    let is = members_part-is ls r h in
-    subst (λ (ms : List Member). HasDistinctNames ms) is.0 (first_twin-distinct (declared_in ls) is.1)
-
-istrue : (b : Bool) → b ≡ true → IsTrue b
-istrue b h = h
-
--- a component of the form is one AND gate, where it has not too many members
-pub form-gate : (ls : List Line) (c : Component) → length c.members ≤ 16384 → form ls ≡ Ok c → IsGate c
+-- a component of the form is sound, where it has not too many signals and lines
+form-sound : (ls : List Line) (c : Component) → signal_count c ≤ 16384 → length ls ≤ 1048576 → form ls ≡ Ok c → IsSound c
 unfolding form
-form-gate ls c few h =
-    bind-ok (fixed import_lines ls) _ c (IsGate c) (λ imported e_imported.
-    bind-ok (one_line class_in imported) _ c (IsGate c) (λ class e_class.
-    bind-ok (members_part class.1) _ c (IsGate c) (λ members e_members.
-    bind-ok (fixed elaborate_lines members.1) _ c (IsGate c) (λ begun e_begun.
-    bind-ok (one_line (assignment_in members.0) begun) _ c (IsGate c) (λ assignment e_assignment.
-    bind-ok (fixed return_lines assignment.1) _ c (IsGate c) (λ returned e_returned.
-    bind-ok (fixed (top_line class.0 ∷ []) returned) _ c (IsGate c) (λ rest e_rest.
-    bind-ok (at_end rest) _ c (IsGate c) (λ nothing e_nothing last.
-    let same : ◌≡◌ {A = Component} (record { members = members.0; assignments = assignment.0 ∷ [] }) c = cc in
-    let one = one_line-says (assignment_in members.0) begun assignment (IsConjunction members.0 assignment.0) (λ l says. assignment_in-conjunction members.0 l assignment.0 says) e_assignment in
-    gate members.0 assignment.0 c same one (members_part-names class.1 members e_members) (members_part-distinct class.1 members e_members) few)))))))) h
-  where
-    gate : (ms : List Member) (a : Assignment) (c : Component) → ◌≡◌ {A = Component} (record { members = ms; assignments = a ∷ [] }) c → IsConjunction ms a
-        → ((i : ℕ) → i < length ms → is_name (member_at ms i).name ≡ true) → HasDistinctNames ms → length c.members ≤ 16384 → IsGate c
-    gate ms a c same one names distinct few =
-        let count : length ms ≤ 16384 = omega (arith, ap (λ (x : Component). length x.members) same) in
-        subst (λ (x : Component). IsGate x) same (record { assignment = one; names = names; distinct = distinct; few = count })
+form-sound ls c few lines h =
+    bind-ok (fixed import_lines ls) _ c (IsSound c) (λ imported e_imported.
+    bind-ok (one_line class_in imported) _ c (IsSound c) (λ class e_class.
+    bind-ok (members_part class.1) _ c (IsSound c) (λ members e_members.
+    bind-ok (fixed elaborate_lines members.1) _ c (IsSound c) (λ begun e_begun.
+    bind-ok (assignments_part members.0 begun) _ c (IsSound c) (λ assignments e_assignments.
+    bind-ok (fixed return_lines assignments.1) _ c (IsSound c) (λ returned e_returned.
+    bind-ok (fixed (top_line class.0 ∷ []) returned) _ c (IsSound c) (λ rest e_rest.
+    bind-ok (at_end rest) _ c (IsSound c) (λ nothing e_nothing last.
+    let same : ◌≡◌ {A = Component} (record { members = members.0; assignments = assignments.0 }) c = cc in
+    let upto_class : length class.1 ≤ length ls = omega (arith, fixed-rest import_lines ls imported e_imported, one_line-rest class_in imported class e_class) in
+    let upto_begun : length begun ≤ length ls = omega (arith, members_part-rest class.1 members e_members, fixed-rest elaborate_lines members.1 begun e_begun) in
+    let short : length assignments.0 ≤ 1048576 = omega (arith, assignments_part-few members.0 begun assignments e_assignments) in
+    let allowed = are_allowed members.0 begun assignments (assignments_part-is members.0 begun assignments e_assignments) in
+    sound members.0 assignments.0 c same (members_part-is class.1 members e_members) allowed short few)))))))) h
 
-within_limit-ok : (c d : Component) → within_limit c ≡ Ok d → (c ≡ d) × (length d.members ≤ 16384)
-within_limit-ok c d h = here (nat_le (length c.members) 16384) refl h
+-- ---- the text
+
+few-is : (n : ℕ) → nat_le n 16384 ≡ true → n ≤ 16384
+few-is n e = grind (arith, nat_tests)
+
+-- what is known of a component that is within the limits
+pub record IsFew (read : Result Component ℕ) (c : Component) : Type 0 where
+  pub same : read ≡ Ok c
+  pub few : signal_count c ≤ 16384
+
+within_limit-is : (c d : Component) → within_limit c ≡ Ok d → IsFew (Ok c) d
+within_limit-is c d h = here (nat_le (length c.members) 16384) (nat_le (signal_count c) 16384) refl h
   where
-    here : (t : Bool) → nat_le (length c.members) 16384 ≡ t → cond t (Ok c) (Err (refused Limit 16390)) ≡ Ok d → (c ≡ d) × (length d.members ≤ 16384)
-    here true e k =
+    here : (s t : Bool) → nat_le (signal_count c) 16384 ≡ t → cond s (cond t (Ok c) (Err (refused Limit 1))) (Err (refused Limit 16390)) ≡ Ok d → IsFew (Ok c) d
+    here true true e k =
         let same : c ≡ d = cc in
-        let few : length c.members ≤ 16384 = grind (arith, nat_tests) in
-        (same, subst (λ (x : Component). length x.members ≤ 16384) same few)
-    here false e k = absurd (cc)
+        record { same = ap (λ (x : Component). Ok x) same; few = subst (λ (x : Component). signal_count x ≤ 16384) same (few-is (signal_count c) e) }
+    here true false e k = absurd (cc)
+    here false t e k = absurd (cc)
 
-placed-gate : (ls : List Line) (read : Result Component ℕ) (c : Component) → form ls ≡ read → placed (length ls) read ≡ Ok c → IsGate c
-placed-gate ls (Ok d) c e h =
-    let is = within_limit-ok d c h in
-    form-gate ls c is.1 (e ∙ ap (λ (x : Component). Ok x) is.0)
-placed-gate ls (Err n) c e h = absurd (cc)
+placed-is : (lines : ℕ) (read : Result Component ℕ) (c : Component) → placed lines read ≡ Ok c → IsFew read c
+placed-is lines (Ok d) c h = within_limit-is d c h
+placed-is lines (Err n) c h = absurd (cc)
 
--- a text's component is one AND gate
-pub component-gate : (text : List ℕ) (c : Component) → component text ≡ Ok c → IsGate c
+-- a text's component is of the form, and has not too many signals
+pub component-is : (text : List ℕ) (c : Component) → component text ≡ Ok c → IsFew (form (lines_in text)) c
 unfolding component
-component-gate text c h = here (utf8_valid_len text == length text) h
+component-is text c h = here (utf8_valid_len text == length text) h
   where
-    here : (t : Bool) → cond t (placed (length (lines_in text)) (form (lines_in text))) (Err (refused Text (count_by (λ b. b == 10) (take (utf8_valid_len text) text) + 1))) ≡ Ok c → IsGate c
-    here true k = placed-gate (lines_in text) (form (lines_in text)) c refl k
+    here : (t : Bool) → cond t (placed (length (lines_in text)) (form (lines_in text))) (Err (refused Text (count_by (λ b. b == 10) (take (utf8_valid_len text) text) + 1))) ≡ Ok c → IsFew (form (lines_in text)) c
+    here true k = placed-is (length (lines_in text)) (form (lines_in text)) c k
     here false k = absurd (cc)
+
+length-with_byte : (b : ℕ) (ls : List Line) (n : ℕ) → length ls ≤ n → length (with_byte b ls) ≤ suc n
+length-with_byte b [] n h = omega arith
+length-with_byte b (l ∷ ls) n h = omega arith
+
+-- a text has no more lines than bytes
+length-lines_in : (text : List ℕ) → length (lines_in text) ≤ length text
+length-lines_in [] = omega arith
+length-lines_in (b ∷ bs) = here (b == 10) (length-lines_in bs)
+  where
+    here : (t : Bool) → length (lines_in bs) ≤ length bs → length (cond t ((10 ∷ []) ∷ lines_in bs) (with_byte b (lines_in bs))) ≤ length (b ∷ bs)
+    here true h = omega arith
+    here false h = length-with_byte b (lines_in bs) (length bs) h
+
+-- a text's component is sound
+pub component-sound : (text : List ℕ) (c : Component) → length text ≤ 1048576 → component text ≡ Ok c → IsSound c
+component-sound text c short h =
+    let is = component-is text c h in
+    let lines : length (lines_in text) ≤ 1048576 = omega (arith, length-lines_in text) in
+    form-sound (lines_in text) c is.few lines is.same

@@ -1,23 +1,19 @@
 -- A text whose component is read spells it.
-use Rattle.std.proofs.Common.{◌≡◌, refl, ℕ, ◌<◌, List, [], ◌∷◌, ◌++◌, length, map, take, drop, get_or, Bool, true, false, cond, not, ap, sym, ◌∙◌, subst, arith}
-use Rattle.std.specs.Prelude.{Option, Some, None, Ok, Err, bytes_eq, codes, position, nat_lt, ◌==◌}
-use Rattle.std.specs.List.{flat_map, prefix_len}
-use Rattle.std.proofs.lemmas.Bool.{eqb-true, false≢true}
-use Rattle.std.proofs.lemmas.Bool.Decides.{nat_tests}
-use Rattle.std.proofs.lemmas.List.{append_assoc, take-append-drop}
-use Rattle.std.proofs.lemmas.List.Folds.{length-prefix_len}
-use Rattle.std.proofs.lemmas.List.Sums.{prefix_len_stops}
+use Rattle.std.proofs.Common.{◌≡◌, refl, ℕ, List, [], ◌∷◌, ◌++◌, length, map, drop, Bool, true, false, cond, ap, sym, ◌∙◌}
+use Rattle.std.specs.Prelude.{Option, Some, None, Ok, Err, bytes_eq, codes, ◌==◌}
+use Rattle.std.specs.List.{flat_map}
+use Rattle.std.proofs.lemmas.Bool.{eqb-true}
 use Rattle.std.proofs.lemmas.Slice.Eq.{bytes_eq-Decides}
-use Rattle.amh_tool.specs.FormNames.{is_name, is_name_byte}
-use Rattle.amh_tool.specs.Form.{member_at, no_member}
-use Rattle.amh_tool.specs.FormLines.{Line, with_byte, lines_in, behind, cut_name, name_behind, class_in, side_in, member_in, number_of, same_side, number_on_side, names_in, assignment_in, top_line}
-use Rattle.amh_tool.specs.Component.{passed, one_line, fixed, at_end, declared_in, with_member, first_twin, distinct_of, members_part, form, import_lines, elaborate_lines, return_lines}
+use Rattle.amh_tool.specs.FormNames.{is_name}
+use Rattle.amh_tool.specs.FormLines.{Line, with_byte, lines_in, name_behind, class_in, side_in, member_in, top_line}
+use Rattle.amh_tool.specs.Component.{passed, one_line, fixed, at_end, declared_in, with_member, first_twin, distinct_of, members_part, assigned_in, assignments_part, form, import_lines, elaborate_lines, return_lines}
 use Rattle.amh_tool.specs.FormText.{class_line, member_line, assignment_line, spelled_lines, IsSpelling}
 use Rattle.amh_tool.specs.declared.form.Member.{Member}
-use Rattle.amh_tool.specs.declared.form.Right.TheVariants.{And}
 use Rattle.amh_tool.specs.declared.form.Assignment.{Assignment}
 use Rattle.amh_tool.specs.declared.form.Component.{Component}
 use Rattle.amh_tool.proofs.FormBinds.{bind-ok, bind-some}
+use Rattle.amh_tool.proofs.FormCuts.{Cut, name_behind-is}
+use Rattle.amh_tool.proofs.FormAssignments.{assigned_in-is, assignments_part-is}
 
 -- ---- the lines of a text are the text
 
@@ -34,40 +30,6 @@ flat-lines_in (b ∷ bs) = here (b == 10) refl (flat-lines_in bs)
     here false e h = rw (flat-with_byte b (lines_in bs), h) refl
 
 -- ---- a line is spelled as it is read
-
-behind-is : (front text rest : List ℕ) → behind front text ≡ Some rest → text ≡ front ++ rest
-behind-is [] text rest h = cc
-behind-is (f ∷ fs) [] rest h = absurd (cc)
-behind-is (f ∷ fs) (b ∷ bs) rest h = here (b == f) refl (behind-is fs bs rest) h
-  where
-    here : (t : Bool) → (b == f) ≡ t → (behind fs bs ≡ Some rest → bs ≡ fs ++ rest) → cond t (behind fs bs) None ≡ Some rest → b ∷ bs ≡ f ∷ (fs ++ rest)
-    here true e more k = let same : b ≡ f = eqb-true b f e in let tail = more k in cc
-    here false e more k = absurd (cc)
-
-cut_name-is : (text : List ℕ) (r : List ℕ × List ℕ) → cut_name text ≡ Some r → (text ≡ r.0 ++ r.1) × (is_name r.0 ≡ true)
-cut_name-is text r h = here (is_name (take (prefix_len is_name_byte text) text)) refl h
-  where
-    name : List ℕ
-    name = take (prefix_len is_name_byte text) text
-
-    here : (t : Bool) → is_name name ≡ t → cond t (Some (name, drop (length name) text)) None ≡ Some r → (text ≡ r.0 ++ r.1) × (is_name r.0 ≡ true)
-    here true e k =
-        let same : ◌≡◌ {A = List ℕ × List ℕ} (name, drop (length name) text) r = cc in
-        let whole : name ++ drop (length name) text ≡ text = rw (length-prefix_len is_name_byte text) (take-append-drop (prefix_len is_name_byte text) text) in
-        (sym whole ∙ ap (λ (p : List ℕ × List ℕ). p.0 ++ p.1) same, sym (ap (λ (p : List ℕ × List ℕ). is_name p.0) same) ∙ e)
-    here false e k = absurd (cc)
-
--- what is read behind a front
-record Cut (front text : List ℕ) (r : List ℕ × List ℕ) : Type 0 where
-  spelled : text ≡ front ++ (r.0 ++ r.1)
-  name : is_name r.0 ≡ true
-
-name_behind-is : (front text : List ℕ) (r : List ℕ × List ℕ) → name_behind front text ≡ Some r → Cut front text r
-unfolding name_behind
-name_behind-is front text r h =
-    bind-some (behind front text) cut_name r (Cut front text r) (λ rest e k.
-    let cut = cut_name-is rest r k in
-    record { spelled = behind-is front text rest e ∙ ap (λ (t : List ℕ). front ++ t) cut.0; name = cut.1 }) h
 
 class_in-is : (line : Line) (class : List ℕ) → class_in line ≡ Some class → (line ≡ class_line class) × (is_name class ≡ true)
 unfolding class_in
@@ -109,81 +71,6 @@ declared_in-is : (ls : List Line) → ls ≡ map member_line (declared_in ls) ++
 declared_in-is [] = refl
 declared_in-is (l ∷ ls) = declared-is (member_in l) l ls (declared_in ls) (member_in-is l) (declared_in-is ls)
 
-names_in-is : (line : Line) (n : List ℕ × List ℕ × List ℕ) → names_in line ≡ Some n
-    → line ≡ codes "        m.d.comb += self." ++ (n.0 ++ (codes ".eq(self." ++ (n.1 ++ (codes " & self." ++ (n.2 ++ codes ")\n")))))
-unfolding names_in
-names_in-is line n h =
-    bind-some (name_behind (codes "        m.d.comb += self.") line) _ n _ (λ target e_target.
-    bind-some (name_behind (codes ".eq(self.") target.1) _ n _ (λ left e_left.
-    bind-some (name_behind (codes " & self.") left.1) _ n _ (λ right e_right k.
-    here target left right (name_behind-is (codes "        m.d.comb += self.") line target e_target).spelled (name_behind-is (codes ".eq(self.") target.1 left e_left).spelled (name_behind-is (codes " & self.") left.1 right e_right).spelled
-    (bytes_eq right.1 (codes ")\n")) refl k))) h
-  where
-    here : (target left right : List ℕ × List ℕ) → line ≡ codes "        m.d.comb += self." ++ (target.0 ++ target.1) → target.1 ≡ codes ".eq(self." ++ (left.0 ++ left.1)
-        → left.1 ≡ codes " & self." ++ (right.0 ++ right.1) → (t : Bool) → bytes_eq right.1 (codes ")\n") ≡ t → cond t (Some (target.0, left.0, right.0)) None ≡ Some n
-        → line ≡ codes "        m.d.comb += self." ++ (n.0 ++ (codes ".eq(self." ++ (n.1 ++ (codes " & self." ++ (n.2 ++ codes ")\n")))))
-    here target left right a b d true e k =
-        let same : ◌≡◌ {A = List ℕ × List ℕ × List ℕ} (target.0, left.0, right.0) n = cc in
-        let last : right.1 ≡ codes ")\n" = (bytes_eq-Decides right.1 (codes ")\n")).0 e in
-        a ∙ ap (λ (t : List ℕ). codes "        m.d.comb += self." ++ (target.0 ++ t)) (b ∙ ap (λ (t : List ℕ). codes ".eq(self." ++ (left.0 ++ t)) (d ∙ ap (λ (t : List ℕ). codes " & self." ++ (right.0 ++ t)) last))
-        ∙ ap (λ (p : List ℕ × List ℕ × List ℕ). codes "        m.d.comb += self." ++ (p.0 ++ (codes ".eq(self." ++ (p.1 ++ (codes " & self." ++ (p.2 ++ codes ")\n")))))) same
-    here target left right a b d false e k = absurd (cc)
-
-position-passes : {X : Type 0} (p : X → Bool) (xs : List X) (k : ℕ) (d : X) → position p xs ≡ Some k → p (get_or xs k d) ≡ true
-position-passes {X} p xs k d h = here (nat_lt n (length xs)) refl h
-  where
-    n : ℕ
-    n = prefix_len (λ x. not (p x)) xs
-
-    true_of : (b : Bool) → not b ≡ false → b ≡ true
-    true_of true e = refl
-    true_of false e = absurd (false≢true (sym e))
-
-    here : (t : Bool) → nat_lt n (length xs) ≡ t → cond t (Some n) None ≡ Some k → p (get_or xs k d) ≡ true
-    here true e f =
-        let same : n ≡ k = cc in
-        let held : n < length xs = grind (arith, nat_tests) in
-        let stops : p (get_or xs n d) ≡ true = true_of (p (get_or xs n d)) (prefix_len_stops (λ x. not (p x)) xs d held) in
-        subst (λ (j : ℕ). p (get_or xs j d) ≡ true) same stops
-    here false e f = absurd (cc)
-
--- the member of a name's number has the name
-number_on_side-name : (side : Bool) (ms : List Member) (name : List ℕ) (n : ℕ) → number_on_side side ms name ≡ Some n → name ≡ (member_at ms n).name
-unfolding number_on_side
-number_on_side-name side ms name n h =
-    bind-some (number_of ms name) _ n (name ≡ (member_at ms n).name) (λ k e last. here k (same_side side (member_at ms k).is_input) e last) h
-  where
-    here : (k : ℕ) (t : Bool) → number_of ms name ≡ Some k → cond t (Some k) None ≡ Some n → name ≡ (member_at ms n).name
-    here k true e f =
-        let same : k ≡ n = cc in
-        let found : name ≡ (member_at ms k).name = (bytes_eq-Decides name (member_at ms k).name).0 (position-passes (λ m. bytes_eq name m.name) ms k no_member e) in
-        found ∙ ap (λ (j : ℕ). (member_at ms j).name) same
-    here k false e f = absurd (cc)
-
--- the line of a conjunction, by three names
-unfoldable pub conjunction_line : List ℕ → List ℕ → List ℕ → Line
-conjunction_line target left right = codes "        m.d.comb += self." ++ (target ++ (codes ".eq(self." ++ (left ++ (codes " & self." ++ (right ++ codes ")\n")))))
-
-pub assignment_line-and : (ms : List Member) (t l r : ℕ) → assignment_line ms (record { clocked = false; target = t; right = And l r }) ≡ conjunction_line (member_at ms t).name (member_at ms l).name (member_at ms r).name
-unfolding conjunction_line
-assignment_line-and ms t l r =
-    ap (λ (z : List ℕ). codes "        m.d.comb += self." ++ ((member_at ms t).name ++ (codes ".eq(self." ++ z))) (append_assoc (member_at ms l).name (codes " & self." ++ (member_at ms r).name) (codes ")\n"))
-
-assignment_in-is : (ms : List Member) (line : Line) (a : Assignment) → assignment_in ms line ≡ Some a → line ≡ assignment_line ms a
-unfolding assignment_in conjunction_line
-assignment_in-is ms line a h =
-    bind-some (names_in line) _ a (line ≡ assignment_line ms a) (λ n e_names.
-    bind-some (number_on_side false ms n.0) _ a (line ≡ assignment_line ms a) (λ t e_target.
-    bind-some (number_on_side true ms n.1) _ a (line ≡ assignment_line ms a) (λ l e_left.
-    bind-some (number_on_side true ms n.2) _ a (line ≡ assignment_line ms a) (λ r e_right last.
-    let same : ◌≡◌ {A = Assignment} (record { clocked = false; target = t; right = And l r }) a = cc in
-    let read : line ≡ conjunction_line n.0 n.1 n.2 = names_in-is line n e_names in
-    let target = number_on_side-name false ms n.0 t e_target in
-    let left = number_on_side-name true ms n.1 l e_left in
-    let right = number_on_side-name true ms n.2 r e_right in
-    let named : conjunction_line n.0 n.1 n.2 ≡ conjunction_line (member_at ms t).name (member_at ms l).name (member_at ms r).name = cc in
-    read ∙ named ∙ sym (assignment_line-and ms t l r) ∙ ap (assignment_line ms) same)))) h
-
 -- ---- the parts are spelled as they are read
 
 fixed-is : (ws ls rest : List Line) → fixed ws ls ≡ Ok rest → ls ≡ ws ++ rest
@@ -218,6 +105,11 @@ members_part-cut ls r h =
     let is = distinct_of-cut ls (declared_in ls) (first_twin [] (declared_in ls)) r h in
     declared_in-is ls ∙ ap (λ (ms : List Member). map member_line ms ++ drop (length (declared_in ls)) ls) is.0 ∙ ap (λ (k : List Line). map member_line r.0 ++ k) is.1
 
+assignments_part-cut : (ms : List Member) (ls : List Line) (r : List Assignment × List Line) → assignments_part ms ls ≡ Ok r → ls ≡ map (assignment_line ms) r.0 ++ r.1
+assignments_part-cut ms ls r h =
+    let is = assignments_part-is ms ls r h in
+    assigned_in-is ms ls ∙ ap (λ (all : List Assignment). map (assignment_line ms) all ++ drop (length (assigned_in ms ls)) ls) is.assigned ∙ ap (λ (k : List Line). map (assignment_line ms) r.0 ++ k) is.rest
+
 at_end-is : (ls : List Line) (u : Unit {0}) → at_end ls ≡ Ok u → ls ≡ []
 at_end-is [] u h = refl
 at_end-is (l ∷ ls) u h = absurd (cc)
@@ -235,22 +127,21 @@ form-is ls c h =
     bind-ok (one_line class_in imported) _ c (AreLines ls c) (λ class e_class.
     bind-ok (members_part class.1) _ c (AreLines ls c) (λ members e_members.
     bind-ok (fixed elaborate_lines members.1) _ c (AreLines ls c) (λ begun e_begun.
-    bind-ok (one_line (assignment_in members.0) begun) _ c (AreLines ls c) (λ assignment e_assignment.
-    bind-ok (fixed return_lines assignment.1) _ c (AreLines ls c) (λ returned e_returned.
+    bind-ok (assignments_part members.0 begun) _ c (AreLines ls c) (λ assignments e_assignments.
+    bind-ok (fixed return_lines assignments.1) _ c (AreLines ls c) (λ returned e_returned.
     bind-ok (fixed (top_line class.0 ∷ []) returned) _ c (AreLines ls c) (λ rest e_rest.
     bind-ok (at_end rest) _ c (AreLines ls c) (λ nothing e_nothing last.
     one_line-is class_in imported class (AreLines ls c) (λ line cut says.
-    one_line-is (assignment_in members.0) begun assignment (AreLines ls c) (λ line' cut' says'.
-    let same : ◌≡◌ {A = Component} (record { members = members.0; assignments = assignment.0 ∷ [] }) c = cc in
+    let same : ◌≡◌ {A = Component} (record { members = members.0; assignments = assignments.0 }) c = cc in
     let first = class_in-is line class.0 says in
     let end : returned ≡ top_line class.0 ∷ [] = fixed-is (top_line class.0 ∷ []) returned rest e_rest ∙ ap (λ (k : List Line). top_line class.0 ∷ k) (at_end-is rest nothing e_nothing) in
-    let after_assignment = fixed-is return_lines assignment.1 returned e_returned ∙ ap (λ (k : List Line). return_lines ++ k) end in
-    let after_begun = cut' ∙ ap (λ (l : Line). l ∷ assignment.1) (assignment_in-is members.0 line' assignment.0 says') ∙ ap (λ (k : List Line). assignment_line members.0 assignment.0 ∷ k) after_assignment in
+    let after_assignments = fixed-is return_lines assignments.1 returned e_returned ∙ ap (λ (k : List Line). return_lines ++ k) end in
+    let after_begun = assignments_part-cut members.0 begun assignments e_assignments ∙ ap (λ (k : List Line). map (assignment_line members.0) assignments.0 ++ k) after_assignments in
     let after_members = fixed-is elaborate_lines members.1 begun e_begun ∙ ap (λ (k : List Line). elaborate_lines ++ k) after_begun in
     let after_class = members_part-cut class.1 members e_members ∙ ap (λ (k : List Line). map member_line members.0 ++ k) after_members in
     let after_imports = cut ∙ ap (λ (l : Line). l ∷ class.1) first.0 ∙ ap (λ (k : List Line). class_line class.0 ∷ k) after_class in
     let all = fixed-is import_lines ls imported e_imported ∙ ap (λ (k : List Line). import_lines ++ k) after_imports in
-    record { class = class.0; name = first.1; lines = all ∙ ap (spelled_lines class.0) same }) e_assignment) e_class)))))))) h
+    record { class = class.0; name = first.1; lines = all ∙ ap (spelled_lines class.0) same }) e_class)))))))) h
 
 -- a text whose lines are a component's spells it
 pub form-spelling : (text : List ℕ) (c : Component) → form (lines_in text) ≡ Ok c → IsSpelling text c

@@ -1,11 +1,14 @@
 -- The component form of a design file: its parts, one after the other.
-use Rattle.std.specs.Prelude.{ℕ, suc, nat_le, ◌==◌, ◌+◌, ◌-◌, if◌then◌else◌, List, [], ◌∷◌, ◌++◌, length, take, drop, Option, None, Some, Result, Ok, Err, codes, count_by, is_some, bytes_eq}
+use Rattle.std.specs.Prelude.{ℕ, suc, nat_le, ◌==◌, ◌+◌, ◌-◌, if◌then◌else◌, List, [], ◌∷◌, ◌++◌, length, take, drop, Option, None, Some, Result, Ok, Err, codes, count_by, is_some, position, bytes_eq, Bool, true, false, not, ◌&&◌, ◌||◌}
+use Rattle.std.specs.List.{list_all}
 use Rattle.std.specs.Str.Lossy.{utf8_valid_len}
 use Rattle.amh_host.specs.declared.place.Kind.{Kind}
 use Rattle.amh_host.specs.declared.place.Kind.TheVariants.{Text, Subset, Limit}
 use Rattle.amh_tool.specs.FormLines.{Line, lines_in, class_in, member_in, number_of, assignment_in, top_line}
 use Rattle.amh_tool.specs.declared.form.Member.{Member}
+use Rattle.amh_tool.specs.declared.form.Assignment.{Assignment}
 use Rattle.amh_tool.specs.declared.form.Component.{Component}
+use Rattle.amh_tool.specs.Form.{member_at, side_of, operands, signal_count}
 use Rattle.amh_tool.specs.declared.component.Refusal.{Refusal}
 
 infixl 10 ◌>>=◌
@@ -73,6 +76,42 @@ distinct_of ls (m ∷ ms) (Some k) = Err (length ls - k)
 unfoldable pub members_part : List Line → Reading (List Member)
 members_part ls = distinct_of ls (declared_in ls) (first_twin [] (declared_in ls))
 
+-- ---- assignments
+
+abbrev pub with_assignment : Option Assignment → List Assignment → List Assignment
+with_assignment None more = []
+with_assignment (Some a) more = a ∷ more
+
+-- the assignments that the lines say, up to the first line that says none
+abbrev pub assigned_in : List Member → List Line → List Assignment
+assigned_in members [] = []
+assigned_in members (l ∷ ls) = with_assignment (assignment_in members l) (assigned_in members ls)
+
+abbrev pub same_side : Bool → Option Bool → Bool
+same_side clocked None = false
+same_side true (Some side) = side
+same_side false (Some side) = not side
+
+-- a member may be read: it is an input, or driven from `sync`
+abbrev pub is_readable : List Member → List Assignment → ℕ → Bool
+is_readable members all i = (member_at members i).is_input || same_side true (side_of all i)
+
+-- an assignment keeps to the side of its target, and reads what may be read
+abbrev pub is_allowed : List Member → List Assignment → Assignment → Bool
+is_allowed members all a = same_side a.clocked (side_of all a.target) && list_all (is_readable members all) (operands a.right)
+
+-- the number of the first assignment that is not allowed
+abbrev pub first_wrong : List Member → List Assignment → Option ℕ
+first_wrong members all = position (λ (a : Assignment). not (is_allowed members all a)) all
+
+abbrev pub allowed_of : List Line → List Assignment → Option ℕ → Reading (List Assignment)
+allowed_of ls all None = Ok (all, drop (length all) ls)
+allowed_of ls all (Some k) = Err (length ls - k)
+
+-- any number of assignments, each of which is allowed
+unfoldable pub assignments_part : List Member → List Line → Reading (List Assignment)
+assignments_part members ls = allowed_of ls (assigned_in members ls) (first_wrong members (assigned_in members ls))
+
 -- the parts of the form, in order
 unfoldable pub form : List Line → Result Component ℕ
 form ls = do
@@ -80,26 +119,30 @@ form ls = do
   class ← one_line class_in imported
   members ← members_part class.1
   begun ← fixed elaborate_lines members.1
-  assignment ← one_line (assignment_in members.0) begun
-  returned ← fixed return_lines assignment.1
+  assignments ← assignments_part members.0 begun
+  returned ← fixed return_lines assignments.1
   rest ← fixed (top_line class.0 ∷ []) returned
   nothing ← at_end rest
-  Ok (record { members = members.0; assignments = assignment.0 ∷ [] })
+  Ok (record { members = members.0; assignments = assignments.0 })
 
 -- a refusal at a line, which has the column 1
 abbrev pub refused : Kind → ℕ → Refusal
 refused kind line = record { place = record { line = line; col = 1 }; kind = kind }
 
--- how many members a component may have
-abbrev pub most_members : ℕ
-most_members = 16384
+-- how many signals a design may have
+abbrev pub most_signals : ℕ
+most_signals = 16384
 
 -- the line of the first member past the most, since the first member stands in line 6
 abbrev pub line_past_most : ℕ
-line_past_most = 6 + most_members
+line_past_most = 6 + most_signals
 
+-- too many members are told at the first past the most, and a clock and a reset past the most before all lines
 abbrev pub within_limit : Component → Result Component Refusal
-within_limit c = if nat_le (length c.members) most_members then Ok c else Err (refused Limit line_past_most)
+within_limit c =
+    if nat_le (length c.members) most_signals
+    then (if nat_le (signal_count c) most_signals then Ok c else Err (refused Limit 1))
+    else Err (refused Limit line_past_most)
 
 abbrev pub placed : ℕ → Result Component ℕ → Result Component Refusal
 placed lines (Ok c) = within_limit c

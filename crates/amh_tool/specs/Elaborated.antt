@@ -1,5 +1,5 @@
 -- The design that a component form stands for.
-use Rattle.std.specs.Prelude.{ℕ, suc, ◌+◌, Bool, true, false, if◌then◌else◌, List, [], ◌∷◌, ◌++◌, length, map, codes, pos, Option, Some, None}
+use Rattle.std.specs.Prelude.{ℕ, suc, ◌+◌, Bool, true, false, ◌&&◌, ◌||◌, bytes_eq, if◌then◌else◌, List, [], ◌∷◌, ◌++◌, length, map, codes, pos, Option, Some, None}
 use Rattle.std.specs.List.{flat_map, list_any, range_with_len}
 use Rattle.shape_rules.specs.Forms.{unsigned}
 use Rattle.shape_rules.specs.declared.op.Op.TheVariants as op
@@ -14,6 +14,7 @@ use Rattle.design_ir.specs.declared.port.Column.{Column}
 use Rattle.design_ir.specs.declared.process.DesignProcess.{DesignProcess}
 use Rattle.design_ir.specs.Trees.{Block, done, next, assign}
 use Rattle.design_ir.specs.Circuits.{Circuit}
+use Rattle.amh_tool.specs.Form.{uses_sync}
 use Rattle.amh_tool.specs.declared.form.Member.{Member}
 use Rattle.amh_tool.specs.declared.form.Right.{Right}
 use Rattle.amh_tool.specs.declared.form.Right.TheVariants.{Copy, Not, And, Or}
@@ -21,10 +22,6 @@ use Rattle.amh_tool.specs.declared.form.Assignment.{Assignment}
 use Rattle.amh_tool.specs.declared.form.Component.{Component}
 
 -- ---- signals: the clock and the reset of `sync` where it is used, then the members
-
--- an assignment is clocked
-abbrev pub uses_sync : List Assignment → Bool
-uses_sync assignments = list_any (λ (a : Assignment). a.clocked) assignments
 
 -- an unsigned signal of one bit that begins at 0
 abbrev pub bit_signal : List ℕ → Sig
@@ -35,8 +32,15 @@ abbrev pub domain_members : List Assignment → List Member
 domain_members assignments =
     if uses_sync assignments then record { name = codes "clk"; is_input = true } ∷ record { name = codes "rst"; is_input = true } ∷ [] else []
 
+-- a member whose name the clock or the reset has already gets the next one that is free
+abbrev pub is_taken : Bool → List ℕ → Bool
+is_taken clocked name = clocked && (bytes_eq name (codes "clk") || bytes_eq name (codes "rst"))
+
+abbrev pub renamed : Bool → Member → Member
+renamed clocked m = if is_taken clocked m.name then record m { name = m.name ++ codes "$1" } else m
+
 abbrev pub all_members : Component → List Member
-all_members c = domain_members c.assignments ++ c.members
+all_members c = domain_members c.assignments ++ map (renamed (uses_sync c.assignments)) c.members
 
 -- the number of the signal of the first member
 abbrev pub first_member : Component → ℕ
@@ -112,9 +116,11 @@ processes_of c (a ∷ more) = if a.clocked then side_process c true ++ side_proc
 
 -- ---- the design
 
+abbrev pub sync : Domain
+sync = record { name = codes "sync"; clk = record { 0 = 0 }; rst = Some (record { 0 = 1 }) }
+
 abbrev pub sync_domain : List Assignment → List Domain
-sync_domain assignments =
-    if uses_sync assignments then record { name = codes "sync"; clk = record { 0 = 0 }; rst = Some (record { 0 = 1 }) } ∷ [] else []
+sync_domain assignments = if uses_sync assignments then sync ∷ [] else []
 
 -- the ports and the columns of the signals from this number on
 abbrev pub ports_from : ℕ → List Member → List Port

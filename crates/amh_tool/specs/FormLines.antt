@@ -1,9 +1,11 @@
 -- The lines of a design file, and what a line of the component form says.
-use Rattle.std.specs.Prelude.{ℕ, Bool, true, false, ◌==◌, ◌++◌, if◌then◌else◌, List, [], ◌∷◌, length, drop, Option, None, Some, codes, position, take_while, option_and_then, bytes_eq}
+use Rattle.std.specs.Prelude.{ℕ, Bool, true, false, ◌==◌, ◌++◌, if◌then◌else◌, List, [], ◌∷◌, length, drop, Option, None, Some, codes, position, take_while, option_and_then, is_some, bytes_eq}
+use Rattle.std.specs.Option.{option_map}
 use Rattle.amh_tool.specs.FormNames.{is_name_byte, is_name}
 use Rattle.amh_tool.specs.Form.{member_at}
 use Rattle.amh_tool.specs.declared.form.Member.{Member}
-use Rattle.amh_tool.specs.declared.form.Right.TheVariants.{And}
+use Rattle.amh_tool.specs.declared.form.Right.{Right}
+use Rattle.amh_tool.specs.declared.form.Right.TheVariants.{Copy, Not, And, Or}
 use Rattle.amh_tool.specs.declared.form.Assignment.{Assignment}
 
 infixl 10 ◌>>=◌
@@ -64,33 +66,59 @@ member_in line = do
 abbrev pub number_of : List Member → List ℕ → Option ℕ
 number_of members name = position (λ m. bytes_eq name m.name) members
 
-abbrev pub same_side : Bool → Bool → Bool
-same_side true is_input = is_input
-same_side false true = false
-same_side false false = true
-
--- the number of the member of this name, where it is an input, or is none
-unfoldable pub number_on_side : Bool → List Member → List ℕ → Option ℕ
-number_on_side is_input members name = do
+-- the number of the member of this name, where it is an output
+abbrev pub output_of : List Member → List ℕ → Option ℕ
+output_of members name = do
   number ← number_of members name
-  if same_side is_input (member_at members number).is_input then Some number else None
+  if (member_at members number).is_input then None else Some number
 
--- `        m.d.comb += self.Y.eq(self.A & self.B)` has the names of a target and of two operands
-unfoldable pub names_in : Line → Option (List ℕ × List ℕ × List ℕ)
-names_in line = do
-  target ← name_behind (codes "        m.d.comb += self.") line
-  left ← name_behind (codes ".eq(self.") target.1
-  right ← name_behind (codes " & self.") left.1
-  if bytes_eq right.1 (codes ")\n") then Some (target.0, left.0, right.0) else None
+-- `comb += self.` and `sync += self.` say whether an assignment is clocked
+unfoldable pub side_behind : List ℕ → Option (Bool × List ℕ)
+side_behind text =
+    if is_some (behind (codes "comb += self.") text) then option_map (λ rest. (false, rest)) (behind (codes "comb += self.") text)
+    else option_map (λ rest. (true, rest)) (behind (codes "sync += self.") text)
 
--- an output is given the conjunction of two inputs
+-- `self.NAME` behind this front says the number of a member
+unfoldable pub operand_behind : List Member → List ℕ → List ℕ → Option (ℕ × List ℕ)
+operand_behind members front text = do
+  name ← name_behind front text
+  number ← number_of members name.0
+  Some (number, name.1)
+
+-- `~self.A`, up to the end of the line
+unfoldable pub not_in : List Member → List ℕ → Option Right
+not_in members text = do
+  a ← operand_behind members (codes "~self.") text
+  if bytes_eq a.1 (codes ")\n") then Some (Not a.0) else None
+
+-- the last operand, and the end of the line
+abbrev pub ends_with : List Member → (ℕ → Right) → Option (ℕ × List ℕ) → Option Right
+ends_with members right None = None
+ends_with members right (Some b) = if bytes_eq b.1 (codes ")\n") then Some (right b.0) else None
+
+-- what stands behind a left operand: nothing, or an operator and a right operand
+unfoldable pub right_behind : List Member → ℕ × List ℕ → Option Right
+right_behind members a =
+    if bytes_eq a.1 (codes ")\n") then Some (Copy a.0)
+    else if is_some (behind (codes " & ") a.1) then ends_with members (And a.0) (operand_behind members (codes " & self.") a.1)
+    else ends_with members (Or a.0) (operand_behind members (codes " | self.") a.1)
+
+-- `self.A`, `self.A & self.B` or `self.A | self.B`, or `~self.A`
+unfoldable pub right_in : List Member → List ℕ → Option Right
+right_in members text =
+    if is_some (behind (codes "~") text) then not_in members text
+    else option_and_then (right_behind members) (operand_behind members (codes "self.") text)
+
+-- `        m.d.comb += self.Y.eq(EXPR)`, or with `sync`, assigns to an output
 unfoldable pub assignment_in : List Member → Line → Option Assignment
 assignment_in members line = do
-  names ← names_in line
-  target ← number_on_side false members names.0
-  left ← number_on_side true members names.1
-  right ← number_on_side true members names.2
-  Some (record { clocked = false; target = target; right = And left right })
+  text ← behind (codes "        m.d.") line
+  side ← side_behind text
+  name ← cut_name side.1
+  target ← output_of members name.0
+  expression ← behind (codes ".eq(") name.1
+  right ← right_in members expression
+  Some (record { clocked = side.0; target = target; right = right })
 
 -- `top = NAME()` names the class
 unfoldable pub top_line : List ℕ → Line

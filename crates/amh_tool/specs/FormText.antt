@@ -2,7 +2,7 @@
 use Rattle.std.specs.Prelude.{◌≡◌, ℕ, true, if◌then◌else◌, List, [], ◌∷◌, ◌++◌, map, codes, Ok}
 use Rattle.std.specs.List.{flat_map}
 use Rattle.amh_tool.specs.FormNames.{is_name}
-use Rattle.amh_tool.specs.Form.{member_at, IsGate}
+use Rattle.amh_tool.specs.Form.{member_at, IsSound}
 use Rattle.amh_tool.specs.FormLines.{Line, top_line}
 use Rattle.amh_tool.specs.Component.{component, import_lines, elaborate_lines, return_lines}
 use Rattle.amh_tool.specs.declared.form.Member.{Member}
@@ -48,6 +48,6 @@ pub record IsSpelling (text : List ℕ) (c : Component) : Type 0 where
   pub name : is_name class ≡ true
   pub lines : text ≡ flat_map (λ (l : Line). l) (spelled_lines class c)
 
--- a gate that the text spells is its component
-abbrev pub ReadsEachGate : List ℕ → Type 0
-ReadsEachGate text = (c : Component) → IsGate c → IsSpelling text c → component text ≡ Ok c
+-- a sound component that the text spells is the text's
+abbrev pub ReadsEachComponent : List ℕ → Type 0
+ReadsEachComponent text = (c : Component) → IsSound c → IsSpelling text c → component text ≡ Ok c

@@ -6,10 +6,12 @@ pub mod FormGives
 pub mod Boards
 pub mod Elaborated
 pub mod Corresponds
+pub mod Nets
+pub mod NetParts
+pub mod Running
+pub mod Simulated
+pub mod NetColumns
 pub mod Lowered
-pub mod Gate
-pub mod GateMembers
-pub mod GateStates
 pub mod Script
 pub mod ScriptParts
 pub mod ScriptGives

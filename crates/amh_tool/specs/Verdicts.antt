@@ -1,7 +1,7 @@
 -- The outcome that the program found.
 use Rattle.std.specs.Prelude.{◌≡◌}
 use Rattle.design_ir.specs.Legal.{AllLegal}
-use Rattle.amh_tool.specs.Form.{IsGate}
+use Rattle.amh_tool.specs.Form.{IsSound}
 use Rattle.amh_tool.specs.Elaborated.{circuit_of}
 use Rattle.amh_tool.specs.Boards.{board_of}
 use Rattle.amh_tool.specs.Trace.{timed, Done}
@@ -18,9 +18,9 @@ verdict_seen (verdict.Refused r) = Refuses r
 verdict_seen (verdict.BadLine line) = BadLine line
 verdict_seen (verdict.Accepted a) = accepted_seen a
 
--- what is accepted is one gate, with its own columns and legal events
+-- what is accepted is sound, with its own columns and legal events
 pub record IsFitting (a : Accepted) : Type 0 where
-  pub gate : IsGate a.component
+  pub sound : IsSound a.component
   pub board : a.board ≡ board_of (circuit_of a.component)
   pub legal : AllLegal (circuit_of a.component) a.events
 

@@ -3,7 +3,7 @@ ghost use Rattle.std.specs.Prelude.{◌≡◌, ◌≤◌, length, IfOk, IfSome, 
 ghost use Rattle.amh_host.specs.Causes.{HasCause};
 ghost use Rattle.amh_tool.specs.Outcome.{planned, designed};
 ghost use Rattle.amh_tool.specs.Component.{refused};
-ghost use Rattle.amh_tool.specs.Form.{IsGate};
+ghost use Rattle.amh_tool.specs.Form.{IsSound};
 ghost use Rattle.amh_tool.specs.Verdicts.{verdict_seen, IsFit};
 ghost use Rattle.amh_tool.specs.ScriptGives.{ReadsScript};
 ghost use Rattle.amh_tool.specs.Views.{plan_seen};
@@ -74,7 +74,7 @@ fn accept_script<H: Host>(
     plan: &Plan<'_>,
     component: Component,
 ) -> Result<Verdict, HostStop>
-    requires { IsGate component }
+    requires { IsSound component }
     ensures given { IfOk result (λ v. IfSome (H.seen host.old).files (λ files. designed (plan_seen plan.now) files (Ok component) ≡ verdict_seen v)) }
     ensures fit { IfOk result IsFit }
     ensures same { H.seen host.new ≡ H.seen host.old }

@@ -1,12 +1,14 @@
 // What the trace and the script see of a design.
 ghost use Rattle.std.specs.Prelude.{◌≡◌, ◌≤◌, length, IfOk};
-ghost use Rattle.amh_tool.specs.Form.{IsGate};
-ghost use Rattle.amh_tool.specs.Elaborated.{circuit_of};
-ghost use Rattle.amh_tool.specs.Boards.{board_of};
-ghost use Rattle.amh_tool.specs.Gate.{gate_column, gate_columns};
 ghost use Rattle.shape_rules.specs.Forms.{unsigned};
+ghost use Rattle.amh_tool.specs.Form.{IsSound};
+ghost use Rattle.amh_tool.specs.Elaborated.{circuit_of, sync};
+ghost use Rattle.amh_tool.specs.Boards.{board_of};
+ghost use Rattle.amh_tool.specs.Nets.{is_input_drive, is_register_drive, has_register};
+ghost use Rattle.amh_tool.specs.NetColumns.{net_column, net_columns, net_domains};
 
-use crate::form::{Component, Member};
+use crate::form::Component;
+use crate::nets::{Drive, Net, nets_of};
 use amh_host::{Items, NoMemory, Text};
 use design_ir::{Domain, SigId};
 use shape_rules::Shape;
@@ -31,43 +33,90 @@ pub struct Board {
 
 /// The columns and domains of the design that the component stands for.
 pub fn board_of(alloc: Global, component: &Component) -> Result<Board, NoMemory>
-    requires { IsGate component.now }
+    requires { IsSound component.now }
     ensures { IfOk result (λ b. b ≡ board_of (circuit_of component.now)) }
 {
-    let columns = gate_columns(alloc, component.members.as_slice())?;
+    let nets = nets_of(alloc, component)?;
+    let clocked = has_register(nets.as_slice());
     Ok(Board {
-        columns,
-        domains: Items::new(alloc),
+        columns: columns_of(alloc, clocked, nets.as_slice())?,
+        domains: domains_of(alloc, clocked)?,
     })
 }
 
-// The columns of a gate: one for each member.
-fn gate_columns(alloc: Global, members: &[Member]) -> Result<Items<Shown>, NoMemory>
-    requires { length members.now ≤ 16384 }
-    ensures { IfOk result (λ columns. columns ≡ gate_columns 0 members.now) }
+// A column for each net.
+fn columns_of(alloc: Global, clocked: bool, nets: &[Net]) -> Result<Items<Shown>, NoMemory>
+    requires { length nets.now ≤ 16384 }
+    ensures { IfOk result (λ columns. columns ≡ net_columns clocked 0 nets.now) }
 {
     let mut columns = Items::new(alloc);
-    for (i, member) in members.iter().enumerate() {
-        columns.push(gate_column(alloc, i as u32, member)?)?;
+    for (s, net) in nets.iter().enumerate() {
+        columns.push(column_of(alloc, clocked, s as u32, net)?)?;
     }
     Ok(columns)
 }
 
-// The column of a member, which has the signal of its number.
-fn gate_column(alloc: Global, number: u32, member: &Member) -> Result<Shown, NoMemory>
-    ensures { IfOk result (λ x. x ≡ gate_column number member.now) }
+// The column of a net. Where there are registers, the first net is the clock.
+fn column_of(alloc: Global, clocked: bool, number: u32, net: &Net) -> Result<Shown, NoMemory>
+    ensures { IfOk result (λ x. x ≡ net_column clocked number net.now) }
 {
-    let mut name = Text::new(alloc);
-    name.push(member.name.as_str())?;
+    let is_clock = clocked && number == 0;
     Ok(Shown {
-        name,
+        name: text_of(alloc, net.name.as_str())?,
         sig: SigId(number),
         shape: one_bit(),
-        is_settable: member.is_input,
+        is_settable: is_input(net.drive) && !is_clock,
     })
 }
 
-// The shape of every member.
+// The domain that registers stand in.
+fn domains_of(alloc: Global, clocked: bool) -> Result<Items<Domain>, NoMemory>
+    ensures { IfOk result (λ domains. domains ≡ net_domains clocked) }
+{
+    let mut domains = Items::new(alloc);
+    if clocked {
+        domains.push(sync(alloc)?)?;
+    }
+    Ok(domains)
+}
+
+fn sync(alloc: Global) -> Result<Domain, NoMemory>
+    ensures { IfOk result (λ d. d ≡ sync) }
+{
+    Ok(Domain {
+        name: text_of(alloc, "sync")?,
+        clk: SigId(0),
+        rst: Some(SigId(1)),
+    })
+}
+
+fn text_of(alloc: Global, s: &str) -> Result<Text, NoMemory>
+    ensures { IfOk result (λ text. text ≡ s.now) }
+{
+    let mut text = Text::new(alloc);
+    text.push(s)?;
+    Ok(text)
+}
+
+fn has_register(nets: &[Net]) -> bool
+    ensures { result ≡ has_register nets.now }
+{
+    nets.iter().any(|net| is_register(net.drive))
+}
+
+fn is_register(drive: Drive) -> bool
+    ensures { result ≡ is_register_drive drive }
+{
+    matches!(drive, Drive::Clocked(_))
+}
+
+fn is_input(drive: Drive) -> bool
+    ensures { result ≡ is_input_drive drive }
+{
+    matches!(drive, Drive::Input)
+}
+
+// The shape of every signal.
 fn one_bit() -> Shape
     ensures { result ≡ unsigned 1 }
 {

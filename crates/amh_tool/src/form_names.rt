@@ -3,7 +3,7 @@ ghost use Rattle.std.specs.Prelude.{◌≡◌, bytes_eq};
 ghost use Rattle.std.specs.Option.{option_map};
 ghost use Rattle.std.specs.List.{list_all, list_any, prefix_len};
 ghost use Rattle.amh_tool.specs.FormNames.{is_name, is_name_byte, begins_with_letter, has_name_bytes, keywords, taken_names};
-ghost use Rattle.amh_tool.specs.FormLines.{behind, name_behind};
+ghost use Rattle.amh_tool.specs.FormLines.{behind, cut_name, name_behind};
 
 use std::str;
 
@@ -18,10 +18,17 @@ const KEYWORDS: [&str; 35] = [
 const TAKEN_NAMES: [&str; 3] = ["elaborate", "signature", "m"];
 
 /// The name behind this front, as long as can be, and what stands behind the name.
+#[tactic(auto, unfolding(crate::specs::FormLines::name_behind))]
 pub fn name_behind<'a>(front: &[u8], text: &'a [u8]) -> Option<(&'a str, &'a [u8])>
     ensures { option_map (λ cut. (cut.0.now, cut.1.now)) result ≡ name_behind front.now text.now }
 {
-    let text = behind(front, text)?;
+    cut_name(behind(front, text)?)
+}
+
+/// The name at the front, as long as can be, and what stands behind it.
+pub fn cut_name(text: &[u8]) -> Option<(&str, &[u8])>
+    ensures { option_map (λ cut. (cut.0.now, cut.1.now)) result ≡ cut_name text.now }
+{
     let len = name_len(text);
     let Ok(name) = str::from_utf8(&text[..len]) else {
         return None;

@@ -1,158 +1,267 @@
 // The module of RTLIL that a component is lowered to.
-ghost use Rattle.std.specs.Prelude.{◌≡◌, ◌+◌, ◌<◌, ◌≤◌, ◌==◌, ◌++◌, ◌∷◌, [], length, IfOk};
+ghost use Rattle.std.specs.Prelude.{◌≡◌, ◌<◌, ◌≤◌, ◌++◌, length, All, true, IfOk, OnOk};
 ghost use Rattle.rtlil_text.specs.Rules.{IsModule};
-ghost use Rattle.amh_tool.specs.Form.{IsGate, member_at};
+ghost use Rattle.amh_tool.specs.Form.{IsSound, operands};
 ghost use Rattle.amh_tool.specs.Elaborated.{circuit_of};
+ghost use Rattle.amh_tool.specs.Nets.{is_register_drive, ReadsKept, IsClocked, IsWired};
 ghost use Rattle.amh_tool.specs.Corresponds.{Corresponds, SameHistory};
-ghost use Rattle.amh_tool.specs.Lowered.{gate_module, and_cell, port_wire, port_wires, inner_wire, output_link, output_links, port_side};
-ghost use Rattle.amh_tool.specs.GateMembers.{IsGateOf};
+ghost use Rattle.amh_tool.specs.Lowered.{net_side, net_init, net_wire, net_wires, inner_wire, inner_wires, value_wires, drive_wires, value_cells, drive_cells, net_cells, link, drive_links, net_links, module_of};
 
-use crate::cells::{and_cell, constant_bit, inner_id, public_id, whole_bit};
-use crate::form::{Component, Member, Right};
-use amh_host::{Items, NoMemory};
-use rtlil_text::{RtlLink, RtlLinks, RtlModule, RtlWire, RtlWires, WirePort};
+use crate::cells::{binary_cell, choice_cell, not_cell, register_cell};
+use crate::form::{Component, Right};
+use crate::net_ids::{constant_bit, net_bit, next_id, public_id, value_id, value_spec};
+use crate::nets::{Drive, Net, nets_of};
+use amh_host::{Items, NoMemory, Text};
+use rtlil_text::{
+    RtlBits, RtlCells, RtlLink, RtlLinks, RtlModule, RtlWire, RtlWires, SigSpec, WirePort,
+};
+use shape_rules::CellKind;
 use std::alloc::Global;
 
-/// Which members the gate reads, and which one it drives, by number.
-#[derive(Clone, Copy, Debug, PartialEq, Eq, Drop)]
-pub struct GateMembers {
-    pub a: usize,
-    pub b: usize,
-    pub y: usize,
-}
-
-/// The netlist of a component: a wire for each port in order, the gate's cell, and a link to each output. It keeps
-/// the rules of RTLIL text, has the component's columns, and has its history whatever events come.
+/// The netlist of a component: a wire for each port in order, the cells of each output, and a link to each output of
+/// `comb`. It keeps the rules of RTLIL text, has the component's columns, and has its history whatever events come.
 pub fn lower(alloc: Global, component: &Component) -> Result<RtlModule, NoMemory>
-    requires { IsGate component.now }
+    requires { IsSound component.now }
     ensures rules { IfOk result IsModule }
     ensures corresponds { IfOk result (Corresponds (circuit_of component.now)) }
     ensures history { IfOk result (SameHistory (circuit_of component.now)) }
 {
-    let gate = gate_members(component);
-    gate_module(alloc, component.members.as_slice(), gate)
+    let nets = nets_of(alloc, component)?;
+    module_of(alloc, nets.as_slice())
 }
 
-/// The members of a component that is one gate.
-pub fn gate_members(component: &Component) -> GateMembers
-    requires { IsGate component.now }
-    ensures gate { IsGateOf component.now result }
+// The module of nets.
+#[tactic(auto, unfolding(crate::specs::Lowered::module_of))]
+fn module_of(alloc: Global, nets: &[Net]) -> Result<RtlModule, NoMemory>
+    requires { IsWired nets.now }
+    ensures { IfOk result (λ m. m ≡ module_of nets.now) }
 {
-    let assignment = component.assignments.get(0);
-    let (a, b) = match assignment.right {
-        Right::And(a, b) => (a, b),
-        Right::Copy(_) | Right::Not(_) | Right::Or(_, _) => (0, 0),
-    };
-    GateMembers {
-        a,
-        b,
-        y: assignment.target,
-    }
-}
-
-// The module of the gate.
-#[tactic(auto, unfolding(crate::specs::Lowered::gate_module))]
-fn gate_module(alloc: Global, members: &[Member], gate: GateMembers) -> Result<RtlModule, NoMemory>
-    requires a { gate.a < length members.now }
-    requires b { gate.b < length members.now }
-    requires few { length members.now ≤ 16384 }
-    ensures { IfOk result (λ m. m ≡ gate_module members.now gate.a gate.b gate.y) }
-{
-    let mut wires = port_wires(alloc, members)?;
-    wires.push(inner_wire(alloc, 1)?)?;
-    let mut cells = Items::new(alloc);
-    cells.push(and_cell(alloc, name_at(members, gate.a), name_at(members, gate.b))?)?;
     Ok(RtlModule {
-        wires,
+        wires: all_wires(alloc, nets)?,
         memories: Items::new(alloc),
-        cells,
-        links: output_links(alloc, members, gate.y)?,
+        cells: net_cells(alloc, nets)?,
+        links: net_links(alloc, nets)?,
     })
 }
 
-// The name of a member.
-fn name_at(members: &[Member], i: usize) -> &str
-    requires { i < length members.now }
-    ensures { result.now ≡ (member_at members.now i).name }
-{
-    let member = &members[i];
-    member.name.as_str()
-}
+// ---- wires
 
-// The wires of the ports, numbered from 1.
-fn port_wires(alloc: Global, members: &[Member]) -> Result<RtlWires, NoMemory>
-    requires { length members.now ≤ 16384 }
-    ensures { IfOk result (λ wires. wires ≡ port_wires 1 members.now) }
+// The wires of the ports, and then those inside.
+fn all_wires(alloc: Global, nets: &[Net]) -> Result<RtlWires, NoMemory>
+    requires { length nets.now ≤ 16384 }
+    ensures { IfOk result (λ wires. wires ≡ net_wires 1 nets.now ++ inner_wires 0 nets.now) }
 {
-    let mut wires = Items::new(alloc);
-    for (i, member) in members.iter().enumerate() {
-        wires.push(port_wire(alloc, i as u32 + 1, member)?)?;
+    let mut wires = net_wires(alloc, nets)?;
+    for (s, net) in nets.iter().enumerate() {
+        push_drive_wires(alloc, s, net.drive, &mut wires)?;
     }
     Ok(wires)
 }
 
-// The wire of one port.
-fn port_wire(alloc: Global, number: u32, member: &Member) -> Result<RtlWire, NoMemory>
-    ensures { IfOk result (λ w. w ≡ port_wire number member.now) }
+// The wires of the nets, as ports numbered from 1.
+fn net_wires(alloc: Global, nets: &[Net]) -> Result<RtlWires, NoMemory>
+    requires { length nets.now ≤ 16384 }
+    ensures { IfOk result (λ wires. wires ≡ net_wires 1 nets.now) }
+{
+    let mut wires = Items::new(alloc);
+    for (s, net) in nets.iter().enumerate() {
+        wires.push(net_wire(alloc, s as u32 + 1, net)?)?;
+    }
+    Ok(wires)
+}
+
+// The wire of one net.
+fn net_wire(alloc: Global, number: u32, net: &Net) -> Result<RtlWire, NoMemory>
+    ensures { IfOk result (λ w. w ≡ net_wire number net.now) }
 {
     Ok(RtlWire {
-        id: public_id(alloc, member.name.as_str())?,
+        id: public_id(alloc, net.name.as_str())?,
         width: 1,
-        port: port_side(member.is_input, number),
-        init: None,
+        port: net_side(number, net.drive),
+        init: net_init(alloc, net.drive)?,
     })
 }
 
-fn port_side(is_input: bool, number: u32) -> WirePort
-    ensures { result ≡ port_side is_input number }
+fn net_side(number: u32, drive: Drive) -> WirePort
+    ensures { result ≡ net_side number drive }
 {
-    if is_input {
-        WirePort::Input(number)
-    } else {
-        WirePort::Output(number)
+    match drive {
+        Drive::Input => WirePort::Input(number),
+        Drive::Nothing | Drive::Comb(_) | Drive::Clocked(_) => WirePort::Output(number),
+    }
+}
+
+// A register begins at 0.
+fn net_init(alloc: Global, drive: Drive) -> Result<Option<RtlBits>, NoMemory>
+    ensures { IfOk result (λ init. init ≡ net_init drive) }
+{
+    match drive {
+        Drive::Input | Drive::Nothing | Drive::Comb(_) => Ok(None),
+        Drive::Clocked(_) => {
+            let mut bits: RtlBits = Items::new(alloc);
+            bits.push(false)?;
+            Ok(Some(bits))
+        }
     }
 }
 
 // A wire that only the module names.
-fn inner_wire(alloc: Global, number: u32) -> Result<RtlWire, NoMemory>
-    ensures { IfOk result (λ w. w ≡ inner_wire number) }
+fn inner_wire(id: Text) -> RtlWire
+    ensures { result ≡ inner_wire id }
 {
-    Ok(RtlWire {
-        id: inner_id(alloc, number)?,
+    RtlWire {
+        id,
         width: 1,
         port: WirePort::Inner,
         init: None,
-    })
+    }
 }
 
-// A link to each output.
-fn output_links(alloc: Global, members: &[Member], target: usize) -> Result<RtlLinks, NoMemory>
-    ensures { IfOk result (λ links. links ≡ output_links target 0 members.now) }
+// The inner wires of one net.
+fn push_drive_wires(
+    alloc: Global,
+    s: usize,
+    drive: Drive,
+    wires: &mut RtlWires,
+) -> Result<(), NoMemory>
+    requires { s < 16384 }
+    ensures { OnOk result (wires.new ≡ wires.old ++ drive_wires s drive) }
+{
+    match drive {
+        Drive::Input | Drive::Nothing => Ok(()),
+        Drive::Comb(right) => push_value_wires(alloc, s, right, wires),
+        Drive::Clocked(right) => {
+            push_value_wires(alloc, s, right, wires)?;
+            let id = next_id(alloc, s)?;
+            wires.push(inner_wire(id))
+        }
+    }
+}
+
+// The wire of what an operator gives.
+fn push_value_wires(
+    alloc: Global,
+    s: usize,
+    right: Right,
+    wires: &mut RtlWires,
+) -> Result<(), NoMemory>
+    requires { s < 16384 }
+    ensures { OnOk result (wires.new ≡ wires.old ++ value_wires s right) }
+{
+    match right {
+        Right::Copy(_) => Ok(()),
+        Right::Not(_) | Right::And(_, _) | Right::Or(_, _) => {
+            let id = value_id(alloc, s)?;
+            wires.push(inner_wire(id))
+        }
+    }
+}
+
+// ---- cells
+
+// The cells of the nets.
+fn net_cells(alloc: Global, nets: &[Net]) -> Result<RtlCells, NoMemory>
+    requires { IsWired nets.now }
+    ensures { IfOk result (λ cells. cells ≡ net_cells nets.now 0 nets.now) }
+{
+    let mut cells = Items::new(alloc);
+    for (s, net) in nets.iter().enumerate() {
+        push_drive_cells(alloc, nets, s, net.drive, &mut cells)?;
+    }
+    Ok(cells)
+}
+
+// The cells of one net.
+fn push_drive_cells(
+    alloc: Global,
+    nets: &[Net],
+    s: usize,
+    drive: Drive,
+    cells: &mut RtlCells,
+) -> Result<(), NoMemory>
+    requires few { s < 16384 }
+    requires held { s < length nets.now }
+    requires reads { ReadsKept nets.now drive }
+    requires clocked { is_register_drive drive ≡ true → IsClocked nets.now }
+    ensures { OnOk result (cells.new ≡ cells.old ++ drive_cells nets.now s drive) }
+{
+    match drive {
+        Drive::Input | Drive::Nothing => Ok(()),
+        Drive::Comb(right) => push_value_cells(alloc, nets, s, right, cells),
+        Drive::Clocked(right) => {
+            push_value_cells(alloc, nets, s, right, cells)?;
+            cells.push(choice_cell(alloc, nets, s, right)?)?;
+            cells.push(register_cell(alloc, nets, s)?)
+        }
+    }
+}
+
+// The cell of an operator.
+fn push_value_cells(
+    alloc: Global,
+    nets: &[Net],
+    s: usize,
+    right: Right,
+    cells: &mut RtlCells,
+) -> Result<(), NoMemory>
+    requires few { s < 16384 }
+    requires operands { All (λ i. i < length nets.now) (operands right) }
+    ensures { OnOk result (cells.new ≡ cells.old ++ value_cells nets.now s right) }
+{
+    match right {
+        Right::Copy(_) => Ok(()),
+        Right::Not(a) => cells.push(not_cell(alloc, nets, s, a)?),
+        Right::And(a, b) => cells.push(binary_cell(alloc, CellKind::And, nets, s, a, b)?),
+        Right::Or(a, b) => cells.push(binary_cell(alloc, CellKind::Or, nets, s, a, b)?),
+    }
+}
+
+// ---- links
+
+// A link to each output that is no register.
+fn net_links(alloc: Global, nets: &[Net]) -> Result<RtlLinks, NoMemory>
+    requires { IsWired nets.now }
+    ensures { IfOk result (λ links. links ≡ net_links nets.now 0 nets.now) }
 {
     let mut links = Items::new(alloc);
-    for (i, member) in members.iter().enumerate() {
-        if !member.is_input {
-            links.push(output_link(alloc, i == target, member)?)?;
-        }
+    for (s, net) in nets.iter().enumerate() {
+        push_drive_links(alloc, nets, s, net.drive, &mut links)?;
     }
     Ok(links)
 }
 
-// What an output gets: the gate's output, or the 0 of a signal that nothing drives.
-fn output_link(alloc: Global, is_driven: bool, member: &Member) -> Result<RtlLink, NoMemory>
-    ensures { IfOk result (λ l. l ≡ output_link is_driven member.now) }
+// The link of one net: an output that nothing drives is 0.
+fn push_drive_links(
+    alloc: Global,
+    nets: &[Net],
+    s: usize,
+    drive: Drive,
+    links: &mut RtlLinks,
+) -> Result<(), NoMemory>
+    requires few { s < 16384 }
+    requires held { s < length nets.now }
+    requires reads { ReadsKept nets.now drive }
+    ensures { OnOk result (links.new ≡ links.old ++ drive_links nets.now s drive) }
 {
-    let id = public_id(alloc, member.name.as_str())?;
-    let left = whole_bit(alloc, id)?;
-    if is_driven {
-        let driver = inner_id(alloc, 1)?;
-        return Ok(RtlLink {
-            left,
-            right: whole_bit(alloc, driver)?,
-        });
+    match drive {
+        Drive::Input | Drive::Clocked(_) => Ok(()),
+        Drive::Nothing => {
+            let zero = constant_bit(alloc, false)?;
+            links.push(link(alloc, nets, s, zero)?)
+        }
+        Drive::Comb(right) => {
+            let value = value_spec(alloc, nets, s, right)?;
+            links.push(link(alloc, nets, s, value)?)
+        }
     }
+}
+
+fn link(alloc: Global, nets: &[Net], s: usize, right: SigSpec) -> Result<RtlLink, NoMemory>
+    requires { s < length nets.now }
+    ensures { IfOk result (λ l. l ≡ link nets.now s right) }
+{
     Ok(RtlLink {
-        left,
-        right: constant_bit(alloc, false)?,
+        left: net_bit(alloc, nets, s)?,
+        right,
     })
 }

@@ -16,7 +16,7 @@ holds pool env g = if g.taken then not (is_zero (num pool env g.condition.0)) el
 abbrev pub put_guarded : Pooled → List ℤ → List ℤ → Guarded → List ℤ
 put_guarded pool env cur g = if list_all (holds pool env) g.guards then put_number pool (target_bits pool env g.target.0) (num pool env g.value.0) cur else cur
 
-fold_append : {A B : Type 0} (f : B → A → B) (b : B) (xs ys : List A) → fold f b (xs ++ ys) ≡ fold f (fold f b xs) ys
+pub fold_append : {A B : Type 0} (f : B → A → B) (b : B) (xs ys : List A) → fold f b (xs ++ ys) ≡ fold f (fold f b xs) ys
 fold_append f b [] ys = refl
 fold_append f b (x ∷ xs) ys = fold_append f (f b x) xs ys
 

@@ -157,7 +157,7 @@ target_within pool env k =
 
 -- ---- a signal that is not among these keeps its number
 
-apart : (ss : List ℕ) (s t : ℕ) → is_among ss s ≡ false → is_among ss t ≡ true → s ≢ t
+pub apart : (ss : List ℕ) (s t : ℕ) → is_among ss s ≡ false → is_among ss t ≡ true → s ≢ t
 apart ss s t e f same = false≢true (sym e ∙ ap (is_among ss) same ∙ f)
 
 place_other : (pool : Pooled) (ss : List ℕ) (s : ℕ) (x : Option Bit) (b : ℕ) (cur : List ℤ) → is_among ss s ≡ false → IsWithin ss x → at (put_place pool x b cur) s ≡ at cur s
@@ -173,7 +173,7 @@ choice_at : (t : Bool) (xs ys : List ℤ) (s : ℕ) (n : ℤ) → at xs s ≡ n 
 choice_at true xs ys s n h k = h
 choice_at false xs ys s n h k = k
 
-among_parts : (xs ys : List ℕ) (s : ℕ) → is_among (xs ++ ys) s ≡ false → (is_among xs s ≡ false) × (is_among ys s ≡ false)
+pub among_parts : (xs ys : List ℕ) (s : ℕ) → is_among (xs ++ ys) s ≡ false → (is_among xs s ≡ false) × (is_among ys s ≡ false)
 among_parts [] ys s e = (refl, e)
 among_parts (x ∷ xs) ys s e = first (x == s) refl e (among_parts xs ys s)
   where

@@ -12,14 +12,14 @@ use Rattle.design_ir.specs.Values.{signal_form}
 use Rattle.design_ir.specs.Targets.{bits_of}
 use Rattle.design_ir.specs.Put.{with_bit, put_bit, put_bits, put_number}
 
-low_small : (i b bits : ℕ) → b < 2 → b * 2 ^ i + bits % 2 ^ i < 2 ^ (i + 1)
+pub low_small : (i b bits : ℕ) → b < 2 → b * 2 ^ i + bits % 2 ^ i < 2 ^ (i + 1)
 low_small i b bits h = omega (arith, mul-le b (2 ^ i) 1 (2 ^ i) (omega arith) (omega arith), mod_below bits (2 ^ i) (pow_pos i), pow-add 2 i 1)
 
 -- the low bits of a pattern with bit i written
 with_low : (i b bits : ℕ) → b < 2 → with_bit i b bits % 2 ^ (i + 1) ≡ b * 2 ^ i + bits % 2 ^ i
 with_low i b bits h = mod-mul-add (bits / 2 ^ (i + 1)) (2 ^ (i + 1)) (b * 2 ^ i + bits % 2 ^ i) (low_small i b bits h)
 
-with_below : (i b bits width : ℕ) → b < 2 → i < width → bits < 2 ^ width → with_bit i b bits < 2 ^ width
+pub with_below : (i b bits width : ℕ) → b < 2 → i < width → bits < 2 ^ width → with_bit i b bits < 2 ^ width
 with_below i b bits width h below small =
     let e : width ≡ (width - suc i) + (i + 1) = omega arith in
     let high : bits / 2 ^ (i + 1) < 2 ^ (width - suc i) = shr_below bits (width - suc i) (i + 1) (rw e at small) in

@@ -1,11 +1,10 @@
 -- Sums, differences, opposites and products.
-use Rattle.std.proofs.Common.{◌≡◌, ℕ, ◌<◌, ◌≤◌, Bool, true, false, List, [], ◌∷◌, refl, ap, arith, ℤ, pos, ◌+ℤ◌, ◌-ℤ◌, ◌*ℤ◌, neg_ℤ}
+use Rattle.std.proofs.Common.{◌≡◌, ℕ, [], refl, ap, arith, ℤ, pos, ◌+ℤ◌, ◌-ℤ◌, ◌*ℤ◌, neg_ℤ}
 use Rattle.std.specs.Prelude.{Some}
 use Rattle.std.proofs.lemmas.Int.{ints}
 use Rattle.amh_bits.proofs.InShape.{of_zero}
 use Rattle.shape_rules.specs.Forms.{Form}
 use Rattle.shape_rules.specs.Operators.{work_form}
-use Rattle.shape_rules.specs.declared.op.Op.{Op}
 use Rattle.shape_rules.specs.declared.op.Op.TheVariants as op
 use Rattle.shape_rules.specs.declared.cell.CellKind.{CellKind}
 use Rattle.shape_rules.specs.declared.cell.CellKind.TheVariants as kind
@@ -15,11 +14,11 @@ use Rattle.rtlil_text.specs.History.{Wires}
 use Rattle.netlist.specs.Ids.{part_id}
 use Rattle.netlist.specs.Cells.{binary_cell}
 use Rattle.netlist.specs.Operands.{const_operand}
-use Rattle.netlist.specs.Operators.{Value, as_form, whole, alike, opposite}
+use Rattle.netlist.specs.Operators.{Value, as_form, whole, alike}
 use Rattle.netlist.specs.Carried.{IsIn, Obeys, MakesOperator}
 use Rattle.netlist.proofs.Reading.{HasBits, HasSign, reads_at_width, reads_const}
 use Rattle.netlist.proofs.Whole.{IsWhole, signed_cell}
-use Rattle.netlist.proofs.Drawn.{MakesBits, makes_bits, form_sign, first_cell}
+use Rattle.netlist.proofs.Drawn.{makes_bits, form_sign, first_cell}
 
 -- two values at one shape that holds both
 pub alike_bits : (wires : Wires) (k : CellKind) (n : ℕ) (g : Form) (a b y : Value) (x z r : ℤ) → IsWhole k → ((s : ℕ) → sign_read k s ≡ s) → HasSign a.form → HasSign b.form
@@ -36,7 +35,7 @@ add_whole = record { output = refl; bit = λ value c width i. refl }
 pub sub_whole : IsWhole kind.Sub
 sub_whole = record { output = refl; bit = λ value c width i. refl }
 
-mul_whole : IsWhole kind.Mul
+pub mul_whole : IsWhole kind.Mul
 mul_whole = record { output = refl; bit = λ value c width i. refl }
 
 pub makes_add : MakesOperator op.Add

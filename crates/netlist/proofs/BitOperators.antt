@@ -1,10 +1,10 @@
 -- Operators that go bit by bit.
-use Rattle.std.proofs.Common.{◌≡◌, ℕ, zero, suc, ◌+◌, ◌-◌, ◌<◌, ◌≤◌, ◌^◌, ◌==◌, Bool, true, false, not, ◌&&◌, ◌||◌, List, [], ◌∷◌, refl, sym, ◌∙◌, ap, subst, arith, ℤ, pos, negsuc, ◌-ℤ◌}
+use Rattle.std.proofs.Common.{◌≡◌, ℕ, zero, suc, ◌+◌, ◌-◌, ◌<◌, ◌≤◌, ◌^◌, ◌==◌, Bool, true, false, not, ◌&&◌, ◌||◌, [], ◌∷◌, refl, sym, ◌∙◌, ap, arith, ℤ, pos, negsuc, ◌-ℤ◌}
 use Rattle.std.specs.Prelude.{Some}
 use Rattle.std.proofs.lemmas.Int.{ints}
-use Rattle.amh_bits.specs.Integers.{int_not, int_and, int_or, int_xor}
+use Rattle.amh_bits.specs.Integers.{int_and, int_or, int_xor}
 use Rattle.amh_bits.specs.Patterns.{int_bit, IsOf}
-use Rattle.amh_bits.proofs.BitsOf.{int_bit_low, int_bit_not, nat_bit_turned, nat_bit_low}
+use Rattle.amh_bits.proofs.BitsOf.{int_bit_low, int_bit_not, nat_bit_turned}
 use Rattle.shape_rules.specs.Forms.{Form}
 use Rattle.shape_rules.specs.Operators.{form_of, work_form, turned, truth, int_same}
 use Rattle.shape_rules.specs.declared.op.Op.{Op}
@@ -22,10 +22,10 @@ use Rattle.shape_rules.specs.Forms.{unsigned}
 use Rattle.netlist.specs.Carried.{IsIn, Obeys, MakesOperator}
 use Rattle.netlist.proofs.Reading.{bit_of, HasBits, HasSign, reads_at_width}
 use Rattle.netlist.proofs.Whole.{signed_cell}
-use Rattle.netlist.proofs.Drawn.{MakesBits, makes_bits, form_sign, first_cell, second_cell}
+use Rattle.netlist.proofs.Drawn.{makes_bits, form_sign, first_cell, second_cell}
 use Rattle.netlist.proofs.Bitwise.{IsBitwise, IsByBits, bitwise_cell, not_bit, and_bitwise, or_bitwise, xor_bitwise, and_by_bits, or_by_bits, xor_by_bits}
 use Rattle.netlist.proofs.Comparisons.{eq_whole, eq_result, in_some}
-use Rattle.netlist.proofs.Widths.{common_width_left, common_width_right, reads_narrow, bit_of-truth, has_truth}
+use Rattle.netlist.proofs.Widths.{common_width_left, reads_narrow, bit_of-truth, has_truth}
 
 -- two values at one shape, of which the result is no wider
 alike_bitwise : (wires : Wires) (k : CellKind) (f : Bool → Bool → Bool) (of : ℤ → ℤ → ℤ) (n : ℕ) (g : Form) (a b y : Value) (x z : ℤ) → IsBitwise k f → IsByBits f of → HasSign a.form → HasSign b.form

@@ -1,15 +1,14 @@
 -- Cells that make each bit from the bits of its place: turned, both, either, one of two, and choices.
-use Rattle.std.proofs.Common.{◌≡◌, ℕ, zero, suc, ◌+◌, ◌-◌, ◌*◌, ◌<◌, ◌≤◌, ◌^◌, ◌==◌, Bool, true, false, cond, not, ◌&&◌, ◌||◌, List, [], ◌∷◌, refl, sym, ◌∙◌, ap, subst, arith, ℤ, pos, negsuc, bit_or, bit_xor}
-use Rattle.std.specs.Prelude.{Option, Some, None, option_map, option_and_then, codes}
+use Rattle.std.proofs.Common.{◌≡◌, ℕ, zero, suc, ◌*◌, ◌<◌, ◌≤◌, ◌==◌, Bool, true, false, cond, not, ◌&&◌, ◌||◌, List, refl, sym, ◌∙◌, ap, arith, ℤ, bit_or, bit_xor}
+use Rattle.std.specs.Prelude.{Option, Some, option_map, codes}
 use Rattle.amh_bits.specs.Patterns.{int_bit}
 use Rattle.amh_bits.specs.Integers.{int_and, int_or, int_xor}
 use Rattle.amh_bits.proofs.BitsOf.{int_bit_low, int_bit_and, int_bit_or, int_bit_xor}
-use Rattle.shape_rules.specs.Forms.{Form}
 use Rattle.shape_rules.specs.declared.cell.CellKind.{CellKind}
 use Rattle.shape_rules.specs.declared.cell.CellKind.TheVariants as kind
 use Rattle.rtlil_text.specs.declared.sig.SigPart.{SigPart}
 use Rattle.rtlil_text.specs.declared.cell.RtlCell.{RtlCell}
-use Rattle.rtlil_text.specs.Sources.{Source, Net, spec_bits, end_bits}
+use Rattle.rtlil_text.specs.Sources.{Source, spec_bits, end_bits}
 use Rattle.rtlil_text.specs.CellTables.{output_of}
 use Rattle.rtlil_text.specs.Cells.{cell_bit, bit_at, both, mux_bit, xor}
 use Rattle.rtlil_text.specs.Meaning.{source_value}

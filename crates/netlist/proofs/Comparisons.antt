@@ -1,12 +1,10 @@
 -- Comparisons.
-use Rattle.std.proofs.Common.{◌≡◌, ℕ, zero, suc, ◌<◌, ◌≤◌, Bool, true, false, not, ◌&&◌, max, List, [], ◌∷◌, refl, sym, ◌∙◌, ap, arith, ℤ, pos, negsuc, ◌-ℤ◌, ◌≤ℤ◌, ◌<ℤ◌}
+use Rattle.std.proofs.Common.{◌≡◌, ℕ, zero, suc, Bool, true, false, ◌&&◌, max, [], refl, sym, ap, arith, ℤ, pos, negsuc, ◌-ℤ◌}
 use Rattle.std.specs.Prelude.{Some, int_le, int_lt}
 use Rattle.std.proofs.lemmas.Int.{ints}
-use Rattle.amh_bits.specs.Patterns.{IsOf}
 use Rattle.amh_bits.proofs.InShape.{of_wider}
 use Rattle.shape_rules.specs.Forms.{Form}
 use Rattle.shape_rules.specs.Operators.{work_form, truth, is_zero, int_same}
-use Rattle.shape_rules.specs.declared.op.Op.{Op}
 use Rattle.shape_rules.specs.declared.op.Op.TheVariants as op
 use Rattle.shape_rules.specs.declared.cell.CellKind.{CellKind}
 use Rattle.shape_rules.specs.declared.cell.CellKind.TheVariants as kind
@@ -19,11 +17,11 @@ use Rattle.netlist.specs.Operators.{Value, as_form, whole, at_least_one, compare
 use Rattle.netlist.specs.Carried.{IsIn, Obeys, MakesOperator}
 use Rattle.netlist.proofs.Reading.{HasBits, HasSign, reads_at_width}
 use Rattle.netlist.proofs.Whole.{IsWhole, signed_cell}
-use Rattle.netlist.proofs.Drawn.{MakesBits, makes_bits, form_sign, first_cell}
+use Rattle.netlist.proofs.Drawn.{makes_bits, form_sign, first_cell}
 
 -- ---- equal is at most in both directions
 
-zero_false : (z : ℤ) → (z ≡ pos 0 → ⊥) → is_zero z ≡ false
+pub zero_false : (z : ℤ) → (z ≡ pos 0 → ⊥) → is_zero z ≡ false
 zero_false (pos zero) h = absurd (h refl)
 zero_false (pos (suc n)) h = refl
 zero_false (negsuc n) h = refl

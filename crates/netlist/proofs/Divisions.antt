@@ -1,22 +1,20 @@
 -- Quotients and remainders, of which a divisor is never 0.
-use Rattle.std.proofs.Common.{◌≡◌, ℕ, zero, suc, ◌+◌, ◌<◌, ◌≤◌, ◌^◌, ◌%◌, ◌&&◌, Bool, true, false, cond, List, [], ◌∷◌, refl, sym, ◌∙◌, ap, subst, arith, ℤ, pos, negsuc, ◌-ℤ◌}
-use Rattle.std.specs.Prelude.{Some, Option, int_le}
+use Rattle.std.proofs.Common.{◌≡◌, ℕ, zero, suc, ◌+◌, ◌≤◌, Bool, true, false, cond, [], ◌∷◌, refl, sym, ◌∙◌, ap, arith, ℤ, pos, negsuc, ◌-ℤ◌}
+use Rattle.std.specs.Prelude.{Some}
 use Rattle.std.proofs.lemmas.Int.{ints}
 use Rattle.std.proofs.lemmas.Bool.{false≢true}
 use Rattle.std.proofs.lemmas.Nat.{pow_pos, pow-add}
 use Rattle.std.proofs.Math.Nat.{mod-eq_of_lt}
 use Rattle.amh_bits.specs.Integers.{floor_div, floor_rem}
-use Rattle.amh_bits.specs.Patterns.{pattern, number, wrap, IsOf}
+use Rattle.amh_bits.specs.Patterns.{pattern, wrap}
 use Rattle.amh_bits.proofs.InShape.{of_zero}
 use Rattle.amh_bits.proofs.Wraps.{wrap_is_of, pattern_wrap}
 use Rattle.shape_rules.specs.Forms.{Form}
-use Rattle.shape_rules.specs.Operators.{form_of, work_form, truth, is_zero, int_same}
-use Rattle.shape_rules.specs.declared.op.Op.{Op}
+use Rattle.shape_rules.specs.Operators.{work_form, truth, is_zero, int_same}
 use Rattle.shape_rules.specs.declared.op.Op.TheVariants as op
 use Rattle.shape_rules.specs.declared.cell.CellKind.{CellKind}
 use Rattle.shape_rules.specs.declared.cell.CellKind.TheVariants as kind
 use Rattle.shape_rules.proofs.WorkShape.{work_holds_left, work_holds_right}
-use Rattle.rtlil_text.specs.declared.cell.RtlCell.{RtlCell}
 use Rattle.rtlil_text.specs.Cells.{result_of, sign_read}
 use Rattle.rtlil_text.specs.History.{Wires}
 use Rattle.netlist.specs.Ids.{part_id}
@@ -24,11 +22,11 @@ use Rattle.netlist.specs.Cells.{binary_cell, mux_cell}
 use Rattle.netlist.specs.Operands.{wire_part, const_spec, at_width, at_form, const_operand}
 use Rattle.netlist.specs.Operators.{Value, as_form, whole, one_bit, divided}
 use Rattle.netlist.specs.Carried.{IsIn, Obeys, MakesOperator}
-use Rattle.netlist.proofs.Reading.{bit_of, HasBits, HasSign, Reads, reads_const, reads_at_width}
+use Rattle.netlist.proofs.Reading.{HasBits, HasSign, Reads, reads_const, reads_at_width}
 use Rattle.netlist.proofs.Whole.{IsWhole, signed_cell}
-use Rattle.netlist.proofs.Drawn.{MakesBits, makes_bits, form_sign, first_cell, second_cell, third_cell, fourth_cell}
+use Rattle.netlist.proofs.Drawn.{makes_bits, form_sign, first_cell, second_cell, third_cell, fourth_cell}
 use Rattle.netlist.proofs.Bitwise.{mux_cell_bits}
-use Rattle.netlist.proofs.Comparisons.{eq_whole, eq_result, int_same-le}
+use Rattle.netlist.proofs.Comparisons.{eq_whole, eq_result}
 use Rattle.netlist.proofs.Widths.{common_width_right, reads_narrow, has_equal, reads_same, bit_of-wrap, one_bit_is}
 use Rattle.netlist.proofs.BitOperators.{result_within}
 

@@ -1,5 +1,5 @@
 -- From the wire of a result, bit by bit, to the operator that a drawing makes.
-use Rattle.std.proofs.Common.{◌≡◌, ℕ, zero, ◌<◌, ◌≤◌, ◌==◌, Bool, true, false, cond, List, [], ◌∷◌, refl, sym, ◌∙◌, ap, subst, arith, ℤ}
+use Rattle.std.proofs.Common.{◌≡◌, ℕ, ◌≤◌, Bool, true, false, cond, List, ◌∷◌, ap, subst, arith, ℤ}
 use Rattle.std.specs.Prelude.{All}
 use Rattle.std.proofs.lemmas.Bool.{ne_eqb}
 use Rattle.std.proofs.lemmas.List.Elements.{All-head, All-tail}
@@ -10,7 +10,7 @@ use Rattle.shape_rules.specs.declared.op.Op.{Op}
 use Rattle.rtlil_text.specs.declared.cell.RtlCell.{RtlCell}
 use Rattle.rtlil_text.specs.History.{Wires}
 use Rattle.netlist.specs.Operators.{Value, Drawing, nothing, operated, operator_drawing}
-use Rattle.netlist.specs.Carried.{IsIn, Carries, ObeysCell, Obeys, MakesOperator}
+use Rattle.netlist.specs.Carried.{IsIn, ObeysCell, Obeys, MakesOperator}
 use Rattle.netlist.proofs.Reading.{HasBits, HasSign, has_carried, carries_bits}
 
 -- a signed shape has a bit
@@ -22,7 +22,7 @@ pub form_sign : (f : Form) → IsForm f.width f.signed → HasSign f
 form_sign f i = sign_some f.width f.signed i
 
 -- a result with bits is drawn
-operator_drawing-some : (o : Op) (n : ℕ) (a b y : Value) → 1 ≤ y.form.width → operator_drawing o n a b y ≡ operated o n (work_form o a.form b.form) a b y
+pub operator_drawing-some : (o : Op) (n : ℕ) (a b y : Value) → 1 ≤ y.form.width → operator_drawing o n a b y ≡ operated o n (work_form o a.form b.form) a b y
 unfolding operator_drawing
 operator_drawing-some o n a b y h =
     let d : Drawing = operated o n (work_form o a.form b.form) a b y in

@@ -1,12 +1,11 @@
 -- The size of a number.
-use Rattle.std.proofs.Common.{◌≡◌, ℕ, zero, suc, ◌+◌, ◌<◌, ◌≤◌, Bool, true, false, cond, List, [], ◌∷◌, refl, sym, ◌∙◌, ap, arith, ℤ, pos, negsuc, ◌-ℤ◌, neg_ℤ, unsigned_abs}
+use Rattle.std.proofs.Common.{◌≡◌, ℕ, ◌+◌, ◌≤◌, Bool, true, false, cond, [], ◌∷◌, refl, ap, arith, ℤ, pos, negsuc, neg_ℤ, unsigned_abs}
 use Rattle.std.specs.Prelude.{Some, int_lt}
 use Rattle.std.proofs.lemmas.Bool.{cond_both, le-ltb}
 use Rattle.amh_bits.specs.Patterns.{IsOf}
 use Rattle.amh_bits.proofs.InShape.{of_zero}
-use Rattle.shape_rules.specs.Forms.{Form, IsForm}
-use Rattle.shape_rules.specs.Operators.{form_of, work_form, truth}
-use Rattle.shape_rules.specs.declared.op.Op.{Op}
+use Rattle.shape_rules.specs.Forms.{Form}
+use Rattle.shape_rules.specs.Operators.{work_form, truth}
 use Rattle.shape_rules.specs.declared.op.Op.TheVariants as op
 use Rattle.shape_rules.specs.declared.cell.CellKind.TheVariants as kind
 use Rattle.shape_rules.proofs.WorkShape.{work_holds_left}
@@ -18,7 +17,7 @@ use Rattle.netlist.specs.Operators.{Value, Drawing, as_form, whole, one_bit, lin
 use Rattle.netlist.specs.Carried.{IsIn, Obeys, MakesOperator}
 use Rattle.netlist.proofs.Reading.{HasBits, HasSign, Reads, reads_low, reads_const, reads_at_width}
 use Rattle.netlist.proofs.Whole.{signed_cell}
-use Rattle.netlist.proofs.Drawn.{MakesBits, makes_bits, form_sign, first_cell, second_cell, third_cell}
+use Rattle.netlist.proofs.Drawn.{makes_bits, form_sign, first_cell, second_cell, third_cell}
 use Rattle.netlist.proofs.Arithmetic.{sub_whole, zero-minus}
 use Rattle.netlist.proofs.Bitwise.{mux_cell_bits}
 use Rattle.netlist.proofs.Comparisons.{lt_whole}

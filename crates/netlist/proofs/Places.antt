@@ -1,13 +1,12 @@
 -- The bits that specs name, by their places: parts of wires, constants, and one spec above another.
-use Rattle.std.proofs.Common.{◌≡◌, ℕ, zero, suc, ◌+◌, ◌-◌, ◌<◌, ◌≤◌, Bool, true, false, List, [], ◌∷◌, ◌++◌, map, length, replicate, refl, sym, ◌∙◌, ap, arith, length-append, append_assoc, append-nil}
-use Rattle.std.specs.Prelude.{Option, Some, None, slice_get, option_map}
+use Rattle.std.proofs.Common.{◌≡◌, ℕ, zero, suc, ◌+◌, ◌<◌, Bool, List, [], ◌∷◌, ◌++◌, map, length, refl, sym, ◌∙◌, ap, arith, length-append, append_assoc, append-nil}
+use Rattle.std.specs.Prelude.{Some, slice_get, option_map}
 use Rattle.std.proofs.lemmas.List.{length-map}
 use Rattle.std.specs.List.{range_with_len}
 use Rattle.std.proofs.lemmas.Option.{slice_get-map, slice_get-get_or}
 use Rattle.std.proofs.lemmas.List.FromFn.{length-range_with_len, get_or-range_with_len}
 use Rattle.rtlil_text.specs.declared.sig.SigPart.{SigPart}
-use Rattle.rtlil_text.specs.declared.sig.SigPart.TheVariants as parts
-use Rattle.rtlil_text.specs.Sources.{Source, Constant, Net, part_bits, spec_bits}
+use Rattle.rtlil_text.specs.Sources.{Constant, Net, part_bits, spec_bits}
 use Rattle.netlist.specs.Operands.{wire_part, const_part}
 
 pub slice_get-append_left : {A : Type 0} (xs ys : List A) (k : ℕ) → k < length xs → slice_get (xs ++ ys) k ≡ slice_get xs k

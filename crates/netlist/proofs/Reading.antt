@@ -1,7 +1,6 @@
 -- Specs that read as the low bits of an integer.
-use Rattle.std.proofs.Math.Numerals.{sub-one}
-use Rattle.std.proofs.Common.{◌≡◌, ℕ, zero, suc, ◌+◌, ◌-◌, ◌<◌, ◌≤◌, ◌/◌, ◌^◌, ◌==◌, Bool, true, false, List, [], ◌∷◌, ◌++◌, map, length, replicate, refl, sym, ◌∙◌, ap, subst, arith, ⊎_elim, ℤ, pos, add-zero}
-use Rattle.std.specs.Prelude.{Option, Some, None, slice_get, option_map, option_and_then, nat_lt}
+use Rattle.std.proofs.Common.{◌≡◌, ℕ, zero, suc, ◌+◌, ◌-◌, ◌<◌, ◌≤◌, ◌^◌, ◌==◌, Bool, true, false, List, [], ◌∷◌, ◌++◌, length, replicate, refl, sym, ◌∙◌, ap, arith, ⊎_elim, ℤ}
+use Rattle.std.specs.Prelude.{Option, Some, slice_get, option_map, option_and_then, nat_lt}
 use Rattle.std.proofs.lemmas.Bool.{cond_both, ltb-true, ltb-false, cases_lt}
 use Rattle.amh_bits.specs.Integers.{floor_quotient}
 use Rattle.amh_bits.specs.Patterns.{pattern, int_bit, IsOf}
@@ -11,12 +10,12 @@ use Rattle.shape_rules.specs.Forms.{Form}
 use Rattle.rtlil_text.specs.declared.sig.SigPart.{SigPart}
 use Rattle.rtlil_text.specs.declared.sig.SigPart.TheVariants as parts
 use Rattle.rtlil_text.specs.Sources.{Source, Constant, Net, spec_bits}
-use Rattle.rtlil_text.specs.Cells.{number_bits, bit_at, read, all_of}
+use Rattle.rtlil_text.specs.Cells.{number_bits, bit_at, read}
 use Rattle.rtlil_text.specs.Meaning.{source_value}
 use Rattle.rtlil_text.specs.History.{Wires}
 use Rattle.rtlil_text.proofs.CellLaws.{slice_get-number_bits, length-number_bits}
-use Rattle.netlist.specs.Operands.{wire_part, const_part, const_spec, filling, at_width}
-use Rattle.netlist.specs.Operators.{Value, whole}
+use Rattle.netlist.specs.Operands.{wire_part, const_spec, filling, at_width}
+use Rattle.netlist.specs.Operators.{Value}
 use Rattle.netlist.specs.Carried.{IsIn, Carries}
 use Rattle.netlist.proofs.Places.{slice_get-append_left, slice_get-append_right, length-wire_part, slice_get-wire_part, length-const_part, slice_get-const_part, spec_bits-append, length-spec_append}
 
@@ -50,7 +49,7 @@ carries_bits wires v x b = λ i h. b.at i h ∙ sym (slice_get-pattern v.form.wi
 
 -- ---- parts of wires, and constants
 
-bit_at-wire_part : (wires : Wires) (id : List ℕ) (low width k : ℕ) → k < width → bit_at (source_value wires) (spec_bits (wire_part id low width)) k ≡ wires id (low + k)
+pub bit_at-wire_part : (wires : Wires) (id : List ℕ) (low width k : ℕ) → k < width → bit_at (source_value wires) (spec_bits (wire_part id low width)) k ≡ wires id (low + k)
 bit_at-wire_part wires id low width k h = ap (option_and_then (source_value wires)) (slice_get-wire_part id low width k h)
 
 -- bits of a wire from a place on, which are those of the integer divided by a power of two
@@ -79,16 +78,16 @@ replicate-snoc : {A : Type 0} (a : A) (n : ℕ) → replicate n a ++ (a ∷ []) 
 replicate-snoc a zero = refl
 replicate-snoc a (suc n) = ap (λ s. a ∷ s) (replicate-snoc a n)
 
-slice_get-replicate : {A : Type 0} (a : A) (n k : ℕ) → k < n → slice_get (replicate n a) k ≡ Some a
+pub slice_get-replicate : {A : Type 0} (a : A) (n k : ℕ) → k < n → slice_get (replicate n a) k ≡ Some a
 slice_get-replicate a zero k h = absurd (omega arith)
 slice_get-replicate a (suc n) zero h = refl
 slice_get-replicate a (suc n) (suc k) h = slice_get-replicate a n k (omega arith)
 
-length-replicate : {A : Type 0} (a : A) (n : ℕ) → length (replicate n a) ≡ n
+pub length-replicate : {A : Type 0} (a : A) (n : ℕ) → length (replicate n a) ≡ n
 length-replicate a zero = refl
 length-replicate a (suc n) = ap suc (length-replicate a n)
 
-spec_bits-replicate : (id : List ℕ) (place n : ℕ) → spec_bits (replicate n (parts.Wire id place 1)) ≡ replicate n (Net id place)
+pub spec_bits-replicate : (id : List ℕ) (place n : ℕ) → spec_bits (replicate n (parts.Wire id place 1)) ≡ replicate n (Net id place)
 spec_bits-replicate id place zero = refl
 spec_bits-replicate id place (suc n) = ap (λ s. s ++ (Net id place ∷ [])) (spec_bits-replicate id place n) ∙ replicate-snoc (Net id place) n
 
@@ -111,11 +110,11 @@ bit_at-filling wires id false w n k x some f b h =
 
 -- ---- at a width
 
-bit_at_left : (wires : Wires) (high low : List SigPart) (k : ℕ) → k < length (spec_bits low) → bit_at (source_value wires) (spec_bits (high ++ low)) k ≡ bit_at (source_value wires) (spec_bits low) k
+pub bit_at_left : (wires : Wires) (high low : List SigPart) (k : ℕ) → k < length (spec_bits low) → bit_at (source_value wires) (spec_bits (high ++ low)) k ≡ bit_at (source_value wires) (spec_bits low) k
 bit_at_left wires high low k h =
     ap (option_and_then (source_value wires)) (ap (λ s. slice_get s k) (spec_bits-append high low) ∙ slice_get-append_left (spec_bits low) (spec_bits high) k h)
 
-bit_at_right : (wires : Wires) (high low : List SigPart) (w k : ℕ) → length (spec_bits low) ≡ w → bit_at (source_value wires) (spec_bits (high ++ low)) (w + k) ≡ bit_at (source_value wires) (spec_bits high) k
+pub bit_at_right : (wires : Wires) (high low : List SigPart) (w k : ℕ) → length (spec_bits low) ≡ w → bit_at (source_value wires) (spec_bits (high ++ low)) (w + k) ≡ bit_at (source_value wires) (spec_bits high) k
 bit_at_right wires high low w k e =
     ap (λ j. bit_at (source_value wires) (spec_bits (high ++ low)) (j + k)) (sym e)
     ∙ ap (option_and_then (source_value wires)) (ap (λ s. slice_get s (length (spec_bits low) + k)) (spec_bits-append high low) ∙ slice_get-append_right (spec_bits low) (spec_bits high) k)

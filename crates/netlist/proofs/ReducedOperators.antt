@@ -1,23 +1,20 @@
 -- Operators that make one bit from all bits of a value.
-use Rattle.std.proofs.Common.{◌≡◌, ℕ, zero, suc, ◌-◌, ◌<◌, ◌≤◌, ◌^◌, ◌%◌, ◌==◌, Bool, true, false, cond, not, List, [], ◌∷◌, refl, sym, ◌∙◌, ap, subst, arith, ℤ, pos, count_ones}
+use Rattle.std.proofs.Common.{◌≡◌, ℕ, zero, suc, ◌-◌, ◌<◌, ◌≤◌, ◌^◌, ◌%◌, ◌==◌, Bool, not, List, [], refl, sym, ◌∙◌, ap, arith, ℤ, pos, count_ones}
 use lib.Count.{ones}
 use Rattle.std.specs.Prelude.{Option, Some, option_and_then, codes}
 use Rattle.std.specs.List.{list_any, list_all}
-use Rattle.std.proofs.lemmas.Bool.{cond_both, eqb-true, eqb-false}
+use Rattle.std.proofs.lemmas.Bool.{cond_both, eqb-true}
 use Rattle.std.proofs.lemmas.Nat.{mod_below}
 use Rattle.amh_bits.specs.Patterns.{pattern, IsOf}
 use Rattle.amh_bits.proofs.Wraps.{pattern_below}
 use Rattle.shape_rules.specs.Forms.{Form}
 use Rattle.shape_rules.specs.Operators.{truth, is_zero}
-use Rattle.shape_rules.specs.declared.op.Op.{Op}
 use Rattle.shape_rules.specs.declared.op.Op.TheVariants as op
 use Rattle.shape_rules.specs.declared.cell.CellKind.{CellKind}
 use Rattle.shape_rules.specs.declared.cell.CellKind.TheVariants as kind
-use Rattle.rtlil_text.specs.declared.sig.SigPart.{SigPart}
 use Rattle.rtlil_text.specs.declared.cell.RtlCell.{RtlCell}
 use Rattle.rtlil_text.specs.Sources.{Source, spec_bits, end_bits}
 use Rattle.rtlil_text.specs.CellTables.{output_of}
-use Rattle.rtlil_text.specs.Cells as cells
 use Rattle.rtlil_text.specs.Cells.{number_bits, cell_bit, read, parity}
 use Rattle.rtlil_text.specs.Meaning.{source_value}
 use Rattle.rtlil_text.specs.History.{Wires}
@@ -25,10 +22,10 @@ use Rattle.netlist.specs.Ids.{part_id}
 use Rattle.netlist.specs.Cells.{Operand, unary_cell}
 use Rattle.netlist.specs.Operands.{wire_part, const_spec}
 use Rattle.netlist.specs.Operators.{Value, Drawing, as_form, whole, one_cell, linked, reduced}
-use Rattle.netlist.specs.Carried.{IsIn, ObeysCell, Obeys, MakesOperator}
+use Rattle.netlist.specs.Carried.{ObeysCell, Obeys, MakesOperator}
 use Rattle.netlist.proofs.Reading.{HasBits, Reads, reads_const, reads_whole}
 use Rattle.netlist.proofs.Whole.{driven}
-use Rattle.netlist.proofs.Drawn.{MakesBits, makes_bits, first_cell}
+use Rattle.netlist.proofs.Drawn.{makes_bits, first_cell}
 use Rattle.netlist.proofs.Widths.{reads_narrow, has_equal, has_truth, linked_bits}
 use Rattle.netlist.proofs.ReducedBits.{pattern-is_zero, any-pattern, all-pattern, parity-pattern}
 
@@ -37,7 +34,7 @@ pub record IsReduction (k : CellKind) (f : List Bool → Bool) : Type 0 where
   pub output : output_of k ≡ codes "\\Y"
   pub bit : (value : Source → Option Bool) (c : RtlCell) (width : ℕ) → cell_bit value c width 0 k ≡ option_and_then (λ bits. Some (f bits)) (read value (end_bits c (codes "\\A")))
 
-or_reduction : IsReduction kind.ReduceOr (λ bits. list_any (λ b. b) bits)
+pub or_reduction : IsReduction kind.ReduceOr (λ bits. list_any (λ b. b) bits)
 or_reduction = record { output = refl; bit = λ value c width. refl }
 
 and_reduction : IsReduction kind.ReduceAnd (λ bits. list_all (λ b. b) bits)
@@ -69,7 +66,7 @@ reduced_bits wires k f empty n a y x t kind one c bits none =
 
 -- ---- where there are no bits
 
-empty_pattern : (width : ℕ) (x : ℤ) → width ≡ 0 → pattern width x ≡ 0
+pub empty_pattern : (width : ℕ) (x : ℤ) → width ≡ 0 → pattern width x ≡ 0
 empty_pattern width x e = let h : pattern 0 x < 2 ^ 0 = pattern_below 0 x in ap (λ w. pattern w x) e ∙ (let d : pattern 0 x ≡ 0 = omega arith in d)
 
 empty_any : (s : Bool) (width : ℕ) (x : ℤ) → IsOf s width x → width ≡ 0 → pos 0 ≡ truth (not (is_zero x))

@@ -1,20 +1,18 @@
 -- Shifts.
-use Rattle.std.proofs.Common.{◌≡◌, ℕ, zero, suc, ◌+◌, ◌-◌, ◌*◌, ◌<◌, ◌≤◌, ◌^◌, ◌/◌, ◌==◌, Bool, true, false, cond, List, [], ◌∷◌, refl, sym, ◌∙◌, ap, subst, arith, ℤ, pos, negsuc, ◌*ℤ◌, unsigned_abs, ⊎_elim}
+use Rattle.std.proofs.Common.{◌≡◌, ℕ, ◌+◌, ◌-◌, ◌<◌, ◌≤◌, ◌^◌, ◌/◌, ◌==◌, Bool, true, false, [], refl, sym, ◌∙◌, ap, subst, arith, ℤ, pos, negsuc, ◌*ℤ◌, unsigned_abs, ⊎_elim}
 use Rattle.std.specs.Prelude.{Some}
 use Rattle.std.proofs.lemmas.Int.{ints}
 use Rattle.std.proofs.lemmas.Bool.{cond_both, eqb-true, cases_lt}
 use Rattle.std.proofs.Math.Nat.{div-one, mod-eq_of_lt}
 use Rattle.amh_bits.specs.Integers.{floor_quotient}
-use Rattle.amh_bits.specs.Patterns.{pattern, int_bit, nat_bit, IsOf}
+use Rattle.amh_bits.specs.Patterns.{pattern, int_bit, IsOf}
 use Rattle.amh_bits.proofs.BitsOf.{bit_pattern, int_bit_up, int_bit_up_below}
 use Rattle.amh_bits.proofs.Wraps.{pattern_below}
 use Rattle.shape_rules.specs.Forms.{Form}
-use Rattle.shape_rules.specs.Operators.{work_form}
-use Rattle.shape_rules.specs.declared.op.Op.{Op}
 use Rattle.shape_rules.specs.declared.op.Op.TheVariants as op
 use Rattle.shape_rules.specs.declared.cell.CellKind.{CellKind}
 use Rattle.shape_rules.specs.declared.cell.CellKind.TheVariants as kind
-use Rattle.rtlil_text.specs.Cells.{number_bits, bits_number, integer, result_of, sign_read}
+use Rattle.rtlil_text.specs.Cells.{number_bits, integer, result_of, sign_read}
 use Rattle.rtlil_text.specs.History.{Wires}
 use Rattle.rtlil_text.proofs.CellLaws.{bits_number-number_bits}
 use Rattle.netlist.specs.Ids.{part_id}
@@ -24,8 +22,8 @@ use Rattle.netlist.specs.Operators.{Value, Drawing, as_form, whole, one_cell, li
 use Rattle.netlist.specs.Carried.{IsIn, Obeys, MakesOperator}
 use Rattle.netlist.proofs.Reading.{bit_of, HasBits, HasSign, reads_at_width}
 use Rattle.netlist.proofs.Whole.{IsWhole, whole_cell, integer_read}
-use Rattle.netlist.proofs.Drawn.{MakesBits, makes_bits, form_sign, first_cell}
-use Rattle.netlist.proofs.Widths.{reads_narrow, has_same, has_equal, linked_bits}
+use Rattle.netlist.proofs.Drawn.{makes_bits, form_sign, first_cell}
+use Rattle.netlist.proofs.Widths.{reads_narrow, has_same, linked_bits}
 
 pub shl_whole : IsWhole kind.Shl
 shl_whole = record { output = refl; bit = λ value c width i. refl }
@@ -72,7 +70,7 @@ bit_of-shifted width x j i h =
       (cases_lt i j))
 
 -- an amount without bits is 0
-no_amount : (s : Bool) (z : ℤ) → s ≡ false → (width : ℕ) → width ≡ 0 → IsOf s width z → unsigned_abs z ≡ 0
+pub no_amount : (s : Bool) (z : ℤ) → s ≡ false → (width : ℕ) → width ≡ 0 → IsOf s width z → unsigned_abs z ≡ 0
 no_amount true z e width w f = cc
 no_amount false (pos n) e width w f = let h : n < 2 ^ 0 = subst (λ (v : ℕ). n < 2 ^ v) w f in omega arith
 no_amount false (negsuc n) e width w f = absurd f
@@ -91,7 +89,7 @@ makes_shl =
 
 -- ---- down
 
-by_one : (x : ℤ) (j : ℕ) → j ≡ 0 → x ≡ floor_quotient x (2 ^ j)
+pub by_one : (x : ℤ) (j : ℕ) → j ≡ 0 → x ≡ floor_quotient x (2 ^ j)
 by_one (pos n) j e = ap pos (sym (div-one n)) ∙ ap (λ (i : ℕ). pos (n / 2 ^ i)) (sym e)
 by_one (negsuc n) j e = ap negsuc (sym (div-one n)) ∙ ap (λ (i : ℕ). negsuc (n / 2 ^ i)) (sym e)
 

@@ -1,10 +1,8 @@
 -- Cells that take their operands whole: the bits of the output are those of the integer result.
-use Rattle.std.proofs.Common.{◌≡◌, ℕ, zero, suc, ◌+◌, ◌<◌, ◌≤◌, ◌^◌, ◌==◌, Bool, true, false, cond, List, [], ◌∷◌, length, refl, sym, ◌∙◌, ap, subst, arith, ℤ, pos}
-use Rattle.std.specs.Prelude.{Option, Some, None, slice_get, option_map, option_and_then, codes}
+use Rattle.std.proofs.Common.{◌≡◌, ℕ, ◌+◌, ◌<◌, ◌==◌, Bool, true, false, List, length, refl, ◌∙◌, ap, arith, ℤ}
+use Rattle.std.specs.Prelude.{Option, Some, slice_get, codes}
 use Rattle.amh_bits.specs.Patterns.{pattern, IsOf}
-use Rattle.shape_rules.specs.Forms.{Form}
 use Rattle.shape_rules.specs.declared.cell.CellKind.{CellKind}
-use Rattle.rtlil_text.specs.declared.sig.SigPart.{SigPart}
 use Rattle.rtlil_text.specs.declared.cell.RtlCell.{RtlCell}
 use Rattle.rtlil_text.specs.Sources.{Source, Net, spec_bits, end_bits, number_at}
 use Rattle.rtlil_text.specs.CellTables.{output_of}
@@ -16,7 +14,7 @@ use Rattle.netlist.specs.Cells.{Operand, binary_cell, flag}
 use Rattle.netlist.specs.Operands.{wire_part}
 use Rattle.netlist.specs.Carried.{IsIn, ObeysCell}
 use Rattle.netlist.proofs.Places.{length-wire_part, slice_get-wire_part}
-use Rattle.netlist.proofs.Reading.{bit_of, HasBits, Reads, slice_get-pattern, reads_whole}
+use Rattle.netlist.proofs.Reading.{HasBits, Reads, slice_get-pattern, reads_whole}
 
 -- what a cell drives onto the low bits of a wire
 pub driven : (wires : Wires) (c : RtlCell) (id : List ℕ) (w : ℕ) → end_bits c (output_of c.kind) ≡ spec_bits (wire_part id 0 w) → ObeysCell wires c
@@ -38,11 +36,11 @@ flag_is false = refl
 pub integer_read : (b : Bool) (width : ℕ) (x : ℤ) → IsOf b width x → integer (flag b) (number_bits width (pattern width x)) ≡ x
 integer_read b width x h = integer-number_bits (flag b) width x (rw (flag_is b) h)
 
-whole_bit_is : (value : Source → Option Bool) (c : RtlCell) (width i : ℕ) (us vs : List Bool) (x z r : ℤ)
+whole_bit_is : (value : Source → Option Bool) (c : RtlCell) (width i : ℕ) (us vs : List Bool) (r : ℤ)
     → read value (end_bits c (codes "\\A")) ≡ Some us → read value (end_bits c (codes "\\B")) ≡ Some vs
     → result_of c.kind (integer (sign_read c.kind (number_at c (codes "\\A_SIGNED"))) us) (integer (number_at c (codes "\\B_SIGNED")) vs) ≡ Some r
     → whole_bit value c width i ≡ slice_get (number_bits width (pattern width r)) i
-whole_bit_is value c width i us vs x z r p q e = rw (p, q, e) refl
+whole_bit_is value c width i us vs r p q e = rw (p, q, e) refl
 
 -- a cell whose operands read as x and z, of which it makes the integer r
 pub whole_cell : (wires : Wires) (k : CellKind) (name : List ℕ) (a b : Operand) (width : ℕ) (id : List ℕ) (w : ℕ) (x z u r : ℤ) → IsWhole k
@@ -54,7 +52,7 @@ whole_cell wires k name a b width id w x z u r kind p q e f makes o = record {
   at = λ i h.
     driven wires (binary_cell k name a b width (wire_part id 0 w)) id w (ap (end_bits (binary_cell k name a b width (wire_part id 0 w))) kind.output) o i h
     ∙ kind.bit (source_value wires) (binary_cell k name a b width (wire_part id 0 w)) w i
-    ∙ whole_bit_is (source_value wires) (binary_cell k name a b width (wire_part id 0 w)) w i (number_bits a.form.width (pattern a.form.width x)) (number_bits b.form.width (pattern b.form.width z)) x z r
+    ∙ whole_bit_is (source_value wires) (binary_cell k name a b width (wire_part id 0 w)) w i (number_bits a.form.width (pattern a.form.width x)) (number_bits b.form.width (pattern b.form.width z)) r
       (reads_whole wires a.spec a.form.width x p) (reads_whole wires b.spec b.form.width z q)
       (rw (e, integer_read b.form.signed b.form.width z f) makes)
     ∙ slice_get-pattern w r i h;

@@ -1,15 +1,14 @@
 -- Common shapes are no narrower than either, and what a wire reads as at its own width or less.
-use Rattle.std.proofs.Common.{◌≡◌, ℕ, zero, suc, ◌+◌, ◌-◌, ◌<◌, ◌≤◌, ◌==◌, max, Bool, true, false, List, [], ◌∷◌, ◌++◌, length, refl, sym, ◌∙◌, ap, arith, ℤ, pos}
-use Rattle.std.specs.Prelude.{Some, nat_lt, slice_get, option_and_then, All}
+use Rattle.std.proofs.Common.{◌≡◌, ℕ, ◌+◌, ◌-◌, ◌<◌, ◌≤◌, ◌==◌, Bool, true, false, List, [], ◌++◌, refl, sym, ◌∙◌, ap, arith, ℤ}
+use Rattle.std.specs.Prelude.{Some, nat_lt}
 use Rattle.std.proofs.lemmas.Bool.{cond_both, ltb-false}
 use Rattle.std.proofs.lemmas.List.Elements.{All-head}
-use Rattle.amh_bits.specs.Patterns.{pattern, nat_bit, int_bit, wrap}
+use Rattle.amh_bits.specs.Patterns.{nat_bit, wrap}
 use Rattle.amh_bits.proofs.BitsOf.{bit_pattern}
 use Rattle.amh_bits.proofs.Wraps.{pattern_wrap}
 use Rattle.shape_rules.specs.Forms.{Form, common_width}
 use Rattle.shape_rules.specs.Operators.{truth}
 use Rattle.rtlil_text.specs.declared.sig.SigPart.{SigPart}
-use Rattle.rtlil_text.specs.declared.module.RtlLink.{RtlLink}
 use Rattle.rtlil_text.specs.Sources.{Net, spec_bits}
 use Rattle.rtlil_text.specs.Cells.{bit_at}
 use Rattle.rtlil_text.specs.Meaning.{source_value}

@@ -7,7 +7,7 @@ use Rattle.shape_rules.specs.Stops.{IsTaken}
 use Rattle.shape_rules.specs.declared.op.Op.{Op}
 use Rattle.rtlil_text.specs.declared.cell.RtlCell.{RtlCell}
 use Rattle.rtlil_text.specs.declared.module.RtlLink.{RtlLink}
-use Rattle.rtlil_text.specs.Sources.{Source, Net, spec_bits, end_width}
+use Rattle.rtlil_text.specs.Sources.{Net, spec_bits, end_width}
 use Rattle.rtlil_text.specs.CellTables.{output_of}
 use Rattle.rtlil_text.specs.Drivers.{output_bits}
 use Rattle.rtlil_text.specs.Cells.{number_bits, bit_at, cell_bit}

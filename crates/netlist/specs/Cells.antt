@@ -1,10 +1,9 @@
 -- Cells as they are written: their parameters and ends in the order of the cell library.
-use Rattle.std.specs.Prelude.{ℕ, ◌-◌, Bool, false, cond, List, [], ◌∷◌, ◌++◌, length, replicate, codes}
+use Rattle.std.specs.Prelude.{ℕ, Bool, cond, List, [], ◌∷◌, codes}
 use Rattle.shape_rules.specs.Forms.{Form}
 use Rattle.shape_rules.specs.declared.cell.CellKind.{CellKind}
 use Rattle.shape_rules.specs.declared.cell.CellKind.TheVariants as kind
 use Rattle.rtlil_text.specs.declared.sig.SigPart.{SigPart}
-use Rattle.rtlil_text.specs.declared.sig.SigPart.TheVariants as parts
 use Rattle.rtlil_text.specs.declared.cell.RtlValue.TheVariants.{Number}
 use Rattle.rtlil_text.specs.declared.cell.RtlParameter.{RtlParameter}
 use Rattle.rtlil_text.specs.declared.cell.RtlEnd.{RtlEnd}

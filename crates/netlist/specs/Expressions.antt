@@ -1,18 +1,16 @@
 -- The wires, cells and links of each expression.
-use Rattle.std.specs.Prelude.{ℕ, zero, suc, ◌+◌, ◌-◌, ◌*◌, ◌^◌, ◌==◌, Bool, true, false, max, min, if◌then◌else◌, nat_lt, List, [], ◌∷◌, ◌++◌, length, map, take, ℤ, pos}
-use Rattle.shape_rules.specs.Forms.{Form, unsigned, common}
+use Rattle.std.specs.Prelude.{ℕ, suc, ◌+◌, ◌*◌, ◌^◌, ◌==◌, false, max, if◌then◌else◌, nat_lt, List, [], ◌∷◌, ◌++◌, length, map, take, replicate, pos}
+use Rattle.shape_rules.specs.Forms.{Form, unsigned}
 use Rattle.shape_rules.specs.declared.cell.CellKind.TheVariants as kind
 use Rattle.design_ir.specs.declared.ids.ExprId.{ExprId}
 use Rattle.design_ir.specs.declared.expr.Pattern.{Pattern}
 use Rattle.design_ir.specs.declared.expr.Expr.{Expr}
 use Rattle.design_ir.specs.declared.expr.Expr.TheVariants as expr
 use Rattle.rtlil_text.specs.declared.sig.SigPart.{SigPart}
-use Rattle.rtlil_text.specs.declared.module.RtlWire.{RtlWire}
-use Rattle.rtlil_text.specs.declared.cell.RtlCell.{RtlCell}
 use Rattle.netlist.specs.Ids.{part_id}
 use Rattle.netlist.specs.Cells.{Operand, unary_cell, binary_cell, mux_cell}
-use Rattle.netlist.specs.Operands.{wire_part, const_spec, at_width, at_form, const_operand}
-use Rattle.netlist.specs.Operators.{Value, Drawing, nothing, inner_wire, whole, one_bit, as_form, linked, at_least_one, operator_drawing}
+use Rattle.netlist.specs.Operands.{wire_part, const_part, const_spec, at_width, at_form, const_operand}
+use Rattle.netlist.specs.Operators.{Value, Drawing, nothing, inner_wire, whole, one_bit, as_form, linked, operator_drawing}
 
 -- one drawing and another
 abbrev pub and_also : Drawing → Drawing → Drawing
@@ -53,6 +51,10 @@ chosen n s a b y =
 abbrev pub stride_form : Form → Form
 stride_form f = unsigned (max 1 f.width + 8)
 
+-- a stride of that shape: a byte behind zeros, since no constant here has more than 128 bits
+abbrev pub stride_operand : Form → ℕ → Operand
+stride_operand f stride = record { spec = const_part (replicate (max 1 f.width) false) ++ const_spec 8 (pos stride); form = stride_form f }
+
 -- the amount by which a is shifted: the offset, or parts n and n + 1 where it is in strides
 abbrev pub amount_operand : ℕ → Value → ℕ → Operand
 amount_operand n offset stride =
@@ -64,7 +66,7 @@ amount_drawing n offset stride =
     else record {
       wires = inner_wire (part_id (n + 1)) (stride_form offset.form).width ∷ [];
       cells =
-          binary_cell kind.Mul (part_id n) (as_form offset (stride_form offset.form)) (const_operand (stride_form offset.form) (pos stride)) (stride_form offset.form).width
+          binary_cell kind.Mul (part_id n) (as_form offset (stride_form offset.form)) (stride_operand offset.form stride) (stride_form offset.form).width
           (wire_part (part_id (n + 1)) 0 (stride_form offset.form).width) ∷ [];
       links = [];
     }

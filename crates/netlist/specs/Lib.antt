@@ -4,7 +4,10 @@ pub mod Operands
 pub mod Operators
 pub mod Carried
 pub mod Expressions
+pub mod Fits
+pub mod Made
 pub mod Latest
 pub mod Spelled
+pub mod CombDrawings
 pub mod Module
 pub mod Corresponds

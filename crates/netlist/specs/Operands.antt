@@ -1,5 +1,5 @@
 -- The bits of operands: the whole of a wire, part of it, or it with its sign or zeros before it.
-use Rattle.std.specs.Prelude.{ℕ, zero, suc, ◌+◌, ◌-◌, Bool, true, false, nat_lt, if◌then◌else◌, List, [], ◌∷◌, ◌++◌, replicate, ℤ}
+use Rattle.std.specs.Prelude.{ℕ, zero, suc, ◌-◌, Bool, false, nat_lt, if◌then◌else◌, List, [], ◌∷◌, ◌++◌, replicate, ℤ}
 use Rattle.amh_bits.specs.Patterns.{pattern}
 use Rattle.shape_rules.specs.Forms.{Form}
 use Rattle.rtlil_text.specs.declared.sig.SigPart.{SigPart}

@@ -1,7 +1,7 @@
 -- The cells of each operator.
-use Rattle.std.specs.Prelude.{ℕ, zero, suc, ◌+◌, ◌-◌, ◌==◌, Bool, true, false, max, if◌then◌else◌, List, [], ◌∷◌, ℤ, pos, None}
+use Rattle.std.specs.Prelude.{ℕ, ◌+◌, ◌==◌, Bool, true, false, max, if◌then◌else◌, List, [], ◌∷◌, ℤ, pos, None}
 use Rattle.shape_rules.specs.Forms.{Form, unsigned}
-use Rattle.shape_rules.specs.Operators.{form_of, work_form}
+use Rattle.shape_rules.specs.Operators.{work_form}
 use Rattle.shape_rules.specs.declared.op.Op.{Op}
 use Rattle.shape_rules.specs.declared.op.Op.TheVariants as op
 use Rattle.shape_rules.specs.declared.cell.CellKind.{CellKind}

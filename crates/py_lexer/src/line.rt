@@ -2,7 +2,7 @@
 ghost use Rattle.std.specs.Prelude.{◌≡◌, ◌<◌, ◌≤◌, length, Some, slice_get};
 
 use crate::token::Tokens;
-use amh_host::{Items, Place};
+use amh_host::{Items, NoMemory, Place};
 use std::marker::Model;
 
 /// A logical line: the blanks before its first token, that token's place, and its tokens, of which it has at
@@ -23,6 +23,17 @@ pub enum LexStop {
     NoMemory,
 }
 
+impl From<NoMemory> for LexStop {
+    ghost use Rattle.std.specs.Prelude.{◌≡◌};
+    ghost use Rattle.py_lexer.specs.declared.line.LexStop.TheVariants.{NoMemory};
+
+    ghost from_gives = { λ _ stop. stop ≡ NoMemory };
+
+    fn from(_: NoMemory) -> Self {
+        LexStop::NoMemory
+    }
+}
+
 /// The logical lines of a text, in order. Contracts see the list of them.
 #[derive(Drop)]
 pub struct Lines {
@@ -41,6 +52,14 @@ impl Model for Lines {
 }
 
 impl Lines {
+    /// Lines that are few enough to be numbered.
+    pub(crate) fn new(items: Items<Line>) -> Self
+        requires { length items < 4294967296 }
+        ensures { result ≡ items }
+    {
+        Lines { items }
+    }
+
     /// How many lines there are.
     pub fn count(&self) -> u32
         ensures { result ≡ length self.now }

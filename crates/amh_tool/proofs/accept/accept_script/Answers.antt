@@ -14,7 +14,7 @@ use Rattle.amh_tool.proofs.ScriptLegal.{script_events-legal}
 use Rattle.amh_tool.proofs.accept.accept_script.Goals as goal
 
 pub read_script-requires-clause-domains : goal.read_script-requires-clause-domains
-read_script-requires-clause-domains g c = board_of-few_domains c.args.component c.in_ok-board.board c.in_ok-board.ensures
+read_script-requires-clause-domains g c = board_of-few_domains c.args.component c.in_ok-board.board c.requires c.in_ok-board.ensures
 
 pub returns-in-Ok-clause-given : goal.returns-in-Ok-clause-given
 returns-in-Ok-clause-given g c =
@@ -30,7 +30,7 @@ returns-in-Ok-clause-fit g c =
     let f = c.args.component in
     let e : script_events (board_of (circuit_of f)) c.deref.result.now ≡ Ok c.in-Ok.events =
     ap (λ (b : Board). script_events b c.deref.result.now) (sym c.in_ok-board.ensures) ∙ c.in-Ok.ensures in
-    record { gate = c.requires; board = c.in_ok-board.ensures; legal = script_events-legal (circuit_of f) c.deref.result.now c.in-Ok.events e }
+    record { sound = c.requires; board = c.in_ok-board.ensures; legal = script_events-legal (circuit_of f) c.deref.result.now c.in-Ok.events e }
 
 pub returns-in-Err-Line-clause-given : goal.returns-in-Err-Line-clause-given
 returns-in-Err-Line-clause-given g c =

@@ -5,27 +5,27 @@ use Rattle.amh_host.specs.Seen.{written}
 use Rattle.amh_host.specs.Calls.{Adds, AddsFront}
 use Rattle.amh_host.proofs.SeenLaws.{IsAt, IsAt-put, IsAt-refused}
 use Rattle.rtlil_text.proofs.WriteLaws.{WritesFront-start, Writes-last}
-use Rattle.amh_tool.specs.Gate.{gate_first, gate_later}
+use Rattle.amh_tool.specs.Running.{later, first_held}
 use Rattle.amh_tool.specs.Trace.{Done, timed, head_line, done_line, column_line, first_line, row_lines, trace_text}
-use Rattle.amh_tool.proofs.TraceLaws.{first_state, gate_trace, trace_text-order}
+use Rattle.amh_tool.proofs.TraceLaws.{started_of, nets_trace, trace_text-order}
 use Rattle.amh_tool.proofs.trace.write_trace.Goals as goal
 
 pub returns-in_err-sim-clause-text : goal.returns-in_err-sim-clause-text
 returns-in_err-sim-clause-text g c =
     let p = err_from_is_err_and c.from_residual.result c.from_residual.ensures.1 in
     let a = c.args.accepted.now in
-    let r = first_state a.component c.requires.gate in
-    let later = gate_later r.0.gate (gate_first a.component.members) a.events in
-    (trace_text a.board (timed 1 a.events) (r.0.values ∷ later) Done, gate_trace a r.0 c.requires r.1, rw p.1 (inl refl))
+    let r = started_of a.component in
+    let envs = later r.0.nets (first_held r.0.nets) a.events in
+    (trace_text a.board (timed 1 a.events) (r.0.values ∷ envs) Done, nets_trace a r.0 c.requires r.1, rw p.1 (inl refl))
 
 pub returns-in_err-first-clause-text : goal.returns-in_err-first-clause-text
 returns-in_err-first-clause-text g c =
     let p = err_from_is_err_and c.from_residual-in_err-first.result c.from_residual-in_err-first.ensures.1 in
     let a = c.args.accepted.now in
     let s = c.in_ok-sim.sim in
-    let later = gate_later s.gate (gate_first a.component.members) a.events in
-    let all = trace_text a.board (timed 1 a.events) (s.values ∷ later) Done in
-    let trace = gate_trace a s c.requires c.in_ok-sim.ensures in
+    let envs = later s.nets (first_held s.nets) a.events in
+    let all = trace_text a.board (timed 1 a.events) (s.values ∷ envs) Done in
+    let trace = nets_trace a s c.requires c.in_ok-sim.ensures in
     (all, trace, rw p.1 (inl refl))
 
 pub returns-in_err-start-clause-text : goal.returns-in_err-start-clause-text
@@ -33,9 +33,9 @@ returns-in_err-start-clause-text g c =
     let p = err_from_is_err_and c.from_residual-in_err-start.result c.from_residual-in_err-start.ensures.1 in
     let a = c.args.accepted.now in
     let s = c.in_ok-sim.sim in
-    let later = gate_later s.gate (gate_first a.component.members) a.events in
-    let all = trace_text a.board (timed 1 a.events) (s.values ∷ later) Done in
-    let trace = gate_trace a s c.requires c.in_ok-sim.ensures in
+    let envs = later s.nets (first_held s.nets) a.events in
+    let all = trace_text a.board (timed 1 a.events) (s.values ∷ envs) Done in
+    let trace = nets_trace a s c.requires c.in_ok-sim.ensures in
     (all, trace, rw p.1 (WritesFront-start c.args.name.now all (g.H.Host.seen c.args.host.now) (g.H.Host.seen c.start-2.new.self) c.in_err-start.ensures.done))
 
 pub returns-in_err-put-clause-text : goal.returns-in_err-put-clause-text
@@ -43,15 +43,15 @@ returns-in_err-put-clause-text g c =
     let p = err_from_is_err_and c.from_residual-in_err-put.result c.from_residual-in_err-put.ensures.1 in
     let a = c.args.accepted.now in
     let s = c.in_ok-sim.sim in
-    let later = gate_later s.gate (gate_first a.component.members) a.events in
-    let all = trace_text a.board (timed 1 a.events) (s.values ∷ later) Done in
-    let trace = gate_trace a s c.requires c.in_ok-sim.ensures in
+    let envs = later s.nets (first_held s.nets) a.events in
+    let all = trace_text a.board (timed 1 a.events) (s.values ∷ envs) Done in
+    let trace = nets_trace a s c.requires c.in_ok-sim.ensures in
     let name = c.args.name.now in
     let old = g.H.Host.seen c.args.host.now in
     let columns = flat_map column_line a.board.columns in
     let first = first_line a.board s.values in
-    let rows = row_lines a.board (timed 1 a.events) s.values later in
-    let order : head_line ++ (columns ++ (first ++ (rows ++ done_line))) ≡ all = trace_text-order a.board (timed 1 a.events) s.values later in
+    let rows = row_lines a.board (timed 1 a.events) s.values envs in
+    let order : head_line ++ (columns ++ (first ++ (rows ++ done_line))) ≡ all = trace_text-order a.board (timed 1 a.events) s.values envs in
     let s1 = g.H.Host.seen c.start-2.new.self in
     let at1 : IsAt name [] old s1 = record { seen = c.in_ok-start.ensures.done } in
     let s2 = g.H.Host.seen c.put.new.self in
@@ -63,15 +63,15 @@ returns-in_err-put_columns-clause-text g c =
     let p = err_from_is_err_and c.from_residual-in_err-put_columns.result c.from_residual-in_err-put_columns.ensures.1 in
     let a = c.args.accepted.now in
     let s = c.in_ok-sim.sim in
-    let later = gate_later s.gate (gate_first a.component.members) a.events in
-    let all = trace_text a.board (timed 1 a.events) (s.values ∷ later) Done in
-    let trace = gate_trace a s c.requires c.in_ok-sim.ensures in
+    let envs = later s.nets (first_held s.nets) a.events in
+    let all = trace_text a.board (timed 1 a.events) (s.values ∷ envs) Done in
+    let trace = nets_trace a s c.requires c.in_ok-sim.ensures in
     let name = c.args.name.now in
     let old = g.H.Host.seen c.args.host.now in
     let columns = flat_map column_line a.board.columns in
     let first = first_line a.board s.values in
-    let rows = row_lines a.board (timed 1 a.events) s.values later in
-    let order : head_line ++ (columns ++ (first ++ (rows ++ done_line))) ≡ all = trace_text-order a.board (timed 1 a.events) s.values later in
+    let rows = row_lines a.board (timed 1 a.events) s.values envs in
+    let order : head_line ++ (columns ++ (first ++ (rows ++ done_line))) ≡ all = trace_text-order a.board (timed 1 a.events) s.values envs in
     let s1 = g.H.Host.seen c.start-2.new.self in
     let at1 : IsAt name [] old s1 = record { seen = c.in_ok-start.ensures.done } in
     let s2 = g.H.Host.seen c.put.new.self in
@@ -87,15 +87,15 @@ returns-in_err-put-2-clause-text g c =
     let p = err_from_is_err_and c.from_residual-in_err-put-2.result c.from_residual-in_err-put-2.ensures.1 in
     let a = c.args.accepted.now in
     let s = c.in_ok-sim.sim in
-    let later = gate_later s.gate (gate_first a.component.members) a.events in
-    let all = trace_text a.board (timed 1 a.events) (s.values ∷ later) Done in
-    let trace = gate_trace a s c.requires c.in_ok-sim.ensures in
+    let envs = later s.nets (first_held s.nets) a.events in
+    let all = trace_text a.board (timed 1 a.events) (s.values ∷ envs) Done in
+    let trace = nets_trace a s c.requires c.in_ok-sim.ensures in
     let name = c.args.name.now in
     let old = g.H.Host.seen c.args.host.now in
     let columns = flat_map column_line a.board.columns in
     let first = first_line a.board s.values in
-    let rows = row_lines a.board (timed 1 a.events) s.values later in
-    let order : head_line ++ (columns ++ (first ++ (rows ++ done_line))) ≡ all = trace_text-order a.board (timed 1 a.events) s.values later in
+    let rows = row_lines a.board (timed 1 a.events) s.values envs in
+    let order : head_line ++ (columns ++ (first ++ (rows ++ done_line))) ≡ all = trace_text-order a.board (timed 1 a.events) s.values envs in
     let s1 = g.H.Host.seen c.start-2.new.self in
     let at1 : IsAt name [] old s1 = record { seen = c.in_ok-start.ensures.done } in
     let s2 = g.H.Host.seen c.put.new.self in
@@ -115,15 +115,15 @@ returns-in_err-put_rows-clause-text g c =
     let p = err_from_is_err_and c.from_residual-in_err-put_rows.result c.from_residual-in_err-put_rows.ensures.1 in
     let a = c.args.accepted.now in
     let s = c.in_ok-sim.sim in
-    let later = gate_later s.gate (gate_first a.component.members) a.events in
-    let all = trace_text a.board (timed 1 a.events) (s.values ∷ later) Done in
-    let trace = gate_trace a s c.requires c.in_ok-sim.ensures in
+    let envs = later s.nets (first_held s.nets) a.events in
+    let all = trace_text a.board (timed 1 a.events) (s.values ∷ envs) Done in
+    let trace = nets_trace a s c.requires c.in_ok-sim.ensures in
     let name = c.args.name.now in
     let old = g.H.Host.seen c.args.host.now in
     let columns = flat_map column_line a.board.columns in
     let first = first_line a.board s.values in
-    let rows = row_lines a.board (timed 1 a.events) s.values later in
-    let order : head_line ++ (columns ++ (first ++ (rows ++ done_line))) ≡ all = trace_text-order a.board (timed 1 a.events) s.values later in
+    let rows = row_lines a.board (timed 1 a.events) s.values envs in
+    let order : head_line ++ (columns ++ (first ++ (rows ++ done_line))) ≡ all = trace_text-order a.board (timed 1 a.events) s.values envs in
     let s1 = g.H.Host.seen c.start-2.new.self in
     let at1 : IsAt name [] old s1 = record { seen = c.in_ok-start.ensures.done } in
     let s2 = g.H.Host.seen c.put.new.self in
@@ -144,15 +144,15 @@ pub returns-clause-text : goal.returns-clause-text
 returns-clause-text g c =
     let a = c.args.accepted.now in
     let s = c.in_ok-sim.sim in
-    let later = gate_later s.gate (gate_first a.component.members) a.events in
-    let all = trace_text a.board (timed 1 a.events) (s.values ∷ later) Done in
-    let trace = gate_trace a s c.requires c.in_ok-sim.ensures in
+    let envs = later s.nets (first_held s.nets) a.events in
+    let all = trace_text a.board (timed 1 a.events) (s.values ∷ envs) Done in
+    let trace = nets_trace a s c.requires c.in_ok-sim.ensures in
     let name = c.args.name.now in
     let old = g.H.Host.seen c.args.host.now in
     let columns = flat_map column_line a.board.columns in
     let first = first_line a.board s.values in
-    let rows = row_lines a.board (timed 1 a.events) s.values later in
-    let order : head_line ++ (columns ++ (first ++ (rows ++ done_line))) ≡ all = trace_text-order a.board (timed 1 a.events) s.values later in
+    let rows = row_lines a.board (timed 1 a.events) s.values envs in
+    let order : head_line ++ (columns ++ (first ++ (rows ++ done_line))) ≡ all = trace_text-order a.board (timed 1 a.events) s.values envs in
     let s1 = g.H.Host.seen c.start-2.new.self in
     let at1 : IsAt name [] old s1 = record { seen = c.in_ok-start.ensures.done } in
     let s2 = g.H.Host.seen c.put.new.self in

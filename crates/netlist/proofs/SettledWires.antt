@@ -1,0 +1,258 @@
+-- Wires that carry an environment in which every combinational equation holds.
+use Rattle.std.specs.Prelude.{◌≡◌, refl, ℕ, zero, suc, ◌+◌, ◌<◌, ◌≤◌, ◌==◌, ◌&&◌, ◌||◌, Bool, true, false, cond, List, [], ◌∷◌, ◌++◌, map, length, slice_get, ℤ, Option, Some, None, is_some, is_none, nat_lt, fold, unwrap_or, option_map, option_and_then}
+use Rattle.std.specs.List.{AllByRecursion, find, range_with_len}
+use Rattle.std.proofs.Common.{sym, ◌∙◌, ap, arith, subst}
+use Rattle.std.proofs.lemmas.Bool.{false≢true, and_parts, or_parts, or_right, cond_both, lt-ltb}
+use Rattle.std.proofs.lemmas.List.{length-map}
+use Rattle.std.proofs.lemmas.List.Elements.{All-nil}
+use Rattle.std.proofs.lemmas.List.FromFn.{length-range_with_len, get_or-range_with_len}
+use Rattle.std.proofs.lemmas.Option.{slice_get-map, slice_get-get_or}
+use Rattle.amh_bits.specs.Patterns.{pattern}
+use Rattle.shape_rules.specs.Forms.{Form}
+use Rattle.design_ir.specs.declared.ids.ExprId.{ExprId}
+use Rattle.design_ir.specs.declared.ids.DomainId.{DomainId}
+use Rattle.design_ir.specs.declared.signal.Sig.{Sig}
+use Rattle.design_ir.specs.declared.memory.Memory.{Memory}
+use Rattle.design_ir.specs.declared.process.DesignProcess.{DesignProcess}
+use Rattle.design_ir.specs.Pools.{Pooled}
+use Rattle.design_ir.specs.PoolRules.{IsPool}
+use Rattle.design_ir.specs.Trees.{Statement, assign, choose, Choices, Block, done, next}
+use Rattle.design_ir.specs.Guards.{driven, block_exprs}
+use Rattle.design_ir.specs.Values.{form, num, signal_form}
+use Rattle.design_ir.specs.Put.{put}
+use Rattle.design_ir.specs.Circuits.{Circuit, State, at, is_among, is_input, is_register, is_held}
+use Rattle.design_ir.specs.Designs.{IsUsable, IsProcess, IsDesign}
+use Rattle.design_ir.specs.Settled.{starts, comb_process, comb_reads, delta, Settled}
+use Rattle.design_ir.proofs.NumbersFit.{element, FitsSignals, has_shape, num_fits}
+use Rattle.design_ir.proofs.PutLaws.{put_length, put_other}
+use Rattle.rtlil_text.specs.declared.sig.SigPart.{SigPart}
+use Rattle.rtlil_text.specs.Sources.{Source, Constant, Net, spec_bits}
+use Rattle.rtlil_text.specs.Cells.{number_bits, bit_at}
+use Rattle.rtlil_text.specs.Meaning.{source_value}
+use Rattle.rtlil_text.specs.History.{Wires}
+use Rattle.rtlil_text.proofs.CellLaws.{length-number_bits}
+use Rattle.netlist.specs.Operators.{Drawing, nothing, linked}
+use Rattle.netlist.specs.Carried.{Carries, ObeysCell}
+use Rattle.netlist.specs.CombDrawings.{ObeysComb}
+use Rattle.netlist.specs.Latest.{Latest, latest_of, is_fixed, is_plain}
+use Rattle.netlist.specs.Spelled.{spec_of}
+use Rattle.netlist.specs.Module.{signal_value, expr_value, drives, driving_by, driving, Driving, ByEvents, ByComb, ByClock, ByNothing, init_bits, at_first, at_last, bits_at_last, link_to, driving_drawing, signal_drawing}
+use Rattle.netlist.proofs.Reading.{bit_of, HasBits, Reads, has_carried, carries_bits, slice_get-pattern}
+use Rattle.netlist.proofs.Drawn.{form_sign}
+use Rattle.netlist.proofs.Widths.{linked_bits}
+use Rattle.netlist.proofs.SpelledLaws.{spec_bits-spec_of}
+use Rattle.netlist.proofs.BitWrites.{some_signal}
+use Rattle.netlist.proofs.PutSources.{IsSourced, IsShown, AreGiven, put_sourced}
+use Rattle.netlist.proofs.OneDriver.{AreNone, IsOnly, IsFolded, find_only, find_none, fold_none, fold_only, only_holds}
+use Rattle.netlist.proofs.Driven.{driven_by, distinct_processes, is_register-none, is_register-only, driving-found, driving-comb}
+
+-- ---- specs of sourced bits
+
+from_zero : (n k : ℕ) → k < n → slice_get (range_with_len 0 n) k ≡ Some k
+from_zero n k h =
+    slice_get-get_or (range_with_len 0 n) k 0 (rw (length-range_with_len 0 n) h) ∙ ap Some (get_or-range_with_len 0 n k 0 h ∙ (let e : 0 + k ≡ k = omega arith in e))
+
+pub reads_sources : (wires : Wires) (sources : ℕ → Source) (w : ℕ) (x : ℤ) → ((i : ℕ) → i < w → source_value wires (sources i) ≡ Some (bit_of x i)) → Reads wires (spec_of (map sources (range_with_len 0 w))) w x
+reads_sources wires sources w x h =
+    let all : List Source = map sources (range_with_len 0 w) in
+    record {
+      wide = ap length (spec_bits-spec_of all) ∙ length-map (range_with_len 0 w) sources ∙ length-range_with_len 0 w;
+      at = λ k l.
+        ap (λ ss. option_and_then (source_value wires) (slice_get ss k)) (spec_bits-spec_of all)
+        ∙ ap (option_and_then (source_value wires)) (slice_get-map sources (range_with_len 0 w) k ∙ ap (option_map sources) (from_zero w k l))
+        ∙ h k l;
+    }
+
+pub reads_constants : (wires : Wires) (w : ℕ) (x : ℤ) → Reads wires (spec_of (map Constant (number_bits w (pattern w x)))) w x
+reads_constants wires w x =
+    let bits : List Bool = number_bits w (pattern w x) in
+    record {
+      wide = ap length (spec_bits-spec_of (map Constant bits)) ∙ length-map bits Constant ∙ length-number_bits w (pattern w x);
+      at = λ k l.
+        ap (λ ss. option_and_then (source_value wires) (slice_get ss k)) (spec_bits-spec_of (map Constant bits))
+        ∙ ap (option_and_then (source_value wires)) (slice_get-map Constant bits k ∙ ap (option_map Constant) (slice_get-pattern w x k l));
+    }
+
+-- ---- before any statement
+
+init_bits_are : (c : Circuit) (s : ℕ) (x : Sig) → slice_get c.pool.signals s ≡ Some x → init_bits c s ≡ number_bits (signal_form c.pool.signals s).width (pattern (signal_form c.pool.signals s).width x.init)
+init_bits_are c s x e = rw e refl
+
+pub first_sourced : (wires : Wires) (c : Circuit) (s : ℕ) (x : Sig) (cur : List ℤ) → slice_get c.pool.signals s ≡ Some x → at cur s ≡ x.init → IsSourced wires c.pool (at_first c false) cur s
+first_sourced wires c s x cur e is = record {
+  bits = λ i l.
+    let w : ℕ = (signal_form c.pool.signals s).width in
+    ap (λ bits. Some (unwrap_or (slice_get bits i) false)) (init_bits_are c s x e)
+    ∙ ap (λ o. Some (unwrap_or o false)) (slice_get-pattern w x.init i l)
+    ∙ ap (λ z. Some (bit_of z i)) (sym is);
+}
+
+pub held_sourced : (wires : Wires) (c : Circuit) (s : ℕ) (cur : List ℤ) (x : ℤ) → Carries wires (signal_value c s) x → at cur s ≡ x → IsSourced wires c.pool (at_first c true) cur s
+held_sourced wires c s cur x carried is = record {
+  bits = λ i l. (has_carried wires (signal_value c s) x carried).at i l ∙ ap (λ z. Some (bit_of z i)) (sym is);
+}
+
+-- ---- what expressions carry
+
+pub shown : (wires : Wires) (c : Circuit) (env : List ℤ) (e : ExprId) → IsPool c.pool → FitsSignals c.pool env → e.0 < length c.pool.exprs → Carries wires (expr_value c e.0) (num c.pool env e.0) → IsShown wires (expr_value c e.0) (num c.pool env e.0)
+shown wires c env e rules fit there carried = record {
+  carried = carried;
+  fits = num_fits c.pool env rules fit e there;
+  sign = form_sign (form c.pool e.0) (has_shape c.pool env rules fit e there);
+}
+
+-- the wire of each expression that a process may read carries its integer
+abbrev pub Shows : Wires → Circuit → List ℤ → Type 0
+Shows wires c env = (e : ExprId) → IsUsable c e → Carries wires (expr_value c e.0) (num c.pool env e.0)
+
+-- no process has a choice, or a target that is not fixed
+abbrev pub ArePlain : Circuit → Type 0
+ArePlain c = AllByRecursion (λ (p : DesignProcess). is_plain c.pool p.body ≡ true) c.processes
+
+block_given : (P Q : ExprId → Type 0) (pool : Pooled) (b : Block) → ((e : ExprId) → P e → Q e) → is_plain pool b ≡ true → AllByRecursion P (block_exprs b) → AreGiven Q b
+block_given P Q pool done f plain h = tt
+block_given P Q pool (next (assign t v p) rest) f plain h = (f v h.1.0, block_given P Q pool rest f (and_parts (is_fixed pool t.0) (is_plain pool rest) plain).1 h.1.1)
+block_given P Q pool (next (choose arms) rest) f plain h = absurd (false≢true plain)
+
+-- ---- the numbers that comb processes begin with
+
+starts_at : (c : Circuit) (st : State) (k : ℕ) (sigs : List Sig) (s : ℕ) (x : Sig) → slice_get sigs s ≡ Some x → at (starts c st k sigs) s ≡ cond (is_held c (k + s)) (at st.held (k + s)) x.init
+starts_at c st k [] s x e = cc
+starts_at c st k (y ∷ sigs) zero x e =
+    let same : y ≡ x = cc in
+    ap (λ (z : Sig). cond (is_held c k) (at st.held k) z.init) same ∙ ap (λ j. cond (is_held c j) (at st.held j) x.init) (let d : k ≡ k + 0 = omega arith in d)
+starts_at c st k (y ∷ sigs) (suc s) x e =
+    starts_at c st (suc k) sigs s x e ∙ ap (λ j. cond (is_held c j) (at st.held j) x.init) (let d : suc k + s ≡ k + suc s = omega arith in d)
+
+length-starts : (c : Circuit) (st : State) (k : ℕ) (sigs : List Sig) → length (starts c st k sigs) ≡ length sigs
+length-starts c st k [] = refl
+length-starts c st k (y ∷ sigs) = ap suc (length-starts c st (suc k) sigs)
+
+-- a signal that is not held begins at its init
+at-starts : (c : Circuit) (st : State) (s : ℕ) (x : Sig) → slice_get c.pool.signals s ≡ Some x → is_held c s ≡ false → at (starts c st 0 c.pool.signals) s ≡ x.init
+at-starts c st s x e h =
+    starts_at c st 0 c.pool.signals s x e
+    ∙ ap (λ j. cond (is_held c j) (at st.held j) x.init) (let d : 0 + s ≡ s = omega arith in d)
+    ∙ ap (λ t. cond t (at st.held s) x.init) h
+
+-- one that is held begins as it is
+at-starts_held : (c : Circuit) (st : State) (s : ℕ) (x : Sig) → slice_get c.pool.signals s ≡ Some x → is_held c s ≡ true → at (starts c st 0 c.pool.signals) s ≡ at st.held s
+at-starts_held c st s x e h =
+    starts_at c st 0 c.pool.signals s x e
+    ∙ ap (λ j. cond (is_held c j) (at st.held j) x.init) (let d : 0 + s ≡ s = omega arith in d)
+    ∙ ap (λ t. cond t (at st.held s) x.init) h
+
+-- ---- the drawing of a signal with bits
+
+signal_drawing-some : (c : Circuit) (s : ℕ) (d : Driving) → 1 ≤ (signal_form c.pool.signals s).width → driving c s ≡ d → signal_drawing c s ≡ driving_drawing c s d
+signal_drawing-some c s d h e =
+    ap (λ t. cond t (driving_drawing c s (driving c s)) nothing) (lt-ltb 0 (signal_form c.pool.signals s).width (omega arith)) ∙ ap (driving_drawing c s) e
+
+-- ---- the processes of a design on wires that show its expressions
+
+module _ (wires : Wires) (c : Circuit) (env : List ℤ) (design : IsDesign c) (rules : IsPool c.pool) (plain : ArePlain c) (fit : FitsSignals c.pool env) (shows : Shows wires c env) where
+  -- what a process leaves of a signal that it alone drives
+  pub process_sourced : (s : ℕ) (p : DesignProcess) (latest : Latest) (cur : List ℤ) → IsOnly (driven_by c) s c.processes p → length cur ≡ length c.pool.signals → IsSourced wires c.pool latest cur s
+      → IsSourced wires c.pool (latest_of c.pool (expr_value c) p.body latest) (put c.pool env p.body cur) s
+  process_sourced s p latest cur o count h =
+      let usable : AllByRecursion (IsUsable c) (block_exprs p.body) = (only_holds (IsProcess c) (driven_by c) s c.processes p o design.processes).expressions in
+      let easy : is_plain c.pool p.body ≡ true = only_holds (λ (q : DesignProcess). is_plain c.pool q.body ≡ true) (driven_by c) s c.processes p o plain in
+      let given : AreGiven (λ (e : ExprId). IsShown wires (expr_value c e.0) (num c.pool env e.0)) p.body = block_given (IsUsable c) (λ (e : ExprId). IsShown wires (expr_value c e.0) (num c.pool env e.0)) c.pool p.body (λ e u. shown wires c env e rules fit u.there (shows e u)) easy usable in
+      put_sourced wires c.pool env (expr_value c) p.body latest cur s easy given count h
+
+  -- a register's next number, from the one that its wire carries
+  pub reads_next : (s : ℕ) (p : DesignProcess) (x : ℤ) (cur : List ℤ) → IsOnly (driven_by c) s c.processes p → Carries wires (signal_value c s) x → at cur s ≡ x → length cur ≡ length c.pool.signals
+      → Reads wires (bits_at_last c true p s) (signal_form c.pool.signals s).width (at (put c.pool env p.body cur) s)
+  reads_next s p x cur o carried is count =
+      let h : IsSourced wires c.pool (at_last c true p) (put c.pool env p.body cur) s = process_sourced s p (at_first c true) cur o count (held_sourced wires c s cur x carried is) in
+      reads_sources wires (at_last c true p s) (signal_form c.pool.signals s).width (at (put c.pool env p.body cur) s) h.bits
+
+  module _ (st : State) (flat : c.memories ≡ []) (settled : Settled c st env) (s : ℕ) where
+    begin : List ℤ
+    begin = starts c st 0 c.pool.signals
+
+    settled_is : fold (comb_process c.pool env) begin c.processes ≡ env
+    unfolding begin
+    settled_is = sym (ap (λ (ms : List Memory). comb_reads c.pool env ms st.rows (fold (comb_process c.pool env) (starts c st 0 c.pool.signals) c.processes)) flat) ∙ settled
+
+    comb_count : (cur : List ℤ) (p : DesignProcess) → length (comb_process c.pool env cur p) ≡ length cur
+    comb_count cur p = cond_both (is_none p.domain) (put c.pool env p.body cur) cur (λ xs. length xs ≡ length cur) (λ e. put_length c.pool env p.body cur) (λ e. refl)
+
+    comb_others : (cur : List ℤ) (p : DesignProcess) → is_among (driven_by c p) s ≡ false → at (comb_process c.pool env cur p) s ≡ at cur s
+    comb_others cur p h = cond_both (is_none p.domain) (put c.pool env p.body cur) cur (λ xs. at xs s ≡ at cur s) (λ e. put_other c.pool env p.body cur s h) (λ e. refl)
+
+    module _ (held : is_held c s ≡ false) (some : 1 ≤ (signal_form c.pool.signals s).width) (obeys : ObeysComb wires (signal_drawing c s)) where
+      w : ℕ
+      w = (signal_form c.pool.signals s).width
+
+      sig : (x : Sig) × (slice_get c.pool.signals s ≡ Some x)
+      sig = element c.pool.signals s (some_signal c.pool.signals s some)
+
+      no_input : is_input c s ≡ false
+      no_input = (or_parts (is_input c s) (is_register c s) held).0
+
+      obeys_driving : (d : Driving) → driving c s ≡ d → ObeysComb wires (driving_drawing c s d)
+      obeys_driving d e = subst (ObeysComb wires) (signal_drawing-some c s d some e) obeys
+
+      from_link : (right : List SigPart) (x : ℤ) → Reads wires right (signal_form c.pool.signals s).width x → at env s ≡ x → ObeysComb wires (link_to c s right) → Carries wires (signal_value c s) (at env s)
+      from_link right x r e o =
+          subst (Carries wires (signal_value c s)) (sym e) (carries_bits wires (signal_value c s) x (linked_bits wires (signal_value c s) right (signal_form c.pool.signals s).width x r (omega arith) (record { cells = All-nil (ObeysCell wires); links = o.links })))
+
+      by_nothing : find (drives c s) c.processes ≡ None → Carries wires (signal_value c s) (at env s)
+      unfolding begin
+      by_nothing e =
+          let x : Sig = sig.0 in
+          let none = find_none (driven_by c) s c.processes e in
+          let is : at env s ≡ x.init = ap (λ xs. at xs s) (sym settled_is) ∙ fold_none (driven_by c) s (comb_process c.pool env) comb_count comb_others c.processes begin none ∙ at-starts c st s x sig.1 held in
+          from_link (spec_of (map Constant (init_bits c s))) x.init
+          (subst (λ bits. Reads wires (spec_of (map Constant bits)) (signal_form c.pool.signals s).width x.init) (sym (init_bits_are c s x sig.1)) (reads_constants wires (signal_form c.pool.signals s).width x.init))
+          is (obeys_driving ByNothing (driving-found c s no_input None e))
+
+      by_process : (p : DesignProcess) → find (drives c s) c.processes ≡ Some p → p.domain ≡ None → Carries wires (signal_value c s) (at env s)
+      unfolding begin
+      by_process p e d =
+          let x : Sig = sig.0 in
+          let o : IsOnly (driven_by c) s c.processes p = find_only (driven_by c) s c.processes p (distinct_processes c flat design) e in
+          let r = fold_only (driven_by c) s (comb_process c.pool env) comb_count comb_others c.processes p begin o in
+          let comb : comb_process c.pool env r.then p ≡ put c.pool env p.body r.then = ap (λ t. cond (is_none t) (put c.pool env p.body r.then) r.then) d in
+          let is : at env s ≡ at (put c.pool env p.body r.then) s = ap (λ xs. at xs s) (sym settled_is) ∙ r.result ∙ ap (λ xs. at xs s) comb in
+          let first : IsSourced wires c.pool (at_first c false) r.then s = first_sourced wires c s x r.then sig.1 (r.same ∙ at-starts c st s x sig.1 held) in
+          let last : IsSourced wires c.pool (at_last c false p) (put c.pool env p.body r.then) s = process_sourced s p (at_first c false) r.then o (r.long ∙ length-starts c st 0 c.pool.signals) first in
+          from_link (bits_at_last c false p s) (at (put c.pool env p.body r.then) s)
+          (reads_sources wires (at_last c false p s) (signal_form c.pool.signals s).width (at (put c.pool env p.body r.then) s) last.bits)
+          is (obeys_driving (ByComb p) (driving-comb c s no_input p e d))
+
+      not_clocked : (p : DesignProcess) (d : DomainId) → find (drives c s) c.processes ≡ Some p → p.domain ≡ Some d → ⊥
+      not_clocked p d e h =
+          let o : IsOnly (driven_by c) s c.processes p = find_only (driven_by c) s c.processes p (distinct_processes c flat design) e in
+          false≢true (sym (or_parts (is_input c s) (is_register c s) held).1 ∙ is_register-only c flat s p o ∙ ap is_some h)
+
+      by_domain : (p : DesignProcess) (d : Option DomainId) → find (drives c s) c.processes ≡ Some p → p.domain ≡ d → Carries wires (signal_value c s) (at env s)
+      by_domain p None e h = by_process p e h
+      by_domain p (Some d) e h = absurd (not_clocked p d e h)
+
+      by_found : (o : Option DesignProcess) → find (drives c s) c.processes ≡ o → Carries wires (signal_value c s) (at env s)
+      by_found None e = by_nothing e
+      by_found (Some p) e = by_domain p p.domain e refl
+
+    -- a register is in the environment as it is in the state
+    pub settled_register : (p : DesignProcess) (d : DomainId) → s < length c.pool.signals → IsOnly (driven_by c) s c.processes p → p.domain ≡ Some d → at env s ≡ at st.held s
+    unfolding begin
+    settled_register p d there o e =
+        let x = element c.pool.signals s there in
+        let r = fold_only (driven_by c) s (comb_process c.pool env) comb_count comb_others c.processes p begin o in
+        let stays : comb_process c.pool env r.then p ≡ r.then = ap (λ t. cond (is_none t) (put c.pool env p.body r.then) r.then) e in
+        let register : is_register c s ≡ true = is_register-only c flat s p o ∙ ap is_some e in
+        ap (λ xs. at xs s) (sym settled_is) ∙ r.result ∙ ap (λ xs. at xs s) stays ∙ r.same ∙ at-starts_held c st s x.0 x.1 (or_right (is_input c s) (is_register c s) register)
+
+    -- the wire of a signal that no state holds carries its number
+    pub settled_signal : is_held c s ≡ false → ObeysComb wires (signal_drawing c s) → Carries wires (signal_value c s) (at env s)
+    settled_signal held obeys i l = by_found held (omega arith) obeys (find (drives c s) c.processes) refl i l
+
+    -- so the wire of each signal does, where those of inputs and registers do
+    pub settled_wire : (is_held c s ≡ true → Carries wires (signal_value c s) (at env s)) → ObeysComb wires (signal_drawing c s) → Carries wires (signal_value c s) (at env s)
+    settled_wire held obeys = by_held (is_held c s) refl
+      where
+        by_held : (t : Bool) → is_held c s ≡ t → Carries wires (signal_value c s) (at env s)
+        by_held true e = held e
+        by_held false e = settled_signal e obeys

@@ -1,0 +1,14 @@
+pub mod Characters
+pub mod Fronts
+pub mod Gives
+pub mod Grammar
+pub mod Lines
+pub mod Longest
+pub mod Names
+pub mod Numbers
+pub mod Pieces
+pub mod Signs
+pub mod Spans
+pub mod Strings
+pub mod Tiles
+pub mod Walks

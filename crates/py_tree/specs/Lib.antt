@@ -1,0 +1,4 @@
+pub mod Tree
+pub mod Seen
+pub mod Steps
+pub mod Programs
