@@ -50,3 +50,7 @@ pub mod Driving
 pub mod SignalBits
 pub mod RegisterSteps
 pub mod ClockEdges
+pub mod ColumnSignals
+pub mod ModuleIds
+pub mod ModuleWires
+pub mod ModuleDrivers

@@ -12,3 +12,4 @@ pub mod CombDrawings
 pub mod Module
 pub mod PoolsDrawn
 pub mod Drives
+pub mod Corresponds
