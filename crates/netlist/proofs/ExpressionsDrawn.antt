@@ -23,7 +23,7 @@ use Rattle.netlist.specs.Ids.{part_id}
 use Rattle.netlist.specs.Cells.{binary_cell, unary_cell, mux_cell}
 use Rattle.netlist.specs.Operands.{wire_part, const_spec, at_width, at_form, const_operand}
 use Rattle.netlist.specs.Operators.{Value, Drawing, nothing, inner_wire, whole, one_bit, as_form, linked}
-use Rattle.netlist.specs.Expressions.{and_also, truth_spec, truth_drawing, chosen, stride_form, amount_operand, amount_drawing, part_form, selected, in_reach, picked, picked_of, matched, no_match, matched_within, matched_any, joined, part_count, shown, drawn}
+use Rattle.netlist.specs.Expressions.{and_also, truth_spec, truth_drawing, chosen, stride_form, stride_operand, amount_operand, amount_drawing, part_form, selected, in_reach, picked, picked_of, matched, no_match, matched_within, matched_any, joined, part_count, shown, drawn}
 use Rattle.netlist.proofs.Permuted.{IsPermutation-first_two}
 use Rattle.netlist.proofs.Fresh.{IsFresh}
 use Rattle.netlist.proofs.Drives.{block, value_bits, IsBare, IsBare-inner_wire, IsDrawn, IsDrawn-wider, IsDrawn-linked, IsDrawn-nothing, IsDrawn-and_also, IsDrawn-and_then, IsDrawn-before, fresh_places, fresh_none, zero_more, output_bits-unary, output_bits-binary, output_bits-mux}
@@ -67,16 +67,16 @@ amount_drawn n offset stride =
     let g : Form = stride_form offset.form in
     let two : Drawing = record {
       wires = inner_wire (part_id (n + 1)) g.width ∷ [];
-      cells = binary_cell kind.Mul (part_id n) (as_form offset g) (const_operand g (pos stride)) g.width (wire_part (part_id (n + 1)) 0 g.width) ∷ [];
+      cells = binary_cell kind.Mul (part_id n) (as_form offset g) (stride_operand offset.form stride) g.width (wire_part (part_id (n + 1)) 0 g.width) ∷ [];
       links = [];
     } in
     cond_both (stride == 1) nothing two (IsDrawn part_id n (n + 2) [] []) (λ _. IsDrawn-nothing part_id n (n + 2))
     (λ _.
       IsDrawn-inner part_id n (n + 2) (inner_wire (part_id (n + 1)) g.width ∷ [])
-      (binary_cell kind.Mul (part_id n) (as_form offset g) (const_operand g (pos stride)) g.width (wire_part (part_id (n + 1)) 0 g.width) ∷ [])
+      (binary_cell kind.Mul (part_id n) (as_form offset g) (stride_operand offset.form stride) g.width (wire_part (part_id (n + 1)) 0 g.width) ∷ [])
       (fresh_from part_id n 2 (part_id (n + 1) ∷ part_id n ∷ []) (fresh_places part_id n 0 2 (1 ∷ 0 ∷ []) (part_id (n + 1) ∷ part_id n ∷ []) (λ i. part_id (n + 1) ∷ part_id (zero_more n i) ∷ []) refl refl))
       (IsBare-inner_wire (part_id (n + 1)) g.width (omega arith), tt)
-      (λ i. output_bits-binary kind.Mul (part_id n) (as_form offset g) (const_operand g (pos stride)) g.width (part_id (n + 1)) g.width refl i ++ []))
+      (λ i. output_bits-binary kind.Mul (part_id n) (as_form offset g) (stride_operand offset.form stride) g.width (part_id (n + 1)) g.width refl i ++ []))
 
 -- a cell that drives an inner wire, and a link from it
 linked_swap : (b s y : List Source) → s ≡ y → IsPermutation ((b ++ []) ++ (s ++ [])) (y ++ (b ++ []))

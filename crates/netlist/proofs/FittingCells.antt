@@ -44,7 +44,7 @@ wire_is m id low n width w le = record { wide = length-wire_part id low n; parts
 pub whole_is : (m : RtlModule) (v : Value) → HasValue m.wires v → SpecIs m (whole v) v.form.width
 whole_is m v w = wire_is m v.id 0 v.form.width v.form.width w (omega arith)
 
-const_parts : (m : RtlModule) (bits : List Bool) → SpecFits m.wires (const_part bits)
+pub const_parts : (m : RtlModule) (bits : List Bool) → SpecFits m.wires (const_part bits)
 const_parts m [] = All-nil (PartFits m.wires)
 const_parts m (b ∷ bits) = All-cons (PartFits m.wires) (parts.Const (b ∷ bits)) [] tt (All-nil (PartFits m.wires))
 

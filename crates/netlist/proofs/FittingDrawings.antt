@@ -75,7 +75,7 @@ add_kind = record { binary = record { parameters = refl; ends = refl }; rules = 
 pub sub_kind : IsArithmetic kind.Sub
 sub_kind = record { binary = record { parameters = refl; ends = refl }; rules = λ m c f. f }
 
-mul_kind : IsArithmetic kind.Mul
+pub mul_kind : IsArithmetic kind.Mul
 mul_kind = record { binary = record { parameters = refl; ends = refl }; rules = λ m c f. f }
 
 pub div_kind : IsArithmetic kind.DivFloor
@@ -84,10 +84,10 @@ div_kind = record { binary = record { parameters = refl; ends = refl }; rules = 
 pub mod_kind : IsArithmetic kind.ModFloor
 mod_kind = record { binary = record { parameters = refl; ends = refl }; rules = λ m c f. f }
 
-and_kind : IsArithmetic kind.And
+pub and_kind : IsArithmetic kind.And
 and_kind = record { binary = record { parameters = refl; ends = refl }; rules = λ m c f. f }
 
-or_kind : IsArithmetic kind.Or
+pub or_kind : IsArithmetic kind.Or
 or_kind = record { binary = record { parameters = refl; ends = refl }; rules = λ m c f. f }
 
 xor_kind : IsArithmetic kind.Xor

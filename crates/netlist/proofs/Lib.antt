@@ -45,3 +45,11 @@ pub mod ColumnSignals
 pub mod ModuleIds
 pub mod ModuleWires
 pub mod ModuleDrivers
+pub mod FittingSelections
+pub mod PoolNeeds
+pub mod PoolsMade
+pub mod Driving
+pub mod ModuleHeld
+pub mod ExpressionCells
+pub mod SignalCells
+pub mod ModuleRules

@@ -83,7 +83,7 @@ All-by_recursion P (x ∷ xs) h = All-cons P x xs h.0 (All-by_recursion P xs h.1
 
 -- ---- the module's wires: those of the columns, and the others
 
-pub other_wires : Circuit → List RtlWire
+unfoldable pub other_wires : Circuit → List RtlWire
 other_wires c =
     (flat_map (signal_wires c) (range_with_len 0 (length c.pool.signals)) ++ flat_map (expr_wires c) (range_with_len 0 (length c.pool.exprs)))
     ++ flat_map drawing_wires (all_drawings c)

@@ -11,3 +11,5 @@ pub mod Spelled
 pub mod CombDrawings
 pub mod Module
 pub mod Corresponds
+pub mod PoolsDrawn
+pub mod Drives
