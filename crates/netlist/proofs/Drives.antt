@@ -1,11 +1,11 @@
 -- What a drawing has: ids of its own, inner wires with bits, and one driver for each bit that it owes.
-use Rattle.std.specs.Prelude.{◌≡◌, ◌≤◌, ◌<◌, ◌+◌, ◌==◌, ◌&&◌, not, if◌then◌else◌, nat_lt, nat_le, ℕ, Bool, true, false, List, [], ◌∷◌, ◌++◌, map, IsPermutation, None, codes}
+use Rattle.std.specs.Prelude.{◌≡◌, ◌≤◌, ◌+◌, ◌==◌, ◌&&◌, not, if◌then◌else◌, nat_lt, nat_le, ℕ, Bool, true, false, List, [], ◌∷◌, ◌++◌, map, IsPermutation, None, codes}
 use Rattle.std.specs.List.{flat_map, range_with_len, AllByRecursion}
 use Rattle.std.proofs.Common.{refl, sym, ap, ◌∙◌, arith, subst, append_assoc, append-nil}
 use Rattle.std.proofs.lemmas.Bool.{false≢true, eq-eqb, ltb-true, leb-true}
 use Rattle.std.proofs.lemmas.List.{map-append}
 use Rattle.std.proofs.lemmas.List.Concat.{flat_map-append}
-use Rattle.std.proofs.lemmas.List.Sorted.{IsPermutation-refl, IsPermutation-trans, IsPermutation-append, IsPermutation-append_left, IsPermutation-append_right, IsPermutation-append_comm}
+use Rattle.std.proofs.lemmas.List.Sorted.{IsPermutation-refl, IsPermutation-trans, IsPermutation-append_left, IsPermutation-append_right}
 use Rattle.shape_rules.specs.declared.cell.CellKind.{CellKind}
 use Rattle.rtlil_text.specs.declared.sig.SigPart.{SigPart}
 use Rattle.rtlil_text.specs.declared.cell.RtlCell.{RtlCell}
@@ -17,7 +17,7 @@ use Rattle.rtlil_text.specs.CellTables.{output_of}
 use Rattle.rtlil_text.specs.Drivers.{output_bits, wire_bits}
 use Rattle.netlist.specs.Cells.{Operand, unary_cell, binary_cell, mux_cell}
 use Rattle.netlist.specs.Operands.{wire_part}
-use Rattle.netlist.specs.Operators.{Value, Drawing, nothing, inner_wire, whole, linked, one_cell}
+use Rattle.netlist.specs.Operators.{Value, Drawing, nothing, inner_wire, whole, linked}
 use Rattle.netlist.specs.Expressions.{and_also}
 use Rattle.netlist.proofs.Places.{spec_bits-wire_part}
 use Rattle.netlist.proofs.Permuted.{IsPermutation-same, IsPermutation-first_two, IsPermutation-inner_two}
@@ -151,9 +151,9 @@ IsDrawn-and_also id low mid mid' high left made more d e p q r g h = record {
   fresh = IsFresh-permutation id low high (drawing_ids d ++ drawing_ids e) (drawing_ids (and_also d e)) (drawing_ids-and_also d e) (IsFresh-append id low mid mid' high (drawing_ids d) (drawing_ids e) p q r g.fresh h.fresh);
   bare = AllByRecursion-append IsBare d.wires e.wires g.bare h.bare;
   drives =
-    subst (λ u. IsPermutation (drawn_bits (and_also d e)) ((made ++ more) ++ u)) (sym (own_bits-and_also d e))
-    (IsPermutation-trans (drawn_bits (and_also d e)) (drawn_bits d ++ drawn_bits e) ((made ++ more) ++ (own_bits d ++ own_bits e)) (drawn_bits-and_also d e)
-    (joined left made more (drawn_bits d) (drawn_bits e) (own_bits d) (own_bits e) g.drives h.drives));
+      subst (λ u. IsPermutation (drawn_bits (and_also d e)) ((made ++ more) ++ u)) (sym (own_bits-and_also d e))
+      (IsPermutation-trans (drawn_bits (and_also d e)) (drawn_bits d ++ drawn_bits e) ((made ++ more) ++ (own_bits d ++ own_bits e)) (drawn_bits-and_also d e)
+      (joined left made more (drawn_bits d) (drawn_bits e) (own_bits d) (own_bits e) g.drives h.drives));
 }
 
 -- the second makes just what the first leaves

@@ -1,24 +1,22 @@
 -- The cells and links of all expressions of a design keep the rules of its module.
-use Rattle.std.specs.Prelude.{◌≡◌, ◌≤◌, ◌<◌, ◌+◌, ◌*◌, ◌^◌, ℕ, zero, suc, Bool, true, false, List, [], ◌∷◌, ◌++◌, length, All, Contains, Some, slice_get, pos, map}
+use Rattle.std.specs.Prelude.{◌≡◌, ◌≤◌, ◌<◌, ◌+◌, ℕ, suc, Bool, true, false, List, [], ◌∷◌, length, All, Contains, Some, slice_get, pos, map}
 use Rattle.std.specs.List.{AllByRecursion, range_with_len}
-use Rattle.std.proofs.Common.{refl, sym, ap, ◌∙◌, arith, subst, inl, inr, ⊎_elim}
+use Rattle.std.proofs.Common.{refl, ap, ◌∙◌, arith, subst, inl, inr, ⊎_elim}
 use Rattle.std.proofs.lemmas.Nat.{pow_pos}
 use Rattle.amh_bits.specs.Patterns.{IsOf}
-use Rattle.shape_rules.specs.Forms.{IsForm}
 use Rattle.design_ir.specs.declared.ids.ExprId.{ExprId}
 use Rattle.design_ir.specs.declared.expr.Expr.{Expr}
 use Rattle.design_ir.specs.Named.{named, AllBelow}
-use Rattle.design_ir.specs.Values.{form, signal_form}
+use Rattle.design_ir.specs.Values.{signal_form}
 use Rattle.design_ir.specs.PoolRules.{IsPool}
 use Rattle.design_ir.specs.Circuits.{Circuit}
 use Rattle.design_ir.proofs.Equations.{standing, form_is}
 use Rattle.design_ir.proofs.NumbersFit.{FitsSignals, has_shape}
-use Rattle.rtlil_text.specs.declared.module.RtlWire.{RtlWire}
 use Rattle.rtlil_text.proofs.Among.{Among, Among-left}
 use Rattle.netlist.specs.Operators.{Drawing}
 use Rattle.netlist.specs.Expressions.{part_count, drawn}
 use Rattle.netlist.specs.Fits.{DrawingFits, HasWires}
-use Rattle.netlist.specs.Module.{signal_value, expr_value, drawn_from, drawings, signal_drawing, all_drawings, module_of}
+use Rattle.netlist.specs.Module.{signal_value, expr_value, drawn_from, drawings, signal_drawing, module_of}
 use Rattle.netlist.proofs.FittingSelections.{fits_expression}
 use Rattle.netlist.proofs.ModuleHeld.{drawing_held, expr_held, signal_held}
 
@@ -54,8 +52,8 @@ module _ (c : Circuit) (pool : IsPool c.pool) where
       let stands = standing c.pool k e pool here in
       let first : Drawing = drawn (signal_value c) (expr_value c) n (expr_value c k) e in
       let fits : DrawingFits (module_of c) first =
-        fits_expression e (module_of c) c.pool.signals (signal_value c) (expr_value c) n (expr_value c k) (λ s. refl) (λ s lt. signal_held c s lt) stands.askable.parts stands.accepted (form_is c.pool k e pool here)
-        (all_wires k (named e) (omega arith) stands.names) (expr_held c k (omega arith)) (held first (inl refl)) in
+      fits_expression e (module_of c) c.pool.signals (signal_value c) (expr_value c) n (expr_value c k) (λ s. refl) (λ s lt. signal_held c s lt) stands.askable.parts stands.accepted (form_is c.pool k e pool here)
+      (all_wires k (named e) (omega arith) stands.names) (expr_held c k (omega arith)) (held first (inl refl)) in
       ⊎_elim (λ same. subst (DrawingFits (module_of c)) same fits) (λ more. fits_from (suc k) (n + part_count e) es (omega arith) later (λ x b. held x (inr b)) d more) a
 
   pub expression_fits : (d : Drawing) → Among (drawings c) d → DrawingFits (module_of c) d

@@ -35,7 +35,7 @@ pub Apart-above : (low mid mid' high : ℕ) (ns ms : List ℕ) → mid ≤ mid' 
 Apart-above low mid mid' high ns ms le g h p q =
     Apart-append ns ms p q
     (AllByRecursion-weaker (λ n. (low ≤ n) × (n < mid)) (λ n. AllByRecursion (λ m. n ≢ m) ms)
-      (λ n r. AllByRecursion-weaker (λ m. (mid' ≤ m) × (m < high)) (λ m. n ≢ m) (λ m s e. omega (arith, e, r.1, s.0)) ms h) ns g)
+    (λ n r. AllByRecursion-weaker (λ m. (mid' ≤ m) × (m < high)) (λ m. n ≢ m) (λ m s e. omega (arith, e, r.1, s.0)) ms h) ns g)
 
 pub Within-wider : (low high low' high' : ℕ) (ns : List ℕ) → low' ≤ low → high ≤ high' → Within low high ns → Within low' high' ns
 Within-wider low high low' high' ns p q h = AllByRecursion-weaker (λ n. (low ≤ n) × (n < high)) (λ n. (low' ≤ n) × (n < high')) (λ n r. (omega (arith, r.0), omega (arith, r.1))) ns h

@@ -1,14 +1,14 @@
 -- The module of a design keeps all rules of the text.
-use Rattle.std.specs.Prelude.{◌≡◌, ◌≤◌, ◌<◌, ◌+◌, ◌^◌, ℕ, zero, suc, List, [], ◌∷◌, ◌++◌, map, length, All, Contains}
+use Rattle.std.specs.Prelude.{◌≡◌, ◌<◌, ◌+◌, ◌^◌, ℕ, zero, suc, [], map, length, All, Contains}
 use Rattle.std.specs.List.{flat_map, range_with_len}
-use Rattle.std.proofs.Common.{refl, sym, ap, ◌∙◌, arith, subst, inl, inr, ⊎_elim}
+use Rattle.std.proofs.Common.{refl, sym, arith, subst, ⊎_elim}
 use Rattle.std.proofs.lemmas.List.Elements.{All-nil}
 use Rattle.design_ir.specs.PoolRules.{IsPool}
 use Rattle.design_ir.specs.Circuits.{Circuit}
 use Rattle.design_ir.specs.Designs.{IsDesign}
 use Rattle.rtlil_text.specs.MemoryRules.{MemoryFits}
 use Rattle.rtlil_text.specs.Rules.{CellFits, LinkFits, IsModule}
-use Rattle.rtlil_text.proofs.Among.{Among, Among-append, Among-right}
+use Rattle.rtlil_text.proofs.Among.{Among, Among-append}
 use Rattle.netlist.specs.Operators.{Drawing}
 use Rattle.netlist.specs.Expressions.{part_total}
 use Rattle.netlist.specs.Fits.{DrawingFits}
@@ -39,8 +39,8 @@ module _ (c : Circuit) (pool : IsPool c.pool) (h : IsDesign c) where
       let n = length c.pool.signals in
       ⊎_elim (λ e. expression_fits c pool d e)
       (λ b.
-        let r = of_signal 0 n d b in
-        subst (DrawingFits (module_of c)) r.same (signal_fits c pool h r.signal (omega (arith, r.below)) (subst (λ (x : Drawing). All (Contains (module_of c).wires) x.wires) (sym r.same) (drawing_held c d a))))
+      let r = of_signal 0 n d b in
+      subst (DrawingFits (module_of c)) r.same (signal_fits c pool h r.signal (omega (arith, r.below)) (subst (λ (x : Drawing). All (Contains (module_of c).wires) x.wires) (sym r.same) (drawing_held c d a))))
       (Among-append (drawings c) (map (signal_drawing c) (range_with_len 0 n)) d a)
 
   module_cells : All (CellFits (module_of c)) (flat_map (λ (d : Drawing). d.cells) (all_drawings c))

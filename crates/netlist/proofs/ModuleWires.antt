@@ -1,6 +1,6 @@
 -- The wires of the module of a design: each has bits and first values as wide as it is; the columns' come first, and alone are ports.
-use Rattle.std.specs.Prelude.{◌≡◌, ◌≤◌, ◌<◌, ◌+◌, ◌*◌, ◌==◌, ◌&&◌, ◌||◌, nat_lt, ℕ, zero, suc, Bool, true, false, cond, if◌then◌else◌, List, [], ◌∷◌, ◌++◌, map, length, All, IfSome, IsTrue, Option, Some, None, is_none, option_map, unwrap_or, slice_get}
-use Rattle.std.specs.List.{flat_map, range_with_len, find, list_any, enumerate_from, AllByRecursion}
+use Rattle.std.specs.Prelude.{◌≡◌, ◌≤◌, ◌+◌, ◌==◌, ◌&&◌, ◌||◌, nat_lt, ℕ, suc, Bool, true, false, cond, if◌then◌else◌, List, [], ◌∷◌, ◌++◌, map, length, All, IfSome, Option, Some, None, is_none, option_map, unwrap_or, slice_get}
+use Rattle.std.specs.List.{flat_map, range_with_len, find, enumerate_from, AllByRecursion}
 use Rattle.std.proofs.Common.{refl, sym, ap, ◌∙◌, arith, subst, append_assoc, append-nil}
 use Rattle.std.proofs.lemmas.Bool.{cond_both, false≢true, ltb-true, eq-eqb}
 use Rattle.std.proofs.lemmas.List.Concat.{flat_map-append}
@@ -22,7 +22,7 @@ use Rattle.rtlil_text.specs.Cells.{number_bits}
 use Rattle.rtlil_text.specs.Rules.{WireFits, port_numbers}
 use Rattle.rtlil_text.proofs.CellLaws.{length-number_bits}
 use Rattle.netlist.specs.Ids.{signal_id, value_id}
-use Rattle.netlist.specs.Operators.{Drawing, inner_wire}
+use Rattle.netlist.specs.Operators.{inner_wire}
 use Rattle.netlist.specs.Expressions.{part_total}
 use Rattle.netlist.specs.Module.{public_id, column_of, side_of, port_of, is_clocked, driving, init_bits, first_value, column_wire, column_wires, signal_wires, expr_wires, drawings, signal_drawing, all_drawings, module_of}
 use Rattle.netlist.specs.Corresponds.{column_fields, wire_fields, Corresponds}
@@ -122,7 +122,7 @@ pub module_wires-fit : (c : Circuit) → IsPool c.pool → IsDesign c → All Wi
 module_wires-fit c pool h =
     subst (All WireFits) (sym (module_wires c))
     (All-append WireFits (column_wires c 0 c.columns) (other_wires c) (columns_fit c 0 c.columns h.columns.some_width)
-      (All-by_recursion WireFits (other_wires c) (AllByRecursion-weaker IsHidden WireFits (λ w g. g.fits) (other_wires c) (others_hidden c pool))))
+    (All-by_recursion WireFits (other_wires c) (AllByRecursion-weaker IsHidden WireFits (λ w g. g.fits) (other_wires c) (others_hidden c pool))))
 
 -- ---- the ports' numbers
 

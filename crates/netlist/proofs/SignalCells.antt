@@ -1,19 +1,18 @@
 -- What drives each signal keeps the rules of the design's module.
-use Rattle.std.specs.Prelude.{◌≡◌, ◌≤◌, ◌<◌, ◌+◌, ◌-◌, ◌*◌, ◌==◌, ◌&&◌, nat_lt, ℕ, zero, suc, Bool, true, false, cond, if◌then◌else◌, List, [], ◌∷◌, ◌++◌, map, length, All, Contains, Option, Some, None, option_map, option_and_then, unwrap_or, slice_get, codes}
+use Rattle.std.specs.Prelude.{◌≡◌, ◌≤◌, ◌<◌, ◌+◌, ◌-◌, ◌*◌, ◌==◌, ◌&&◌, nat_lt, ℕ, zero, suc, Bool, true, false, cond, if◌then◌else◌, List, [], ◌∷◌, ◌++◌, map, length, All, Contains, Option, Some, None, option_map, option_and_then, unwrap_or, slice_get}
 use Rattle.std.specs.List.{AllByRecursion, range_with_len, find}
-use Rattle.std.proofs.Common.{refl, sym, ap, ◌∙◌, arith, subst, inl, inr, ⊎_elim}
-use Rattle.std.proofs.lemmas.Bool.{cond_both, ltb-true, ltb-false}
+use Rattle.std.proofs.Common.{refl, sym, ap, ◌∙◌, arith, subst, inl, inr}
+use Rattle.std.proofs.lemmas.Bool.{cond_both, ltb-true}
 use Rattle.std.proofs.lemmas.List.{length-map}
-use Rattle.std.proofs.lemmas.List.Elements.{All-nil, All-cons, All-head, All-from_recursion}
+use Rattle.std.proofs.lemmas.List.Elements.{All-nil, All-cons, All-from_recursion}
 use Rattle.std.proofs.lemmas.List.FromFn.{length-range_with_len}
 use Rattle.shape_rules.specs.Forms.{Form, unsigned}
-use Rattle.design_ir.specs.declared.ids.ExprId.{ExprId}
 use Rattle.design_ir.specs.declared.ids.SigId.{SigId}
 use Rattle.design_ir.specs.declared.ids.DomainId.{DomainId}
 use Rattle.design_ir.specs.declared.signal.Sig.{Sig}
 use Rattle.design_ir.specs.declared.domain.Domain.{Domain}
 use Rattle.design_ir.specs.declared.process.DesignProcess.{DesignProcess}
-use Rattle.design_ir.specs.Trees.{Statement, assign, choose, Choices, Block, done, next}
+use Rattle.design_ir.specs.Trees.{assign, choose, Block, done, next}
 use Rattle.design_ir.specs.Targets.{Bit}
 use Rattle.design_ir.specs.Guards.{block_exprs, choices_exprs}
 use Rattle.design_ir.specs.Values.{form, signal_form}
@@ -24,20 +23,19 @@ use Rattle.design_ir.proofs.NumbersFit.{element}
 use Rattle.rtlil_text.specs.declared.sig.SigPart.{SigPart}
 use Rattle.rtlil_text.specs.declared.cell.RtlParameter.{RtlParameter}
 use Rattle.rtlil_text.specs.declared.cell.RtlEnd.{RtlEnd}
-use Rattle.rtlil_text.specs.declared.cell.RtlCell.{RtlCell}
 use Rattle.rtlil_text.specs.declared.module.RtlModule.{RtlModule}
-use Rattle.rtlil_text.specs.Sources.{Source, Constant, Net, spec_bits}
+use Rattle.rtlil_text.specs.Sources.{Source, Constant, Net}
 use Rattle.rtlil_text.specs.Rules.{WireFits, ValueFits, SpecFits, CellFits, LinkFits}
 use Rattle.rtlil_text.proofs.Among.{Among, AllByRecursion-among, Among-slice_get}
 use Rattle.netlist.specs.Ids.{step_id}
 use Rattle.netlist.specs.Cells.{mux_cell}
 use Rattle.netlist.specs.Operands.{wire_part}
-use Rattle.netlist.specs.Operators.{Value, Drawing, nothing, inner_wire, whole, linked}
+use Rattle.netlist.specs.Operators.{Value, Drawing, nothing, inner_wire, whole}
 use Rattle.netlist.specs.Latest.{Latest, source_at, with_source, given, latest_of}
 use Rattle.netlist.specs.Latest as latest_spec
 use Rattle.netlist.specs.Spelled.{spec_of}
-use Rattle.netlist.specs.Fits.{HasWire, HasValue, HasWires, DrawingFits}
-use Rattle.netlist.specs.Module.{signal_value, expr_value, wire_id, Driving, ByEvents, ByComb, ByClock, ByNothing, drives, driving_at, driving_by, driving, init_bits, at_first, at_last, bits_at_last, domain_of, reset_of, clock_of, register_cell, register_drawing, driving_drawing, signal_drawing, all_drawings, module_of}
+use Rattle.netlist.specs.Fits.{HasWire, HasValue, DrawingFits}
+use Rattle.netlist.specs.Module.{signal_value, expr_value, wire_id, Driving, ByEvents, ByComb, ByClock, ByNothing, drives, driving_at, driving_by, driving, init_bits, at_first, at_last, bits_at_last, domain_of, reset_of, clock_of, register_cell, register_drawing, driving_drawing, signal_drawing, module_of}
 use Rattle.netlist.proofs.Drawn.{form_sign}
 use Rattle.netlist.proofs.Reading.{HasSign}
 use Rattle.netlist.proofs.SpelledLaws.{SourceFits, spec_bits-spec_of, spec_of_fits}
@@ -45,7 +43,7 @@ use Rattle.netlist.proofs.FittingCells.{SpecIs, whole_is, mux_fits, linked_fits,
 use Rattle.netlist.proofs.FittingDrawings.{nothing_fits, one_fits}
 use Rattle.netlist.proofs.FittingParts.{first_held, inner_is}
 use Rattle.netlist.proofs.ModuleWires.{length-init_bits}
-use Rattle.netlist.proofs.ModuleHeld.{expr_held, signal_held}
+use Rattle.netlist.proofs.ModuleHeld.{signal_held}
 use Rattle.netlist.proofs.ExpressionCells.{has_wires}
 
 -- ---- specs of sources
@@ -188,9 +186,9 @@ module _ (c : Circuit) (pool : IsPool c.pool) (h : IsDesign c) where
         record {
           wires = All-cons WireFits (inner_wire id w) [] (inner_fits id w some) (All-nil WireFits);
           cells =
-            All-cons (CellFits (module_of c)) choice (register ∷ [])
-            (mux_fits (module_of c) (step_id (n + 2)) w (bits_at_last c true p s) begin (whole (signal_value c r)) (wire_part id 0 w) (last_is true p s q there) (constants_are (module_of c) (init_bits c s) w (length-init_bits c s)) reset next_is)
-            (All-cons (CellFits (module_of c)) register [] (register_fits (module_of c) (step_id n) w (clock_of c d) (wire_part id 0 w) (whole (signal_value c s)) (clock_is d domain) next_is now_is) (All-nil (CellFits (module_of c))));
+              All-cons (CellFits (module_of c)) choice (register ∷ [])
+              (mux_fits (module_of c) (step_id (n + 2)) w (bits_at_last c true p s) begin (whole (signal_value c r)) (wire_part id 0 w) (last_is true p s q there) (constants_are (module_of c) (init_bits c s) w (length-init_bits c s)) reset next_is)
+              (All-cons (CellFits (module_of c)) register [] (register_fits (module_of c) (step_id n) w (clock_of c d) (wire_part id 0 w) (whole (signal_value c s)) (clock_is d domain) next_is now_is) (All-nil (CellFits (module_of c))));
           links = All-nil (LinkFits (module_of c));
         }
 
