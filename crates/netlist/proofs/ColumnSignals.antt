@@ -14,7 +14,7 @@ use Rattle.rtlil_text.specs.Sources.{Source, is_input_port}
 use Rattle.netlist.specs.Ids.{signal_id}
 use Rattle.netlist.specs.Module.{public_id, column_of, side_of, port_of, first_value, column_wires, signal_wires}
 use Rattle.netlist.proofs.Permuted.{IsPermutation-flat_map, flat_map-nested}
-use Rattle.netlist.proofs.Fresh.{AllByRecursion-append}
+use Rattle.rtlil_text.proofs.Among.{AllByRecursion-append}
 use Rattle.netlist.proofs.Drives.{block, owed_bits}
 use Rattle.netlist.proofs.SignalsDrawn.{signal_bits}
 

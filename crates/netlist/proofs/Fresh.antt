@@ -7,6 +7,7 @@ use Rattle.std.proofs.Common.{sym, ap, ◌∙◌, arith, subst}
 use Rattle.std.proofs.lemmas.Fmt.{decimal_is_IsNumeral_wide}
 use Rattle.std.proofs.lemmas.List.{map-append}
 use Rattle.std.proofs.lemmas.List.Sorted.{IsPermutation-trans, IsPermutation-append}
+use Rattle.rtlil_text.proofs.Among.{AllByRecursion-append}
 use Rattle.netlist.specs.Ids.{inner_id}
 
 -- ---- numbers that differ
@@ -21,10 +22,6 @@ Within low high ns = AllByRecursion (λ n. (low ≤ n) × (n < high)) ns
 pub AllByRecursion-weaker : {A : Type 0} (P Q : A → Type 0) → ((x : A) → P x → Q x) → (xs : List A) → AllByRecursion P xs → AllByRecursion Q xs
 AllByRecursion-weaker P Q f [] h = tt
 AllByRecursion-weaker P Q f (x ∷ xs) h = (f x h.0, AllByRecursion-weaker P Q f xs h.1)
-
-pub AllByRecursion-append : {A : Type 0} (P : A → Type 0) (xs ys : List A) → AllByRecursion P xs → AllByRecursion P ys → AllByRecursion P (xs ++ ys)
-AllByRecursion-append P [] ys h k = k
-AllByRecursion-append P (x ∷ xs) ys h k = (h.0, AllByRecursion-append P xs ys h.1 k)
 
 pub Apart-append : (ns ms : List ℕ) → Apart ns → Apart ms → AllByRecursion (λ n. AllByRecursion (λ m. n ≢ m) ms) ns → Apart (ns ++ ms)
 Apart-append [] ms h k across = k

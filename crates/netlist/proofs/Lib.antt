@@ -53,3 +53,4 @@ pub mod ModuleHeld
 pub mod ExpressionCells
 pub mod SignalCells
 pub mod ModuleRules
+pub mod ModuleParts

@@ -14,7 +14,8 @@ use Rattle.netlist.specs.Operators.{Drawing}
 use Rattle.netlist.specs.Expressions.{part_count, part_total, drawn}
 use Rattle.netlist.specs.Module.{signal_value, expr_value, drawn_from}
 use Rattle.netlist.proofs.Permuted.{IsPermutation-inner_two}
-use Rattle.netlist.proofs.Fresh.{IsFresh, IsFresh-append, AllByRecursion-append}
+use Rattle.rtlil_text.proofs.Among.{AllByRecursion-append}
+use Rattle.netlist.proofs.Fresh.{IsFresh, IsFresh-append}
 use Rattle.netlist.proofs.Drives.{value_bits, drawing_ids, drawn_bits, own_bits, IsBare, IsDrawn, fresh_none}
 use Rattle.netlist.proofs.ExpressionsDrawn.{expression_drawn}
 

@@ -27,7 +27,8 @@ use Rattle.netlist.specs.Operators.{Drawing, inner_wire}
 use Rattle.netlist.specs.Expressions.{part_total}
 use Rattle.netlist.specs.Module.{public_id, column_of, first_value, column_wires, signal_wires, expr_wires, drawings, signal_drawing, all_drawings, module_of}
 use Rattle.netlist.proofs.Permuted.{IsPermutation-flat_map}
-use Rattle.netlist.proofs.Fresh.{Apart, Within, Apart-append, Apart-map, AllByRecursion-append, IsFresh, IsFresh-append, inner_id-differ}
+use Rattle.rtlil_text.proofs.Among.{AllByRecursion-append}
+use Rattle.netlist.proofs.Fresh.{Apart, Within, Apart-append, Apart-map, IsFresh, IsFresh-append, inner_id-differ}
 use Rattle.netlist.proofs.Drives.{drawing_ids, fresh_none}
 use Rattle.netlist.proofs.ManyDrawn.{drawn_from_are}
 use Rattle.netlist.proofs.SignalsDrawn.{signals_drawn}

@@ -37,6 +37,7 @@ use Rattle.netlist.specs.Spelled.{spec_of}
 use Rattle.netlist.specs.Fits.{HasWire, HasValue, DrawingFits}
 use Rattle.netlist.specs.Module.{signal_value, expr_value, wire_id, Driving, ByEvents, ByComb, ByClock, ByNothing, drives, driving_at, driving_by, driving, init_bits, at_first, at_last, bits_at_last, domain_of, reset_of, clock_of, register_cell, register_drawing, driving_drawing, signal_drawing, module_of}
 use Rattle.netlist.proofs.Drawn.{form_sign}
+use Rattle.netlist.proofs.NeededBits.{all_right}
 use Rattle.netlist.proofs.Reading.{HasSign}
 use Rattle.netlist.proofs.SpelledLaws.{SourceFits, spec_bits-spec_of, spec_of_fits}
 use Rattle.netlist.proofs.FittingCells.{SpecIs, whole_is, mux_fits, linked_fits, inner_fits}
@@ -86,10 +87,6 @@ register_fits m id width clock after now p q r = record {
   rules = record { d = sym q.wide; q = sym r.wide; clock = p.wide; edge = omega arith };
 }
 
-all_left : {A : Type 0} (P : A → Type 0) (xs ys : List A) → AllByRecursion P (xs ++ ys) → AllByRecursion P ys
-all_left P [] ys h = h
-all_left P (x ∷ xs) ys h = all_left P xs ys h.1
-
 found_process : (p : DesignProcess → Bool) (xs : List DesignProcess) (x : DesignProcess) → find p xs ≡ Some x → Among xs x
 found_process p [] x e = cc
 found_process p (y ∷ ys) x e = by (found_process p ys x) (p y) e
@@ -126,7 +123,7 @@ module _ (c : Circuit) (pool : IsPool c.pool) (h : IsDesign c) where
       let known = has_wires c pool source usable.1.0.there in
       block_fits rest (given (expr_value c source.0) (latest_spec.places c.pool target.0) 0 latest) usable.1.1
       (given_fits (expr_value c source.0) (latest_spec.places c.pool target.0) 0 latest (form_sign (form c.pool source.0) known.shape) known.wire fits)
-  block_fits (next (choose arms) rest) latest usable fits = block_fits rest latest (all_left (IsUsable c) (choices_exprs arms) (block_exprs rest) usable) fits
+  block_fits (next (choose arms) rest) latest usable fits = block_fits rest latest (all_right (IsUsable c) (choices_exprs arms) (block_exprs rest) usable) fits
 
   last_is : (clocked : Bool) (p : DesignProcess) (s : ℕ) → IsProcess c p → s < length c.pool.signals → SpecIs (module_of c) (bits_at_last c clocked p s) (signal_form c.pool.signals s).width
   unfolding LatestFits
