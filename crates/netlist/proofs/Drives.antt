@@ -1,5 +1,5 @@
 -- What a drawing has: ids of its own, inner wires with bits, and one driver for each bit that it owes.
-use Rattle.std.specs.Prelude.{◌≡◌, ◌≤◌, ◌+◌, ◌==◌, ◌&&◌, not, if◌then◌else◌, nat_lt, nat_le, ℕ, Bool, true, false, List, [], ◌∷◌, ◌++◌, map, IsPermutation, None, codes}
+use Rattle.std.specs.Prelude.{◌≡◌, ◌≤◌, ◌+◌, ◌==◌, ◌&&◌, not, if◌then◌else◌, nat_lt, nat_le, ℕ, Bool, true, List, [], ◌∷◌, ◌++◌, map, IsPermutation, None, codes}
 use Rattle.std.specs.List.{flat_map, range_with_len, AllByRecursion}
 use Rattle.std.proofs.Common.{refl, sym, ap, ◌∙◌, arith, subst, append_assoc, append-nil}
 use Rattle.std.proofs.lemmas.Bool.{false≢true, eq-eqb, ltb-true, leb-true, and_parts}
