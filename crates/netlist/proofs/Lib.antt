@@ -54,3 +54,4 @@ pub mod ExpressionCells
 pub mod SignalCells
 pub mod ModuleRules
 pub mod ModuleParts
+pub mod PartCounts
