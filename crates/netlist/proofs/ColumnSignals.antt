@@ -1,22 +1,20 @@
 -- Columns and the signals that they show: each signal has one at most, and each port has one.
-use Rattle.std.specs.Prelude.{◌≡◌, ◌≢◌, ◌≤◌, ◌<◌, ◌+◌, ◌==◌, ◌&&◌, ◌||◌, nat_lt, nat_eq, ℕ, zero, suc, Bool, true, false, cond, if◌then◌else◌, List, [], ◌∷◌, ◌++◌, map, length, IsPermutation, Option, Some, None, is_none, option_map, unwrap_or, IsTrue}
+use Rattle.std.specs.Prelude.{◌≡◌, ◌≤◌, ◌<◌, ◌+◌, ◌==◌, ◌&&◌, ◌||◌, nat_lt, nat_eq, ℕ, zero, suc, Bool, true, false, cond, if◌then◌else◌, List, [], ◌∷◌, ◌++◌, map, length, IsPermutation, Option, Some, None, is_none, option_map, unwrap_or}
 use Rattle.std.specs.List.{flat_map, range_with_len, find, list_any, AllByRecursion, IsDistinct}
 use Rattle.std.proofs.Common.{refl, sym, ap, ◌∙◌, arith, subst, append-nil}
-use Rattle.std.proofs.lemmas.Bool.{cond_both, eqb-true, eqb-false, ne_eqb, eq-eqb, false≢true, ltb-false}
-use Rattle.std.proofs.lemmas.List.Sorted.{IsPermutation-refl, IsPermutation-trans, IsPermutation-sym, IsPermutation-append, IsPermutation-append_left}
+use Rattle.std.proofs.lemmas.Bool.{eqb-true, eqb-false, ne_eqb, false≢true, ltb-false}
+use Rattle.std.proofs.lemmas.List.Sorted.{IsPermutation-refl, IsPermutation-trans, IsPermutation-append, IsPermutation-append_left}
 use Rattle.design_ir.specs.declared.port.Port.{Port}
 use Rattle.design_ir.specs.declared.port.Column.{Column}
 use Rattle.design_ir.specs.Values.{signal_form}
 use Rattle.design_ir.specs.Circuits.{Circuit, is_among, is_input}
 use Rattle.design_ir.specs.Designs.{port_signals, IsDesign}
-use Rattle.rtlil_text.specs.declared.module.RtlWire.{RtlWire}
-use Rattle.rtlil_text.specs.declared.module.WirePort.{WirePort}
 use Rattle.rtlil_text.specs.declared.module.WirePort.TheVariants.{Inner, Input, Output}
 use Rattle.rtlil_text.specs.Sources.{Source, is_input_port}
 use Rattle.netlist.specs.Ids.{signal_id}
-use Rattle.netlist.specs.Module.{public_id, column_of, wire_id, signal_value, side_of, port_of, first_value, column_wire, column_wires, signal_wires}
+use Rattle.netlist.specs.Module.{public_id, column_of, side_of, port_of, first_value, column_wires, signal_wires}
 use Rattle.netlist.proofs.Permuted.{IsPermutation-flat_map, flat_map-nested}
-use Rattle.netlist.proofs.Fresh.{AllByRecursion-append}
+use Rattle.rtlil_text.proofs.Among.{AllByRecursion-append}
 use Rattle.netlist.proofs.Drives.{block, owed_bits}
 use Rattle.netlist.proofs.SignalsDrawn.{signal_bits}
 

@@ -1,17 +1,17 @@
 -- Drawings that are a few cells, the last of which drives the result.
-use Rattle.std.specs.Prelude.{◌≡◌, ◌≤◌, ◌+◌, ℕ, List, [], ◌∷◌, ◌++◌, IsPermutation}
+use Rattle.std.specs.Prelude.{◌≡◌, ◌+◌, ℕ, List, [], ◌∷◌, ◌++◌, IsPermutation}
 use Rattle.std.specs.List.{flat_map, AllByRecursion}
-use Rattle.std.proofs.Common.{refl, sym, ap, ◌∙◌, arith, subst, append_assoc, append-nil}
+use Rattle.std.proofs.Common.{refl, sym, ap, ◌∙◌, subst, append-nil}
 use Rattle.std.proofs.lemmas.List.Concat.{flat_map-append}
-use Rattle.std.proofs.lemmas.List.Sorted.{IsPermutation-refl, IsPermutation-trans, IsPermutation-append_right, IsPermutation-append_comm}
+use Rattle.std.proofs.lemmas.List.Sorted.{IsPermutation-append_comm}
 use Rattle.rtlil_text.specs.declared.cell.RtlCell.{RtlCell}
 use Rattle.rtlil_text.specs.declared.module.RtlWire.{RtlWire}
-use Rattle.rtlil_text.specs.Sources.{Source, spec_bits}
+use Rattle.rtlil_text.specs.Sources.{Source}
 use Rattle.rtlil_text.specs.Drivers.{output_bits}
-use Rattle.netlist.specs.Operators.{Value, Drawing, one_cell, whole}
-use Rattle.netlist.proofs.Permuted.{IsPermutation-same, IsPermutation-first_two}
+use Rattle.netlist.specs.Operators.{one_cell}
+use Rattle.netlist.proofs.Permuted.{IsPermutation-same}
 use Rattle.netlist.proofs.Fresh.{IsFresh}
-use Rattle.netlist.proofs.Drives.{owed_bits, own_bits, drawn_bits, drawing_ids, value_bits, IsBare, IsDrawn, fresh_places, zero_more}
+use Rattle.netlist.proofs.Drives.{owed_bits, drawing_ids, IsBare, IsDrawn, fresh_places, zero_more}
 
 -- ids at places from n on itself
 pub fresh_from : (id : ℕ → List ℕ) (n b : ℕ) (ids : List (List ℕ)) → IsFresh id (n + 0) (n + b) ids → IsFresh id n (n + b) ids

@@ -1,11 +1,11 @@
 -- What a drawing has: ids of its own, inner wires with bits, and one driver for each bit that it owes.
-use Rattle.std.specs.Prelude.{◌≡◌, ◌≤◌, ◌<◌, ◌+◌, ◌==◌, ◌&&◌, not, if◌then◌else◌, nat_lt, nat_le, ℕ, Bool, true, false, List, [], ◌∷◌, ◌++◌, map, IsPermutation, None, codes}
+use Rattle.std.specs.Prelude.{◌≡◌, ◌≤◌, ◌+◌, ◌==◌, ◌&&◌, not, if◌then◌else◌, nat_lt, nat_le, ℕ, Bool, true, List, [], ◌∷◌, ◌++◌, map, IsPermutation, None, codes}
 use Rattle.std.specs.List.{flat_map, range_with_len, AllByRecursion}
 use Rattle.std.proofs.Common.{refl, sym, ap, ◌∙◌, arith, subst, append_assoc, append-nil}
-use Rattle.std.proofs.lemmas.Bool.{false≢true, eq-eqb, ltb-true, leb-true}
+use Rattle.std.proofs.lemmas.Bool.{false≢true, eq-eqb, ltb-true, leb-true, and_parts}
 use Rattle.std.proofs.lemmas.List.{map-append}
 use Rattle.std.proofs.lemmas.List.Concat.{flat_map-append}
-use Rattle.std.proofs.lemmas.List.Sorted.{IsPermutation-refl, IsPermutation-trans, IsPermutation-append, IsPermutation-append_left, IsPermutation-append_right, IsPermutation-append_comm}
+use Rattle.std.proofs.lemmas.List.Sorted.{IsPermutation-refl, IsPermutation-trans, IsPermutation-append_left, IsPermutation-append_right}
 use Rattle.shape_rules.specs.declared.cell.CellKind.{CellKind}
 use Rattle.rtlil_text.specs.declared.sig.SigPart.{SigPart}
 use Rattle.rtlil_text.specs.declared.cell.RtlCell.{RtlCell}
@@ -15,9 +15,10 @@ use Rattle.rtlil_text.specs.declared.module.WirePort.TheVariants.{Inner}
 use Rattle.rtlil_text.specs.Sources.{Source, Net, spec_bits, end_bits, is_input_port}
 use Rattle.rtlil_text.specs.CellTables.{output_of}
 use Rattle.rtlil_text.specs.Drivers.{output_bits, wire_bits}
+use Rattle.rtlil_text.proofs.Among.{AllByRecursion-append}
 use Rattle.netlist.specs.Cells.{Operand, unary_cell, binary_cell, mux_cell}
 use Rattle.netlist.specs.Operands.{wire_part}
-use Rattle.netlist.specs.Operators.{Value, Drawing, nothing, inner_wire, whole, linked, one_cell}
+use Rattle.netlist.specs.Operators.{Value, Drawing, nothing, inner_wire, whole, linked}
 use Rattle.netlist.specs.Expressions.{and_also}
 use Rattle.netlist.proofs.Places.{spec_bits-wire_part}
 use Rattle.netlist.proofs.Permuted.{IsPermutation-same, IsPermutation-first_two, IsPermutation-inner_two}
@@ -76,26 +77,22 @@ abbrev within_test : ℕ → ℕ → List ℕ → Bool
 within_test a b [] = true
 within_test a b (j ∷ js) = nat_le a j && (nat_lt j b && within_test a b js)
 
-and-split : (a b : Bool) → (a && b) ≡ true → (a ≡ true) × (b ≡ true)
-and-split true b e = (refl, e)
-and-split false b e = absurd (false≢true e)
-
 unequal : (j k : ℕ) → not (j == k) ≡ true → j ≡ k → ⊥
 unequal j k t e = false≢true (ap not (sym (eq-eqb j k e)) ∙ t)
 
 others : (n j : ℕ) (js : List ℕ) → apart_from j js ≡ true → AllByRecursion (λ m. n + j ≡ m → ⊥) (map (λ k. n + k) js)
 others n j [] t = tt
-others n j (k ∷ ks) t = let h = and-split (not (j == k)) (apart_from j ks) t in (λ e. unequal j k h.0 (omega (arith, e)), others n j ks h.1)
+others n j (k ∷ ks) t = let h = and_parts (not (j == k)) (apart_from j ks) t in (λ e. unequal j k h.0 (omega (arith, e)), others n j ks h.1)
 
 Apart-places : (n : ℕ) (js : List ℕ) → apart_test js ≡ true → Apart (map (λ k. n + k) js)
 Apart-places n [] t = tt
-Apart-places n (j ∷ js) t = let h = and-split (apart_from j js) (apart_test js) t in (others n j js h.0, Apart-places n js h.1)
+Apart-places n (j ∷ js) t = let h = and_parts (apart_from j js) (apart_test js) t in (others n j js h.0, Apart-places n js h.1)
 
 Within-places : (n a b : ℕ) (js : List ℕ) → within_test a b js ≡ true → Within (n + a) (n + b) (map (λ k. n + k) js)
 Within-places n a b [] t = tt
 Within-places n a b (j ∷ js) t =
-    let h = and-split (nat_le a j) (nat_lt j b && within_test a b js) t in
-    let g = and-split (nat_lt j b) (within_test a b js) h.1 in
+    let h = and_parts (nat_le a j) (nat_lt j b && within_test a b js) t in
+    let g = and_parts (nat_lt j b) (within_test a b js) h.1 in
     ((omega (arith, leb-true a j h.0), omega (arith, ltb-true j b g.0)), Within-places n a b js g.1)
 
 pub fresh_places : (id : ℕ → List ℕ) (n a b : ℕ) (js : List ℕ) (ids : List (List ℕ)) → ids ≡ map id (map (λ k. n + k) js) → apart_test js ≡ true → within_test a b js ≡ true → IsFresh id (n + a) (n + b) ids
@@ -129,10 +126,6 @@ drawn_bits-and_also d e =
 own_bits-and_also : (d e : Drawing) → own_bits (and_also d e) ≡ own_bits d ++ own_bits e
 own_bits-and_also d e = flat_map-append owed_bits d.wires e.wires
 
-AllByRecursion-append : {A : Type 0} (P : A → Type 0) (xs ys : List A) → AllByRecursion P xs → AllByRecursion P ys → AllByRecursion P (xs ++ ys)
-AllByRecursion-append P [] ys h k = k
-AllByRecursion-append P (x ∷ xs) ys h k = (h.0, AllByRecursion-append P xs ys h.1 k)
-
 -- what one leaves and the other makes is driven once
 joined : {A : Type 0} (left made more D E V W : List A) → IsPermutation (left ++ D) (made ++ V) → IsPermutation E ((left ++ more) ++ W) → IsPermutation (D ++ E) ((made ++ more) ++ (V ++ W))
 joined left made more D E V W p q =
@@ -151,9 +144,9 @@ IsDrawn-and_also id low mid mid' high left made more d e p q r g h = record {
   fresh = IsFresh-permutation id low high (drawing_ids d ++ drawing_ids e) (drawing_ids (and_also d e)) (drawing_ids-and_also d e) (IsFresh-append id low mid mid' high (drawing_ids d) (drawing_ids e) p q r g.fresh h.fresh);
   bare = AllByRecursion-append IsBare d.wires e.wires g.bare h.bare;
   drives =
-    subst (λ u. IsPermutation (drawn_bits (and_also d e)) ((made ++ more) ++ u)) (sym (own_bits-and_also d e))
-    (IsPermutation-trans (drawn_bits (and_also d e)) (drawn_bits d ++ drawn_bits e) ((made ++ more) ++ (own_bits d ++ own_bits e)) (drawn_bits-and_also d e)
-    (joined left made more (drawn_bits d) (drawn_bits e) (own_bits d) (own_bits e) g.drives h.drives));
+      subst (λ u. IsPermutation (drawn_bits (and_also d e)) ((made ++ more) ++ u)) (sym (own_bits-and_also d e))
+      (IsPermutation-trans (drawn_bits (and_also d e)) (drawn_bits d ++ drawn_bits e) ((made ++ more) ++ (own_bits d ++ own_bits e)) (drawn_bits-and_also d e)
+      (joined left made more (drawn_bits d) (drawn_bits e) (own_bits d) (own_bits e) g.drives h.drives));
 }
 
 -- the second makes just what the first leaves

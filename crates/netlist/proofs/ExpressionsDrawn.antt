@@ -1,6 +1,5 @@
 -- The drawing of each expression: its own ids and wires, and one driver for each bit.
-use Rattle.std.specs.Prelude.{◌≡◌, ◌≢◌, ◌≤◌, ◌<◌, ◌+◌, ◌*◌, ◌^◌, ◌==◌, nat_lt, ℕ, zero, suc, Bool, true, false, cond, max, if◌then◌else◌, List, [], ◌∷◌, ◌++◌, map, take, length, IsPermutation, ℤ, pos, codes}
-use Rattle.std.specs.List.{flat_map, AllByRecursion}
+use Rattle.std.specs.Prelude.{◌≡◌, ◌≢◌, ◌≤◌, ◌+◌, ◌*◌, ◌^◌, ◌==◌, nat_lt, ℕ, zero, suc, false, max, if◌then◌else◌, List, [], ◌∷◌, ◌++◌, map, take, length, IsPermutation, pos, codes}
 use Rattle.std.proofs.Common.{refl, sym, ap, ◌∙◌, arith, subst, append-nil}
 use Rattle.std.proofs.lemmas.Bool.{cond_both, eqb-true, eqb-false}
 use Rattle.std.proofs.lemmas.Nat.{pow_pos}
@@ -23,12 +22,10 @@ use Rattle.netlist.specs.Ids.{part_id}
 use Rattle.netlist.specs.Cells.{binary_cell, unary_cell, mux_cell}
 use Rattle.netlist.specs.Operands.{wire_part, const_spec, at_width, at_form, const_operand}
 use Rattle.netlist.specs.Operators.{Value, Drawing, nothing, inner_wire, whole, one_bit, as_form, linked}
-use Rattle.netlist.specs.Expressions.{and_also, truth_spec, truth_drawing, chosen, stride_form, amount_operand, amount_drawing, part_form, selected, in_reach, picked, picked_of, matched, no_match, matched_within, matched_any, joined, part_count, shown, drawn}
-use Rattle.netlist.proofs.Permuted.{IsPermutation-first_two}
-use Rattle.netlist.proofs.Fresh.{IsFresh}
-use Rattle.netlist.proofs.Drives.{block, value_bits, IsBare, IsBare-inner_wire, IsDrawn, IsDrawn-wider, IsDrawn-linked, IsDrawn-nothing, IsDrawn-and_also, IsDrawn-and_then, IsDrawn-before, fresh_places, fresh_none, zero_more, output_bits-unary, output_bits-binary, output_bits-mux}
+use Rattle.netlist.specs.Expressions.{and_also, truth_spec, truth_drawing, chosen, stride_form, stride_operand, amount_operand, amount_drawing, part_form, selected, picked, picked_of, matched, no_match, matched_within, matched_any, joined, part_count, shown, drawn}
+use Rattle.netlist.proofs.Drives.{block, value_bits, IsBare-inner_wire, IsDrawn, IsDrawn-wider, IsDrawn-linked, IsDrawn-nothing, IsDrawn-and_then, IsDrawn-before, fresh_places, zero_more, output_bits-binary, output_bits-mux}
 use Rattle.netlist.proofs.Places.{spec_bits-wire_part}
-use Rattle.netlist.proofs.DrawnCells.{fresh_from, all_of, last_first, IsDrawn-cells, IsDrawn-inner}
+use Rattle.netlist.proofs.DrawnCells.{fresh_from, last_first, IsDrawn-cells, IsDrawn-inner}
 use Rattle.netlist.proofs.OperatorsDrawn.{operator_drawn}
 
 -- ---- whether a value is not 0
@@ -67,16 +64,16 @@ amount_drawn n offset stride =
     let g : Form = stride_form offset.form in
     let two : Drawing = record {
       wires = inner_wire (part_id (n + 1)) g.width ∷ [];
-      cells = binary_cell kind.Mul (part_id n) (as_form offset g) (const_operand g (pos stride)) g.width (wire_part (part_id (n + 1)) 0 g.width) ∷ [];
+      cells = binary_cell kind.Mul (part_id n) (as_form offset g) (stride_operand offset.form stride) g.width (wire_part (part_id (n + 1)) 0 g.width) ∷ [];
       links = [];
     } in
     cond_both (stride == 1) nothing two (IsDrawn part_id n (n + 2) [] []) (λ _. IsDrawn-nothing part_id n (n + 2))
     (λ _.
-      IsDrawn-inner part_id n (n + 2) (inner_wire (part_id (n + 1)) g.width ∷ [])
-      (binary_cell kind.Mul (part_id n) (as_form offset g) (const_operand g (pos stride)) g.width (wire_part (part_id (n + 1)) 0 g.width) ∷ [])
-      (fresh_from part_id n 2 (part_id (n + 1) ∷ part_id n ∷ []) (fresh_places part_id n 0 2 (1 ∷ 0 ∷ []) (part_id (n + 1) ∷ part_id n ∷ []) (λ i. part_id (n + 1) ∷ part_id (zero_more n i) ∷ []) refl refl))
-      (IsBare-inner_wire (part_id (n + 1)) g.width (omega arith), tt)
-      (λ i. output_bits-binary kind.Mul (part_id n) (as_form offset g) (const_operand g (pos stride)) g.width (part_id (n + 1)) g.width refl i ++ []))
+    IsDrawn-inner part_id n (n + 2) (inner_wire (part_id (n + 1)) g.width ∷ [])
+    (binary_cell kind.Mul (part_id n) (as_form offset g) (stride_operand offset.form stride) g.width (wire_part (part_id (n + 1)) 0 g.width) ∷ [])
+    (fresh_from part_id n 2 (part_id (n + 1) ∷ part_id n ∷ []) (fresh_places part_id n 0 2 (1 ∷ 0 ∷ []) (part_id (n + 1) ∷ part_id n ∷ []) (λ i. part_id (n + 1) ∷ part_id (zero_more n i) ∷ []) refl refl))
+    (IsBare-inner_wire (part_id (n + 1)) g.width (omega arith), tt)
+    (λ i. output_bits-binary kind.Mul (part_id n) (as_form offset g) (stride_operand offset.form stride) g.width (part_id (n + 1)) g.width refl i ++ []))
 
 -- a cell that drives an inner wire, and a link from it
 linked_swap : (b s y : List Source) → s ≡ y → IsPermutation ((b ++ []) ++ (s ++ [])) (y ++ (b ++ []))
@@ -112,9 +109,9 @@ third_first : (c b y : List Source) → IsPermutation (c ++ ((b ++ (y ++ [])) ++
 third_first c b y =
     IsPermutation-trans (c ++ ((b ++ (y ++ [])) ++ [])) (y ++ (c ++ (b ++ []))) (y ++ (b ++ (c ++ [])))
     (subst (λ r. IsPermutation (c ++ r) (y ++ (c ++ (b ++ [])))) (sym (append-nil (b ++ (y ++ []))))
-      (subst (λ r. IsPermutation r (y ++ (c ++ (b ++ [])))) (append-nil (c ++ (b ++ (y ++ [])))) (last_first (c ∷ b ∷ []) y)))
+    (subst (λ r. IsPermutation r (y ++ (c ++ (b ++ [])))) (append-nil (c ++ (b ++ (y ++ [])))) (last_first (c ∷ b ∷ []) y)))
     (IsPermutation-append_right y (c ++ (b ++ [])) (b ++ (c ++ []))
-      (subst (λ r. IsPermutation (c ++ (b ++ [])) (b ++ r)) (sym (append-nil c)) (subst (λ r. IsPermutation (c ++ r) (b ++ c)) (sym (append-nil b)) (IsPermutation-append_comm c b))))
+    (subst (λ r. IsPermutation (c ++ (b ++ [])) (b ++ r)) (sym (append-nil c)) (subst (λ r. IsPermutation (c ++ r) (b ++ c)) (sym (append-nil b)) (IsPermutation-append_comm c b))))
 
 picked_drawn : (n : ℕ) (index : Value) (i : ℕ) (first : Value) (more : List Value) (into : Value) → 1 ≤ into.form.width → IsDrawn part_id n (n + 4 * length more) [] (value_bits into) (picked n index i first more into)
 picked_drawn n index i first [] into h = IsDrawn-linked part_id n (n + 4 * 0) into (at_width first.id first.form into.form.width)
@@ -131,8 +128,8 @@ picked_drawn n index i first (second ∷ more) into h =
     let bits = output_bits-mux (part_id (n + 2)) into.form.width (wire_part (part_id (n + 3)) 0 into.form.width) (at_width first.id first.form into.form.width) (one_bit (part_id (n + 1))) into.id into.form.width in
     let one_drawn : IsDrawn part_id n (n + 4) C (value_bits into) one = record {
       fresh =
-        fresh_from part_id n 4 (part_id (n + 1) ∷ part_id (n + 3) ∷ part_id n ∷ part_id (n + 2) ∷ [])
-        (fresh_places part_id n 0 4 (1 ∷ 3 ∷ 0 ∷ 2 ∷ []) (part_id (n + 1) ∷ part_id (n + 3) ∷ part_id n ∷ part_id (n + 2) ∷ []) (λ i. part_id (n + 1) ∷ part_id (n + 3) ∷ part_id (zero_more n i) ∷ part_id (n + 2) ∷ []) refl refl);
+          fresh_from part_id n 4 (part_id (n + 1) ∷ part_id (n + 3) ∷ part_id n ∷ part_id (n + 2) ∷ [])
+          (fresh_places part_id n 0 4 (1 ∷ 3 ∷ 0 ∷ 2 ∷ []) (part_id (n + 1) ∷ part_id (n + 3) ∷ part_id n ∷ part_id (n + 2) ∷ []) (λ i. part_id (n + 1) ∷ part_id (n + 3) ∷ part_id (zero_more n i) ∷ part_id (n + 2) ∷ []) refl refl);
       bare = (IsBare-inner_wire (part_id (n + 1)) 1 (omega arith), (IsBare-inner_wire (part_id (n + 3)) into.form.width h, tt));
       drives = subst (λ r. IsPermutation (C ++ ((B ++ (r ++ [])) ++ [])) (value_bits into ++ (B ++ (C ++ [])))) (sym bits) (third_first C B (value_bits into));
     } in
@@ -164,13 +161,13 @@ matched_drawn : (n : ℕ) (g : Form) (a : Value) (p : Pattern) → 1 ≤ g.width
 matched_drawn n g a p h =
     IsDrawn-inner part_id n (n + 4) (inner_wire (part_id (n + 1)) g.width ∷ inner_wire (part_id (n + 3)) 1 ∷ [])
     (binary_cell kind.And (part_id n) (record { spec = at_width a.id (unsigned a.form.width) g.width; form = g }) (const_operand g (pos p.mask)) g.width (wire_part (part_id (n + 1)) 0 g.width)
-      ∷ binary_cell kind.Eq (part_id (n + 2)) (at_form (part_id (n + 1)) g g) (const_operand g (pos p.bits)) 1 (one_bit (part_id (n + 3))) ∷ [])
+    ∷ binary_cell kind.Eq (part_id (n + 2)) (at_form (part_id (n + 1)) g g) (const_operand g (pos p.bits)) 1 (one_bit (part_id (n + 3))) ∷ [])
     (fresh_from part_id n 4 (part_id (n + 1) ∷ part_id (n + 3) ∷ part_id n ∷ part_id (n + 2) ∷ [])
-      (fresh_places part_id n 0 4 (1 ∷ 3 ∷ 0 ∷ 2 ∷ []) (part_id (n + 1) ∷ part_id (n + 3) ∷ part_id n ∷ part_id (n + 2) ∷ []) (λ i. part_id (n + 1) ∷ part_id (n + 3) ∷ part_id (zero_more n i) ∷ part_id (n + 2) ∷ []) refl refl))
+    (fresh_places part_id n 0 4 (1 ∷ 3 ∷ 0 ∷ 2 ∷ []) (part_id (n + 1) ∷ part_id (n + 3) ∷ part_id n ∷ part_id (n + 2) ∷ []) (λ i. part_id (n + 1) ∷ part_id (n + 3) ∷ part_id (zero_more n i) ∷ part_id (n + 2) ∷ []) refl refl))
     (IsBare-inner_wire (part_id (n + 1)) g.width h, (IsBare-inner_wire (part_id (n + 3)) 1 (omega arith), tt))
     (λ i.
-      output_bits-binary kind.And (part_id n) (record { spec = at_width a.id (unsigned a.form.width) g.width; form = g }) (const_operand g (pos p.mask)) g.width (part_id (n + 1)) g.width refl i
-      ++ (block (part_id (n + 3)) 1 ++ []))
+    output_bits-binary kind.And (part_id n) (record { spec = at_width a.id (unsigned a.form.width) g.width; form = g }) (const_operand g (pos p.mask)) g.width (part_id (n + 1)) g.width refl i
+    ++ (block (part_id (n + 3)) 1 ++ []))
 
 no_match_drawn : (n : ℕ) → IsDrawn part_id n (n + 4) [] [] (no_match n)
 no_match_drawn n = record {

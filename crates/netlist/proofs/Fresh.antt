@@ -7,6 +7,7 @@ use Rattle.std.proofs.Common.{sym, ap, ◌∙◌, arith, subst}
 use Rattle.std.proofs.lemmas.Fmt.{decimal_is_IsNumeral_wide}
 use Rattle.std.proofs.lemmas.List.{map-append}
 use Rattle.std.proofs.lemmas.List.Sorted.{IsPermutation-trans, IsPermutation-append}
+use Rattle.rtlil_text.proofs.Among.{AllByRecursion-append}
 use Rattle.netlist.specs.Ids.{inner_id}
 
 -- ---- numbers that differ
@@ -22,10 +23,6 @@ pub AllByRecursion-weaker : {A : Type 0} (P Q : A → Type 0) → ((x : A) → P
 AllByRecursion-weaker P Q f [] h = tt
 AllByRecursion-weaker P Q f (x ∷ xs) h = (f x h.0, AllByRecursion-weaker P Q f xs h.1)
 
-pub AllByRecursion-append : {A : Type 0} (P : A → Type 0) (xs ys : List A) → AllByRecursion P xs → AllByRecursion P ys → AllByRecursion P (xs ++ ys)
-AllByRecursion-append P [] ys h k = k
-AllByRecursion-append P (x ∷ xs) ys h k = (h.0, AllByRecursion-append P xs ys h.1 k)
-
 pub Apart-append : (ns ms : List ℕ) → Apart ns → Apart ms → AllByRecursion (λ n. AllByRecursion (λ m. n ≢ m) ms) ns → Apart (ns ++ ms)
 Apart-append [] ms h k across = k
 Apart-append (n ∷ ns) ms h k across = (AllByRecursion-append (λ m. n ≢ m) ns ms h.0 across.0, Apart-append ns ms h.1 k across.1)
@@ -35,7 +32,7 @@ pub Apart-above : (low mid mid' high : ℕ) (ns ms : List ℕ) → mid ≤ mid' 
 Apart-above low mid mid' high ns ms le g h p q =
     Apart-append ns ms p q
     (AllByRecursion-weaker (λ n. (low ≤ n) × (n < mid)) (λ n. AllByRecursion (λ m. n ≢ m) ms)
-      (λ n r. AllByRecursion-weaker (λ m. (mid' ≤ m) × (m < high)) (λ m. n ≢ m) (λ m s e. omega (arith, e, r.1, s.0)) ms h) ns g)
+    (λ n r. AllByRecursion-weaker (λ m. (mid' ≤ m) × (m < high)) (λ m. n ≢ m) (λ m s e. omega (arith, e, r.1, s.0)) ms h) ns g)
 
 pub Within-wider : (low high low' high' : ℕ) (ns : List ℕ) → low' ≤ low → high ≤ high' → Within low high ns → Within low' high' ns
 Within-wider low high low' high' ns p q h = AllByRecursion-weaker (λ n. (low ≤ n) × (n < high)) (λ n. (low' ≤ n) × (n < high')) (λ n r. (omega (arith, r.0), omega (arith, r.1))) ns h

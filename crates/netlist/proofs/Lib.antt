@@ -43,6 +43,10 @@ pub mod OperatorsDrawn
 pub mod ExpressionsDrawn
 pub mod ManyDrawn
 pub mod SignalsDrawn
+pub mod ColumnSignals
+pub mod ModuleIds
+pub mod ModuleWires
+pub mod ModuleDrivers
 pub mod FittingSelections
 pub mod PoolNeeds
 pub mod PoolsMade
@@ -50,7 +54,9 @@ pub mod Driving
 pub mod SignalBits
 pub mod RegisterSteps
 pub mod ClockEdges
-pub mod ColumnSignals
-pub mod ModuleIds
-pub mod ModuleWires
-pub mod ModuleDrivers
+pub mod ModuleHeld
+pub mod ExpressionCells
+pub mod SignalCells
+pub mod ModuleRules
+pub mod ModuleParts
+pub mod PartCounts

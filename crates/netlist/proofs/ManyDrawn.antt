@@ -1,21 +1,21 @@
 -- Drawings one behind the other.
-use Rattle.std.specs.Prelude.{◌≡◌, ◌≤◌, ◌<◌, ◌+◌, ◌*◌, ◌==◌, nat_lt, ℕ, zero, suc, Bool, true, false, cond, if◌then◌else◌, List, [], ◌∷◌, ◌++◌, map, length, IsPermutation, Option, Some, None, slice_get}
+use Rattle.std.specs.Prelude.{◌≡◌, ◌≤◌, ◌<◌, ◌+◌, ℕ, suc, List, [], ◌∷◌, ◌++◌, length, IsPermutation, Some, slice_get}
 use Rattle.std.specs.List.{flat_map, range_with_len, AllByRecursion}
-use Rattle.std.proofs.Common.{refl, sym, ap, ◌∙◌, arith, subst}
+use Rattle.std.proofs.Common.{ap, ◌∙◌, arith, subst}
 use Rattle.std.proofs.lemmas.List.Sorted.{IsPermutation-refl, IsPermutation-trans, IsPermutation-append}
 use Rattle.design_ir.specs.declared.expr.Expr.{Expr}
-use Rattle.design_ir.specs.Values.{form}
 use Rattle.design_ir.specs.PoolRules.{IsPool}
 use Rattle.design_ir.specs.Circuits.{Circuit}
 use Rattle.design_ir.proofs.Equations.{standing, form_is}
 use Rattle.rtlil_text.specs.declared.module.RtlWire.{RtlWire}
 use Rattle.rtlil_text.specs.Sources.{Source}
 use Rattle.netlist.specs.Ids.{part_id}
-use Rattle.netlist.specs.Operators.{Value, Drawing}
+use Rattle.netlist.specs.Operators.{Drawing}
 use Rattle.netlist.specs.Expressions.{part_count, part_total, drawn}
 use Rattle.netlist.specs.Module.{signal_value, expr_value, drawn_from}
 use Rattle.netlist.proofs.Permuted.{IsPermutation-inner_two}
-use Rattle.netlist.proofs.Fresh.{IsFresh, IsFresh-append, IsFresh-wider, AllByRecursion-append}
+use Rattle.rtlil_text.proofs.Among.{AllByRecursion-append}
+use Rattle.netlist.proofs.Fresh.{IsFresh, IsFresh-append}
 use Rattle.netlist.proofs.Drives.{value_bits, drawing_ids, drawn_bits, own_bits, IsBare, IsDrawn, fresh_none}
 use Rattle.netlist.proofs.ExpressionsDrawn.{expression_drawn}
 
@@ -35,9 +35,9 @@ AreDrawn-cons id low mid high made more d ds p q g h = record {
   fresh = IsFresh-append id low mid mid high (drawing_ids d) (flat_map drawing_ids ds) p (omega arith) q g.fresh h.fresh;
   bare = AllByRecursion-append IsBare d.wires (flat_map drawing_wires ds) g.bare h.bare;
   drives =
-    IsPermutation-trans (drawn_bits d ++ flat_map drawn_bits ds) ((made ++ own_bits d) ++ (more ++ flat_map own_bits ds)) ((made ++ more) ++ (own_bits d ++ flat_map own_bits ds))
-    (IsPermutation-append (drawn_bits d) (made ++ own_bits d) (flat_map drawn_bits ds) (more ++ flat_map own_bits ds) g.drives h.drives)
-    (IsPermutation-inner_two made (own_bits d) more (flat_map own_bits ds));
+      IsPermutation-trans (drawn_bits d ++ flat_map drawn_bits ds) ((made ++ own_bits d) ++ (more ++ flat_map own_bits ds)) ((made ++ more) ++ (own_bits d ++ flat_map own_bits ds))
+      (IsPermutation-append (drawn_bits d) (made ++ own_bits d) (flat_map drawn_bits ds) (more ++ flat_map own_bits ds) g.drives h.drives)
+      (IsPermutation-inner_two made (own_bits d) more (flat_map own_bits ds));
 }
 
 -- ---- the expressions of a pool

@@ -1,16 +1,14 @@
 -- Each bit of each wire that is no input has exactly one driver in the module of a design.
-use Rattle.std.specs.Prelude.{◌≡◌, ◌<◌, ◌+◌, ◌^◌, nat_lt, ℕ, zero, suc, Bool, true, false, cond, if◌then◌else◌, List, [], ◌∷◌, ◌++◌, map, length, IsPermutation, slice_get}
+use Rattle.std.specs.Prelude.{◌≡◌, nat_lt, ℕ, false, List, [], ◌∷◌, ◌++◌, map, length, IsPermutation, slice_get}
 use Rattle.std.specs.List.{flat_map, range_with_len}
-use Rattle.std.proofs.Common.{refl, sym, ap, ◌∙◌, arith, subst, append-nil}
+use Rattle.std.proofs.Common.{sym, ap, ◌∙◌, arith, subst, append-nil}
 use Rattle.std.proofs.lemmas.Bool.{cond_both, ltb-false}
 use Rattle.std.proofs.lemmas.List.Concat.{flat_map-append}
-use Rattle.std.proofs.lemmas.List.Sorted.{IsPermutation-refl, IsPermutation-trans, IsPermutation-sym, IsPermutation-append, IsPermutation-append_left, IsPermutation-append_right, IsPermutation-append_comm}
+use Rattle.std.proofs.lemmas.List.Sorted.{IsPermutation-trans, IsPermutation-sym, IsPermutation-append, IsPermutation-append_left, IsPermutation-append_comm}
 use Rattle.design_ir.specs.Values.{form}
 use Rattle.design_ir.specs.PoolRules.{IsPool}
 use Rattle.design_ir.specs.Circuits.{Circuit}
 use Rattle.design_ir.specs.Designs.{IsDesign}
-use Rattle.rtlil_text.specs.declared.cell.RtlCell.{RtlCell}
-use Rattle.rtlil_text.specs.declared.module.RtlLink.{RtlLink}
 use Rattle.rtlil_text.specs.declared.module.RtlWire.{RtlWire}
 use Rattle.rtlil_text.specs.Sources.{Source}
 use Rattle.rtlil_text.specs.Drivers.{output_bits, driven_bits, inner_bits}
@@ -75,5 +73,5 @@ module_drivers c pool h =
     subst (IsPermutation (flat_map output_bits (flat_map (λ (d : Drawing). d.cells) ds) ++ flat_map left_bits (flat_map (λ (d : Drawing). d.links) ds))) (flat_map-append drawn_bits D G) (all_drawn ds) in
     let all = IsPermutation-trans (flat_map output_bits (flat_map (λ (d : Drawing). d.cells) ds) ++ flat_map left_bits (flat_map (λ (d : Drawing). d.links) ds)) (flat_map drawn_bits D ++ flat_map drawn_bits G) (((flat_map owed_bits C ++ flat_map owed_bits S) ++ madeE) ++ (flat_map own_bits D ++ flat_map own_bits G)) drawn
     (IsPermutation-trans (flat_map drawn_bits D ++ flat_map drawn_bits G) ((madeE ++ flat_map own_bits D) ++ (madeS ++ flat_map own_bits G)) (((flat_map owed_bits C ++ flat_map owed_bits S) ++ madeE) ++ (flat_map own_bits D ++ flat_map own_bits G)) both
-      (grouped madeE (flat_map own_bits D) madeS (flat_map own_bits G) (flat_map owed_bits C ++ flat_map owed_bits S) front)) in
+    (grouped madeE (flat_map own_bits D) madeS (flat_map own_bits G) (flat_map owed_bits C ++ flat_map owed_bits S) front)) in
     subst (IsPermutation (flat_map output_bits (flat_map (λ (d : Drawing). d.cells) ds) ++ flat_map left_bits (flat_map (λ (d : Drawing). d.links) ds))) (sym inner) all

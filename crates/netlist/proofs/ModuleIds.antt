@@ -1,12 +1,12 @@
 -- All ids of the module of a design: they are ids of the text's form, and no two are the same.
-use Rattle.std.specs.Prelude.{◌≡◌, ◌≢◌, ◌≤◌, ◌<◌, ◌+◌, ◌*◌, ◌^◌, ◌==◌, ◌&&◌, nat_lt, nat_eq, ℕ, zero, suc, Bool, true, false, cond, if◌then◌else◌, List, [], ◌∷◌, ◌++◌, map, length, IsPermutation, All, is_none, codes, slice_get}
+use Rattle.std.specs.Prelude.{◌≡◌, ◌≢◌, ◌<◌, ◌+◌, ◌*◌, ◌^◌, ◌&&◌, nat_lt, ℕ, zero, suc, Bool, true, false, List, [], ◌∷◌, ◌++◌, map, length, IsPermutation, All, is_none, codes, slice_get}
 use Rattle.std.specs.List.{flat_map, range_with_len, AllByRecursion, IsDistinct}
-use Rattle.std.proofs.Common.{refl, sym, ap, ◌∙◌, arith, subst, append_assoc, append-nil, get_or, inl, inr, ⊎_elim, ◌⊎◌}
-use Rattle.std.proofs.lemmas.Bool.{cond_both, eqb-true, eq-eqb}
+use Rattle.std.proofs.Common.{refl, sym, ap, ◌∙◌, arith, subst, append_assoc, append-nil, get_or, inl, inr}
+use Rattle.std.proofs.lemmas.Bool.{cond_both}
 use Rattle.std.proofs.lemmas.List.{map-append}
 use Rattle.std.proofs.lemmas.List.Concat.{flat_map-append}
 use Rattle.std.proofs.lemmas.List.Elements.{All-nil, All-cons, All-append}
-use Rattle.std.proofs.lemmas.List.Sorted.{IsPermutation-refl, IsPermutation-trans, IsPermutation-sym, IsPermutation-append, IsPermutation-append_left, IsPermutation-append_right, All-permutation}
+use Rattle.std.proofs.lemmas.List.Sorted.{IsPermutation-refl, IsPermutation-trans, IsPermutation-sym, IsPermutation-append, IsPermutation-append_right, All-permutation}
 use Rattle.std.proofs.lemmas.Map.Keys.{IsDistinct-IsPermutation}
 use Rattle.std.proofs.lemmas.Map.Made.{AllPairs-from_IsDistinct}
 use Rattle.lists.specs.Names as names
@@ -26,11 +26,12 @@ use Rattle.netlist.specs.Ids.{inner_id, signal_id, value_id, part_id, step_id}
 use Rattle.netlist.specs.Operators.{Drawing, inner_wire}
 use Rattle.netlist.specs.Expressions.{part_total}
 use Rattle.netlist.specs.Module.{public_id, column_of, first_value, column_wires, signal_wires, expr_wires, drawings, signal_drawing, all_drawings, module_of}
-use Rattle.netlist.proofs.Permuted.{IsPermutation-same, IsPermutation-flat_map}
-use Rattle.netlist.proofs.Fresh.{Apart, Within, Apart-append, Apart-map, AllByRecursion-append, AllByRecursion-weaker, IsFresh, IsFresh-append, inner_id-differ}
-use Rattle.netlist.proofs.Drives.{drawing_ids, drawn_bits, fresh_none, fresh_places}
-use Rattle.netlist.proofs.ManyDrawn.{AreDrawn, expr_bits, drawn_from_are}
-use Rattle.netlist.proofs.SignalsDrawn.{signal_bits, signals_drawn}
+use Rattle.netlist.proofs.Permuted.{IsPermutation-flat_map}
+use Rattle.rtlil_text.proofs.Among.{AllByRecursion-append}
+use Rattle.netlist.proofs.Fresh.{Apart, Within, Apart-append, Apart-map, IsFresh, IsFresh-append, inner_id-differ}
+use Rattle.netlist.proofs.Drives.{drawing_ids, fresh_none}
+use Rattle.netlist.proofs.ManyDrawn.{drawn_from_are}
+use Rattle.netlist.proofs.SignalsDrawn.{signals_drawn}
 
 -- ---- a test of ids
 
@@ -172,7 +173,7 @@ fresh_row id f h k (suc n) =
     let a : (k + 1) + n ≡ k + suc n = omega arith in
     subst (IsFresh id k (k + suc n)) (sym (map-append wire_id_of (f k) (flat_map f (range_with_len (k + 1) n))))
     (IsFresh-append id k (k + 1) (k + 1) (k + suc n) (map wire_id_of (f k)) (map wire_id_of (flat_map f (range_with_len (k + 1) n))) (omega arith) (omega arith) (omega arith) (h k)
-      (subst (λ b. IsFresh id (k + 1) b (map wire_id_of (flat_map f (range_with_len (k + 1) n)))) a (fresh_row id f h (k + 1) n)))
+    (subst (λ b. IsFresh id (k + 1) b (map wire_id_of (flat_map f (range_with_len (k + 1) n)))) a (fresh_row id f h (k + 1) n)))
 
 fresh_one : (id : ℕ → List ℕ) (k : ℕ) → IsFresh id k (k + 1) (id k ∷ [])
 fresh_one id k = record { numbers = k ∷ []; same = IsPermutation-refl (id k ∷ []); apart = (tt, tt); within = ((omega arith, omega arith), tt) }
@@ -269,10 +270,10 @@ module _ (c : Circuit) where
           same = subst (IsPermutation (module_ids (module_of c))) grouped all;
           apart = inner_numbers-apart hidden.numbers shown.numbers parts.numbers steps.numbers hidden.apart shown.apart parts.apart steps.apart;
           below =
-            AllByRecursion-append (λ n. n < 10 ^ 64) (map by_signal hidden.numbers ++ map by_value shown.numbers) (map by_part parts.numbers ++ map by_step steps.numbers)
-            (AllByRecursion-append (λ n. n < 10 ^ 64) (map by_signal hidden.numbers) (map by_value shown.numbers)
+              AllByRecursion-append (λ n. n < 10 ^ 64) (map by_signal hidden.numbers ++ map by_value shown.numbers) (map by_part parts.numbers ++ map by_step steps.numbers)
+              (AllByRecursion-append (λ n. n < 10 ^ 64) (map by_signal hidden.numbers) (map by_value shown.numbers)
               (Below-map by_signal 0 (0 + n) hidden.numbers (λ s lt. omega (arith, pool.few_signals)) hidden.within) (Below-map by_value 0 (0 + length c.pool.exprs) shown.numbers (λ s lt. omega (arith, pool.few_exprs)) shown.within))
-            (AllByRecursion-append (λ n. n < 10 ^ 64) (map by_part parts.numbers) (map by_step steps.numbers)
+              (AllByRecursion-append (λ n. n < 10 ^ 64) (map by_part parts.numbers) (map by_step steps.numbers)
               (Below-map by_part 0 (part_total c.pool.exprs) parts.numbers (λ s lt. omega (arith, few)) parts.within) (Below-map by_step (3 * 0) (3 * (0 + n)) steps.numbers (λ s lt. omega (arith, pool.few_signals)) steps.within));
         }
 

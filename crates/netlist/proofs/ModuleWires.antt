@@ -1,10 +1,10 @@
 -- The wires of the module of a design: each has bits and first values as wide as it is; the columns' come first, and alone are ports.
-use Rattle.std.specs.Prelude.{◌≡◌, ◌≤◌, ◌<◌, ◌+◌, ◌*◌, ◌==◌, ◌&&◌, ◌||◌, nat_lt, ℕ, zero, suc, Bool, true, false, cond, if◌then◌else◌, List, [], ◌∷◌, ◌++◌, map, length, All, IfSome, IsTrue, Option, Some, None, is_none, option_map, unwrap_or, slice_get}
-use Rattle.std.specs.List.{flat_map, range_with_len, find, list_any, enumerate_from, AllByRecursion}
+use Rattle.std.specs.Prelude.{◌≡◌, ◌≤◌, ◌+◌, ◌==◌, ◌&&◌, ◌||◌, nat_lt, ℕ, suc, Bool, true, false, cond, if◌then◌else◌, List, [], ◌∷◌, ◌++◌, map, length, All, IfSome, Option, Some, None, is_none, option_map, unwrap_or, slice_get}
+use Rattle.std.specs.List.{flat_map, range_with_len, find, enumerate_from, AllByRecursion}
 use Rattle.std.proofs.Common.{refl, sym, ap, ◌∙◌, arith, subst, append_assoc, append-nil}
-use Rattle.std.proofs.lemmas.Bool.{cond_both, false≢true, ltb-true, eq-eqb}
+use Rattle.std.proofs.lemmas.Bool.{cond_both, false≢true, ltb-true, eq-eqb, and_parts}
 use Rattle.std.proofs.lemmas.List.Concat.{flat_map-append}
-use Rattle.std.proofs.lemmas.List.Elements.{All-nil, All-cons, All-append}
+use Rattle.std.proofs.lemmas.List.Elements.{All-nil, All-cons, All-append, All-from_recursion}
 use Rattle.std.proofs.lemmas.List.FromFn.{length-range_with_len}
 use Rattle.amh_bits.specs.Patterns.{pattern}
 use Rattle.shape_rules.specs.Forms.{unsigned}
@@ -22,11 +22,12 @@ use Rattle.rtlil_text.specs.Cells.{number_bits}
 use Rattle.rtlil_text.specs.Rules.{WireFits, port_numbers}
 use Rattle.rtlil_text.proofs.CellLaws.{length-number_bits}
 use Rattle.netlist.specs.Ids.{signal_id, value_id}
-use Rattle.netlist.specs.Operators.{Drawing, inner_wire}
+use Rattle.netlist.specs.Operators.{inner_wire}
 use Rattle.netlist.specs.Expressions.{part_total}
 use Rattle.netlist.specs.Module.{public_id, column_of, side_of, port_of, is_clocked, driving, init_bits, first_value, column_wire, column_wires, signal_wires, expr_wires, drawings, signal_drawing, all_drawings, module_of}
 use Rattle.netlist.specs.Corresponds.{column_fields, wire_fields, Corresponds}
-use Rattle.netlist.proofs.Fresh.{AllByRecursion-append, AllByRecursion-weaker}
+use Rattle.rtlil_text.proofs.Among.{AllByRecursion-append}
+use Rattle.netlist.proofs.Fresh.{AllByRecursion-weaker}
 use Rattle.netlist.proofs.Drives.{IsBare}
 use Rattle.netlist.proofs.ManyDrawn.{drawing_wires, drawn_from_are}
 use Rattle.netlist.proofs.SignalsDrawn.{signals_drawn}
@@ -57,16 +58,12 @@ pub record IsHidden (w : RtlWire) : Type 0 where
 hidden_bare : (w : RtlWire) → IsBare w → IsHidden w
 hidden_bare w b = record { fits = record { wide = b.some; init = subst (λ (o : Option (List Bool)). IfSome o (λ (bits : List Bool). length bits ≡ w.width)) (sym b.init) tt }; inner = b.inner }
 
-and-true : (a b : Bool) → (a && b) ≡ true → a ≡ true
-and-true true b e = refl
-and-true false b e = absurd (false≢true e)
-
 hidden_signal : (c : Circuit) (s : ℕ) → AllByRecursion IsHidden (signal_wires c s)
 hidden_signal c s =
     let w : ℕ = (signal_form c.pool.signals s).width in
     let own : RtlWire = record { id = signal_id s; width = w; port = Inner; init = first_value c s } in
     cond_both (nat_lt 0 w && is_none (column_of c s)) (own ∷ []) [] (AllByRecursion IsHidden)
-    (λ t. (record { fits = record { wide = omega (arith, ltb-true 0 w (and-true (nat_lt 0 w) (is_none (column_of c s)) t)); init = first_fits c s }; inner = refl }, tt)) (λ _. tt)
+    (λ t. (record { fits = record { wide = omega (arith, ltb-true 0 w (and_parts (nat_lt 0 w) (is_none (column_of c s)) t).0); init = first_fits c s }; inner = refl }, tt)) (λ _. tt)
 
 hidden_expr : (c : Circuit) (k : ℕ) → AllByRecursion IsHidden (expr_wires c k)
 hidden_expr c k =
@@ -77,13 +74,9 @@ all_flat_map : {A B : Type 0} (P : B → Type 0) (f : A → List B) (xs : List A
 all_flat_map P f [] h = tt
 all_flat_map P f (x ∷ xs) h = AllByRecursion-append P (f x) (flat_map f xs) (h x) (all_flat_map P f xs h)
 
-pub All-by_recursion : {A : Type 0} (P : A → Type 0) (xs : List A) → AllByRecursion P xs → All P xs
-All-by_recursion P [] h = All-nil P
-All-by_recursion P (x ∷ xs) h = All-cons P x xs h.0 (All-by_recursion P xs h.1)
-
 -- ---- the module's wires: those of the columns, and the others
 
-pub other_wires : Circuit → List RtlWire
+unfoldable pub other_wires : Circuit → List RtlWire
 other_wires c =
     (flat_map (signal_wires c) (range_with_len 0 (length c.pool.signals)) ++ flat_map (expr_wires c) (range_with_len 0 (length c.pool.exprs)))
     ++ flat_map drawing_wires (all_drawings c)
@@ -122,7 +115,7 @@ pub module_wires-fit : (c : Circuit) → IsPool c.pool → IsDesign c → All Wi
 module_wires-fit c pool h =
     subst (All WireFits) (sym (module_wires c))
     (All-append WireFits (column_wires c 0 c.columns) (other_wires c) (columns_fit c 0 c.columns h.columns.some_width)
-      (All-by_recursion WireFits (other_wires c) (AllByRecursion-weaker IsHidden WireFits (λ w g. g.fits) (other_wires c) (others_hidden c pool))))
+    (All-from_recursion WireFits (other_wires c) (AllByRecursion-weaker IsHidden WireFits (λ w g. g.fits) (other_wires c) (others_hidden c pool))))
 
 -- ---- the ports' numbers
 
@@ -213,5 +206,5 @@ module_corresponds c pool = record {
   others = other_wires c;
   wires = module_wires c;
   columns = column_wires-fields c 0 0 c.columns refl;
-  inner = All-by_recursion (λ (w : RtlWire). w.port ≡ Inner) (other_wires c) (AllByRecursion-weaker IsHidden (λ (w : RtlWire). w.port ≡ Inner) (λ w g. g.inner) (other_wires c) (others_hidden c pool));
+  inner = All-from_recursion (λ (w : RtlWire). w.port ≡ Inner) (other_wires c) (AllByRecursion-weaker IsHidden (λ (w : RtlWire). w.port ≡ Inner) (λ w g. g.inner) (other_wires c) (others_hidden c pool));
 }

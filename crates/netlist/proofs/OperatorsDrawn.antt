@@ -1,6 +1,6 @@
 -- The drawing of each operator: its own ids and wires, and one driver for each bit.
-use Rattle.std.specs.Prelude.{◌≡◌, ◌≤◌, ◌+◌, ◌==◌, ℕ, Bool, true, false, cond, List, [], ◌∷◌, ◌++◌, ℤ, pos, codes}
-use Rattle.std.proofs.Common.{refl, sym, ap, ◌∙◌, arith, subst}
+use Rattle.std.specs.Prelude.{◌≡◌, ◌≤◌, ◌+◌, ◌==◌, ℕ, Bool, true, false, cond, [], ◌∷◌, ◌++◌, ℤ, pos, codes}
+use Rattle.std.proofs.Common.{refl, sym, ap, arith, subst}
 use Rattle.std.proofs.lemmas.Bool.{cond_both, ne_eqb}
 use Rattle.shape_rules.specs.Forms.{Form, unsigned, common}
 use Rattle.shape_rules.specs.Operators.{form_of, work_form}
@@ -12,10 +12,9 @@ use Rattle.rtlil_text.specs.CellTables.{output_of}
 use Rattle.netlist.specs.Ids.{part_id}
 use Rattle.netlist.specs.Cells.{Operand, unary_cell, binary_cell, mux_cell}
 use Rattle.netlist.specs.Operands.{wire_part, const_spec, at_width, at_form, const_operand}
-use Rattle.netlist.specs.Operators.{Value, Drawing, nothing, inner_wire, whole, one_bit, as_form, at_least_one, linked, one_cell, alike, opposite, compared, reduced, shifted, unequal, divided, magnitude, operated, operator_drawing}
+use Rattle.netlist.specs.Operators.{Value, Drawing, nothing, inner_wire, whole, one_bit, as_form, at_least_one, linked, one_cell, reduced, shifted, unequal, divided, magnitude, operated, operator_drawing}
 use Rattle.netlist.proofs.Widths.{common_width_right}
-use Rattle.netlist.proofs.Fresh.{IsFresh}
-use Rattle.netlist.proofs.Drives.{block, value_bits, IsBare, IsBare-inner_wire, IsDrawn, IsDrawn-wider, IsDrawn-linked, IsDrawn-nothing, fresh_places, zero_more, output_bits-unary, output_bits-binary, output_bits-mux}
+use Rattle.netlist.proofs.Drives.{block, value_bits, IsBare-inner_wire, IsDrawn, IsDrawn-wider, IsDrawn-linked, fresh_places, zero_more, output_bits-unary, output_bits-binary, output_bits-mux}
 use Rattle.netlist.proofs.DrawnCells.{fresh_from, IsDrawn-cells, IsDrawn-one_cell}
 
 abbrev IsOperator : ℕ → Value → Drawing → Type 0
@@ -47,10 +46,10 @@ module _ (n : ℕ) (y : Value) where
   of_unequal g a b =
       IsDrawn-cells part_id n (n + 7) (inner_wire (part_id (n + 1)) 1 ∷ [])
       (binary_cell kind.Eq (part_id n) (as_form a (at_least_one g)) (as_form b (at_least_one g)) 1 (one_bit (part_id (n + 1)))
-        ∷ unary_cell kind.Not (part_id (n + 2)) (at_form (part_id (n + 1)) (unsigned 1) (unsigned 1)) 1 (whole y) ∷ [])
+      ∷ unary_cell kind.Not (part_id (n + 2)) (at_form (part_id (n + 1)) (unsigned 1) (unsigned 1)) 1 (whole y) ∷ [])
       (block (part_id (n + 1)) 1 ∷ []) (value_bits y)
       (fresh_from part_id n 7 (part_id (n + 1) ∷ part_id n ∷ part_id (n + 2) ∷ [])
-        (fresh_places part_id n 0 7 (1 ∷ 0 ∷ 2 ∷ []) (part_id (n + 1) ∷ part_id n ∷ part_id (n + 2) ∷ []) (λ i. part_id (n + 1) ∷ part_id (zero_more n i) ∷ part_id (n + 2) ∷ []) refl refl))
+      (fresh_places part_id n 0 7 (1 ∷ 0 ∷ 2 ∷ []) (part_id (n + 1) ∷ part_id n ∷ part_id (n + 2) ∷ []) (λ i. part_id (n + 1) ∷ part_id (zero_more n i) ∷ part_id (n + 2) ∷ []) refl refl))
       (IsBare-inner_wire (part_id (n + 1)) 1 (omega arith), tt)
       (λ i. block (part_id (n + 1)) 1 ++ (output_bits-unary kind.Not (part_id (n + 2)) (at_form (part_id (n + 1)) (unsigned 1) (unsigned 1)) 1 y.id y.form.width refl i ++ []))
       refl
@@ -59,36 +58,36 @@ module _ (n : ℕ) (y : Value) where
   of_divided k g a b e h =
       IsDrawn-cells part_id n (n + 7) (inner_wire (part_id (n + 1)) 1 ∷ inner_wire (part_id (n + 3)) g.width ∷ inner_wire (part_id (n + 5)) g.width ∷ [])
       (binary_cell kind.Eq (part_id n) (as_form b g) (const_operand g (pos 0)) 1 (one_bit (part_id (n + 1)))
-        ∷ mux_cell (part_id (n + 2)) g.width (at_width b.id b.form g.width) (const_spec g.width (pos 1)) (one_bit (part_id (n + 1))) (wire_part (part_id (n + 3)) 0 g.width)
-        ∷ binary_cell k (part_id (n + 4)) (as_form a g) (at_form (part_id (n + 3)) g g) g.width (wire_part (part_id (n + 5)) 0 g.width)
-        ∷ mux_cell (part_id (n + 6)) y.form.width (at_width (part_id (n + 5)) g y.form.width) (const_spec y.form.width (pos 0)) (one_bit (part_id (n + 1))) (whole y) ∷ [])
+      ∷ mux_cell (part_id (n + 2)) g.width (at_width b.id b.form g.width) (const_spec g.width (pos 1)) (one_bit (part_id (n + 1))) (wire_part (part_id (n + 3)) 0 g.width)
+      ∷ binary_cell k (part_id (n + 4)) (as_form a g) (at_form (part_id (n + 3)) g g) g.width (wire_part (part_id (n + 5)) 0 g.width)
+      ∷ mux_cell (part_id (n + 6)) y.form.width (at_width (part_id (n + 5)) g y.form.width) (const_spec y.form.width (pos 0)) (one_bit (part_id (n + 1))) (whole y) ∷ [])
       (block (part_id (n + 1)) 1 ∷ block (part_id (n + 3)) g.width ∷ block (part_id (n + 5)) g.width ∷ []) (value_bits y)
       (fresh_from part_id n 7 (part_id (n + 1) ∷ part_id (n + 3) ∷ part_id (n + 5) ∷ part_id n ∷ part_id (n + 2) ∷ part_id (n + 4) ∷ part_id (n + 6) ∷ [])
-        (fresh_places part_id n 0 7 (1 ∷ 3 ∷ 5 ∷ 0 ∷ 2 ∷ 4 ∷ 6 ∷ []) (part_id (n + 1) ∷ part_id (n + 3) ∷ part_id (n + 5) ∷ part_id n ∷ part_id (n + 2) ∷ part_id (n + 4) ∷ part_id (n + 6) ∷ [])
-          (λ i. part_id (n + 1) ∷ part_id (n + 3) ∷ part_id (n + 5) ∷ part_id (zero_more n i) ∷ part_id (n + 2) ∷ part_id (n + 4) ∷ part_id (n + 6) ∷ []) refl refl))
+      (fresh_places part_id n 0 7 (1 ∷ 3 ∷ 5 ∷ 0 ∷ 2 ∷ 4 ∷ 6 ∷ []) (part_id (n + 1) ∷ part_id (n + 3) ∷ part_id (n + 5) ∷ part_id n ∷ part_id (n + 2) ∷ part_id (n + 4) ∷ part_id (n + 6) ∷ [])
+      (λ i. part_id (n + 1) ∷ part_id (n + 3) ∷ part_id (n + 5) ∷ part_id (zero_more n i) ∷ part_id (n + 2) ∷ part_id (n + 4) ∷ part_id (n + 6) ∷ []) refl refl))
       (IsBare-inner_wire (part_id (n + 1)) 1 (omega arith), (IsBare-inner_wire (part_id (n + 3)) g.width h, (IsBare-inner_wire (part_id (n + 5)) g.width h, tt)))
       (λ i.
-        block (part_id (n + 1)) 1
-        ++ (output_bits-mux (part_id (n + 2)) g.width (at_width b.id b.form g.width) (const_spec g.width (pos 1)) (one_bit (part_id (n + 1))) (part_id (n + 3)) g.width i
-        ++ (output_bits-binary k (part_id (n + 4)) (as_form a g) (at_form (part_id (n + 3)) g g) g.width (part_id (n + 5)) g.width e i
-        ++ (output_bits-mux (part_id (n + 6)) y.form.width (at_width (part_id (n + 5)) g y.form.width) (const_spec y.form.width (pos 0)) (one_bit (part_id (n + 1))) y.id y.form.width i ++ []))))
+      block (part_id (n + 1)) 1
+      ++ (output_bits-mux (part_id (n + 2)) g.width (at_width b.id b.form g.width) (const_spec g.width (pos 1)) (one_bit (part_id (n + 1))) (part_id (n + 3)) g.width i
+      ++ (output_bits-binary k (part_id (n + 4)) (as_form a g) (at_form (part_id (n + 3)) g g) g.width (part_id (n + 5)) g.width e i
+      ++ (output_bits-mux (part_id (n + 6)) y.form.width (at_width (part_id (n + 5)) g y.form.width) (const_spec y.form.width (pos 0)) (one_bit (part_id (n + 1))) y.id y.form.width i ++ []))))
       refl
 
   of_magnitude : (g : Form) (a : Value) → 1 ≤ g.width → IsOperator n y (magnitude n g a y)
   of_magnitude g a h =
       IsDrawn-cells part_id n (n + 7) (inner_wire (part_id (n + 1)) 1 ∷ inner_wire (part_id (n + 3)) g.width ∷ [])
       (binary_cell kind.Lt (part_id n) (as_form a g) (const_operand g (pos 0)) 1 (one_bit (part_id (n + 1)))
-        ∷ binary_cell kind.Sub (part_id (n + 2)) (const_operand g (pos 0)) (as_form a g) g.width (wire_part (part_id (n + 3)) 0 g.width)
-        ∷ mux_cell (part_id (n + 4)) y.form.width (whole a) (at_width (part_id (n + 3)) g y.form.width) (one_bit (part_id (n + 1))) (whole y) ∷ [])
+      ∷ binary_cell kind.Sub (part_id (n + 2)) (const_operand g (pos 0)) (as_form a g) g.width (wire_part (part_id (n + 3)) 0 g.width)
+      ∷ mux_cell (part_id (n + 4)) y.form.width (whole a) (at_width (part_id (n + 3)) g y.form.width) (one_bit (part_id (n + 1))) (whole y) ∷ [])
       (block (part_id (n + 1)) 1 ∷ block (part_id (n + 3)) g.width ∷ []) (value_bits y)
       (fresh_from part_id n 7 (part_id (n + 1) ∷ part_id (n + 3) ∷ part_id n ∷ part_id (n + 2) ∷ part_id (n + 4) ∷ [])
-        (fresh_places part_id n 0 7 (1 ∷ 3 ∷ 0 ∷ 2 ∷ 4 ∷ []) (part_id (n + 1) ∷ part_id (n + 3) ∷ part_id n ∷ part_id (n + 2) ∷ part_id (n + 4) ∷ [])
-          (λ i. part_id (n + 1) ∷ part_id (n + 3) ∷ part_id (zero_more n i) ∷ part_id (n + 2) ∷ part_id (n + 4) ∷ []) refl refl))
+      (fresh_places part_id n 0 7 (1 ∷ 3 ∷ 0 ∷ 2 ∷ 4 ∷ []) (part_id (n + 1) ∷ part_id (n + 3) ∷ part_id n ∷ part_id (n + 2) ∷ part_id (n + 4) ∷ [])
+      (λ i. part_id (n + 1) ∷ part_id (n + 3) ∷ part_id (zero_more n i) ∷ part_id (n + 2) ∷ part_id (n + 4) ∷ []) refl refl))
       (IsBare-inner_wire (part_id (n + 1)) 1 (omega arith), (IsBare-inner_wire (part_id (n + 3)) g.width h, tt))
       (λ i.
-        block (part_id (n + 1)) 1
-        ++ (output_bits-binary kind.Sub (part_id (n + 2)) (const_operand g (pos 0)) (as_form a g) g.width (part_id (n + 3)) g.width refl i
-        ++ (output_bits-mux (part_id (n + 4)) y.form.width (whole a) (at_width (part_id (n + 3)) g y.form.width) (one_bit (part_id (n + 1))) y.id y.form.width i ++ [])))
+      block (part_id (n + 1)) 1
+      ++ (output_bits-binary kind.Sub (part_id (n + 2)) (const_operand g (pos 0)) (as_form a g) g.width (part_id (n + 3)) g.width refl i
+      ++ (output_bits-mux (part_id (n + 4)) y.form.width (whole a) (at_width (part_id (n + 3)) g y.form.width) (one_bit (part_id (n + 1))) y.id y.form.width i ++ [])))
       refl
 
 -- a shape that is common to others and to one with bits has bits

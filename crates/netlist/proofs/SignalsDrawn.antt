@@ -1,7 +1,7 @@
 -- What drives each signal: its own ids and wires, and one driver for each bit that no event gives.
-use Rattle.std.specs.Prelude.{◌≡◌, ◌≤◌, ◌<◌, ◌+◌, ◌*◌, ◌==◌, nat_lt, ℕ, zero, suc, Bool, true, false, cond, if◌then◌else◌, List, [], ◌∷◌, ◌++◌, map, length, IsPermutation, Option, Some, None, codes}
-use Rattle.std.specs.List.{flat_map, range_with_len, find, AllByRecursion}
-use Rattle.std.proofs.Common.{refl, sym, ap, ◌∙◌, arith, subst}
+use Rattle.std.specs.Prelude.{◌≡◌, ◌≤◌, ◌+◌, ◌*◌, nat_lt, ℕ, zero, suc, Bool, true, false, if◌then◌else◌, List, [], ◌∷◌, ◌++◌, map, Option, Some, None}
+use Rattle.std.specs.List.{flat_map, range_with_len, find}
+use Rattle.std.proofs.Common.{refl, sym, ap, arith, subst}
 use Rattle.std.proofs.lemmas.Bool.{cond_both, ltb-true, ltb-false}
 use Rattle.design_ir.specs.declared.ids.DomainId.{DomainId}
 use Rattle.design_ir.specs.declared.process.DesignProcess.{DesignProcess}
@@ -12,9 +12,9 @@ use Rattle.rtlil_text.specs.Sources.{Source, Constant}
 use Rattle.netlist.specs.Ids.{step_id}
 use Rattle.netlist.specs.Cells.{mux_cell}
 use Rattle.netlist.specs.Operands.{wire_part}
-use Rattle.netlist.specs.Operators.{Value, Drawing, nothing, inner_wire, whole}
+use Rattle.netlist.specs.Operators.{Drawing, nothing, inner_wire, whole}
 use Rattle.netlist.specs.Spelled.{spec_of}
-use Rattle.netlist.specs.Module.{signal_value, Driving, ByEvents, ByComb, ByClock, ByNothing, drives, driving_at, driving_by, driving, init_bits, bits_at_last, reset_of, clock_of, register_cell, register_drawing, link_to, driving_drawing, signal_drawing}
+use Rattle.netlist.specs.Module.{signal_value, Driving, ByEvents, ByComb, ByClock, ByNothing, drives, driving_at, driving_by, driving, init_bits, bits_at_last, reset_of, clock_of, register_cell, register_drawing, driving_drawing, signal_drawing}
 use Rattle.netlist.proofs.Places.{spec_bits-wire_part}
 use Rattle.netlist.proofs.Drives.{block, value_bits, IsBare-inner_wire, IsDrawn, IsDrawn-wider, IsDrawn-linked, IsDrawn-nothing, fresh_places, zero_more, output_bits-mux}
 use Rattle.netlist.proofs.DrawnCells.{fresh_from, IsDrawn-cells, IsDrawn-one_cell}
@@ -37,10 +37,10 @@ module _ (c : Circuit) (s : ℕ) where
       let next : List ℕ = step_id (n + 1) in
       IsDrawn-cells step_id n (n + 3) (inner_wire next w ∷ [])
       (mux_cell (step_id (n + 2)) w (bits_at_last c true p s) begin (whole (signal_value c r)) (wire_part next 0 w)
-        ∷ register_cell (step_id n) w (clock_of c d) (wire_part next 0 w) (whole (signal_value c s)) ∷ [])
+      ∷ register_cell (step_id n) w (clock_of c d) (wire_part next 0 w) (whole (signal_value c s)) ∷ [])
       (block next w ∷ []) (value_bits (signal_value c s))
       (fresh_from step_id n 3 (step_id (n + 1) ∷ step_id (n + 2) ∷ step_id n ∷ [])
-        (fresh_places step_id n 0 3 (1 ∷ 2 ∷ 0 ∷ []) (step_id (n + 1) ∷ step_id (n + 2) ∷ step_id n ∷ []) (λ i. step_id (n + 1) ∷ step_id (n + 2) ∷ step_id (zero_more n i) ∷ []) refl refl))
+      (fresh_places step_id n 0 3 (1 ∷ 2 ∷ 0 ∷ []) (step_id (n + 1) ∷ step_id (n + 2) ∷ step_id n ∷ []) (λ i. step_id (n + 1) ∷ step_id (n + 2) ∷ step_id (zero_more n i) ∷ []) refl refl))
       (IsBare-inner_wire next w h, tt)
       (λ i. output_bits-mux (step_id (n + 2)) w (bits_at_last c true p s) begin (whole (signal_value c r)) next w i ++ (spec_bits-wire_part (signal_value c s).id 0 w i ++ []))
       refl

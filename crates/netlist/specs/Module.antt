@@ -1,8 +1,7 @@
 -- The module of a design without memories.
-use Rattle.std.specs.Prelude.{ℕ, suc, ◌+◌, ◌*◌, ◌==◌, ◌&&◌, nat_lt, Bool, true, false, not, if◌then◌else◌, List, [], ◌∷◌, ◌++◌, map, length, slice_get, Option, Some, None, option_map, unwrap_or, is_none, option_and_then, codes}
-use Rattle.std.specs.List.{flat_map, find, list_any, range_with_len}
+use Rattle.std.specs.Prelude.{ℕ, suc, ◌+◌, ◌*◌, ◌==◌, ◌&&◌, nat_lt, Bool, true, false, if◌then◌else◌, List, [], ◌∷◌, ◌++◌, map, length, slice_get, Option, Some, None, option_map, unwrap_or, is_none, option_and_then, codes}
+use Rattle.std.specs.List.{flat_map, find, range_with_len}
 use Rattle.amh_bits.specs.Patterns.{pattern}
-use Rattle.shape_rules.specs.Forms.{Form, unsigned}
 use Rattle.shape_rules.specs.declared.cell.CellKind.TheVariants as kind
 use Rattle.design_ir.specs.declared.ids.SigId.{SigId}
 use Rattle.design_ir.specs.declared.ids.DomainId.{DomainId}
@@ -17,17 +16,16 @@ use Rattle.design_ir.specs.Guards.{driven}
 use Rattle.design_ir.specs.Circuits.{Circuit, is_among, is_input}
 use Rattle.rtlil_text.specs.declared.sig.SigPart.{SigPart}
 use Rattle.rtlil_text.specs.declared.cell.RtlCell.{RtlCell}
-use Rattle.rtlil_text.specs.declared.module.RtlLink.{RtlLink}
 use Rattle.rtlil_text.specs.declared.module.RtlWire.{RtlWire}
 use Rattle.rtlil_text.specs.declared.module.RtlModule.{RtlModule}
 use Rattle.rtlil_text.specs.declared.module.WirePort.{WirePort}
 use Rattle.rtlil_text.specs.declared.module.WirePort.TheVariants.{Inner, Input, Output}
-use Rattle.rtlil_text.specs.Sources.{Source, Constant, Net}
+use Rattle.rtlil_text.specs.Sources.{Constant, Net}
 use Rattle.rtlil_text.specs.Cells.{number_bits}
 use Rattle.netlist.specs.Ids.{signal_id, value_id, step_id}
 use Rattle.netlist.specs.Cells.{number_parameter, end_at, mux_cell}
-use Rattle.netlist.specs.Operands.{wire_part, const_spec}
-use Rattle.netlist.specs.Operators.{Value, Drawing, inner_wire, whole, nothing, one_bit}
+use Rattle.netlist.specs.Operands.{wire_part}
+use Rattle.netlist.specs.Operators.{Value, Drawing, inner_wire, whole, nothing}
 use Rattle.netlist.specs.Expressions.{part_count, drawn}
 use Rattle.netlist.specs.Latest.{Latest, latest_of}
 use Rattle.netlist.specs.Spelled.{spec_of}
