@@ -26,3 +26,4 @@ pub mod ResetLaws
 pub mod SignalBits
 pub mod RegisterSteps
 pub mod ClockEdges
+pub mod RegisterCells
