@@ -27,3 +27,4 @@ pub mod SignalBits
 pub mod RegisterSteps
 pub mod ClockEdges
 pub mod RegisterCells
+pub mod LatestFits
