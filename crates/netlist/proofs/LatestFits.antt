@@ -10,14 +10,13 @@ use Rattle.design_ir.specs.declared.process.DesignProcess.{DesignProcess}
 use Rattle.design_ir.specs.Pools.{Pooled}
 use Rattle.design_ir.specs.Values.{signal_form}
 use Rattle.design_ir.specs.Targets.{Bit}
-use Rattle.design_ir.specs.Trees.{Statement, assign, choose, Choices, Block, done, next}
+use Rattle.design_ir.specs.Trees.{assign, choose, Block, done, next}
 use Rattle.design_ir.specs.Circuits.{Circuit}
 use Rattle.rtlil_text.specs.declared.module.RtlWire.{RtlWire}
 use Rattle.rtlil_text.specs.Sources.{Source, Constant, Net, spec_bits}
 use Rattle.rtlil_text.specs.Rules.{IsSlice, SpecFits}
 use Rattle.netlist.specs.Operators.{Value}
 use Rattle.netlist.specs.Latest.{Latest, places, source_at, with_source, given, latest_of}
-use Rattle.netlist.specs.Spelled.{spec_of}
 use Rattle.netlist.specs.Module.{signal_value, expr_value, at_first, at_last, bits_at_last}
 use Rattle.netlist.proofs.Reading.{HasSign}
 use Rattle.netlist.proofs.SpelledLaws.{SourceFits, spec_bits-spec_of, spec_of_fits}

@@ -1,6 +1,6 @@
 -- A register's cell takes, bit by bit, what the design's step gives the register.
 use Rattle.std.specs.Prelude.{◌≡◌, refl, ℕ, ◌<◌, ◌≤◌, Bool, true, false, cond, List, [], length, slice_get, ℤ, Option, Some, is_some}
-use Rattle.std.proofs.Common.{sym, ◌∙◌, ap, arith, subst}
+use Rattle.std.proofs.Common.{sym, ◌∙◌, ap, subst}
 use Rattle.shape_rules.specs.declared.cell.CellKind.TheVariants.{Dff}
 use Rattle.design_ir.specs.declared.ids.DomainId.{DomainId}
 use Rattle.design_ir.specs.declared.domain.Domain.{Domain}
@@ -19,7 +19,7 @@ use Rattle.rtlil_text.specs.declared.module.RtlModule.{RtlModule}
 use Rattle.rtlil_text.specs.Sources.{spec_bits}
 use Rattle.rtlil_text.specs.Cells.{bit_at}
 use Rattle.rtlil_text.specs.Meaning.{Inputs, source_value, State as Kept}
-use Rattle.rtlil_text.specs.History.{Wires, wire_bit, next_bit}
+use Rattle.rtlil_text.specs.History.{wire_bit, next_bit}
 use Rattle.netlist.specs.Operators.{whole}
 use Rattle.netlist.specs.Carried.{Carries}
 use Rattle.netlist.specs.CombDrawings.{ObeysComb}
@@ -28,7 +28,7 @@ use Rattle.netlist.proofs.Reading.{bit_of}
 use Rattle.netlist.proofs.OneDriver.{IsOnly, find_only, only_holds}
 use Rattle.netlist.proofs.Driven.{driven_by, distinct_processes, is_register-only}
 use Rattle.netlist.proofs.SettledWires.{Shows, ArePlain}
-use Rattle.netlist.proofs.RegisterSteps.{next_spec, IsClocked, is_clocked, all_at, reads_register, held_register}
+use Rattle.netlist.proofs.RegisterSteps.{next_spec, is_clocked, all_at, reads_register, held_register}
 use Rattle.netlist.proofs.ClockEdges.{rises_edge}
 
 -- the cell that keeps register s

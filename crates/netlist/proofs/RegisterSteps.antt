@@ -1,12 +1,11 @@
 -- What a register takes at an edge, on its wires and in the design.
-use Rattle.std.specs.Prelude.{◌≡◌, ◌≢◌, refl, ℕ, zero, suc, ◌+◌, ◌*◌, ◌<◌, ◌≤◌, Bool, true, false, not, cond, List, [], ◌∷◌, map, length, slice_get, ℤ, pos, negsuc, Option, Some, None, fold, codes, ◌-ℤ◌, option_and_then}
+use Rattle.std.specs.Prelude.{◌≡◌, ◌≢◌, refl, ℕ, zero, suc, ◌+◌, ◌*◌, ◌<◌, ◌≤◌, Bool, true, false, not, cond, List, [], ◌∷◌, map, length, slice_get, ℤ, pos, Option, Some, None, fold, codes, ◌-ℤ◌}
 use Rattle.std.specs.List.{AllByRecursion, find}
 use Rattle.std.proofs.Common.{sym, ◌∙◌, ap, arith, subst, ⊎_elim}
 use Rattle.std.proofs.lemmas.Bool.{false≢true, cond_both, cond-true, cond-false}
 use Rattle.std.proofs.lemmas.List.{get_or-set_other}
 use Rattle.std.proofs.lemmas.List.Elements.{All-head}
-use Rattle.amh_bits.specs.Patterns.{IsOf}
-use Rattle.shape_rules.specs.Forms.{Form, unsigned}
+use Rattle.shape_rules.specs.Forms.{unsigned}
 use Rattle.shape_rules.specs.Operators.{is_zero}
 use Rattle.design_ir.specs.declared.ids.DomainId.{DomainId}
 use Rattle.design_ir.specs.declared.signal.Sig.{Sig}
@@ -37,8 +36,7 @@ use Rattle.netlist.specs.Carried.{Carries}
 use Rattle.netlist.specs.CombDrawings.{ObeysUnkept, ObeysComb}
 use Rattle.netlist.specs.Spelled.{spec_of}
 use Rattle.netlist.specs.Module.{signal_value, drives, driving_by, driving, ByEvents, ByComb, ByClock, ByNothing, init_bits, bits_at_last, reset_of, clock_of, register_cell, register_drawing, signal_drawing}
-use Rattle.netlist.proofs.Places.{slice_get-wire_part}
-use Rattle.netlist.proofs.Reading.{bit_of, HasBits, Reads, has_carried, reads_low}
+use Rattle.netlist.proofs.Reading.{HasBits, Reads, reads_low}
 use Rattle.netlist.proofs.Widths.{has_equal}
 use Rattle.netlist.proofs.Bitwise.{mux_cell_bits}
 use Rattle.netlist.proofs.BitWrites.{some_signal}
