@@ -158,7 +158,8 @@ part_count (expr.Cast a signed) = 0
 part_count (expr.Matches a patterns) = 6 * length patterns
 part_count (expr.Reset domain place) = 0
 
--- what gives y the expression, where the wires of signals and of other expressions are known
+-- what gives y the expression, where the wires of signals and of other expressions are known; a reset that stands for no
+-- signal, which no process reads, is 0
 abbrev pub shown : (signal value : ℕ → Value) → ℕ → Value → Expr → Drawing
 shown signal value n y (expr.Const c s) = linked y (const_spec s.width c)
 shown signal value n y (expr.Sig s) = linked y (whole (signal s.0))
@@ -171,7 +172,7 @@ shown signal value n y (expr.Part a offset width stride) = selected n (value a.0
 shown signal value n y (expr.Pick index es) = picked_of n (value index.0) (in_reach (value index.0).form.width (map (λ (e : ExprId). value e.0) es)) y
 shown signal value n y (expr.Cast a signed) = linked y (whole (value a.0))
 shown signal value n y (expr.Matches a patterns) = matched_any n (value a.0) patterns y
-shown signal value n y (expr.Reset domain place) = nothing
+shown signal value n y (expr.Reset domain place) = linked y (const_spec 1 (pos 0))
 
 -- an expression without bits takes nothing
 abbrev pub drawn : (signal value : ℕ → Value) → ℕ → Value → Expr → Drawing
