@@ -28,3 +28,4 @@ pub mod RegisterSteps
 pub mod ClockEdges
 pub mod RegisterCells
 pub mod LatestFits
+pub mod SanityStatements
