@@ -76,15 +76,15 @@ module _ (domains : List Domain) (distinct : IsDistinct nat_eq (map (λ (z : Dom
       → at (fold (toggle domains) cur ds) x.clk.0 ≡ cond (list_any (λ (e : DomainId). e.0 == d) ds) (pos 1 -ℤ at cur x.clk.0) (at cur x.clk.0)
   toggles_at [] least cur there h = refl
   toggles_at (e ∷ ds) least cur there h = ⊎_elim
-    (λ (same : e.0 ≡ d).
+      (λ (same : e.0 ≡ d).
       toggles_past ds (suc e.0) (toggle domains cur e) (omega arith) h.1
       ∙ toggle-same e cur there same
       ∙ ap (λ t. cond (t || list_any (λ (y : DomainId). y.0 == d) ds) (pos 1 -ℤ at cur x.clk.0) (at cur x.clk.0)) (sym (eq-eqb e.0 d same)))
-    (λ (apart : e.0 ≢ d).
+      (λ (apart : e.0 ≢ d).
       toggles_at ds (suc e.0) (toggle domains cur e) (omega (arith, there, length-toggle_at cur (slice_get domains e.0))) h.1
       ∙ ap (λ z. cond (list_any (λ (y : DomainId). y.0 == d) ds) (pos 1 -ℤ z) z) (toggle-other e cur apart)
       ∙ ap (λ t. cond (t || list_any (λ (y : DomainId). y.0 == d) ds) (pos 1 -ℤ at cur x.clk.0) (at cur x.clk.0)) (sym (ne_eqb e.0 d apart)))
-    (cases_eq e.0 d)
+      (cases_eq e.0 d)
 
 -- ---- an edge from 0 to 1
 

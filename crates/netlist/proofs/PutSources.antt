@@ -96,10 +96,10 @@ module _ (wires : Wires) (pool : Pooled) where
     own_sourced : IsSourced wires pool latest cur b.sig → IsSourced wires pool (with_source b x latest) (put_bit pool b n cur) b.sig
     own_sourced h = record {
       bits = λ i l. ⊎_elim
-        (λ (e : i ≡ b.index). subst (λ j. source_value wires (with_source b x latest b.sig j) ≡ Some (bit_of (at (put_bit pool b n cur) b.sig) j)) (sym e)
+          (λ (e : i ≡ b.index). subst (λ j. source_value wires (with_source b x latest b.sig j) ≡ Some (bit_of (at (put_bit pool b n cur) b.sig) j)) (sym e)
           (ap (source_value wires) (with_source_same b x latest) ∙ is ∙ ap (λ d. Some (d == 1)) (sym (int_bit-put_bit_same pool b n cur low inside there))))
-        (λ (e : i ≢ b.index). ap (source_value wires) (with_source_index b x latest b.sig i e) ∙ h.bits i l ∙ ap (λ d. Some (d == 1)) (sym (int_bit-put_bit_other pool b n cur low inside i there l e)))
-        (cases_eq i b.index);
+          (λ (e : i ≢ b.index). ap (source_value wires) (with_source_index b x latest b.sig i e) ∙ h.bits i l ∙ ap (λ d. Some (d == 1)) (sym (int_bit-put_bit_other pool b n cur low inside i there l e)))
+          (cases_eq i b.index);
     }
 
     other_sourced : (s : ℕ) → s ≢ b.sig → IsSourced wires pool latest cur s → IsSourced wires pool (with_source b x latest) (put_bit pool b n cur) s
@@ -109,9 +109,9 @@ module _ (wires : Wires) (pool : Pooled) where
 
     one_sourced : (s : ℕ) → IsSourced wires pool latest cur s → IsSourced wires pool (with_source b x latest) (put_bit pool b n cur) s
     one_sourced s h = ⊎_elim
-      (λ (e : s ≡ b.sig). subst (λ t. IsSourced wires pool (with_source b x latest) (put_bit pool b n cur) t) (sym e) (own_sourced (subst (λ t. IsSourced wires pool latest cur t) e h)))
-      (λ (e : s ≢ b.sig). other_sourced s e h)
-      (cases_eq s b.sig)
+        (λ (e : s ≡ b.sig). subst (λ t. IsSourced wires pool (with_source b x latest) (put_bit pool b n cur) t) (sym e) (own_sourced (subst (λ t. IsSourced wires pool latest cur t) e h)))
+        (λ (e : s ≢ b.sig). other_sourced s e h)
+        (cases_eq s b.sig)
 
   -- ---- one assignment
 

@@ -175,9 +175,9 @@ module _ (c : Circuit) (design : IsDesign c) (flat : c.memories ≡ []) (s : ℕ
             let after : List ℤ = put c.pool env p.body folded.then in
             risen up ∙ cond_both (is_reset c env d.0) (reset_all c.pool.signals after (driven c.pool p.body)) after (λ xs. at xs s ≡ at after s)
             (λ on. ⊎_elim
-              (λ (less : sig.0.reset_less ≡ true). reset_all-less c.pool.signals s sig.0 sig.1 less (driven c.pool p.body) after)
-              (λ (off : is_reset c env d.0 ≡ false). absurd (false≢true (sym off ∙ on)))
-              (reset_of-none c d env s sig.0 sig.1 e))
+            (λ (less : sig.0.reset_less ≡ true). reset_all-less c.pool.signals s sig.0 sig.1 less (driven c.pool p.body) after)
+            (λ (off : is_reset c env d.0 ≡ false). absurd (false≢true (sym off ∙ on)))
+            (reset_of-none c d env s sig.0 sig.1 e))
             (λ off. refl)
 
         -- with one, it takes its init where that is not 0
@@ -189,8 +189,8 @@ module _ (c : Circuit) (design : IsDesign c) (flat : c.memories ≡ []) (s : ℕ
             risen up
             ∙ ap (λ t. at (cond t (reset_all c.pool.signals after (driven c.pool p.body)) after) s) (is_reset-of c d env r h.1)
             ∙ cond_both (not (is_zero (at env r))) (reset_all c.pool.signals after (driven c.pool p.body)) after (λ xs. at xs s ≡ cond (not (is_zero (at env r))) sig.0.init (at after s))
-              (λ on. reset_all-full c.pool.signals s sig.0 sig.1 h.0 (driven c.pool p.body) after there only.here ∙ sym (cond-true (not (is_zero (at env r))) sig.0.init (at after s) on))
-              (λ off. sym (cond-false (not (is_zero (at env r))) sig.0.init (at after s) off))
+            (λ on. reset_all-full c.pool.signals s sig.0 sig.1 h.0 (driven c.pool p.body) after there only.here ∙ sym (cond-true (not (is_zero (at env r))) sig.0.init (at after s) on))
+            (λ off. sym (cond-false (not (is_zero (at env r))) sig.0.init (at after s) off))
 
         -- the wire of a reset has one bit
         reset_bit : (r : ℕ) → IsResetOf c d r → bit_at (source_value wires) (spec_bits (whole (signal_value c r))) 0 ≡ Some (not (is_zero (at env r)))

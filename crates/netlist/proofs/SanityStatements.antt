@@ -1,5 +1,5 @@
 -- What small blocks give the bits of a signal.
-use Rattle.std.specs.Prelude.{◌≡◌, refl, ℕ, true, false, List, [], ◌∷◌, ℤ, pos, Some, None}
+use Rattle.std.specs.Prelude.{◌≡◌, refl, true, false, [], ◌∷◌, pos}
 use Rattle.shape_rules.specs.Forms.{unsigned}
 use Rattle.design_ir.specs.declared.expr.Expr.TheVariants.{Const, Slice}
 use Rattle.design_ir.specs.declared.process.DesignProcess.{DesignProcess}
