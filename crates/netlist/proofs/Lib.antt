@@ -17,6 +17,7 @@ pub mod SpelledLaws
 pub mod FixedTargets
 pub mod BitWrites
 pub mod PutSources
+pub mod Origins
 pub mod OneDriver
 pub mod Driven
 pub mod SourcedSpecs
