@@ -47,15 +47,15 @@ nat_bit-with_bit_other j b bits i h apart =
     let high : ℕ = bits / 2 ^ (j + 1) in
     ⊎_elim
     (λ (under : i < j).
-      beneath high low (j + 1) i (low_small j b bits h) (omega arith)
-      ∙ beneath b (bits % 2 ^ j) j i (mod_below bits (2 ^ j) (pow_pos j)) under
-      ∙ nat_bit_mod bits j i under)
+    beneath high low (j + 1) i (low_small j b bits h) (omega arith)
+    ∙ beneath b (bits % 2 ^ j) j i (mod_below bits (2 ^ j) (pow_pos j)) under
+    ∙ nat_bit_mod bits j i under)
     (λ (over : j ≤ i).
-      let e : i ≡ (j + 1) + (i - suc j) = omega (arith, apart) in
-      ap (nat_bit (with_bit j b bits)) e
-      ∙ above high low (j + 1) (i - suc j) (low_small j b bits h)
-      ∙ divided bits (j + 1) (i - suc j)
-      ∙ ap (nat_bit bits) (sym e))
+    let e : i ≡ (j + 1) + (i - suc j) = omega (arith, apart) in
+    ap (nat_bit (with_bit j b bits)) e
+    ∙ above high low (j + 1) (i - suc j) (low_small j b bits h)
+    ∙ divided bits (j + 1) (i - suc j)
+    ∙ ap (nat_bit bits) (sym e))
     (cases_lt i j)
 
 -- ---- the numbers of signals

@@ -1,8 +1,8 @@
 -- A register's cell has its edge where its domain rises.
-use Rattle.std.specs.Prelude.{◌≡◌, ◌≢◌, refl, ℕ, zero, suc, ◌<◌, ◌≤◌, ◌==◌, ◌&&◌, ◌||◌, nat_eq, Bool, true, false, IsTrue, not, cond, List, [], ◌∷◌, map, length, slice_get, slice_set, ℤ, pos, negsuc, ◌-ℤ◌, Option, Some, None, fold, option_map, unwrap_or}
+use Rattle.std.specs.Prelude.{◌≡◌, ◌≢◌, refl, ℕ, zero, suc, ◌<◌, ◌==◌, ◌&&◌, ◌||◌, nat_eq, Bool, true, false, not, cond, List, [], ◌∷◌, map, length, slice_get, ℤ, pos, negsuc, ◌-ℤ◌, Option, Some, None, fold, option_map, unwrap_or}
 use Rattle.std.specs.List.{AllByRecursion, IsDistinct, list_any}
 use Rattle.std.proofs.Common.{sym, ◌∙◌, ap, arith, subst, ⊎_elim}
-use Rattle.std.proofs.lemmas.Bool.{false≢true, cases_eq, eqb-false, eq-eqb, ne_eqb}
+use Rattle.std.proofs.lemmas.Bool.{cases_eq, eqb-false, eq-eqb, ne_eqb}
 use Rattle.std.proofs.lemmas.List.{length-set, get_or-set_same, get_or-set_other}
 use Rattle.std.proofs.lemmas.Map.Keys.{IsDistinct-head, IsDistinct-tail}
 use Rattle.amh_bits.specs.Patterns.{IsOf}
@@ -76,15 +76,15 @@ module _ (domains : List Domain) (distinct : IsDistinct nat_eq (map (λ (z : Dom
       → at (fold (toggle domains) cur ds) x.clk.0 ≡ cond (list_any (λ (e : DomainId). e.0 == d) ds) (pos 1 -ℤ at cur x.clk.0) (at cur x.clk.0)
   toggles_at [] least cur there h = refl
   toggles_at (e ∷ ds) least cur there h = ⊎_elim
-    (λ (same : e.0 ≡ d).
+      (λ (same : e.0 ≡ d).
       toggles_past ds (suc e.0) (toggle domains cur e) (omega arith) h.1
       ∙ toggle-same e cur there same
       ∙ ap (λ t. cond (t || list_any (λ (y : DomainId). y.0 == d) ds) (pos 1 -ℤ at cur x.clk.0) (at cur x.clk.0)) (sym (eq-eqb e.0 d same)))
-    (λ (apart : e.0 ≢ d).
+      (λ (apart : e.0 ≢ d).
       toggles_at ds (suc e.0) (toggle domains cur e) (omega (arith, there, length-toggle_at cur (slice_get domains e.0))) h.1
       ∙ ap (λ z. cond (list_any (λ (y : DomainId). y.0 == d) ds) (pos 1 -ℤ z) z) (toggle-other e cur apart)
       ∙ ap (λ t. cond (t || list_any (λ (y : DomainId). y.0 == d) ds) (pos 1 -ℤ at cur x.clk.0) (at cur x.clk.0)) (sym (ne_eqb e.0 d apart)))
-    (cases_eq e.0 d)
+      (cases_eq e.0 d)
 
 -- ---- an edge from 0 to 1
 

@@ -46,11 +46,11 @@ input_undriven : (c : Circuit) (s : ℕ) (ports : List Port) → AllByRecursion 
     → list_any (λ (p : Port). p.is_input && (p.sig.0 == s)) ports ≡ true → list_any (λ ss. is_among ss s) (drivers c) ≡ false
 input_undriven c s [] h e = absurd (false≢true e)
 input_undriven c s (p ∷ ports) h e = ⊎_elim
-  (λ (here : (p.is_input && (p.sig.0 == s)) ≡ true).
+    (λ (here : (p.is_input && (p.sig.0 == s)) ≡ true).
     let parts = and_parts p.is_input (p.sig.0 == s) here in
     subst (λ n. list_any (λ ss. is_among ss n) (drivers c) ≡ false) (eqb-true p.sig.0 s parts.1) (h.0 parts.0))
-  (λ (more : list_any (λ (q : Port). q.is_input && (q.sig.0 == s)) ports ≡ true). input_undriven c s ports h.1 more)
-  (or_cases (p.is_input && (p.sig.0 == s)) (list_any (λ (q : Port). q.is_input && (q.sig.0 == s)) ports) e)
+    (λ (more : list_any (λ (q : Port). q.is_input && (q.sig.0 == s)) ports ≡ true). input_undriven c s ports h.1 more)
+    (or_cases (p.is_input && (p.sig.0 == s)) (list_any (λ (q : Port). q.is_input && (q.sig.0 == s)) ports) e)
 
 none_listed : (f : DesignProcess → List ℕ) (s : ℕ) (ps : List DesignProcess) → list_any (λ ss. is_among ss s) (map f ps) ≡ false → AreNone f s ps
 none_listed f s [] e = tt

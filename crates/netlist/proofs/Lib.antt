@@ -29,6 +29,7 @@ pub mod SpelledLaws
 pub mod FixedTargets
 pub mod BitWrites
 pub mod PutSources
+pub mod Origins
 pub mod OneDriver
 pub mod Driven
 pub mod SourcedSpecs
@@ -60,3 +61,6 @@ pub mod SignalCells
 pub mod ModuleRules
 pub mod ModuleParts
 pub mod PartCounts
+pub mod RegisterCells
+pub mod LatestFits
+pub mod SanityStatements

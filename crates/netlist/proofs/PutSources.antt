@@ -76,19 +76,19 @@ AreGiven P (next (choose arms) rest) = AreGiven P rest
 
 -- ---- one bit
 
+pub with_source_same : (b : Bit) (x : Source) (latest : Latest) → with_source b x latest b.sig b.index ≡ x
+with_source_same b x latest =
+    ap (λ t. cond (t && (b.index == b.index)) x (latest b.sig b.index)) (eq-eqb b.sig b.sig refl)
+    ∙ ap (λ t. cond t x (latest b.sig b.index)) (eq-eqb b.index b.index refl)
+
+pub with_source_sig : (b : Bit) (x : Source) (latest : Latest) (s i : ℕ) → s ≢ b.sig → with_source b x latest s i ≡ latest s i
+with_source_sig b x latest s i apart = ap (λ t. cond (t && (i == b.index)) x (latest s i)) (ne_eqb s b.sig apart)
+
+pub with_source_index : (b : Bit) (x : Source) (latest : Latest) (s i : ℕ) → i ≢ b.index → with_source b x latest s i ≡ latest s i
+with_source_index b x latest s i apart =
+    ap (λ t. cond t x (latest s i)) (and_right (s == b.sig) (i == b.index) (ne_eqb i b.index apart))
+
 module _ (wires : Wires) (pool : Pooled) where
-  with_source_same : (b : Bit) (x : Source) (latest : Latest) → with_source b x latest b.sig b.index ≡ x
-  with_source_same b x latest =
-      ap (λ t. cond (t && (b.index == b.index)) x (latest b.sig b.index)) (eq-eqb b.sig b.sig refl)
-      ∙ ap (λ t. cond t x (latest b.sig b.index)) (eq-eqb b.index b.index refl)
-
-  with_source_sig : (b : Bit) (x : Source) (latest : Latest) (s i : ℕ) → s ≢ b.sig → with_source b x latest s i ≡ latest s i
-  with_source_sig b x latest s i apart = ap (λ t. cond (t && (i == b.index)) x (latest s i)) (ne_eqb s b.sig apart)
-
-  with_source_index : (b : Bit) (x : Source) (latest : Latest) (s i : ℕ) → i ≢ b.index → with_source b x latest s i ≡ latest s i
-  with_source_index b x latest s i apart =
-      ap (λ t. cond t x (latest s i)) (and_right (s == b.sig) (i == b.index) (ne_eqb i b.index apart))
-
   module _ (b : Bit) (x : Source) (n : ℕ) (latest : Latest) (cur : List ℤ) (count : length cur ≡ length pool.signals) (inside : b.index < (signal_form pool.signals b.sig).width) (low : n < 2) (is : source_value wires x ≡ Some (n == 1)) where
     there : b.sig < length cur
     there = omega (arith, count, some_signal pool.signals b.sig (omega (arith, inside)))
@@ -96,10 +96,10 @@ module _ (wires : Wires) (pool : Pooled) where
     own_sourced : IsSourced wires pool latest cur b.sig → IsSourced wires pool (with_source b x latest) (put_bit pool b n cur) b.sig
     own_sourced h = record {
       bits = λ i l. ⊎_elim
-        (λ (e : i ≡ b.index). subst (λ j. source_value wires (with_source b x latest b.sig j) ≡ Some (bit_of (at (put_bit pool b n cur) b.sig) j)) (sym e)
+          (λ (e : i ≡ b.index). subst (λ j. source_value wires (with_source b x latest b.sig j) ≡ Some (bit_of (at (put_bit pool b n cur) b.sig) j)) (sym e)
           (ap (source_value wires) (with_source_same b x latest) ∙ is ∙ ap (λ d. Some (d == 1)) (sym (int_bit-put_bit_same pool b n cur low inside there))))
-        (λ (e : i ≢ b.index). ap (source_value wires) (with_source_index b x latest b.sig i e) ∙ h.bits i l ∙ ap (λ d. Some (d == 1)) (sym (int_bit-put_bit_other pool b n cur low inside i there l e)))
-        (cases_eq i b.index);
+          (λ (e : i ≢ b.index). ap (source_value wires) (with_source_index b x latest b.sig i e) ∙ h.bits i l ∙ ap (λ d. Some (d == 1)) (sym (int_bit-put_bit_other pool b n cur low inside i there l e)))
+          (cases_eq i b.index);
     }
 
     other_sourced : (s : ℕ) → s ≢ b.sig → IsSourced wires pool latest cur s → IsSourced wires pool (with_source b x latest) (put_bit pool b n cur) s
@@ -109,9 +109,9 @@ module _ (wires : Wires) (pool : Pooled) where
 
     one_sourced : (s : ℕ) → IsSourced wires pool latest cur s → IsSourced wires pool (with_source b x latest) (put_bit pool b n cur) s
     one_sourced s h = ⊎_elim
-      (λ (e : s ≡ b.sig). subst (λ t. IsSourced wires pool (with_source b x latest) (put_bit pool b n cur) t) (sym e) (own_sourced (subst (λ t. IsSourced wires pool latest cur t) e h)))
-      (λ (e : s ≢ b.sig). other_sourced s e h)
-      (cases_eq s b.sig)
+        (λ (e : s ≡ b.sig). subst (λ t. IsSourced wires pool (with_source b x latest) (put_bit pool b n cur) t) (sym e) (own_sourced (subst (λ t. IsSourced wires pool latest cur t) e h)))
+        (λ (e : s ≢ b.sig). other_sourced s e h)
+        (cases_eq s b.sig)
 
   -- ---- one assignment
 

@@ -1,12 +1,11 @@
 -- What a register takes at an edge, on its wires and in the design.
-use Rattle.std.specs.Prelude.{◌≡◌, ◌≢◌, refl, ℕ, zero, suc, ◌+◌, ◌*◌, ◌<◌, ◌≤◌, Bool, true, false, not, cond, List, [], ◌∷◌, map, length, slice_get, ℤ, pos, negsuc, Option, Some, None, fold, codes, ◌-ℤ◌, option_and_then}
+use Rattle.std.specs.Prelude.{◌≡◌, ◌≢◌, refl, ℕ, zero, suc, ◌+◌, ◌*◌, ◌<◌, ◌≤◌, Bool, true, false, not, cond, List, [], ◌∷◌, map, length, slice_get, ℤ, pos, Option, Some, None, fold, codes, ◌-ℤ◌}
 use Rattle.std.specs.List.{AllByRecursion, find}
 use Rattle.std.proofs.Common.{sym, ◌∙◌, ap, arith, subst, ⊎_elim}
 use Rattle.std.proofs.lemmas.Bool.{false≢true, cond_both, cond-true, cond-false}
 use Rattle.std.proofs.lemmas.List.{get_or-set_other}
 use Rattle.std.proofs.lemmas.List.Elements.{All-head}
-use Rattle.amh_bits.specs.Patterns.{IsOf}
-use Rattle.shape_rules.specs.Forms.{Form, unsigned}
+use Rattle.shape_rules.specs.Forms.{unsigned}
 use Rattle.shape_rules.specs.Operators.{is_zero}
 use Rattle.design_ir.specs.declared.ids.DomainId.{DomainId}
 use Rattle.design_ir.specs.declared.signal.Sig.{Sig}
@@ -37,8 +36,7 @@ use Rattle.netlist.specs.Carried.{Carries}
 use Rattle.netlist.specs.CombDrawings.{ObeysUnkept, ObeysComb}
 use Rattle.netlist.specs.Spelled.{spec_of}
 use Rattle.netlist.specs.Module.{signal_value, drives, driving_by, driving, ByEvents, ByComb, ByClock, ByNothing, init_bits, bits_at_last, reset_of, clock_of, register_cell, register_drawing, signal_drawing}
-use Rattle.netlist.proofs.Places.{slice_get-wire_part}
-use Rattle.netlist.proofs.Reading.{bit_of, HasBits, Reads, has_carried, reads_low}
+use Rattle.netlist.proofs.Reading.{HasBits, Reads, reads_low}
 use Rattle.netlist.proofs.Widths.{has_equal}
 use Rattle.netlist.proofs.Bitwise.{mux_cell_bits}
 use Rattle.netlist.proofs.BitWrites.{some_signal}
@@ -177,9 +175,9 @@ module _ (c : Circuit) (design : IsDesign c) (flat : c.memories ≡ []) (s : ℕ
             let after : List ℤ = put c.pool env p.body folded.then in
             risen up ∙ cond_both (is_reset c env d.0) (reset_all c.pool.signals after (driven c.pool p.body)) after (λ xs. at xs s ≡ at after s)
             (λ on. ⊎_elim
-              (λ (less : sig.0.reset_less ≡ true). reset_all-less c.pool.signals s sig.0 sig.1 less (driven c.pool p.body) after)
-              (λ (off : is_reset c env d.0 ≡ false). absurd (false≢true (sym off ∙ on)))
-              (reset_of-none c d env s sig.0 sig.1 e))
+            (λ (less : sig.0.reset_less ≡ true). reset_all-less c.pool.signals s sig.0 sig.1 less (driven c.pool p.body) after)
+            (λ (off : is_reset c env d.0 ≡ false). absurd (false≢true (sym off ∙ on)))
+            (reset_of-none c d env s sig.0 sig.1 e))
             (λ off. refl)
 
         -- with one, it takes its init where that is not 0
@@ -191,8 +189,8 @@ module _ (c : Circuit) (design : IsDesign c) (flat : c.memories ≡ []) (s : ℕ
             risen up
             ∙ ap (λ t. at (cond t (reset_all c.pool.signals after (driven c.pool p.body)) after) s) (is_reset-of c d env r h.1)
             ∙ cond_both (not (is_zero (at env r))) (reset_all c.pool.signals after (driven c.pool p.body)) after (λ xs. at xs s ≡ cond (not (is_zero (at env r))) sig.0.init (at after s))
-              (λ on. reset_all-full c.pool.signals s sig.0 sig.1 h.0 (driven c.pool p.body) after there only.here ∙ sym (cond-true (not (is_zero (at env r))) sig.0.init (at after s) on))
-              (λ off. sym (cond-false (not (is_zero (at env r))) sig.0.init (at after s) off))
+            (λ on. reset_all-full c.pool.signals s sig.0 sig.1 h.0 (driven c.pool p.body) after there only.here ∙ sym (cond-true (not (is_zero (at env r))) sig.0.init (at after s) on))
+            (λ off. sym (cond-false (not (is_zero (at env r))) sig.0.init (at after s) off))
 
         -- the wire of a reset has one bit
         reset_bit : (r : ℕ) → IsResetOf c d r → bit_at (source_value wires) (spec_bits (whole (signal_value c r))) 0 ≡ Some (not (is_zero (at env r)))

@@ -41,9 +41,9 @@ module _ (sigs : List Sig) (s : ℕ) where
     -- a fact of the signal's number after one reset, by whether it is the signal's
     by_signal : (P : ℤ → Type 0) (t : ℕ) (cur : List ℤ) → P (at (cond x.reset_less cur (slice_set cur s x.init)) s) → P (at cur s) → P (at (reset_to t cur (slice_get sigs t)) s)
     by_signal P t cur mine others = ⊎_elim
-      (λ (e : s ≡ t). subst (λ u. P (at (reset_to u cur (slice_get sigs u)) s)) e (subst P (sym (own cur)) mine))
-      (λ (e : s ≢ t). subst P (sym (reset_to-other t cur (slice_get sigs t) e)) others)
-      (cases_eq s t)
+        (λ (e : s ≡ t). subst (λ u. P (at (reset_to u cur (slice_get sigs u)) s)) e (subst P (sym (own cur)) mine))
+        (λ (e : s ≢ t). subst P (sym (reset_to-other t cur (slice_get sigs t) e)) others)
+        (cases_eq s t)
 
     pub reset_all-less : x.reset_less ≡ true → (ss : List ℕ) (cur : List ℤ) → at (reset_all sigs cur ss) s ≡ at cur s
     reset_all-less less [] cur = refl
@@ -66,10 +66,10 @@ module _ (sigs : List Sig) (s : ℕ) where
       pub reset_all-full : (ss : List ℕ) (cur : List ℤ) → s < length cur → is_among ss s ≡ true → at (reset_all sigs cur ss) s ≡ x.init
       reset_all-full [] cur there e = absurd (false≢true e)
       reset_all-full (t ∷ ss) cur there e = ⊎_elim
-        (λ (same : (t == s) ≡ true). stays ss (reset_to t cur (slice_get sigs t)) (there_still t cur there)
+          (λ (same : (t == s) ≡ true). stays ss (reset_to t cur (slice_get sigs t)) (there_still t cur there)
           (subst (λ u. at (reset_to u cur (slice_get sigs u)) s ≡ x.init) (sym (eqb-true t s same)) (own cur ∙ put_init cur there)))
-        (λ (more : is_among ss s ≡ true). reset_all-full ss (reset_to t cur (slice_get sigs t)) (there_still t cur there) more)
-        (or_cases (t == s) (is_among ss s) e)
+          (λ (more : is_among ss s ≡ true). reset_all-full ss (reset_to t cur (slice_get sigs t)) (there_still t cur there) more)
+          (or_cases (t == s) (is_among ss s) e)
 
 -- ---- the reset of a domain
 

@@ -175,9 +175,9 @@ module _ (wires : Wires) (c : Circuit) (env : List ℤ) (design : IsDesign c) (r
     -- so is whatever the state holds
     pub settled_held : s < length c.pool.signals → is_held c s ≡ true → at env s ≡ at st.held s
     settled_held there held = ⊎_elim
-      (λ (e : is_input c s ≡ true). settled_input there e)
-      (λ (e : is_register c s ≡ true). by_found (find (drives c s) c.processes) refl e)
-      (or_cases (is_input c s) (is_register c s) held)
+        (λ (e : is_input c s ≡ true). settled_input there e)
+        (λ (e : is_register c s ≡ true). by_found (find (drives c s) c.processes) refl e)
+        (or_cases (is_input c s) (is_register c s) held)
       where
         by_domain : (p : DesignProcess) (d : Option DomainId) → find (drives c s) c.processes ≡ Some p → p.domain ≡ d → is_register c s ≡ true → at env s ≡ at st.held s
         by_domain p None f d e =

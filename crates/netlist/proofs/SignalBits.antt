@@ -1,5 +1,5 @@
 -- The one bit of a signal of a clock or a reset.
-use Rattle.std.specs.Prelude.{◌≡◌, ℕ, zero, suc, ◌<◌, ◌^◌, false, not, Some, slice_get, option_and_then, ℤ, pos, negsuc, refl}
+use Rattle.std.specs.Prelude.{◌≡◌, ℕ, zero, suc, false, not, Some, option_and_then, ℤ, pos, negsuc, refl}
 use Rattle.std.proofs.Common.{◌∙◌, ap, arith, subst}
 use Rattle.amh_bits.specs.Patterns.{IsOf}
 use Rattle.shape_rules.specs.Forms.{Form, unsigned}
@@ -10,7 +10,7 @@ use Rattle.rtlil_text.specs.Sources.{spec_bits}
 use Rattle.rtlil_text.specs.Cells.{bit_at}
 use Rattle.rtlil_text.specs.Meaning.{source_value}
 use Rattle.rtlil_text.specs.History.{Wires}
-use Rattle.netlist.specs.Operators.{Value, whole}
+use Rattle.netlist.specs.Operators.{whole}
 use Rattle.netlist.specs.Carried.{IsIn, Carries}
 use Rattle.netlist.specs.Module.{signal_value}
 use Rattle.netlist.proofs.Places.{slice_get-wire_part}

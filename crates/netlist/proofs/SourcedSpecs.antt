@@ -33,9 +33,9 @@ reads_sources wires sources w x h =
     record {
       wide = ap length (spec_bits-spec_of all) ∙ length-map (range_with_len 0 w) sources ∙ length-range_with_len 0 w;
       at = λ k l.
-        ap (λ ss. option_and_then (source_value wires) (slice_get ss k)) (spec_bits-spec_of all)
-        ∙ ap (option_and_then (source_value wires)) (slice_get-map sources (range_with_len 0 w) k ∙ ap (option_map sources) (from_zero w k l))
-        ∙ h k l;
+          ap (λ ss. option_and_then (source_value wires) (slice_get ss k)) (spec_bits-spec_of all)
+          ∙ ap (option_and_then (source_value wires)) (slice_get-map sources (range_with_len 0 w) k ∙ ap (option_map sources) (from_zero w k l))
+          ∙ h k l;
     }
 
 pub reads_constants : (wires : Wires) (w : ℕ) (x : ℤ) → Reads wires (spec_of (map Constant (number_bits w (pattern w x)))) w x
@@ -44,8 +44,8 @@ reads_constants wires w x =
     record {
       wide = ap length (spec_bits-spec_of (map Constant bits)) ∙ length-map bits Constant ∙ length-number_bits w (pattern w x);
       at = λ k l.
-        ap (λ ss. option_and_then (source_value wires) (slice_get ss k)) (spec_bits-spec_of (map Constant bits))
-        ∙ ap (option_and_then (source_value wires)) (slice_get-map Constant bits k ∙ ap (option_map Constant) (slice_get-pattern w x k l));
+          ap (λ ss. option_and_then (source_value wires) (slice_get ss k)) (spec_bits-spec_of (map Constant bits))
+          ∙ ap (option_and_then (source_value wires)) (slice_get-map Constant bits k ∙ ap (option_map Constant) (slice_get-pattern w x k l));
     }
 
 -- ---- before any statement
@@ -56,10 +56,10 @@ init_bits_are c s x e = rw e refl
 pub first_sourced : (wires : Wires) (c : Circuit) (s : ℕ) (x : Sig) (cur : List ℤ) → slice_get c.pool.signals s ≡ Some x → at cur s ≡ x.init → IsSourced wires c.pool (at_first c false) cur s
 first_sourced wires c s x cur e is = record {
   bits = λ i l.
-    let w : ℕ = (signal_form c.pool.signals s).width in
-    ap (λ bits. Some (unwrap_or (slice_get bits i) false)) (init_bits_are c s x e)
-    ∙ ap (λ o. Some (unwrap_or o false)) (slice_get-pattern w x.init i l)
-    ∙ ap (λ z. Some (bit_of z i)) (sym is);
+      let w : ℕ = (signal_form c.pool.signals s).width in
+      ap (λ bits. Some (unwrap_or (slice_get bits i) false)) (init_bits_are c s x e)
+      ∙ ap (λ o. Some (unwrap_or o false)) (slice_get-pattern w x.init i l)
+      ∙ ap (λ z. Some (bit_of z i)) (sym is);
 }
 
 pub held_sourced : (wires : Wires) (c : Circuit) (s : ℕ) (cur : List ℤ) (x : ℤ) → Carries wires (signal_value c s) x → at cur s ≡ x → IsSourced wires c.pool (at_first c true) cur s
