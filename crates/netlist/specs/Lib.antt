@@ -13,3 +13,4 @@ pub mod Module
 pub mod PoolsDrawn
 pub mod Drives
 pub mod Corresponds
+pub mod Laws

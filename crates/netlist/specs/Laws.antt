@@ -1,0 +1,29 @@
+-- What is proved of the lowering, for every design.
+use Rattle.std.specs.Prelude.{ℕ, ◌<◌, ◌^◌}
+use Rattle.shape_rules.specs.declared.op.Op.{Op}
+use Rattle.design_ir.specs.declared.expr.Expr.{Expr}
+use Rattle.design_ir.specs.Circuits.{Circuit}
+use Rattle.design_ir.specs.PoolRules.{IsPool}
+use Rattle.design_ir.specs.Designs.{IsDesign}
+use Rattle.rtlil_text.specs.Rules.{IsModule}
+use Rattle.netlist.specs.Carried.{MakesOperator}
+use Rattle.netlist.specs.Made.{MakesExpression}
+use Rattle.netlist.specs.Expressions.{part_total}
+use Rattle.netlist.specs.Module.{module_of}
+use Rattle.netlist.specs.Corresponds.{Corresponds}
+
+-- where the wires of operands carry two integers, the cells of an operator give its wire the operator's integer
+abbrev pub OperatorsAreMade : Type 0
+OperatorsAreMade = (o : Op) → MakesOperator o
+
+-- bit by bit, where the bits of signals that it needs are on their wires, an expression's wire has its integer's bit
+abbrev pub ExpressionsAreMade : Type 0
+ExpressionsAreMade = (e : Expr) → MakesExpression e
+
+-- the module keeps every rule of the text: names, widths, parameters, one driver for each bit
+abbrev pub ModulesKeepTheRules : Type 0
+ModulesKeepTheRules = (c : Circuit) → IsPool c.pool → IsDesign c → part_total c.pool.exprs < 10 ^ 63 → IsModule (module_of c)
+
+-- the module has the design's columns
+abbrev pub ModulesCorrespond : Type 0
+ModulesCorrespond = (c : Circuit) → IsPool c.pool → Corresponds c (module_of c)
