@@ -34,6 +34,9 @@ pub mod OneDriver
 pub mod Driven
 pub mod SourcedSpecs
 pub mod Starts
+pub mod PlainProcesses
+pub mod SettledNumbers
+pub mod SettledBits
 pub mod SettledWires
 pub mod ResetLaws
 pub mod Permuted

@@ -1,5 +1,5 @@
 -- Where one bit of a signal comes from behind a plain block: from before it, or from one bit of one value.
-use Rattle.std.specs.Prelude.{◌≡◌, ◌≢◌, refl, ℕ, ◌+◌, ◌<◌, ◌≤◌, ◌==◌, ◌&&◌, ◌⊎◌, Bool, true, false, List, [], ◌∷◌, map, length, ℤ, Some}
+use Rattle.std.specs.Prelude.{◌≡◌, ◌≢◌, refl, ℕ, ◌+◌, ◌<◌, ◌≤◌, ◌==◌, ◌⊎◌, true, List, [], ◌∷◌, map, length, ℤ, Some}
 use Rattle.std.specs.List.{AllByRecursion}
 use Rattle.std.proofs.Common.{sym, ◌∙◌, ap, arith, subst, ⊎_elim, inl, inr}
 use Rattle.std.proofs.lemmas.Bool.{false≢true, cases_eq, and_parts}
@@ -10,7 +10,7 @@ use Rattle.design_ir.specs.declared.ids.ExprId.{ExprId}
 use Rattle.design_ir.specs.Pools.{Pooled}
 use Rattle.design_ir.specs.Values.{num, signal_form}
 use Rattle.design_ir.specs.Targets.{Bit, target_bits}
-use Rattle.design_ir.specs.Trees.{Statement, assign, choose, Choices, Block, done, next}
+use Rattle.design_ir.specs.Trees.{assign, choose, Block, done, next}
 use Rattle.design_ir.specs.Put.{put, put_statement, put_number, put_bits, put_bit}
 use Rattle.design_ir.specs.Circuits.{at}
 use Rattle.design_ir.proofs.PutLaws.{put_length}
@@ -43,12 +43,12 @@ module _ (pool : Pooled) (env : List ℤ) (value : ℕ → Value) (P : ExprId �
 
   one_more : (first : Latest) (from : List ℤ) (mid : Latest) (now : List ℤ) (last : Latest) (to : List ℤ) → Origin first from mid now → Origin mid now last to → Origin first from last to
   one_more first from mid now last to o p = ⊎_elim
-    (λ (b : IsBefore mid now last to). ⊎_elim
+      (λ (b : IsBefore mid now last to). ⊎_elim
       (λ (a : IsBefore first from mid now). inl (record { source = b.source ∙ a.source; same = b.same ∙ a.same }))
       (λ (a : IsAssigned mid now). inr (record { expr = a.expr; place = a.place; holds = a.holds; source = b.source ∙ a.source; same = b.same ∙ a.same }))
       o)
-    (λ (a : IsAssigned last to). inr a)
-    p
+      (λ (a : IsAssigned last to). inr a)
+      p
 
   -- ---- one bit
 
@@ -79,9 +79,9 @@ module _ (pool : Pooled) (env : List ℤ) (value : ℕ → Value) (P : ExprId �
     beside e f = record {
       source = with_source_index b (source_at (value v.0) k) latest s i f;
       same =
-        ap (λ t. bit_of (at Numbers t) i) e
-        ∙ ap (λ n. n == 1) (int_bit-put_bit_other pool b (nat_bit (pattern m (num pool env v.0)) k) cur low fits i there (subst (λ t. i < (signal_form pool.signals t).width) e inside) f)
-        ∙ ap (λ t. bit_of (at cur t) i) (sym e);
+          ap (λ t. bit_of (at Numbers t) i) e
+          ∙ ap (λ n. n == 1) (int_bit-put_bit_other pool b (nat_bit (pattern m (num pool env v.0)) k) cur low fits i there (subst (λ t. i < (signal_form pool.signals t).width) e inside) f)
+          ∙ ap (λ t. bit_of (at cur t) i) (sym e);
     }
 
     away : s ≢ b.sig → IsBefore latest cur After Numbers
@@ -92,9 +92,9 @@ module _ (pool : Pooled) (env : List ℤ) (value : ℕ → Value) (P : ExprId �
 
     bit_origin : Origin latest cur After Numbers
     bit_origin = ⊎_elim
-      (λ (e : s ≡ b.sig). ⊎_elim (λ (f : i ≡ b.index). inr (hit e f)) (λ (f : i ≢ b.index). inl (beside e f)) (cases_eq i b.index))
-      (λ (e : s ≢ b.sig). inl (away e))
-      (cases_eq s b.sig)
+        (λ (e : s ≡ b.sig). ⊎_elim (λ (f : i ≡ b.index). inr (hit e f)) (λ (f : i ≢ b.index). inl (beside e f)) (cases_eq i b.index))
+        (λ (e : s ≢ b.sig). inl (away e))
+        (cases_eq s b.sig)
 
   -- ---- one assignment, and a block
 

@@ -27,7 +27,8 @@ use Rattle.netlist.specs.Module.{signal_value, driving, ByClock, reset_of, clock
 use Rattle.netlist.proofs.Reading.{bit_of}
 use Rattle.netlist.proofs.OneDriver.{IsOnly, find_only, only_holds}
 use Rattle.netlist.proofs.Driven.{driven_by, distinct_processes, is_register-only}
-use Rattle.netlist.proofs.SettledWires.{Shows, ArePlain}
+use Rattle.netlist.proofs.SettledWires.{Shows}
+use Rattle.netlist.proofs.PlainProcesses.{ArePlain}
 use Rattle.netlist.proofs.RegisterSteps.{next_spec, is_clocked, all_at, reads_register, held_register}
 use Rattle.netlist.proofs.ClockEdges.{rises_edge}
 

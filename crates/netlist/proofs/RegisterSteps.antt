@@ -44,7 +44,8 @@ use Rattle.netlist.proofs.SignalBits.{bit_at-signal}
 use Rattle.netlist.proofs.OneDriver.{IsOnly, IsFolded, find_only, fold_only}
 use Rattle.netlist.proofs.Driven.{driven_by, distinct_processes, by_comb, by_clock}
 use Rattle.netlist.proofs.ResetLaws.{length-reset_all, reset_all-other, reset_all-less, reset_all-full, IsResetOf, is_reset-of, reset_of-some, reset_of-none}
-use Rattle.netlist.proofs.SettledWires.{Shows, ArePlain, reads_next, signal_drawing-some}
+use Rattle.netlist.proofs.SettledWires.{Shows, reads_next, signal_drawing-some}
+use Rattle.netlist.proofs.PlainProcesses.{ArePlain}
 use Rattle.netlist.proofs.SourcedSpecs.{init_bits_are, reads_constants}
 
 -- the bits at D of a register's cell: what the statements leave, or what the reset's `$mux` makes of it

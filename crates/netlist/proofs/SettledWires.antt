@@ -1,43 +1,39 @@
 -- Wires that carry an environment in which every combinational equation holds.
-use Rattle.std.specs.Prelude.{◌≡◌, refl, ℕ, ◌<◌, ◌≤◌, Bool, true, false, cond, List, [], map, length, slice_get, ℤ, Option, Some, None, is_some, is_none, fold}
-use Rattle.std.specs.List.{AllByRecursion, find}
-use Rattle.std.proofs.Common.{sym, ◌∙◌, ap, arith, subst, ⊎_elim}
-use Rattle.std.proofs.lemmas.Bool.{false≢true, and_parts, or_parts, or_left, or_right, or_cases, cond_both, lt-ltb}
+use Rattle.std.specs.Prelude.{◌≡◌, refl, ℕ, ◌<◌, ◌≤◌, Bool, true, false, cond, List, [], map, length, slice_get, ℤ, Option, Some, None, is_some}
+use Rattle.std.specs.List.{find}
+use Rattle.std.proofs.Common.{sym, ◌∙◌, ap, arith, subst}
+use Rattle.std.proofs.lemmas.Bool.{false≢true, or_parts, lt-ltb}
 use Rattle.std.proofs.lemmas.List.Elements.{All-nil}
 use Rattle.design_ir.specs.declared.ids.ExprId.{ExprId}
 use Rattle.design_ir.specs.declared.ids.DomainId.{DomainId}
 use Rattle.design_ir.specs.declared.signal.Sig.{Sig}
-use Rattle.design_ir.specs.declared.memory.Memory.{Memory}
 use Rattle.design_ir.specs.declared.process.DesignProcess.{DesignProcess}
-use Rattle.design_ir.specs.Pools.{Pooled}
 use Rattle.design_ir.specs.PoolRules.{IsPool}
-use Rattle.design_ir.specs.Trees.{assign, choose, Block, done, next}
-use Rattle.design_ir.specs.Guards.{block_exprs}
 use Rattle.design_ir.specs.Values.{form, num, signal_form}
 use Rattle.design_ir.specs.Put.{put}
-use Rattle.design_ir.specs.Circuits.{Circuit, State, at, is_among, is_input, is_register, is_held}
-use Rattle.design_ir.specs.Designs.{IsUsable, IsProcess, IsDesign}
-use Rattle.design_ir.specs.Settled.{starts, comb_process, comb_reads, Settled}
+use Rattle.design_ir.specs.Circuits.{Circuit, State, at, is_input, is_register, is_held}
+use Rattle.design_ir.specs.Designs.{IsUsable, IsDesign}
+use Rattle.design_ir.specs.Settled.{Settled}
 use Rattle.design_ir.proofs.NumbersFit.{element, FitsSignals, has_shape, num_fits}
-use Rattle.design_ir.proofs.PutLaws.{put_length, put_other}
 use Rattle.rtlil_text.specs.declared.sig.SigPart.{SigPart}
 use Rattle.rtlil_text.specs.Sources.{Constant}
 use Rattle.rtlil_text.specs.History.{Wires}
 use Rattle.netlist.specs.Operators.{nothing}
 use Rattle.netlist.specs.Carried.{Carries, ObeysCell}
 use Rattle.netlist.specs.CombDrawings.{ObeysComb}
-use Rattle.netlist.specs.Latest.{Latest, latest_of, is_fixed, is_plain}
+use Rattle.netlist.specs.Latest.{Latest, latest_of}
 use Rattle.netlist.specs.Spelled.{spec_of}
 use Rattle.netlist.specs.Module.{signal_value, expr_value, drives, driving, Driving, ByComb, ByNothing, init_bits, at_first, at_last, bits_at_last, link_to, driving_drawing, signal_drawing}
 use Rattle.netlist.proofs.Reading.{Reads, carries_bits}
 use Rattle.netlist.proofs.Drawn.{form_sign}
 use Rattle.netlist.proofs.Widths.{linked_bits}
 use Rattle.netlist.proofs.BitWrites.{some_signal}
-use Rattle.netlist.proofs.PutSources.{IsSourced, IsShown, AreGiven, put_sourced}
-use Rattle.netlist.proofs.OneDriver.{IsOnly, find_only, find_none, fold_none, fold_only, only_holds}
-use Rattle.netlist.proofs.Driven.{driven_by, distinct_processes, input_none, is_register-none, is_register-only, driving-found, driving-comb}
+use Rattle.netlist.proofs.PutSources.{IsSourced, IsShown, put_sourced}
+use Rattle.netlist.proofs.OneDriver.{IsOnly, find_only, find_none}
+use Rattle.netlist.proofs.Driven.{driven_by, distinct_processes, is_register-only, driving-found, driving-comb}
 use Rattle.netlist.proofs.SourcedSpecs.{reads_sources, reads_constants, init_bits_are, first_sourced, held_sourced}
-use Rattle.netlist.proofs.Starts.{length-starts, at-starts, at-starts_held}
+use Rattle.netlist.proofs.PlainProcesses.{ArePlain, process_plain, process_given}
+use Rattle.netlist.proofs.SettledNumbers.{settled_none, settled_by}
 
 -- ---- what expressions carry
 
@@ -52,15 +48,6 @@ shown wires c env e rules fit there carried = record {
 abbrev pub Shows : Wires → Circuit → List ℤ → Type 0
 Shows wires c env = (e : ExprId) → IsUsable c e → Carries wires (expr_value c e.0) (num c.pool env e.0)
 
--- no process has a choice, or a target that is not fixed
-abbrev pub ArePlain : Circuit → Type 0
-ArePlain c = AllByRecursion (λ (p : DesignProcess). is_plain c.pool p.body ≡ true) c.processes
-
-block_given : (P Q : ExprId → Type 0) (pool : Pooled) (b : Block) → ((e : ExprId) → P e → Q e) → is_plain pool b ≡ true → AllByRecursion P (block_exprs b) → AreGiven Q b
-block_given P Q pool done f plain h = tt
-block_given P Q pool (next (assign t v p) rest) f plain h = (f v h.1.0, block_given P Q pool rest f (and_parts (is_fixed pool t.0) (is_plain pool rest) plain).1 h.1.1)
-block_given P Q pool (next (choose arms) rest) f plain h = absurd (false≢true plain)
-
 -- ---- the drawing of a signal with bits
 
 pub signal_drawing-some : (c : Circuit) (s : ℕ) (d : Driving) → 1 ≤ (signal_form c.pool.signals s).width → driving c s ≡ d → signal_drawing c s ≡ driving_drawing c s d
@@ -74,10 +61,8 @@ module _ (wires : Wires) (c : Circuit) (env : List ℤ) (design : IsDesign c) (r
   pub process_sourced : (s : ℕ) (p : DesignProcess) (latest : Latest) (cur : List ℤ) → IsOnly (driven_by c) s c.processes p → length cur ≡ length c.pool.signals → IsSourced wires c.pool latest cur s
       → IsSourced wires c.pool (latest_of c.pool (expr_value c) p.body latest) (put c.pool env p.body cur) s
   process_sourced s p latest cur o count h =
-      let usable : AllByRecursion (IsUsable c) (block_exprs p.body) = (only_holds (IsProcess c) (driven_by c) s c.processes p o design.processes).expressions in
-      let easy : is_plain c.pool p.body ≡ true = only_holds (λ (q : DesignProcess). is_plain c.pool q.body ≡ true) (driven_by c) s c.processes p o plain in
-      let given : AreGiven (λ (e : ExprId). IsShown wires (expr_value c e.0) (num c.pool env e.0)) p.body = block_given (IsUsable c) (λ (e : ExprId). IsShown wires (expr_value c e.0) (num c.pool env e.0)) c.pool p.body (λ e u. shown wires c env e rules fit u.there (shows e u)) easy usable in
-      put_sourced wires c.pool env (expr_value c) p.body latest cur s easy given count h
+      put_sourced wires c.pool env (expr_value c) p.body latest cur s (process_plain c design plain s p o)
+      (process_given c design plain s p o (λ (e : ExprId). IsShown wires (expr_value c e.0) (num c.pool env e.0)) (λ e u. shown wires c env e rules fit u.there (shows e u))) count h
 
   -- a register's next number, from the one that its wire carries
   pub reads_next : (s : ℕ) (p : DesignProcess) (x : ℤ) (cur : List ℤ) → IsOnly (driven_by c) s c.processes p → Carries wires (signal_value c s) x → at cur s ≡ x → length cur ≡ length c.pool.signals
@@ -87,23 +72,7 @@ module _ (wires : Wires) (c : Circuit) (env : List ℤ) (design : IsDesign c) (r
       reads_sources wires (at_last c true p s) (signal_form c.pool.signals s).width (at (put c.pool env p.body cur) s) h.bits
 
   module _ (st : State) (flat : c.memories ≡ []) (settled : Settled c st env) (s : ℕ) where
-    begin : List ℤ
-    begin = starts c st 0 c.pool.signals
-
-    settled_is : fold (comb_process c.pool env) begin c.processes ≡ env
-    unfolding begin
-    settled_is = sym (ap (λ (ms : List Memory). comb_reads c.pool env ms st.rows (fold (comb_process c.pool env) (starts c st 0 c.pool.signals) c.processes)) flat) ∙ settled
-
-    comb_count : (cur : List ℤ) (p : DesignProcess) → length (comb_process c.pool env cur p) ≡ length cur
-    comb_count cur p = cond_both (is_none p.domain) (put c.pool env p.body cur) cur (λ xs. length xs ≡ length cur) (λ e. put_length c.pool env p.body cur) (λ e. refl)
-
-    comb_others : (cur : List ℤ) (p : DesignProcess) → is_among (driven_by c p) s ≡ false → at (comb_process c.pool env cur p) s ≡ at cur s
-    comb_others cur p h = cond_both (is_none p.domain) (put c.pool env p.body cur) cur (λ xs. at xs s ≡ at cur s) (λ e. put_other c.pool env p.body cur s h) (λ e. refl)
-
     module _ (held : is_held c s ≡ false) (some : 1 ≤ (signal_form c.pool.signals s).width) (obeys : ObeysComb wires (signal_drawing c s)) where
-      w : ℕ
-      w = (signal_form c.pool.signals s).width
-
       sig : (x : Sig) × (slice_get c.pool.signals s ≡ Some x)
       sig = element c.pool.signals s (some_signal c.pool.signals s some)
 
@@ -118,28 +87,23 @@ module _ (wires : Wires) (c : Circuit) (env : List ℤ) (design : IsDesign c) (r
           subst (Carries wires (signal_value c s)) (sym e) (carries_bits wires (signal_value c s) x (linked_bits wires (signal_value c s) right (signal_form c.pool.signals s).width x r (omega arith) (record { cells = All-nil (ObeysCell wires); links = o.links })))
 
       by_nothing : find (drives c s) c.processes ≡ None → Carries wires (signal_value c s) (at env s)
-      unfolding begin
       by_nothing e =
           let x : Sig = sig.0 in
-          let none = find_none (driven_by c) s c.processes e in
-          let is : at env s ≡ x.init = ap (λ xs. at xs s) (sym settled_is) ∙ fold_none (driven_by c) s (comb_process c.pool env) comb_count comb_others c.processes begin none ∙ at-starts c st s x sig.1 held in
+          let is : at env s ≡ x.init = settled_none c env design st flat settled s x sig.1 held (find_none (driven_by c) s c.processes e) in
           from_link (spec_of (map Constant (init_bits c s))) x.init
           (subst (λ bits. Reads wires (spec_of (map Constant bits)) (signal_form c.pool.signals s).width x.init) (sym (init_bits_are c s x sig.1)) (reads_constants wires (signal_form c.pool.signals s).width x.init))
           is (obeys_driving ByNothing (driving-found c s no_input None e))
 
       by_process : (p : DesignProcess) → find (drives c s) c.processes ≡ Some p → p.domain ≡ None → Carries wires (signal_value c s) (at env s)
-      unfolding begin
       by_process p e d =
           let x : Sig = sig.0 in
           let o : IsOnly (driven_by c) s c.processes p = find_only (driven_by c) s c.processes p (distinct_processes c flat design) e in
-          let r = fold_only (driven_by c) s (comb_process c.pool env) comb_count comb_others c.processes p begin o in
-          let comb : comb_process c.pool env r.then p ≡ put c.pool env p.body r.then = ap (λ t. cond (is_none t) (put c.pool env p.body r.then) r.then) d in
-          let is : at env s ≡ at (put c.pool env p.body r.then) s = ap (λ xs. at xs s) (sym settled_is) ∙ r.result ∙ ap (λ xs. at xs s) comb in
-          let first : IsSourced wires c.pool (at_first c false) r.then s = first_sourced wires c s x r.then sig.1 (r.same ∙ at-starts c st s x sig.1 held) in
-          let last : IsSourced wires c.pool (at_last c false p) (put c.pool env p.body r.then) s = process_sourced s p (at_first c false) r.then o (r.long ∙ length-starts c st 0 c.pool.signals) first in
+          let r = settled_by c env design st flat settled s x p sig.1 held o d in
+          let first : IsSourced wires c.pool (at_first c false) r.then s = first_sourced wires c s x r.then sig.1 r.first in
+          let last : IsSourced wires c.pool (at_last c false p) (put c.pool env p.body r.then) s = process_sourced s p (at_first c false) r.then o r.long first in
           from_link (bits_at_last c false p s) (at (put c.pool env p.body r.then) s)
           (reads_sources wires (at_last c false p s) (signal_form c.pool.signals s).width (at (put c.pool env p.body r.then) s) last.bits)
-          is (obeys_driving (ByComb p) (driving-comb c s no_input p e d))
+          r.result (obeys_driving (ByComb p) (driving-comb c s no_input p e d))
 
       not_clocked : (p : DesignProcess) (d : DomainId) → find (drives c s) c.processes ≡ Some p → p.domain ≡ Some d → ⊥
       not_clocked p d e h =
@@ -153,41 +117,6 @@ module _ (wires : Wires) (c : Circuit) (env : List ℤ) (design : IsDesign c) (r
       by_found : (o : Option DesignProcess) → find (drives c s) c.processes ≡ o → Carries wires (signal_value c s) (at env s)
       by_found None e = by_nothing e
       by_found (Some p) e = by_domain p p.domain e refl
-
-    -- a register is in the environment as it is in the state
-    pub settled_register : (p : DesignProcess) (d : DomainId) → s < length c.pool.signals → IsOnly (driven_by c) s c.processes p → p.domain ≡ Some d → at env s ≡ at st.held s
-    unfolding begin
-    settled_register p d there o e =
-        let x = element c.pool.signals s there in
-        let r = fold_only (driven_by c) s (comb_process c.pool env) comb_count comb_others c.processes p begin o in
-        let stays : comb_process c.pool env r.then p ≡ r.then = ap (λ t. cond (is_none t) (put c.pool env p.body r.then) r.then) e in
-        let register : is_register c s ≡ true = is_register-only c flat s p o ∙ ap is_some e in
-        ap (λ xs. at xs s) (sym settled_is) ∙ r.result ∙ ap (λ xs. at xs s) stays ∙ r.same ∙ at-starts_held c st s x.0 x.1 (or_right (is_input c s) (is_register c s) register)
-
-    settled_input : s < length c.pool.signals → is_input c s ≡ true → at env s ≡ at st.held s
-    unfolding begin
-    settled_input there e =
-        let x = element c.pool.signals s there in
-        ap (λ xs. at xs s) (sym settled_is)
-        ∙ fold_none (driven_by c) s (comb_process c.pool env) comb_count comb_others c.processes begin (input_none c s design e)
-        ∙ at-starts_held c st s x.0 x.1 (or_left (is_input c s) (is_register c s) e)
-
-    -- so is whatever the state holds
-    pub settled_held : s < length c.pool.signals → is_held c s ≡ true → at env s ≡ at st.held s
-    settled_held there held = ⊎_elim
-        (λ (e : is_input c s ≡ true). settled_input there e)
-        (λ (e : is_register c s ≡ true). by_found (find (drives c s) c.processes) refl e)
-        (or_cases (is_input c s) (is_register c s) held)
-      where
-        by_domain : (p : DesignProcess) (d : Option DomainId) → find (drives c s) c.processes ≡ Some p → p.domain ≡ d → is_register c s ≡ true → at env s ≡ at st.held s
-        by_domain p None f d e =
-            let o : IsOnly (driven_by c) s c.processes p = find_only (driven_by c) s c.processes p (distinct_processes c flat design) f in
-            absurd (false≢true (sym (is_register-only c flat s p o ∙ ap is_some d) ∙ e))
-        by_domain p (Some x) f d e = settled_register p x there (find_only (driven_by c) s c.processes p (distinct_processes c flat design) f) d
-
-        by_found : (o : Option DesignProcess) → find (drives c s) c.processes ≡ o → is_register c s ≡ true → at env s ≡ at st.held s
-        by_found None f e = absurd (false≢true (sym (is_register-none c flat s (find_none (driven_by c) s c.processes f)) ∙ e))
-        by_found (Some p) f e = by_domain p p.domain f refl e
 
     -- the wire of a signal that no state holds carries its number
     pub settled_signal : is_held c s ≡ false → ObeysComb wires (signal_drawing c s) → Carries wires (signal_value c s) (at env s)

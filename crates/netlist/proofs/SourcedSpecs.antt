@@ -53,6 +53,12 @@ reads_constants wires w x =
 pub init_bits_are : (c : Circuit) (s : ℕ) (x : Sig) → slice_get c.pool.signals s ≡ Some x → init_bits c s ≡ number_bits (signal_form c.pool.signals s).width (pattern (signal_form c.pool.signals s).width x.init)
 init_bits_are c s x e = rw e refl
 
+-- a bit of a signal that is no register is that of its init
+pub first_source : (c : Circuit) (s : ℕ) (x : Sig) (i : ℕ) → slice_get c.pool.signals s ≡ Some x → i < (signal_form c.pool.signals s).width → at_first c false s i ≡ Constant (bit_of x.init i)
+first_source c s x i e l =
+    ap (λ bits. Constant (unwrap_or (slice_get bits i) false)) (init_bits_are c s x e)
+    ∙ ap (λ o. Constant (unwrap_or o false)) (slice_get-pattern (signal_form c.pool.signals s).width x.init i l)
+
 pub first_sourced : (wires : Wires) (c : Circuit) (s : ℕ) (x : Sig) (cur : List ℤ) → slice_get c.pool.signals s ≡ Some x → at cur s ≡ x.init → IsSourced wires c.pool (at_first c false) cur s
 first_sourced wires c s x cur e is = record {
   bits = λ i l.
