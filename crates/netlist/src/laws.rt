@@ -5,19 +5,16 @@ ghost use Rattle.netlist.specs.Laws.{OperatorsAreMade, ExpressionsAreMade, Modul
 /// for each of the operators, and all shapes that it takes.
 pub fn operators_are_made()
     ensures { OperatorsAreMade }
-{
-}
+{}
 
 /// Bit by bit, where the bits of signals that a bit of an expression needs are on their wires, the expression's wire
 /// has the bit of its integer.
 pub fn expressions_are_made()
     ensures { ExpressionsAreMade }
-{
-}
+{}
 
 /// The module of a design keeps the rules of RTLIL text, and has the design's columns.
 pub fn modules_are_sound()
     ensures rules { ModulesKeepTheRules }
     ensures columns { ModulesCorrespond }
-{
-}
+{}
