@@ -12,13 +12,13 @@ use std::marker::Model;
 /// What one machine made: strings, rows of values, functions and scopes, by number, and two running counts.
 #[derive(Drop)]
 pub struct Heap {
-    alloc: Global,
-    texts: Words,
-    rows: Vec<Vals>,
-    funcs: Vec<Func>,
-    scopes: Vec<Scope>,
-    chars: u32,
-    items: u32,
+    pub(crate) alloc: Global,
+    pub(crate) texts: Words,
+    pub(crate) rows: Vec<Vals>,
+    pub(crate) funcs: Vec<Func>,
+    pub(crate) scopes: Vec<Scope>,
+    pub(crate) chars: u32,
+    pub(crate) items: u32,
 }
 
 impl Model for Heap {
@@ -32,7 +32,7 @@ impl Model for Heap {
 /// What stands before a machine, which no machine changes.
 #[derive(Drop)]
 pub struct Frozen {
-    made: Heap,
+    pub(crate) made: Heap,
 }
 
 impl Model for Frozen {
@@ -126,7 +126,7 @@ impl Heap {
 }
 
 // The next number, where there is one.
-fn next_number(before: usize, own: usize) -> Result<u32, ValueStop>
+pub(crate) fn next_number(before: usize, own: usize) -> Result<u32, ValueStop>
     ensures given { IfOk result (λ n. n ≡ before + own) }
     ensures refused { IfErr result (λ stop. stop ≡ ValueStop.NoMemory) }
 {

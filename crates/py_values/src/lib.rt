@@ -5,9 +5,14 @@
 //! both as records of lists (specs/Heaps.antt).
 #![tactic(auto)]
 
+mod equality;
+mod fresh;
 mod func;
 mod heap;
+mod numbers;
 mod op;
+mod powers;
+mod spend;
 mod val;
 mod vals;
 

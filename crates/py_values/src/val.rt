@@ -67,3 +67,10 @@ pub enum ValueStop {
     /// No memory was left, or no number for what would be made.
     NoMemory,
 }
+
+/// Why an operator on numbers gives none.
+#[derive(Clone, Copy, Debug, PartialEq, Eq, Drop)]
+pub(crate) enum NumberStop {
+    Raised,
+    Width,
+}
