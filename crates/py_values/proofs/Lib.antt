@@ -1,3 +1,6 @@
 pub mod NumberLaws
 pub mod PowerLaws
 pub mod EqualityLaws
+pub mod MemberLaws
+pub mod SumLaws
+pub mod ChargeLaws

@@ -4,3 +4,8 @@ pub mod Numbers
 pub mod Equality
 pub mod Widened
 pub mod Places
+pub mod Ranges
+pub mod Truths
+pub mod Members
+pub mod Sums
+pub mod Operators

@@ -1,5 +1,5 @@
 -- What comes out of a call, and at what cost; first as if nothing bounded the cost, and then under a budget.
-use Rattle.std.specs.Prelude.{◌≡◌, ℕ, ◌+◌, ◌≤◌, ◌<◌, Result, Ok, Err, ⊤}
+use Rattle.std.specs.Prelude.{◌≡◌, ℕ, ◌+◌, ◌≤◌, ◌<◌, Option, Some, None, Result, Ok, Err, ⊤}
 use Rattle.py_values.specs.declared.val.ValueStop.{ValueStop}
 use Rattle.py_values.specs.declared.val.ValueStop.TheVariants.{Raised, Width, Limit, Spent, NoMemory}
 
@@ -52,3 +52,8 @@ Answers (Err NoMemory) owed = ⊤
 abbrev pub paired : {A B : Type 0} → Result A ValueStop → B → Result (A × B) ValueStop
 paired (Ok x) new = Ok (x, new)
 paired (Err stop) new = Err stop
+
+-- a value, or that it raises
+abbrev pub given : {A : Type 0} → Option A → Result A ValueStop
+given None = Err Raised
+given (Some x) = Ok x

@@ -144,8 +144,8 @@ ghost use Rattle.py_values.specs.Heaps.{seen, text_at};
 ghost use Rattle.py_values.specs.Equality.{deeper, equal, equal_to, rows_equal};
 
 impl Heap {
-    // Whether two strings are the same.
-    fn same_text(&self, frozen: &Frozen, x: StrId, y: StrId) -> bool
+    /// Whether two strings are the same.
+    pub(crate) fn same_text(&self, frozen: &Frozen, x: StrId, y: StrId) -> bool
         ensures { result ≡ text_eq (text_at (seen frozen.now self.now) x.0) (text_at (seen frozen.now self.now) y.0) }
     {
         same_bytes(self.text(frozen, x), self.text(frozen, y))

@@ -9,10 +9,15 @@ mod equality;
 mod fresh;
 mod func;
 mod heap;
+mod members;
 mod numbers;
 mod op;
+mod operate;
 mod powers;
+mod range;
 mod spend;
+mod sums;
+mod truth;
 mod val;
 mod vals;
 

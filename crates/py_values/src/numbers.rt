@@ -36,14 +36,14 @@ pub(crate) fn widened(n: Result<Int, TooWide>) -> Result<Val, NumberStop>
     }
 }
 
-fn is_zero(n: Int) -> bool
+pub(crate) fn is_zero(n: Int) -> bool
     ensures { result ≡ is_zero n }
 {
     n.size == 0
 }
 
 // Whether the first is the smaller one.
-fn is_less(a: Int, b: Int) -> bool
+pub(crate) fn is_less(a: Int, b: Int) -> bool
     ensures { result ≡ int_lt a b }
 {
     a.less(b)
