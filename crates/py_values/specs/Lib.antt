@@ -9,3 +9,4 @@ pub mod Truths
 pub mod Members
 pub mod Sums
 pub mod Operators
+pub mod Names

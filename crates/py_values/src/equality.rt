@@ -231,7 +231,7 @@ impl Heap {
 }
 
 // Whether two texts are the same.
-fn same_bytes(x: &str, y: &str) -> bool
+pub(crate) fn same_bytes(x: &str, y: &str) -> bool
     ensures { result ≡ text_eq x.now y.now }
 {
     x == y

@@ -20,7 +20,7 @@ pub(crate) enum Fresh {
 }
 
 // How many characters a text has.
-fn char_count(text: &str) -> usize
+pub(crate) fn char_count(text: &str) -> usize
     ensures { result ≡ length (chars text.now) }
 {
     text.chars().count()

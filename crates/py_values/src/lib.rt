@@ -10,6 +10,7 @@ mod fresh;
 mod func;
 mod heap;
 mod members;
+mod names;
 mod numbers;
 mod op;
 mod operate;

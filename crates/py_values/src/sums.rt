@@ -54,11 +54,13 @@ pub(crate) fn joined_row(alloc: Global, x: &[Val], y: &[Val]) -> Result<Vals, Va
 }
 
 // A row so many times.
+#[tactic(auto, using(crate::proofs::SumLaws::copies_rules))]
 fn copies(alloc: Global, n: usize, row: &[Val]) -> Result<Vals, ValueStop>
     ensures { Answers result (Ok (copies n row.now)) }
 {
     let mut all = Vals::new(alloc);
-    for _turn in 0..n {
+    for turn in 0..n {
+        let _ = turn;
         let Ok(()) = all.extend(row) else {
             return Err(ValueStop::NoMemory);
         };
@@ -73,7 +75,10 @@ fn repeated(alloc: Global, row: &[Val], n: Option<Int>) -> Result<Vals, ValueSto
     let Some(n) = n else {
         return Err(ValueStop::Raised);
     };
-    if row.len() == 0 || n.negative {
+    if row.len() == 0 {
+        return Ok(Vals::new(alloc));
+    }
+    if n.negative {
         return Ok(Vals::new(alloc));
     }
     if n.size > 65_536 {
