@@ -9,7 +9,7 @@ use Rattle.py_values.specs.Runs.{Run, Charged, later, after, give, refuse, carri
 use Rattle.py_values.specs.Heaps.{Seen}
 use Rattle.py_values.specs.Equality.{deeper, all_equal, equal_to}
 
-ok_or_err : {A : Type 0} (r : Result A ValueStop) (x : A) (stop : ValueStop) → r ≡ Ok x → r ≡ Err stop → ⊥
+pub ok_or_err : {A : Type 0} (r : Result A ValueStop) (x : A) (stop : ValueStop) → r ≡ Ok x → r ≡ Err stop → ⊥
 ok_or_err r x stop p q = cc
 
 -- what is owed after so many units, from what is owed without them

@@ -4,3 +4,4 @@ pub mod EqualityLaws
 pub mod MemberLaws
 pub mod SumLaws
 pub mod ChargeLaws
+pub mod BindLaws

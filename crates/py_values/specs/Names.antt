@@ -1,12 +1,13 @@
 -- Names and what they are bound to.
-use Rattle.std.specs.Prelude.{ℕ, ◌+◌, ◌-◌, nat_lt, if◌then◌else◌, Bool, false, List, [], ◌∷◌, ◌++◌, length, slice_get, Option, Some, None, Result, Ok, Err}
+use Rattle.std.specs.Prelude.{ℕ, ◌+◌, ◌-◌, nat_lt, if◌then◌else◌, Bool, false, List, [], ◌∷◌, ◌++◌, length, slice_get, slice_set, Option, Some, None, Result, Ok, Err}
 use Rattle.std.specs.Str.{chars}
 use Rattle.lists.specs.Texts.{text_eq}
 use Rattle.py_values.specs.declared.val.Val.{Val}
 use Rattle.py_values.specs.declared.val.Val.TheVariants as val
 use Rattle.py_values.specs.declared.val.ScopeId.{ScopeId}
+use Rattle.py_values.specs.declared.val.StrId.{StrId}
 use Rattle.py_values.specs.declared.val.ValueStop.{ValueStop}
-use Rattle.py_values.specs.declared.val.ValueStop.TheVariants.{Limit}
+use Rattle.py_values.specs.declared.val.ValueStop.TheVariants.{Limit, Raised}
 use Rattle.py_values.specs.declared.func.Func.{Func}
 use Rattle.py_values.specs.declared.func.Scope.{Scope}
 use Rattle.py_values.specs.Heaps.{Made, Seen, text_at}
@@ -55,3 +56,24 @@ bound s name row = value_at row (value_place (is_named s name) 0 row)
 abbrev pub attributes : List Val → List Val
 attributes [] = []
 attributes (x ∷ row) = row
+
+-- ---- binding: a name keeps its place, and a new one comes last
+
+abbrev pub bound_row : Option ℕ → StrId → Val → List Val → List Val
+bound_row None name v row = row ++ val.Str name ∷ v ∷ []
+bound_row (Some i) name v row = slice_set row i v
+
+abbrev pub scopes_with : Option Scope → List Scope → ℕ → List Val → List Scope
+scopes_with None scopes i row = scopes
+scopes_with (Some scope) scopes i row = slice_set scopes i (record scope { bindings = row })
+
+-- a scope of this heap, by its place in it, with a name bound
+abbrev pub own_bound : Seen → ℕ → StrId → Val → Made
+own_bound s i name v =
+    record s.own { scopes = scopes_with (slice_get s.own.scopes i) s.own.scopes i (bound_row (value_place (is_named s (text_at s name.0)) 0 (bindings_of s.own.scopes i)) name v (bindings_of s.own.scopes i)) }
+
+-- what was frozen is bound no more
+abbrev pub scope_bound : Seen → ℕ → StrId → Val → Result (Unit {0} × Made) ValueStop
+scope_bound s n name v =
+    if nat_lt n (length s.frozen.scopes) then Err Raised
+    else (if nat_lt (n - length s.frozen.scopes) (length s.own.scopes) then Ok (tt, own_bound s (n - length s.frozen.scopes) name v) else Err Raised)

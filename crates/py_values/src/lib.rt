@@ -5,6 +5,7 @@
 //! both as records of lists (specs/Heaps.antt).
 #![tactic(auto)]
 
+mod bind;
 mod equality;
 mod fresh;
 mod func;

@@ -86,7 +86,7 @@ impl Heap {
     }
 
     // The names of a scope of this heap by its place in it.
-    fn own_bindings(&self, i: usize) -> &[Val]
+    pub(crate) fn own_bindings(&self, i: usize) -> &[Val]
         ensures { result.now ≡ bindings_of self.now.scopes i }
     {
         match self.scopes.get(i) {
@@ -119,7 +119,7 @@ impl Heap {
     }
 
     // The place of the value of a name.
-    fn name_place(&self, frozen: &Frozen, name: &str, row: &[Val]) -> Option<usize>
+    pub(crate) fn name_place(&self, frozen: &Frozen, name: &str, row: &[Val]) -> Option<usize>
         ensures place { result ≡ value_place (is_named (seen frozen.now self.now) name.now) 0 row.now }
         ensures within { IfSome result (λ i. i < length row.now) }
     {
