@@ -5,3 +5,4 @@ pub mod MemberLaws
 pub mod SumLaws
 pub mod ChargeLaws
 pub mod BindLaws
+pub mod Samples

@@ -10,3 +10,4 @@ pub mod Members
 pub mod Sums
 pub mod Operators
 pub mod Names
+pub mod Changes

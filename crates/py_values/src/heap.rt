@@ -88,7 +88,7 @@ impl Heap {
     }
 
     // A row of this heap by its place in it.
-    fn own_row(&self, i: usize) -> &[Val]
+    pub(crate) fn own_row(&self, i: usize) -> &[Val]
         ensures { result.now ≡ row_of self.now.rows i }
     {
         match self.rows.get(i) {

@@ -6,6 +6,7 @@
 #![tactic(auto)]
 
 mod bind;
+mod change;
 mod equality;
 mod fresh;
 mod func;
