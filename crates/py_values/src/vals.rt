@@ -75,6 +75,16 @@ impl Vals {
         }
     }
 
+    /// Adds two values at the end, or none.
+    pub(crate) fn push_pair(&mut self, first: Val, second: Val) -> Result<(), NoMemory>
+        ensures ok { OnOk result (self.new ≡ self.old ++ first ∷ second ∷ []) }
+    {
+        match self.items.extend_from_slice(&[first, second]) {
+            Ok(()) => Ok(()),
+            Err(_) => Err(NoMemory),
+        }
+    }
+
     /// Puts a value in the place of another.
     pub(crate) fn set(&mut self, i: usize, item: Val)
         requires { i < length self.old }
