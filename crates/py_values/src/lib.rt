@@ -20,6 +20,8 @@ mod powers;
 mod range;
 mod spend;
 mod sums;
+#[cfg(test)]
+mod tests;
 mod truth;
 mod val;
 mod vals;
