@@ -37,7 +37,10 @@ some : Seen
 some = seen nothing (record {
   texts = codes "b" ∷ codes "abc" ∷ [];
   rows = (number 2 ∷ []) ∷ (number 1 ∷ list 0 ∷ []) ∷ (number 2 ∷ []) ∷ (number 1 ∷ list 2 ∷ []) ∷ (number 1 ∷ []) ∷ (number 0 ∷ number 10 ∷ number 3 ∷ []) ∷ (text 0 ∷ number 7 ∷ []) ∷ [];
-  funcs = []; scopes = []; chars = 0; items = 0
+  funcs = [];
+  scopes = [];
+  chars = 0;
+  items = 0;
 })
 
 -- two lists cost three pairs, one thing nothing, lists of unlike lengths nothing, and two units are told before 1 == 2

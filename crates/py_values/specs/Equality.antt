@@ -83,6 +83,7 @@ beside_object x (val.Dict o) = Refused
 beside_object x (val.Range o) = Refused
 beside_object x (val.Hw h) = Refused
 beside_object x _ = Known false
+
 abbrev pub beside_thing : Hw → Val → Pair
 beside_thing x (val.Hw y) = if x.0 == y.0 then Known true else Refused
 beside_thing x _ = Refused

@@ -41,7 +41,13 @@ impl Heap {
     }
 
     /// Binds a name in a scope. A scope that was frozen refuses it.
-    pub fn bind(&mut self, frozen: &Frozen, scope: ScopeId, name: StrId, v: Val) -> Result<(), ValueStop>
+    pub fn bind(
+        &mut self,
+        frozen: &Frozen,
+        scope: ScopeId,
+        name: StrId,
+        v: Val,
+    ) -> Result<(), ValueStop>
         ensures { Answers (paired result self.new) (scope_bound (seen frozen.now self.old) scope.0 name v) }
     {
         let before = frozen.made.scopes.len();

@@ -4,8 +4,8 @@ ghost use Rattle.lists.specs.Texts.{text_eq};
 ghost use Rattle.py_values.specs.Numbers.{bit_number};
 ghost use Rattle.py_values.specs.Equality.{beside_none, beside_number, beside_text, beside_list, beside_tuple, beside_func, beside_class, beside_object, beside_thing, pair_of};
 
-use crate::numbers::bit_number;
 use crate::heap::{Frozen, Heap};
+use crate::numbers::bit_number;
 use crate::spend::spend;
 use crate::val::{FuncId, Hw, ObjId, StrId, Val, ValueStop};
 use amh_bits::Int;
@@ -152,7 +152,13 @@ impl Heap {
     }
 
     /// Whether two values are equal.
-    pub(crate) fn equal(&self, frozen: &Frozen, a: Val, b: Val, left: &mut Budget) -> Result<bool, ValueStop>
+    pub(crate) fn equal(
+        &self,
+        frozen: &Frozen,
+        a: Val,
+        b: Val,
+        left: &mut Budget,
+    ) -> Result<bool, ValueStop>
         requires { 0 < left.old.left }
         ensures { Charged result left.old.left left.new.left (equal (seen frozen.now self.now) a b) }
     {
@@ -161,7 +167,14 @@ impl Heap {
 
     // Whether two values are equal whose elements may go so much deeper.
     #[cycle(equality)]
-    fn equal_to(&self, frozen: &Frozen, depth: u32, a: Val, b: Val, left: &mut Budget) -> Result<bool, ValueStop>
+    fn equal_to(
+        &self,
+        frozen: &Frozen,
+        depth: u32,
+        a: Val,
+        b: Val,
+        left: &mut Budget,
+    ) -> Result<bool, ValueStop>
         requires { 0 < left.old.left }
         ensures { Charged result left.old.left left.new.left (equal_to depth (seen frozen.now self.now) a b) }
     {
@@ -176,7 +189,14 @@ impl Heap {
 
     // Whether two lists or two tuples are equal.
     #[cycle(equality)]
-    fn rows_equal(&self, frozen: &Frozen, depth: u32, x: ObjId, y: ObjId, left: &mut Budget) -> Result<bool, ValueStop>
+    fn rows_equal(
+        &self,
+        frozen: &Frozen,
+        depth: u32,
+        x: ObjId,
+        y: ObjId,
+        left: &mut Budget,
+    ) -> Result<bool, ValueStop>
         requires { 0 < left.old.left }
         ensures { Charged result left.old.left left.new.left (rows_equal (seen frozen.now self.now) (deeper depth (seen frozen.now self.now)) x.0 y.0) }
     {
@@ -193,7 +213,14 @@ impl Heap {
 
     // Whether the elements of two lists of one length are equal.
     #[cycle(equality)]
-    fn elements_equal(&self, frozen: &Frozen, depth: u32, xs: &[Val], ys: &[Val], left: &mut Budget) -> Result<bool, ValueStop>
+    fn elements_equal(
+        &self,
+        frozen: &Frozen,
+        depth: u32,
+        xs: &[Val],
+        ys: &[Val],
+        left: &mut Budget,
+    ) -> Result<bool, ValueStop>
         requires some { 0 < left.old.left }
         requires lengths { length xs.now ≡ length ys.now }
         ensures { Charged result left.old.left left.new.left (deeper depth (seen frozen.now self.now) xs.now ys.now) }
@@ -219,7 +246,14 @@ impl Heap {
 impl Heap {
     // Whether two elements are equal, at one unit more.
     #[cycle(equality)]
-    fn pair_equal(&self, frozen: &Frozen, depth: u32, a: Val, b: Val, left: &mut Budget) -> Result<bool, ValueStop>
+    fn pair_equal(
+        &self,
+        frozen: &Frozen,
+        depth: u32,
+        a: Val,
+        b: Val,
+        left: &mut Budget,
+    ) -> Result<bool, ValueStop>
         requires { 0 < left.old.left }
         ensures { Charged result left.old.left left.new.left (later 1 (equal_to depth (seen frozen.now self.now) a b)) }
     {

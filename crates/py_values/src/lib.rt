@@ -1,8 +1,12 @@
-//! The values of a Python program, and what operators and builtins give for them.
+//! The values of a Python program, and what operators give for them.
 //!
-//! A `Val` is a number, a string, a row of values or a function by its number; a `Heap` holds what one machine
-//! made, and a `Frozen` what stands before it, so an id below the frozen length is the frozen one's. Contracts see
-//! both as records of lists (specs/Heaps.antt).
+//! A `Val` is a number, or names a string, a row of values or a function; a `Heap` holds what one machine made, and a
+//! `Frozen` what stands before it, so an id below the frozen length is the frozen one's (specs/Heaps.antt). `operate`
+//! gives exactly the values, the refusals and the cost of Python's operators (specs/Operators.antt, which stands on
+//! Numbers, Equality, Truths, Members, Ranges and Sums); `Spent` comes exactly where the cost reaches what is left
+//! (specs/Runs.antt), and `Limit` where a count would be passed (specs/Places.antt). Scopes bind names, and lists
+//! and dicts change in place, unless they were frozen (specs/Names.antt, specs/Changes.antt). Samples of the
+//! definitions are worked out in proofs/Samples.antt.
 #![tactic(auto)]
 
 mod bind;

@@ -57,7 +57,13 @@ impl Heap {
     }
 
     // Whether a list has an element that equals this value.
-    fn any_equal(&self, frozen: &Frozen, a: &Val, row: &[Val], left: &mut Budget) -> Result<bool, ValueStop>
+    fn any_equal(
+        &self,
+        frozen: &Frozen,
+        a: &Val,
+        row: &[Val],
+        left: &mut Budget,
+    ) -> Result<bool, ValueStop>
         requires { 0 < left.old.left }
         ensures { Charged result left.old.left left.new.left (any_equal (equal (seen frozen.now self.now)) a.now row.now) }
     {
@@ -72,7 +78,13 @@ impl Heap {
     }
 
     // Whether an element equals this value, at one unit more.
-    fn one_equal(&self, frozen: &Frozen, a: Val, b: Val, left: &mut Budget) -> Result<bool, ValueStop>
+    fn one_equal(
+        &self,
+        frozen: &Frozen,
+        a: Val,
+        b: Val,
+        left: &mut Budget,
+    ) -> Result<bool, ValueStop>
         requires { 0 < left.old.left }
         ensures { Charged result left.old.left left.new.left (later 1 (equal (seen frozen.now self.now) a b)) }
     {
@@ -118,7 +130,13 @@ impl Heap {
     }
 
     /// What `in` gives.
-    pub(crate) fn member(&self, frozen: &Frozen, a: Val, b: Val, left: &mut Budget) -> Result<bool, ValueStop>
+    pub(crate) fn member(
+        &self,
+        frozen: &Frozen,
+        a: Val,
+        b: Val,
+        left: &mut Budget,
+    ) -> Result<bool, ValueStop>
         requires { 0 < left.old.left }
         ensures { Charged result left.old.left left.new.left (member (seen frozen.now self.now) a b) }
     {

@@ -69,7 +69,11 @@ impl Heap {
     }
 
     /// A new scope without names.
-    pub fn scope(&mut self, frozen: &Frozen, enclosing: Option<ScopeId>) -> Result<ScopeId, ValueStop>
+    pub fn scope(
+        &mut self,
+        frozen: &Frozen,
+        enclosing: Option<ScopeId>,
+    ) -> Result<ScopeId, ValueStop>
         ensures { Answers (paired result self.new) (new_scope (seen frozen.now self.old) enclosing) }
     {
         let Ok(id) = next_number(frozen.made.scopes.len(), self.scopes.len()) else {
@@ -79,7 +83,8 @@ impl Heap {
         let Ok(()) = self.scopes.push(Scope {
             enclosing,
             bindings,
-        }) else {
+        })
+        else {
             return Err(ValueStop::NoMemory);
         };
         Ok(ScopeId(id))

@@ -5,7 +5,7 @@ ghost use Rattle.py_values.specs.Widened.{widened};
 
 use crate::op::PyOp;
 use crate::powers::{powered, shifted_down, shifted_up};
-use crate::val::{Val, NumberStop};
+use crate::val::{NumberStop, Val};
 use amh_bits::{Int, TooWide};
 
 /// The number that a boolean is.

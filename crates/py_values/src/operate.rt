@@ -102,7 +102,14 @@ impl Heap {
     }
 
     // What an operator gives, before it stands in the heap.
-    fn operated(&self, frozen: &Frozen, op: PyOp, a: Val, b: Val, left: &mut Budget) -> Result<Fresh, ValueStop>
+    fn operated(
+        &self,
+        frozen: &Frozen,
+        op: PyOp,
+        a: Val,
+        b: Val,
+        left: &mut Budget,
+    ) -> Result<Fresh, ValueStop>
         requires { 0 < left.old.left }
         ensures { Charged result left.old.left left.new.left (operated (seen frozen.now self.now) op a b) }
     {
@@ -114,7 +121,14 @@ impl Heap {
     }
 
     /// An operator. For one operand the second is not looked at.
-    pub fn operate(&mut self, frozen: &Frozen, op: PyOp, a: Val, b: Val, left: &mut Budget) -> Result<Val, ValueStop>
+    pub fn operate(
+        &mut self,
+        frozen: &Frozen,
+        op: PyOp,
+        a: Val,
+        b: Val,
+        left: &mut Budget,
+    ) -> Result<Val, ValueStop>
         requires { 0 < left.old.left }
         ensures { Charged (paired result self.new) left.old.left left.new.left (operate frozen.now self.old op a b) }
     {

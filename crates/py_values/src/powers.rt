@@ -3,7 +3,7 @@ ghost use Rattle.std.specs.Prelude.{◌≡◌};
 ghost use Rattle.py_values.specs.Numbers.{powered, shifted_up, shifted_down};
 
 use crate::numbers::widened;
-use crate::val::{Val, NumberStop};
+use crate::val::{NumberStop, Val};
 use amh_bits::Int;
 
 /// The integer times a power of two.

@@ -1,8 +1,9 @@
 // Expected values are CPython's, worked out by it; the units are those of the rules of cost.
 
-use crate::{Frozen, Heap, ObjId, PyOp, StrId, Val, ValueStop, Vals};
+use crate::{Frozen, Heap, ObjId, PyOp, StrId, Val, Vals, ValueStop};
 use amh_bits::Int;
 use amh_host::Budget;
+use std::alloc::Global;
 
 fn int(n: i128) -> Val {
     Val::Int(Int::of_i128(n))
@@ -78,17 +79,21 @@ fn numbers(rt: HostRuntime) {
     for i in 0..wanted.len() {
         let (op, a, b) = NUMBERS[i];
         let mut left = Budget { left: 1 };
-        assert_eq!(rt; heap.operate(&frozen, op, int(a), int(b), &mut left), wanted[i]);
+        assert_eq!(rt;
+            heap.operate(&frozen, op, int(a), int(b), &mut left),
+            wanted[i]
+        );
         assert_eq!(rt; left.left, 1);
     }
 }
 
 // A list of two values.
-fn pair(rt: &HostRuntime, heap: &mut Heap, frozen: &Frozen, a: Val, b: Val) -> Val {
-    let mut row = Vals::new(rt.alloc());
-    row.push(a).expect(rt, "room");
-    row.push(b).expect(rt, "room");
-    heap.list(frozen, row).expect(rt, "a list")
+fn pair(alloc: Global, heap: &mut Heap, frozen: &Frozen, a: Val, b: Val) -> Result<Val, ValueStop> {
+    let mut row = Vals::new(alloc);
+    match row.extend(&[a, b]) {
+        Ok(()) => heap.list(frozen, row),
+        Err(_) => Err(ValueStop::NoMemory),
+    }
 }
 
 #[test]
@@ -98,33 +103,53 @@ fn strings(rt: HostRuntime) {
     let a = heap.literal(&frozen, "añ").expect(&rt, "a string");
     let b = heap.literal(&frozen, "b").expect(&rt, "a string");
     let mut left = Budget { left: 1 };
-    let ab = heap.operate(&frozen, PyOp::Add, a, b, &mut left).expect(&rt, "a sum");
+    let ab = heap
+        .operate(&frozen, PyOp::Add, a, b, &mut left)
+        .expect(&rt, "a sum");
     assert_eq!(rt; ab, Val::Str(StrId(2)));
     assert_eq!(rt; heap.text(&frozen, StrId(2)), "añb");
     let mut left = Budget { left: 1 };
-    assert_eq!(rt; heap.operate(&frozen, PyOp::In, b, ab, &mut left), Ok(Val::Bool(true)));
+    assert_eq!(rt;
+        heap.operate(&frozen, PyOp::In, b, ab, &mut left),
+        Ok(Val::Bool(true))
+    );
     let mut left = Budget { left: 1 };
-    assert_eq!(rt; heap.operate(&frozen, PyOp::In, ab, b, &mut left), Ok(Val::Bool(false)));
+    assert_eq!(rt;
+        heap.operate(&frozen, PyOp::In, ab, b, &mut left),
+        Ok(Val::Bool(false))
+    );
     let mut left = Budget { left: 1 };
-    assert_eq!(rt; heap.operate(&frozen, PyOp::Add, ab, int(1), &mut left), Err(ValueStop::Raised));
+    assert_eq!(rt;
+        heap.operate(&frozen, PyOp::Add, ab, int(1), &mut left),
+        Err(ValueStop::Raised)
+    );
 }
 
 #[test]
 fn equality_costs_its_pairs(rt: HostRuntime) {
     let frozen = Frozen::empty(rt.alloc());
     let mut heap = Heap::new(rt.alloc());
-    let inner = pair(&rt, &mut heap, &frozen, int(2), int(3));
-    let again = pair(&rt, &mut heap, &frozen, int(2), int(3));
-    let outer = pair(&rt, &mut heap, &frozen, int(1), inner);
-    let other = pair(&rt, &mut heap, &frozen, int(1), again);
+    let inner = pair(rt.alloc(), &mut heap, &frozen, int(2), int(3)).expect(&rt, "a list");
+    let again = pair(rt.alloc(), &mut heap, &frozen, int(2), int(3)).expect(&rt, "a list");
+    let outer = pair(rt.alloc(), &mut heap, &frozen, int(1), inner).expect(&rt, "a list");
+    let other = pair(rt.alloc(), &mut heap, &frozen, int(1), again).expect(&rt, "a list");
     let mut left = Budget { left: 10 };
-    assert_eq!(rt; heap.operate(&frozen, PyOp::Eq, outer, other, &mut left), Ok(Val::Bool(true)));
+    assert_eq!(rt;
+        heap.operate(&frozen, PyOp::Eq, outer, other, &mut left),
+        Ok(Val::Bool(true))
+    );
     assert_eq!(rt; left.left, 6);
     let mut left = Budget { left: 4 };
-    assert_eq!(rt; heap.operate(&frozen, PyOp::Eq, outer, other, &mut left), Err(ValueStop::Spent));
+    assert_eq!(rt;
+        heap.operate(&frozen, PyOp::Eq, outer, other, &mut left),
+        Err(ValueStop::Spent)
+    );
     assert_eq!(rt; left.left, 0);
     let mut left = Budget { left: 5 };
-    assert_eq!(rt; heap.operate(&frozen, PyOp::Ne, outer, outer, &mut left), Ok(Val::Bool(false)));
+    assert_eq!(rt;
+        heap.operate(&frozen, PyOp::Ne, outer, outer, &mut left),
+        Ok(Val::Bool(false))
+    );
     assert_eq!(rt; left.left, 5);
 }
 
@@ -132,15 +157,30 @@ fn equality_costs_its_pairs(rt: HostRuntime) {
 fn frozen_lists_refuse(rt: HostRuntime) {
     let frozen = Frozen::empty(rt.alloc());
     let mut heap = Heap::new(rt.alloc());
-    let _list = pair(&rt, &mut heap, &frozen, int(2), int(3));
+    let _list = pair(rt.alloc(), &mut heap, &frozen, int(2), int(3)).expect(&rt, "a list");
     assert_eq!(rt; heap.append(&frozen, ObjId(0), int(4)), Ok(()));
-    assert_eq!(rt; heap.set_item(&frozen, ObjId(0), Int::of_i128(-1), int(5)), Ok(()));
-    assert_eq!(rt; heap.set_item(&frozen, ObjId(0), Int::of_i128(3), int(5)), Err(ValueStop::Raised));
-    assert_eq!(rt; heap.row(&frozen, ObjId(0)), [int(2), int(3), int(5)].as_slice());
+    assert_eq!(rt;
+        heap.set_item(&frozen, ObjId(0), Int::of_i128(-1), int(5)),
+        Ok(())
+    );
+    assert_eq!(rt;
+        heap.set_item(&frozen, ObjId(0), Int::of_i128(3), int(5)),
+        Err(ValueStop::Raised)
+    );
+    assert_eq!(rt;
+        heap.row(&frozen, ObjId(0)),
+        [int(2), int(3), int(5)].as_slice()
+    );
     let frozen = heap.freeze();
     let mut heap = Heap::new(rt.alloc());
-    assert_eq!(rt; heap.append(&frozen, ObjId(0), int(4)), Err(ValueStop::Raised));
-    assert_eq!(rt; heap.row(&frozen, ObjId(0)), [int(2), int(3), int(5)].as_slice());
+    assert_eq!(rt;
+        heap.append(&frozen, ObjId(0), int(4)),
+        Err(ValueStop::Raised)
+    );
+    assert_eq!(rt;
+        heap.row(&frozen, ObjId(0)),
+        [int(2), int(3), int(5)].as_slice()
+    );
 }
 
 #[test]
@@ -153,8 +193,14 @@ fn names_are_bound(rt: HostRuntime) {
     assert_eq!(rt; heap.bind(&frozen, scope, StrId(0), int(1)), Ok(()));
     assert_eq!(rt; heap.bind(&frozen, scope, StrId(0), int(2)), Ok(()));
     assert_eq!(rt; heap.bound(&frozen, scope, "x"), Some(int(2)));
-    let _dict = pair(&rt, &mut heap, &frozen, int(1), int(7));
-    assert_eq!(rt; heap.set_key(&frozen, ObjId(0), &Val::Bool(true), int(8)), Ok(()));
+    let _dict = pair(rt.alloc(), &mut heap, &frozen, int(1), int(7)).expect(&rt, "a list");
+    assert_eq!(rt;
+        heap.set_key(&frozen, ObjId(0), &Val::Bool(true), int(8)),
+        Ok(())
+    );
     assert_eq!(rt; heap.row(&frozen, ObjId(0)), [int(1), int(8)].as_slice());
-    assert_eq!(rt; heap.set_key(&frozen, ObjId(0), &Val::None, int(8)), Err(ValueStop::Raised));
+    assert_eq!(rt;
+        heap.set_key(&frozen, ObjId(0), &Val::None, int(8)),
+        Err(ValueStop::Raised)
+    );
 }
