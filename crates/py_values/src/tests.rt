@@ -96,31 +96,39 @@ fn pair(alloc: Global, heap: &mut Heap, frozen: &Frozen, a: Val, b: Val) -> Resu
     }
 }
 
+fn text(n: u32) -> Val {
+    Val::Str(StrId(n))
+}
+
+fn list(n: u32) -> Val {
+    Val::List(ObjId(n))
+}
+
 #[test]
 fn strings(rt: HostRuntime) {
     let frozen = Frozen::empty(rt.alloc());
     let mut heap = Heap::new(rt.alloc());
-    let a = heap.literal(&frozen, "añ").expect(&rt, "a string");
-    let b = heap.literal(&frozen, "b").expect(&rt, "a string");
+    assert_eq!(rt; heap.literal(&frozen, "añ"), Ok(text(0)));
+    assert_eq!(rt; heap.literal(&frozen, "b"), Ok(text(1)));
     let mut left = Budget { left: 1 };
-    let ab = heap
-        .operate(&frozen, PyOp::Add, a, b, &mut left)
-        .expect(&rt, "a sum");
-    assert_eq!(rt; ab, Val::Str(StrId(2)));
+    assert_eq!(rt;
+        heap.operate(&frozen, PyOp::Add, text(0), text(1), &mut left),
+        Ok(text(2))
+    );
     assert_eq!(rt; heap.text(&frozen, StrId(2)), "añb");
     let mut left = Budget { left: 1 };
     assert_eq!(rt;
-        heap.operate(&frozen, PyOp::In, b, ab, &mut left),
+        heap.operate(&frozen, PyOp::In, text(1), text(2), &mut left),
         Ok(Val::Bool(true))
     );
     let mut left = Budget { left: 1 };
     assert_eq!(rt;
-        heap.operate(&frozen, PyOp::In, ab, b, &mut left),
+        heap.operate(&frozen, PyOp::In, text(2), text(1), &mut left),
         Ok(Val::Bool(false))
     );
     let mut left = Budget { left: 1 };
     assert_eq!(rt;
-        heap.operate(&frozen, PyOp::Add, ab, int(1), &mut left),
+        heap.operate(&frozen, PyOp::Add, text(2), int(1), &mut left),
         Err(ValueStop::Raised)
     );
 }
@@ -129,25 +137,37 @@ fn strings(rt: HostRuntime) {
 fn equality_costs_its_pairs(rt: HostRuntime) {
     let frozen = Frozen::empty(rt.alloc());
     let mut heap = Heap::new(rt.alloc());
-    let inner = pair(rt.alloc(), &mut heap, &frozen, int(2), int(3)).expect(&rt, "a list");
-    let again = pair(rt.alloc(), &mut heap, &frozen, int(2), int(3)).expect(&rt, "a list");
-    let outer = pair(rt.alloc(), &mut heap, &frozen, int(1), inner).expect(&rt, "a list");
-    let other = pair(rt.alloc(), &mut heap, &frozen, int(1), again).expect(&rt, "a list");
+    assert_eq!(rt;
+        pair(rt.alloc(), &mut heap, &frozen, int(2), int(3)),
+        Ok(list(0))
+    );
+    assert_eq!(rt;
+        pair(rt.alloc(), &mut heap, &frozen, int(2), int(3)),
+        Ok(list(1))
+    );
+    assert_eq!(rt;
+        pair(rt.alloc(), &mut heap, &frozen, int(1), list(0)),
+        Ok(list(2))
+    );
+    assert_eq!(rt;
+        pair(rt.alloc(), &mut heap, &frozen, int(1), list(1)),
+        Ok(list(3))
+    );
     let mut left = Budget { left: 10 };
     assert_eq!(rt;
-        heap.operate(&frozen, PyOp::Eq, outer, other, &mut left),
+        heap.operate(&frozen, PyOp::Eq, list(2), list(3), &mut left),
         Ok(Val::Bool(true))
     );
     assert_eq!(rt; left.left, 6);
     let mut left = Budget { left: 4 };
     assert_eq!(rt;
-        heap.operate(&frozen, PyOp::Eq, outer, other, &mut left),
+        heap.operate(&frozen, PyOp::Eq, list(2), list(3), &mut left),
         Err(ValueStop::Spent)
     );
     assert_eq!(rt; left.left, 0);
     let mut left = Budget { left: 5 };
     assert_eq!(rt;
-        heap.operate(&frozen, PyOp::Ne, outer, outer, &mut left),
+        heap.operate(&frozen, PyOp::Ne, list(2), list(2), &mut left),
         Ok(Val::Bool(false))
     );
     assert_eq!(rt; left.left, 5);
