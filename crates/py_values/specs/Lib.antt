@@ -1,0 +1,13 @@
+pub mod Heaps
+pub mod Runs
+pub mod Numbers
+pub mod Equality
+pub mod Widened
+pub mod Places
+pub mod Ranges
+pub mod Truths
+pub mod Members
+pub mod Sums
+pub mod Operators
+pub mod Names
+pub mod Changes

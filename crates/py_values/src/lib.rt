@@ -1,0 +1,37 @@
+//! The values of a Python program, and what operators give for them.
+//!
+//! A `Val` is a number, or names a string, a row of values or a function; a `Heap` holds what one machine made, and a
+//! `Frozen` what stands before it, so an id below the frozen length is the frozen one's (specs/Heaps.antt). `operate`
+//! gives exactly the values, the refusals and the cost of Python's operators (specs/Operators.antt, which stands on
+//! Numbers, Equality, Truths, Members, Ranges and Sums); `Spent` comes exactly where the cost reaches what is left
+//! (specs/Runs.antt), and `Limit` where a count would be passed (specs/Places.antt). Scopes bind names, and lists
+//! and dicts change in place, unless they were frozen (specs/Names.antt, specs/Changes.antt). Samples of the
+//! definitions are worked out in proofs/Samples.antt.
+#![tactic(auto)]
+
+mod bind;
+mod change;
+mod equality;
+mod fresh;
+mod func;
+mod heap;
+mod members;
+mod names;
+mod numbers;
+mod op;
+mod operate;
+mod powers;
+mod range;
+mod spend;
+mod sums;
+#[cfg(test)]
+mod tests;
+mod truth;
+mod val;
+mod vals;
+
+pub use func::{Code, Func, Scope};
+pub use heap::{Frozen, Heap};
+pub use op::{Builtin, PyOp};
+pub use val::{FuncId, Hw, ObjId, ScopeId, StrId, Val, ValueStop};
+pub use vals::Vals;
