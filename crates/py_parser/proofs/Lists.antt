@@ -1,5 +1,5 @@
 -- Lists that the builders of nodes make.
-use Rattle.std.proofs.Common.{◌≡◌, ℕ, List, [], ◌∷◌, ◌++◌, ap, map, refl, length, insert}
+use Rattle.std.proofs.Common.{◌≡◌, List, [], ◌∷◌, ◌++◌, ap, map, refl, insert}
 use Rattle.std.specs.Prelude.{not}
 use Rattle.py_tree.specs.Tree.{Tree, trees}
 use Rattle.py_grammar.specs.Seen.{is_empty, some_there}

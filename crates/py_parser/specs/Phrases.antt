@@ -1,6 +1,5 @@
 -- What contracts see of the parts that readers make.
-use Rattle.std.specs.Prelude.{ℕ, List, [], ◌∷◌, map, Option, Some, None, option_map}
-use Rattle.amh_host.specs.declared.place.Place.{Place}
+use Rattle.std.specs.Prelude.{map}
 use Rattle.py_tree.specs.Seen.{tree, each_of}
 use Rattle.py_parser.specs.declared.phrase.Phrase.{Phrase}
 use Rattle.py_parser.specs.declared.phrase.Deep.{Deep as DeepOf}

@@ -1,4 +1,4 @@
-use Rattle.std.proofs.Common.{rules, arith, length, Some, refl}
+use Rattle.std.proofs.Common.{rules, arith, length}
 use Rattle.std.specs.Prelude.{codes}
 use Rattle.py_tree.specs.Seen.{tree, link_tree, pair_tree, trailer_of, argument_of}
 use Rattle.py_grammar.specs.Seen.{after_comma}

@@ -1,9 +1,8 @@
-use Rattle.std.proofs.Common.{◌≡◌, ◌≤◌, ◌<◌, ◌+◌, ◌*◌, ◌-◌, map, [], length}
+use Rattle.std.proofs.Common.{◌≡◌, ◌≤◌, ◌+◌, ◌*◌, ◌-◌, map, [], length}
 use Rattle.std.specs.Prelude.{codes}
 use Rattle.py_tree.specs.Seen.{tree, link_tree, pair_tree, trailer_of, argument_of}
 use Rattle.py_grammar.specs.Seen.{and_one, after_comma}
 use Rattle.py_grammar.specs.Readers.{repeat, made, sign, ◌▹◌}
-use Rattle.py_grammar.specs.declared.word.Kind.TheVariants.{Expr as expr_kind}
 use Rattle.py_grammar.specs.Reading.{inner, operand, link, is_operator, trail, trails, plain_of, pair, arg, begins, begins_argument, comma_then}
 use Rattle.py_parser.proofs.reader.+read.Given as goal
 
