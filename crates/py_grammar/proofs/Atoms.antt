@@ -1,28 +1,25 @@
 -- Atoms, trailers and primaries are read exactly.
-use Rattle.std.proofs.Common.{◌≡◌, ℕ, ◌<◌, ◌≤◌, ◌+◌, suc, zero, refl, sym, ap, subst, ◌∙◌, List, [], ◌∷◌, ◌++◌, append_assoc, length, Option, Some, None, arith, inl, inr}
-use Rattle.std.specs.Prelude.{◌⊎◌, Bool, true, false, not, ◌&&◌, ◌||◌, codes, is_some, if◌then◌else◌}
+use Rattle.std.proofs.Common.{◌≡◌, ℕ, ◌<◌, ◌≤◌, refl, sym, ap, subst, ◌∙◌, List, ◌++◌, Option, Some, arith, inl, inr}
+use Rattle.std.specs.Prelude.{false, codes, is_some, if◌then◌else◌}
 use Rattle.lists.specs.Texts.{text_eq}
 use Rattle.amh_host.specs.declared.place.Place.{Place}
 use Rattle.py_tree.specs.declared.name.Piece.{Piece}
 use Rattle.py_tree.specs.declared.number.Decimal.{Decimal}
-use Rattle.py_tree.specs.declared.number.Amount.{Amount}
 use Rattle.py_tree.specs.declared.expr.Constant.{Constant}
-use Rattle.py_tree.specs.Tree.{Tree, Argument, Trailer}
 use Rattle.py_grammar.specs.declared.word.Word.{Word}
 use Rattle.py_grammar.specs.declared.word.Mark.{Mark}
 use Rattle.py_grammar.specs.declared.word.Mark.TheVariants as mark
 use Rattle.py_grammar.specs.declared.word.Kind.{Kind}
-use Rattle.py_grammar.specs.declared.word.Kind.TheVariants.{Target as a_target, Unary as a_unary, Not as a_not, Or as an_or, Expr as an_expr}
-use Rattle.py_grammar.specs.Words.{word, next, next_sign, next_key, name_of, keyword_of, sign_of, number_of, decimal_of, string_of, format_of, valued}
+use Rattle.py_grammar.specs.declared.word.Kind.TheVariants.{Expr as an_expr}
+use Rattle.py_grammar.specs.Words.{next, next_sign, next_key, name_of, keyword_of, number_of, decimal_of, string_of, format_of, valued}
 use Rattle.py_grammar.specs.Values.{constant_of}
-use Rattle.py_grammar.specs.Forms.{Signed, Keyed, One, Then, ◌▸◌, ◌∣◌, Made, Such, Maybe, not_there, there, Many, no_more, one_more}
-use Rattle.py_grammar.specs.Readers.{Read, ◌>>=◌, one, sign, key, ◌▹◌, made, choose, maybe, such, many}
-use Rattle.py_grammar.specs.Seen.{Seen, Deep, Listed, Rest, and_one, all_of, name_seen, constant_seen, decimal_seen, string_seen, format_seen, whole_amount, decimal_amount, number_seen, round_seen, display_seen, dict_seen, starred_seen, keyword_seen, positional_seen, over_fits, call_seen, index_fits, index_seen, bracketed_index, attribute_seen, primary_seen, pair_seen}
-use Rattle.py_grammar.specs.Grammar.{More, Plain, Items, Others, Pair, AmountOf, Round, Square, Curly, Atom, Arg, Args, IndexRule, Trail, Primary}
-use Rattle.py_grammar.specs.Reading.{Inner, begins, begins_mark, begins_argument, items, others, pair, plain_of, inside, amount, number, round, square, square_inside, curly, curly_inside, bracketed, atom, atom_by, is_named, arg, args, perhaps_expr, step, stop, index, attribute, call, indexed, trail, trails, primary}
-use Rattle.py_grammar.proofs.Exact.{Front, Exact, Any, some_same, exact_sign, exact_one, exact_then, exact_made, exact_choose, exact_such, exact_maybe}
-use Rattle.py_grammar.proofs.Runs.{Runs, exact_many}
-use Rattle.py_grammar.proofs.Ends.{rank, sign_rank, lead, mark_lead, sign_lead, key_lead, Sign_first, sign_first, sign_by_rank, sign_by_lead, begins_lead, refuted, and_first, and_second}
+use Rattle.py_grammar.specs.Forms.{Signed, One, ◌▸◌, ◌∣◌, Made, Maybe}
+use Rattle.py_grammar.specs.Readers.{one, sign, ◌▹◌, made, choose}
+use Rattle.py_grammar.specs.Seen.{Seen, whole_amount, decimal_amount, number_seen, round_seen, display_seen, dict_seen}
+use Rattle.py_grammar.specs.Grammar.{More, Plain, Items, Others, Pair, AmountOf, Round, Square, Curly, Atom}
+use Rattle.py_grammar.specs.Reading.{Inner, begins, begins_mark, items, others, pair, plain_of, amount, number, round, square, square_inside, curly, curly_inside, bracketed}
+use Rattle.py_grammar.proofs.Exact.{Exact, Any, exact_sign, exact_one, exact_then, exact_made, exact_choose, exact_maybe}
+use Rattle.py_grammar.proofs.Ends.{sign_rank, lead, mark_lead, sign_lead, Sign_first, sign_by_lead, begins_lead}
 use Rattle.py_grammar.proofs.Lists.{After, Knows, exact_weaken, then_first, signed_first, sign_after, sign_there, After_list, exact_items, comma_after, After_others, exact_others, others_hold, exact_pair, pair_leads, exact_bracket}
 
 -- ---- first words of single marks

@@ -1,6 +1,6 @@
 -- What may follow a phrase, and what may begin it, by the first word: the rank of a word is the tightest level of
 -- phrases that it goes on with, and its lead says which phrases it begins.
-use Rattle.std.proofs.Common.{◌≡◌, ℕ, ◌<◌, ◌≤◌, ◌+◌, suc, zero, refl, sym, ap, subst, ◌∙◌, List, [], ◌∷◌, ◌++◌, length, Option, Some, None, arith, inl, inr}
+use Rattle.std.proofs.Common.{◌≡◌, ℕ, ◌<◌, ◌≤◌, ◌+◌, suc, zero, refl, sym, ap, subst, ◌∙◌, List, [], ◌∷◌, Option, Some, arith, inl, inr}
 use Rattle.std.specs.Prelude.{◌⊎◌, Bool, true, false, if◌then◌else◌, ◌==◌, ◌&&◌, ◌||◌, is_some, codes}
 use Rattle.lists.specs.Texts.{text_eq}
 use Rattle.amh_host.specs.declared.place.Place.{Place}
@@ -8,9 +8,9 @@ use Rattle.py_tree.specs.declared.expr.Operator.{Operator}
 use Rattle.py_grammar.specs.declared.word.Word.{Word}
 use Rattle.py_grammar.specs.declared.word.Mark.{Mark}
 use Rattle.py_grammar.specs.declared.word.Mark.TheVariants as mark
-use Rattle.py_grammar.specs.Words.{word, is_text, sign_of, keyword_of, next, next_sign, next_key, valued}
+use Rattle.py_grammar.specs.Words.{word, sign_of, keyword_of, next_sign, next_key, valued}
 use Rattle.py_grammar.specs.Values.{constant_of, unary_of, term_of, sum_of, shift_of, comparison_of, only, sign_at, key_at}
-use Rattle.py_grammar.specs.Reading.{is_operator, starts_worded, begins, begins_mark, opens, leads}
+use Rattle.py_grammar.specs.Reading.{is_operator, starts_worded, begins, begins_mark}
 use Rattle.py_grammar.proofs.Exact.{text_same, is_sign_text, is_key_text}
 
 abbrev pub sign_rank : List ℕ → ℕ

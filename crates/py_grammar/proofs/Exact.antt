@@ -1,15 +1,15 @@
 -- What a reader reads is a front of the words that means it; and what means something is read, where nothing follows
 -- that would go on.
-use Rattle.std.proofs.Common.{◌≡◌, ℕ, ◌<◌, ◌≤◌, ◌+◌, suc, zero, refl, sym, ap, subst, ◌∙◌, List, [], ◌∷◌, ◌++◌, append_assoc, length, length-append, Option, Some, None, arith, inl, inr}
-use Rattle.std.specs.Prelude.{◌⊎◌, Bool, true, false, if◌then◌else◌, ◌==◌, ◌&&◌, IsTrue, fold, is_some}
+use Rattle.std.proofs.Common.{◌≡◌, ℕ, refl, sym, ap, subst, ◌∙◌, List, [], ◌∷◌, ◌++◌, append_assoc, Option, Some, None, arith, inl, inr}
+use Rattle.std.specs.Prelude.{◌⊎◌, Bool, true, false, if◌then◌else◌, ◌==◌, ◌&&◌, IsTrue}
 use Rattle.lists.specs.Texts.{text_eq}
 use Rattle.amh_host.specs.declared.place.Place.{Place}
 use Rattle.py_grammar.specs.declared.word.Word.{Word}
 use Rattle.py_grammar.specs.declared.word.Mark.{Mark}
 use Rattle.py_grammar.specs.declared.word.Mark.TheVariants as mark
 use Rattle.py_grammar.specs.Words.{word, is_text, sign_of, keyword_of}
-use Rattle.py_grammar.specs.Forms.{Signed, Keyed, One, Then, ◌▸◌, ◌∣◌, Made, Such, Maybe, not_there, there, Many, no_more, one_more}
-use Rattle.py_grammar.specs.Readers.{Read, ◌>>=◌, one_placed, one, sign, key, ◌▹◌, made, choose, maybe, such, repeat, many}
+use Rattle.py_grammar.specs.Forms.{Signed, Keyed, One, Then, ◌▸◌, ◌∣◌, Made, Such, Maybe, not_there, there}
+use Rattle.py_grammar.specs.Readers.{Read, ◌>>=◌, one_placed, one, sign, key, ◌▹◌, made, choose, maybe, such}
 
 pub record Front {A : Type 0} (D : List Word → A → Type 0) (ws : List Word) (a : A) (r : List Word) : Type 0 where
   pub front : List Word

@@ -1,6 +1,6 @@
 -- Every rule of expressions is read exactly, within any number of brackets.
 use Rattle.std.proofs.Common.{◌≡◌, ℕ, ◌<◌, ◌≤◌, ◌+◌, suc, zero, refl, sym, ap, subst, ◌∙◌, List, [], ◌∷◌, ◌++◌, append_assoc, length, Option, Some, None, arith, inl, inr}
-use Rattle.std.specs.Prelude.{◌⊎◌, Bool, true, false, not, ◌==◌, ◌&&◌, ◌||◌, codes, is_some, if◌then◌else◌, IsTrue}
+use Rattle.std.specs.Prelude.{◌⊎◌, Bool, true, false, ◌==◌, ◌&&◌, ◌||◌, codes, is_some}
 use Rattle.lists.specs.Texts.{text_eq}
 use Rattle.amh_host.specs.declared.place.Place.{Place}
 use Rattle.py_tree.specs.declared.expr.Operator.{Operator}
@@ -12,18 +12,19 @@ use Rattle.py_grammar.specs.declared.word.Mark.{Mark}
 use Rattle.py_grammar.specs.declared.word.Mark.TheVariants as mark
 use Rattle.py_grammar.specs.declared.word.Kind.{Kind}
 use Rattle.py_grammar.specs.declared.word.Kind.TheVariants.{Target as a_target, Unary as a_unary, Not as a_not, Or as an_or, Expr as an_expr}
-use Rattle.py_grammar.specs.Words.{word, next, next_sign, next_key, name_of, keyword_of, sign_of, valued}
+use Rattle.py_grammar.specs.Words.{word, next, next_sign, next_key, keyword_of, sign_of, valued}
 use Rattle.py_grammar.specs.Values.{unary_of, sign_at, key_at}
-use Rattle.py_grammar.specs.Forms.{Signed, Keyed, One, Then, ◌▸◌, ◌∣◌, Made, Such, Maybe, not_there, there, Many, no_more, one_more}
-use Rattle.py_grammar.specs.Readers.{Read, ◌>>=◌, one, sign, key, ◌▹◌, made, choose, maybe, such, many}
+use Rattle.py_grammar.specs.Forms.{Signed, Keyed, One, ◌▸◌, ◌∣◌, Made, Such, Maybe, not_there, there, Many, no_more, one_more}
+use Rattle.py_grammar.specs.Readers.{Read, one, sign, key, ◌▹◌, made, maybe, such, many}
 use Rattle.py_grammar.specs.Seen.{Seen, Deep, and_one, all_of, await_seen, power_fits, power_seen, unary_seen, not_seen, link_seen, chain_seen, choice_fits, choice_seen, seen_is_target, name_seen}
-use Rattle.py_grammar.specs.Grammar.{Atom, Trail, Primary, Awaited, PowerRule, UnaryRule, Worded, Op, Chain, Level, NotRule, OrRule, ExprRule, TargetRule, rule, Within}
+use Rattle.py_grammar.specs.Grammar.{Primary, Awaited, PowerRule, UnaryRule, Worded, Op, Chain, Level, NotRule, OrRule, ExprRule, TargetRule, rule, Within}
 use Rattle.py_grammar.specs.Reading.{Inner, primary, awaited, power, unary, if_not, starts_worded, worded, is_operator, operator, link, chain, level, operand, negated, either, choice_part, expr, target, by_kind, inner}
-use Rattle.py_grammar.proofs.Exact.{Front, Exact, Any, some_same, exact_sign, exact_key, exact_one, exact_then, exact_made, exact_choose, exact_such, exact_maybe, text_same}
+use Rattle.py_grammar.proofs.Exact.{Exact, Any, exact_sign, exact_key, exact_one, exact_then, exact_made, exact_choose, exact_such, exact_maybe, text_same}
 use Rattle.py_grammar.proofs.Runs.{Runs, exact_many}
-use Rattle.py_grammar.proofs.Ends.{rank, sign_rank, lead, mark_lead, sign_lead, key_lead, Sign_first, Key_first, key_first, sign_by_rank, key_by_rank, key_by_lead, operator_rank, no_operator, refuted, if_is_some, six_is}
+use Rattle.py_grammar.proofs.Ends.{lead, mark_lead, sign_lead, key_lead, Key_first, sign_by_rank, key_by_rank, key_by_lead, operator_rank, no_operator, refuted, if_is_some, six_is}
 use Rattle.py_grammar.proofs.Lists.{After, kind_rank, Knows, exact_weaken, then_first, signed_first, keyed_first, keyed_is, sign_after, key_after, sign_there, key_there}
 use Rattle.py_grammar.proofs.Atoms.{one_lead}
+use Rattle.py_grammar.proofs.Alone.{primary_expr}
 use Rattle.py_grammar.proofs.Primaries.{exact_primary, primary_leads}
 
 -- ---- `await`, `**` and signs before one operand
@@ -337,18 +338,8 @@ named_word n p = word (mark.Name n) p ∷ []
 name_primary : (I : Kind → List Word → Seen → Type 0) (n : List ℕ) (p : Place) → Primary I (named_word n p) (name_seen (p, n))
 name_primary I n p = record { from = (name_seen (p, n), ([], 0)); derived = record { front = named_word n p; back = []; whole = refl; first = inl record { from = (p, n); derived = record { mark_is = mark.Name n; whole = refl; valued = refl }; is = refl }; second = record { from = []; derived = no_more; is = refl } }; is = refl }
 
-name_power : (I : Kind → List Word → Seen → Type 0) (room : ℕ) (n : List ℕ) (p : Place) → PowerRule I room (named_word n p) (name_seen (p, n))
-name_power I room n p = record { from = (name_seen (p, n), None); derived = record { derived = record { front = named_word n p; back = []; whole = refl; first = inr (name_primary I n p); second = not_there }; passes = refl }; is = refl }
-
-lone_chain : (k : ℕ) (D : List Word → Seen → Type 0) (n : List ℕ) (p : Place) → D (named_word n p) (name_seen (p, n)) → Chain k D (named_word n p) (name_seen (p, n))
-lone_chain k D n p d = record { from = (name_seen (p, n), ([], 0)); derived = record { front = named_word n p; back = []; whole = refl; first = d; second = record { from = []; derived = no_more; is = refl } }; is = refl }
-
-name_level : (I : Kind → List Word → Seen → Type 0) (room k : ℕ) (n : List ℕ) (p : Place) → Level I room k (named_word n p) (name_seen (p, n))
-name_level I room zero n p = inr (name_power I room n p)
-name_level I room (suc k) n p = lone_chain k (Level I room k) n p (name_level I room k n p)
-
 name_expr : (I : Kind → List Word → Seen → Type 0) (room : ℕ) (n : List ℕ) (p : Place) → ExprRule I room (named_word n p) (name_seen (p, n))
-name_expr I room n p = record { from = (name_seen (p, n), None); derived = record { derived = record { front = named_word n p; back = []; whole = refl; first = lone_chain 8 (Chain 7 (NotRule I room)) n p (lone_chain 7 (NotRule I room) n p (inr (name_level I room 7 n p))); second = not_there }; passes = refl }; is = refl }
+name_expr I room n p = primary_expr I room (named_word n p) (name_seen (p, n)) (name_primary I n p)
 
 -- ---- within any number of brackets
 

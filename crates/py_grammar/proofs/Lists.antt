@@ -1,23 +1,21 @@
 -- Lists with commas, brackets and comprehensions are read exactly.
-use Rattle.std.proofs.Common.{◌≡◌, ℕ, ◌<◌, ◌≤◌, ◌+◌, suc, zero, refl, sym, ap, subst, ◌∙◌, List, [], ◌∷◌, ◌++◌, append_assoc, length, Option, Some, None, arith, inl, inr, max}
-use Rattle.std.specs.Prelude.{◌⊎◌, Bool, true, false, not, ◌&&◌, ◌||◌, codes}
-use Rattle.lists.specs.Texts.{text_eq}
+use Rattle.std.proofs.Common.{◌≡◌, ℕ, ◌<◌, ◌≤◌, refl, sym, ap, subst, ◌∙◌, List, [], ◌∷◌, ◌++◌, append_assoc, length, Option, arith, inl, inr}
+use Rattle.std.specs.Prelude.{Bool, true, false, not, ◌&&◌, codes}
 use Rattle.amh_host.specs.declared.place.Place.{Place}
 use Rattle.py_tree.specs.Tree.{Tree, Each}
 use Rattle.py_grammar.specs.declared.word.Word.{Word}
-use Rattle.py_grammar.specs.declared.word.Mark.{Mark}
 use Rattle.py_grammar.specs.declared.word.Mark.TheVariants as mark
 use Rattle.py_grammar.specs.declared.word.Kind.{Kind}
 use Rattle.py_grammar.specs.declared.word.Kind.TheVariants.{Target as a_target, Unary as a_unary, Not as a_not, Or as an_or, Expr as an_expr}
 use Rattle.py_grammar.specs.Words.{word, next_sign, next_key}
-use Rattle.py_grammar.specs.Forms.{Signed, Keyed, One, Then, ◌▸◌, ◌∣◌, Made, Such, Maybe, not_there, there, Many, no_more, one_more}
-use Rattle.py_grammar.specs.Readers.{Read, ◌>>=◌, sign, key, ◌▹◌, made, choose, maybe, many}
+use Rattle.py_grammar.specs.Forms.{Signed, Keyed, Then, ◌▸◌, Made, Maybe, not_there, there, Many, no_more, one_more}
+use Rattle.py_grammar.specs.Readers.{Read, sign, key, ◌▹◌, made, maybe, many}
 use Rattle.py_grammar.specs.Seen.{Seen, Deep, Listed, Rest, over, more, and_one, all_of, after_comma, tuple_seen, pair_seen, each_seen}
-use Rattle.py_grammar.specs.Grammar.{Deeper, More, Plain, Items, Comp, Others, Pair}
+use Rattle.py_grammar.specs.Grammar.{More, Plain, Items, Comp, Others, Pair}
 use Rattle.py_grammar.specs.Reading.{Inner, begins, begins_mark, comma_then, more_of, plain_of, items, if_part, comp, others, pair, inside}
-use Rattle.py_grammar.proofs.Exact.{Front, Exact, Any, exact_sign, exact_key, exact_then, exact_made, exact_choose, exact_maybe, text_itself}
+use Rattle.py_grammar.proofs.Exact.{Exact, Any, exact_sign, exact_key, exact_then, exact_made, exact_choose, exact_maybe, text_itself}
 use Rattle.py_grammar.proofs.Runs.{Runs, exact_many}
-use Rattle.py_grammar.proofs.Ends.{rank, sign_rank, key_rank, lead, Sign_first, Key_first, sign_by_rank, key_by_rank, sign_by_lead, key_by_lead, begins_lead}
+use Rattle.py_grammar.proofs.Ends.{rank, sign_rank, key_rank, lead, Sign_first, Key_first, key_by_rank, begins_lead}
 
 -- nothing of the levels up to n goes on
 abbrev pub After : ℕ → List Word → Type 0
@@ -92,7 +90,7 @@ item_goes : {A : Type 0} (test : List Word → Bool) (D : List Word → Deep A �
 unfolding comma_then
 item_goes test D t ws x r d = let th = d.derived in let e : ws ++ r ≡ word (mark.Sign (codes ",")) d.from.0 ∷ (th.back ++ r) = ap (λ z. z ++ r) th.whole ∙ (append_assoc th.front th.back r ∙ ap (λ z. z ++ (th.back ++ r)) th.first.whole) in ap (comma_then test) e ∙ t th.back d.from.1 r th.second
 
-sign_long : (s : List ℕ) (ws : List Word) → Sign_first s (ws ++ []) → 0 < length ws
+pub sign_long : (s : List ℕ) (ws : List Word) → Sign_first s (ws ++ []) → 0 < length ws
 sign_long s [] f = let e = f.whole in cc
 sign_long s (w ∷ ws) f = omega arith
 
@@ -115,7 +113,7 @@ comma_runs E test D rd e c t = record {
   at_next = λ ws a r d. let f = item_first D ws a r d in subst E (sym f.whole) (c f.place f.rest);
 }
 
-last_follows : (E : List Word → Type 0) (test : List Word → Bool) → ((p : Place) (r : List Word) → E (word (mark.Sign (codes ",")) p ∷ r)) → (us : List Word) (o : Option Place) (r : List Word) → Maybe (Signed (codes ",")) us o → After_list E test r → After_items E test (us ++ r)
+pub last_follows : (E : List Word → Type 0) (test : List Word → Bool) → ((p : Place) (r : List Word) → E (word (mark.Sign (codes ",")) p ∷ r)) → (us : List Word) (o : Option Place) (r : List Word) → Maybe (Signed (codes ",")) us o → After_list E test r → After_items E test (us ++ r)
 last_follows E test c us o r (not_there) h = record { ends = h.ends; no_item = no_item_of test r h.no_comma }
 last_follows E test c us o r (there {x = p} d) h = let f = signed_is (codes ",") us p r d in subst (After_items E test) (sym f.whole) (record { ends = c f.place f.rest; no_item = comma_no_item test p r h.not_begun })
 
@@ -158,7 +156,7 @@ exact_if I i kn = exact_maybe (After 10) (After 11) (next_key (codes "if")) (Key
     (exact_then Any (After 10) (Keyed (codes "if")) (I an_or) (key (codes "if")) (i an_or) (exact_key (codes "if")) (kn.exact an_or) (λ us b r d h. tt))
     (λ r h. omega arith) (λ ws x r d h. key_there (codes "if") (ws ++ r) (keyed_first (codes "if") (I an_or) ws x r d)) (λ r h. key_by_rank (codes "if") r 11 h (omega arith))
 
-targets_end : (ws : List Word) → Key_first (codes "in") ws → After_list (After 0) begins ws
+pub targets_end : (ws : List Word) → Key_first (codes "in") ws → After_list (After 0) begins ws
 unfolding begins begins_mark
 targets_end ws f = record { ends = key_after (codes "in") 0 ws (omega arith) f; no_comma = ap (next_sign (codes ",")) f.whole; not_begun = ap begins f.whole }
 

@@ -1,30 +1,29 @@
 -- Atoms, arguments, indices, trailers and primaries are read exactly.
-use Rattle.std.proofs.Common.{◌≡◌, ℕ, ◌<◌, ◌≤◌, ◌+◌, suc, zero, refl, sym, ap, subst, ◌∙◌, List, [], ◌∷◌, ◌++◌, append_assoc, length, Option, Some, None, arith, inl, inr}
-use Rattle.std.specs.Prelude.{◌⊎◌, Bool, true, false, not, ◌&&◌, ◌||◌, codes, is_some, if◌then◌else◌}
-use Rattle.lists.specs.Texts.{text_eq}
+use Rattle.std.proofs.Common.{◌≡◌, ℕ, ◌<◌, ◌≤◌, refl, sym, ap, subst, ◌∙◌, List, [], ◌∷◌, ◌++◌, append_assoc, length, Option, Some, arith, inl, inr}
+use Rattle.std.specs.Prelude.{Bool, true, false, ◌&&◌, ◌||◌, codes, is_some}
 use Rattle.amh_host.specs.declared.place.Place.{Place}
 use Rattle.py_tree.specs.declared.name.Piece.{Piece}
 use Rattle.py_tree.specs.declared.number.Decimal.{Decimal}
 use Rattle.py_tree.specs.declared.number.Amount.{Amount}
 use Rattle.py_tree.specs.declared.expr.Constant.{Constant}
-use Rattle.py_tree.specs.Tree.{Tree, Argument, Trailer}
+use Rattle.py_tree.specs.Tree.{Argument, Trailer}
 use Rattle.py_grammar.specs.declared.word.Word.{Word}
 use Rattle.py_grammar.specs.declared.word.Mark.{Mark}
 use Rattle.py_grammar.specs.declared.word.Mark.TheVariants as mark
 use Rattle.py_grammar.specs.declared.word.Kind.{Kind}
-use Rattle.py_grammar.specs.declared.word.Kind.TheVariants.{Target as a_target, Unary as a_unary, Not as a_not, Or as an_or, Expr as an_expr}
-use Rattle.py_grammar.specs.Words.{word, next, next_sign, next_key, name_of, keyword_of, sign_of, number_of, decimal_of, string_of, format_of, valued}
+use Rattle.py_grammar.specs.declared.word.Kind.TheVariants.{Expr as an_expr}
+use Rattle.py_grammar.specs.Words.{word, next_sign, next_key, name_of, keyword_of, number_of, decimal_of, string_of, format_of, valued}
 use Rattle.py_grammar.specs.Values.{constant_of}
-use Rattle.py_grammar.specs.Forms.{Signed, Keyed, One, Then, ◌▸◌, ◌∣◌, Made, Such, Maybe, not_there, there, Many, no_more, one_more}
-use Rattle.py_grammar.specs.Readers.{Read, ◌>>=◌, one, sign, key, ◌▹◌, made, choose, maybe, such, many}
-use Rattle.py_grammar.specs.Seen.{Seen, Deep, Listed, Rest, and_one, all_of, name_seen, constant_seen, decimal_seen, string_seen, format_seen, whole_amount, decimal_amount, number_seen, round_seen, display_seen, dict_seen, starred_seen, keyword_seen, positional_seen, over_fits, call_seen, index_fits, index_seen, bracketed_index, attribute_seen, primary_seen, pair_seen}
-use Rattle.py_grammar.specs.Grammar.{More, Plain, Items, Others, Pair, AmountOf, Round, Square, Curly, Atom, Arg, Args, IndexRule, Trail, Primary}
-use Rattle.py_grammar.specs.Reading.{Inner, begins, begins_mark, begins_argument, items, others, pair, plain_of, inside, amount, number, round, square, square_inside, curly, curly_inside, bracketed, atom, atom_by, is_named, arg, args, perhaps_expr, step, stop, index, attribute, call, indexed, trail, trails, primary}
+use Rattle.py_grammar.specs.Forms.{Signed, One, Then, ◌▸◌, ◌∣◌, Made, Maybe, not_there, there, Many, no_more, one_more}
+use Rattle.py_grammar.specs.Readers.{Read, one, sign, ◌▹◌, made, maybe, many}
+use Rattle.py_grammar.specs.Seen.{Seen, Deep, and_one, all_of, name_seen, constant_seen, decimal_seen, string_seen, format_seen, number_seen, starred_seen, keyword_seen, positional_seen, args_fit, call_seen, index_fits, index_seen, bracketed_index, attribute_seen, primary_seen}
+use Rattle.py_grammar.specs.Grammar.{Others, AmountOf, Round, Square, Curly, Atom, Arg, Args, IndexRule, Trail, Primary}
+use Rattle.py_grammar.specs.Reading.{Inner, begins, begins_mark, begins_argument, others, number, bracketed, atom, atom_by, is_named, arg, args, perhaps_expr, step, stop, index, attribute, call, indexed, trail, trails, primary}
 use Rattle.py_grammar.proofs.Exact.{Front, Exact, Any, some_same, exact_sign, exact_one, exact_then, exact_made, exact_choose, exact_such, exact_maybe}
 use Rattle.py_grammar.proofs.Runs.{Runs, exact_many}
-use Rattle.py_grammar.proofs.Ends.{rank, sign_rank, lead, mark_lead, sign_lead, key_lead, Sign_first, sign_first, sign_by_rank, sign_by_lead, begins_lead, refuted, and_first, and_second}
-use Rattle.py_grammar.proofs.Lists.{After, Knows, exact_weaken, then_first, signed_first, sign_after, sign_there, After_list, exact_items, comma_after, After_others, exact_others, others_hold, exact_pair, pair_leads, exact_bracket}
-use Rattle.py_grammar.proofs.Atoms.{one_lead, name_lead, sign_leads, round_first, square_first, curly_first, atom_leads, close_list, close_others, not_round, not_square, not_colon, No_slash, exact_number, exact_bracketed}
+use Rattle.py_grammar.proofs.Ends.{rank, sign_rank, lead, Sign_first, sign_first, sign_by_rank, sign_by_lead, begins_lead, refuted, and_first, and_second}
+use Rattle.py_grammar.proofs.Lists.{After, Knows, exact_weaken, then_first, signed_first, sign_after, sign_there, comma_after, After_others, exact_others, others_hold, exact_bracket}
+use Rattle.py_grammar.proofs.Atoms.{one_lead, name_lead, round_first, square_first, curly_first, atom_leads, not_square, not_colon, No_slash, exact_number, exact_bracketed}
 
 -- ---- atoms
 
@@ -201,11 +200,11 @@ exact_arg I i kn =
     (λ ws a r d h. sign_there (codes "*") (ws ++ r) (arg_star I ws d.from r d.derived))
     (λ ws a r d h. elim d [ inl d ↦ sign_by_lead (codes "*") (ws ++ r) 0 (key_no_star I ws d.from r d.derived) (omega arith) | inr d ↦ sign_by_lead (codes "*") (ws ++ r) 3 (kn.leads an_expr ws d.from r d.derived) (omega arith) ])
 
-or_second : (a b : Bool) → b ≡ true → (a || b) ≡ true
+pub or_second : (a b : Bool) → b ≡ true → (a || b) ≡ true
 or_second true b h = refl
 or_second false b h = h
 
-or_first : (a b : Bool) → a ≡ true → (a || b) ≡ true
+pub or_first : (a b : Bool) → a ≡ true → (a || b) ≡ true
 or_first a b h = ap (λ z. z || b) h
 
 arg_begins : (I : Kind → List Word → Seen → Type 0) (i : Inner) → Knows I i → (ws : List Word) (a : Deep Argument) (r : List Word) → Arg I ws a → begins_argument (ws ++ r) ≡ true
@@ -225,14 +224,14 @@ args_end r f = record { list = record { ends = sign_after (codes ")") 12 r (omeg
 
 exact_args : (I : Kind → List Word → Seen → Type 0) (i : Inner) → Knows I i → Exact (Sign_first (codes ")")) (Args I) (args i)
 unfolding args
-exact_args I i kn = exact_such (Sign_first (codes ")")) over_fits (Arg I ▸ Others I (Arg I)) (arg i ▹ others i begins_argument (arg i))
+exact_args I i kn = exact_such (Sign_first (codes ")")) args_fit (Arg I ▸ Others I (Arg I)) (arg i ▹ others i begins_argument (arg i))
     (exact_weaken (After_others (After 12) begins_argument) (Sign_first (codes ")")) (Arg I ▸ Others I (Arg I)) (arg i ▹ others i begins_argument (arg i))
     (exact_then (After 12) (After_others (After 12) begins_argument) (Arg I) (Others I (Arg I)) (arg i) (others i begins_argument (arg i)) (exact_arg I i kn)
     (exact_others I i kn (After 12) begins_argument (Arg I) (arg i) (exact_arg I i kn) (comma_after 12 (omega arith)) (arg_begins I i kn))
     (λ us x r d h. others_hold (After 12) I (Arg I) (comma_after 12 (omega arith)) (λ p r. omega arith) us x r d h.list.ends))
     args_end)
 
-exact_call : (I : Kind → List Word → Seen → Type 0) (i : Inner) → Knows I i → Exact Any (Made (λ x. call_seen x.1.0) (Signed (codes "(") ▸ (Maybe (Args I) ▸ Signed (codes ")")))) (call i)
+pub exact_call : (I : Kind → List Word → Seen → Type 0) (i : Inner) → Knows I i → Exact Any (Made (λ x. call_seen x.1.0) (Signed (codes "(") ▸ (Maybe (Args I) ▸ Signed (codes ")")))) (call i)
 unfolding call
 exact_call I i kn = exact_made Any (λ x. call_seen x.1.0) _ _ (exact_bracket (codes "(") (codes ")") (Args I) (args i) (exact_args I i kn)
     (λ ws a r d. then_first (λ ws. next_sign (codes ")") ws ≡ false) (Arg I) (Others I (Arg I)) (arg_not_close I i kn) ws a r d.derived))

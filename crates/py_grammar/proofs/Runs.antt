@@ -1,10 +1,10 @@
 -- Any number of things, read in a loop.
-use Rattle.std.proofs.Common.{◌≡◌, ℕ, ◌<◌, ◌≤◌, ◌+◌, suc, zero, refl, sym, ap, subst, ◌∙◌, List, [], ◌∷◌, ◌++◌, append_assoc, length, length-append, Option, Some, None, arith, inl, inr}
-use Rattle.std.specs.Prelude.{◌⊎◌, Bool, true, false, if◌then◌else◌, fold}
+use Rattle.std.proofs.Common.{◌≡◌, ℕ, ◌<◌, ◌≤◌, suc, zero, refl, sym, ap, subst, ◌∙◌, List, [], ◌∷◌, ◌++◌, append_assoc, length, length-append, Some, arith, inl, inr}
+use Rattle.std.specs.Prelude.{Bool, true, false, fold}
 use Rattle.py_grammar.specs.declared.word.Word.{Word}
 use Rattle.py_grammar.specs.Forms.{Made, Many, no_more, one_more}
 use Rattle.py_grammar.specs.Readers.{Read, ◌>>=◌, repeat, many}
-use Rattle.py_grammar.proofs.Exact.{Front, Exact, bind_ok, if_some, if_true, if_false, some_same, front_at}
+use Rattle.py_grammar.proofs.Exact.{Exact, bind_ok, if_some, if_true, if_false, some_same}
 
 -- what is asked of the things and of the words behind them
 pub record Runs {A : Type 0} (E F : List Word → Type 0) (D : List Word → A → Type 0) (goes : List Word → Bool) (rd : Read A) : Type 0 where

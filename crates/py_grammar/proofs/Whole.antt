@@ -1,25 +1,20 @@
 -- The laws of whole words: no words follow.
-use Rattle.std.proofs.Common.{◌≡◌, ℕ, ◌<◌, ◌≤◌, refl, sym, ap, ◌∙◌, List, [], ◌∷◌, ◌++◌, Option, Some, None, arith}
-use Rattle.std.specs.Prelude.{false}
+use Rattle.std.proofs.Common.{◌≡◌, ℕ, refl, sym, ap, ◌∙◌, List, [], Some, arith}
+use Rattle.std.proofs.lemmas.List.{append-nil}
 use Rattle.py_grammar.specs.declared.word.Word.{Word}
 use Rattle.py_grammar.specs.declared.word.Kind.{Kind}
 use Rattle.py_grammar.specs.declared.word.Kind.TheVariants.{Target as a_target, Unary as a_unary, Not as a_not, Or as an_or, Expr as an_expr}
-use Rattle.py_grammar.specs.Readers.{Read, made}
+use Rattle.py_grammar.specs.Readers.{Read}
 use Rattle.py_grammar.specs.Seen.{Seen, tuple_seen}
 use Rattle.py_grammar.specs.Grammar.{Within, Items}
 use Rattle.py_grammar.specs.Reading.{inner, items, begins}
 use Rattle.py_grammar.specs.Laws.{Derived_front, ReadIsDerived, DerivedIsRead, OneTree, Exprs, exprs, ExprsReadIsDerived, ExprsDerivedIsRead, ExprsOneTree}
-use Rattle.py_grammar.proofs.Exact.{Front, Exact, exact_made, some_same}
-use Rattle.py_grammar.proofs.Ends.{rank}
+use Rattle.py_grammar.proofs.Exact.{Exact, exact_made, some_same}
 use Rattle.py_grammar.proofs.Lists.{After, kind_rank, After_list, exact_items, comma_after}
 use Rattle.py_grammar.proofs.Levels.{knows_within}
 
-nothing_left : (ws : List Word) → ws ++ [] ≡ ws
-nothing_left [] = refl
-nothing_left (w ∷ ws) = ap (λ z. w ∷ z) (nothing_left ws)
-
 whole_read : (E : List Word → Type 0) (D : List Word → Seen → Type 0) (rd : Read Seen) → Exact E D rd → E [] → (ws : List Word) (e : Seen) → D ws e → rd ws ≡ Some (e, [])
-whole_read E D rd x none ws e d = ap rd (sym (nothing_left ws)) ∙ x.complete ws e [] d none
+whole_read E D rd x none ws e d = ap rd (sym (append-nil ws)) ∙ x.complete ws e [] d none
 
 front_read : (E : List Word → Type 0) (D : List Word → Seen → Type 0) (rd : Read Seen) → Exact E D rd → (ws : List Word) (e : Seen) (r : List Word) → rd ws ≡ Some (e, r) → Derived_front D ws e r
 front_read E D rd x ws e r h = let f = x.sound ws e r h in record { front = f.front; split = f.split; derived = f.derived }

@@ -14,7 +14,7 @@ use Rattle.py_grammar.specs.declared.word.Mark.{Mark}
 use Rattle.py_grammar.specs.Words.{name_of, keyword_of, sign_of, number_of, decimal_of, string_of, format_of, valued}
 use Rattle.py_grammar.specs.Values.{constant_of, unary_of, sign_at, key_at}
 use Rattle.py_grammar.specs.Forms.{Means, Signed, Keyed, One, ◌▸◌, ◌∣◌, Made, Such, Maybe, Many}
-use Rattle.py_grammar.specs.Seen.{Seen, Deep, Listed, Rest, over, more, all_of, name_seen, constant_seen, decimal_seen, string_seen, format_seen, whole_amount, decimal_amount, number_seen, plain, tuple_seen, round_seen, display_seen, pair_seen, after_comma, dict_seen, each_seen, attribute_seen, starred_seen, keyword_seen, positional_seen, over_fits, call_seen, index_fits, index_seen, bracketed_index, primary_seen, await_seen, power_fits, power_seen, unary_seen, not_seen, link_seen, chain_seen, choice_fits, choice_seen, seen_is_target}
+use Rattle.py_grammar.specs.Seen.{Seen, Deep, Listed, Rest, over, more, all_of, name_seen, constant_seen, decimal_seen, string_seen, format_seen, whole_amount, decimal_amount, number_seen, plain, tuple_seen, round_seen, display_seen, pair_seen, after_comma, dict_seen, each_seen, attribute_seen, starred_seen, keyword_seen, positional_seen, args_fit, call_seen, index_fits, index_seen, bracketed_index, primary_seen, await_seen, power_fits, power_seen, unary_seen, not_seen, link_seen, chain_seen, choice_fits, choice_seen, seen_is_target}
 
 -- the rules of one bracket deeper
 abbrev pub Deeper : Type 1
@@ -72,7 +72,7 @@ Arg I =
     ∣ Made positional_seen (I an_expr)
 
 abbrev pub Args : Deeper → Means (Deep Argument × Rest Argument)
-Args I = Such over_fits (Arg I ▸ Others I (Arg I))
+Args I = Such args_fit (Arg I ▸ Others I (Arg I))
 
 -- an expression, or a slice: what is left out of both is refused
 abbrev pub IndexRule : Deeper → Means (Deep Trailer)

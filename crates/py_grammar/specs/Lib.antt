@@ -6,3 +6,10 @@ pub mod Grammar
 pub mod Readers
 pub mod Reading
 pub mod Laws
+pub mod Shapes
+pub mod Statements
+pub mod Blocks
+pub mod Line_reading
+pub mod Line_laws
+pub mod Block_reading
+pub mod Block_laws

@@ -12,7 +12,7 @@ use Rattle.py_grammar.specs.declared.word.Mark.TheVariants as mark
 use Rattle.py_grammar.specs.Words.{name_of, keyword_of, sign_of, number_of, decimal_of, string_of, format_of, valued, next, next_sign, next_key, is_text}
 use Rattle.py_grammar.specs.Values.{constant_of, unary_of, sign_at, key_at}
 use Rattle.py_grammar.specs.Readers.{Read, ◌>>=◌, one, sign, key, ◌▹◌, made, choose, maybe, such, many, fails}
-use Rattle.py_grammar.specs.Seen.{Seen, Deep, Listed, Rest, over, more, and_one, name_seen, constant_seen, decimal_seen, string_seen, format_seen, whole_amount, decimal_amount, number_seen, plain, tuple_seen, round_seen, display_seen, pair_seen, after_comma, dict_seen, each_seen, attribute_seen, starred_seen, keyword_seen, positional_seen, over_fits, call_seen, index_fits, index_seen, bracketed_index, primary_seen, await_seen, power_fits, power_seen, unary_seen, not_seen, link_seen, chain_seen, choice_fits, choice_seen, seen_is_target}
+use Rattle.py_grammar.specs.Seen.{Seen, Deep, Listed, Rest, over, more, and_one, name_seen, constant_seen, decimal_seen, string_seen, format_seen, whole_amount, decimal_amount, number_seen, plain, tuple_seen, round_seen, display_seen, pair_seen, after_comma, dict_seen, each_seen, attribute_seen, starred_seen, keyword_seen, positional_seen, args_fit, call_seen, index_fits, index_seen, bracketed_index, primary_seen, await_seen, power_fits, power_seen, unary_seen, not_seen, link_seen, chain_seen, choice_fits, choice_seen, seen_is_target}
 use Rattle.py_grammar.specs.declared.word.Kind.{Kind}
 use Rattle.py_grammar.specs.declared.word.Kind.TheVariants.{Target as a_target, Unary as a_unary, Not as a_not, Or as an_or, Expr as an_expr}
 
@@ -124,7 +124,7 @@ arg i = choose (next_sign (codes "*"))
     (made positional_seen (i an_expr)))
 
 unfoldable pub args : Inner → Read (Deep Argument × Rest Argument)
-args i = such over_fits (arg i ▹ others i begins_argument (arg i))
+args i = such args_fit (arg i ▹ others i begins_argument (arg i))
 
 unfoldable pub perhaps_expr : Inner → Read (Option Seen)
 perhaps_expr i = maybe begins (i an_expr)

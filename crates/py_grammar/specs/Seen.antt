@@ -162,6 +162,23 @@ is_over (more l) = false
 abbrev pub over_fits : Deep Argument × Rest Argument → Bool
 over_fits x = is_positional x.0.0 || not (is_over x.1)
 
+abbrev pub is_keyword : Argument → Bool
+is_keyword (Positional e) = false
+is_keyword (Starred e) = false
+is_keyword (Keyword n e) = true
+
+-- behind an argument by keyword stand such arguments alone
+abbrev pub keywords_last : Bool → List Argument → Bool
+keywords_last seen [] = true
+keywords_last seen (a ∷ more_args) = (is_keyword a || not seen) && keywords_last (is_keyword a) more_args
+
+abbrev pub further_args : Rest Argument → List Argument
+further_args (over c) = []
+further_args (more l) = l.0.0
+
+abbrev pub args_fit : Deep Argument × Rest Argument → Bool
+args_fit x = over_fits x && keywords_last (is_keyword x.0.0) (further_args x.1)
+
 abbrev pub call_tree : Argument → Rest Argument → Trailer
 call_tree a (more l) = Call (arguments (a ∷ l.0.0))
 call_tree (Positional e) (over c) = CallOf e c.0
