@@ -80,10 +80,10 @@ pub repeat_turn_as : {T X : Type 0} (view : T → X) (goes : List Word → Bool)
 repeat_turn_as view goes rd most turn items more depth deeper x y d ws after whole was less m v g r h = repeat_turn view goes rd most turn items more depth deeper x d ws after whole was less m g (r ∙ ap (λ z. Some ((z, d), after)) (sym v)) h
 
 -- what one turn reads, by the readers of its parts
-then_reads : {A B : Type 0} (r : Read A) (q : Read B) (ws after rest : List Word) (a : A) (b : B) → r ws ≡ Some (a, after) → q after ≡ Some (b, rest) → (r ▹ q) ws ≡ Some ((a, b), rest)
+pub then_reads : {A B : Type 0} (r : Read A) (q : Read B) (ws after rest : List Word) (a : A) (b : B) → r ws ≡ Some (a, after) → q after ≡ Some (b, rest) → (r ▹ q) ws ≡ Some ((a, b), rest)
 then_reads r q ws after rest a b g h = ap (λ z. z >>= λ x. q x.1 >>= λ y. Some ((x.0, y.0), y.1)) g ∙ ap (λ z. z >>= λ y. Some ((a, y.0), y.1)) h
 
-made_reads : {A B : Type 0} (f : A → B) (r : Read A) (ws rest : List Word) (a : A) → r ws ≡ Some (a, rest) → made f r ws ≡ Some (f a, rest)
+pub made_reads : {A B : Type 0} (f : A → B) (r : Read A) (ws rest : List Word) (a : A) → r ws ≡ Some (a, rest) → made f r ws ≡ Some (f a, rest)
 made_reads f r ws rest a h = ap (λ z. z >>= λ x. Some (f x.0, x.1)) h
 
 pub link_reads : (k : ℕ) (rd : Read Seen) (ws after rest : List Word) (o : Operator) (e : Seen) → operator k ws ≡ Some (o, after) → rd after ≡ Some (e, rest) → link k rd ws ≡ Some (((o, e.tree), e.depth), rest)

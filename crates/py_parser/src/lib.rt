@@ -1,22 +1,42 @@
-//! From the words of a logical line to the tree of what they say. So far this crate reads expressions alone: words come
-//! from the caller, and there is no reader of statements, of blocks or of a whole file yet.
+//! The program of a Python text, from its logical lines: `parse` gives the tree that the grammar derives from them, or the
+//! place of the first line with which they are no front of a program.
 //!
-//! The grammar is the relation of `py_grammar`, and the reader of that crate is what the code is, function by
-//! function; the laws there tie the two. So `read_whole` answers the tree that the grammar derives from all of its
-//! words, or `Unread` where it derives none, or that memory ran out. No expression is read twice, and the calls nest as
-//! deep as brackets may.
+//! The grammar is the relation of `py_grammar`, and the readers of that crate are what the code is, function by
+//! function; the laws there tie the two. `words_of` gives each token its value (specs/Words_of.antt), `read_line` reads
+//! all words of a logical line, and block_file.rt reads blocks off lines (specs/Files.antt). No expression is read twice,
+//! the calls nest as deep as brackets and blocks may, and a chain of any length is read in a loop.
 #![tactic(auto)]
 
+mod block;
+mod block_file;
+mod block_parts;
+mod format;
+mod head;
+mod imports;
+mod laws;
+mod line;
+mod line_reader;
 mod node;
+mod number;
 mod operator;
+mod params;
+mod parsing;
 mod phrase;
 mod reader;
+mod simple;
+mod strings;
 mod take;
 mod target;
 #[cfg(test)]
 mod tests;
 mod whole;
+mod words;
 
+pub use laws::numbers_are_words;
+pub use line::{Head, LineForm, Noted};
+pub use line_reader::read_line;
+pub use parsing::{ParseStop, parse};
 pub use phrase::{Deep, Listed, Phrase, Rest};
 pub use reader::{read_inner, read_items};
 pub use whole::{read_tuple, read_whole};
+pub use words::words_of;

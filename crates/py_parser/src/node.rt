@@ -4,7 +4,7 @@ ghost use Rattle.py_grammar.specs.Readers.{Reads};
 ghost use Rattle.std.specs.Option.{ForSome};
 ghost use Rattle.py_tree.specs.Tree.{Tree, perhaps, Await, Power, Choice, each as each_tree};
 ghost use Rattle.py_tree.specs.Seen.{tree, kind_tree, link_tree, pair_tree, each_of, trailer_of, argument_of};
-ghost use Rattle.py_grammar.specs.Seen.{seen, is_empty, is_lone, tuple_tree, tuple_seen, round_seen, display_seen, dict_seen, display_tree, dict_tree, rest_depth, each_seen, call_seen, call_tree, over_fits, slice_of, part_tree, part_depth, primary_seen, chain_tree, chain_seen, choice_seen};
+ghost use Rattle.py_grammar.specs.Seen.{seen, is_empty, is_lone, tuple_tree, tuple_seen, round_seen, display_seen, dict_seen, display_tree, dict_tree, rest_depth, each_seen, call_seen, call_tree, is_keyword, keywords_last, args_fit, slice_of, part_tree, part_depth, primary_seen, chain_tree, chain_seen, choice_seen};
 ghost use Rattle.py_parser.specs.Phrases.{seen_of, deep_of, listed_of, rest_of};
 
 use crate::phrase::{Deep, Listed, Phrase, Rest};
@@ -13,8 +13,9 @@ use py_grammar::Stop;
 use py_tree::{Argument, Comprehension, Expr, ExprKind, Link, Operator, Pair, Trailer};
 use std::alloc::Global;
 
+/// Things, and one before them.
 #[tactic(auto, using(crate::proofs::Lists::insert_first))]
-fn with_first<T: Drop>(items: Vec<T>, first: T) -> Result<Vec<T>, NoMemory>
+pub fn with_first<T: Drop>(items: Vec<T>, first: T) -> Result<Vec<T>, NoMemory>
     ensures { IfOk result (λ v. v.items ≡ first ∷ items.items) }
 {
     let mut items = items;
@@ -22,7 +23,8 @@ fn with_first<T: Drop>(items: Vec<T>, first: T) -> Result<Vec<T>, NoMemory>
     Ok(items)
 }
 
-fn none_there<T>(items: &Vec<T>) -> bool
+/// Whether there are none of them.
+pub fn none_there<T>(items: &Vec<T>) -> bool
     ensures { result ≡ is_empty items.now.items }
 {
     match items.as_slice() {
@@ -31,8 +33,9 @@ fn none_there<T>(items: &Vec<T>) -> bool
     }
 }
 
+/// Whether nothing follows the first.
 #[tactic(auto, using(crate::proofs::Lists::is_empty_map))]
-fn lone(rest: &Listed<Expr>) -> bool
+pub fn lone(rest: &Listed<Expr>) -> bool
     ensures { result ≡ is_lone (listed_of tree rest.now) }
 {
     none_there(&rest.items) && rest.comma.is_none()
@@ -154,16 +157,45 @@ pub fn depth_of_arguments(rest: &Rest<Argument>) -> u32
     }
 }
 
-/// A call's arguments, of which the first may stand before a comprehension if it is positional.
+fn is_keyword(argument: &Argument) -> bool
+    ensures { result ≡ is_keyword (argument_of argument.now) }
+{
+    match argument {
+        Argument::Positional(_) | Argument::Starred(_) => false,
+        Argument::Keyword(_, _) => true,
+    }
+}
+
+/// Whether no other argument stands behind one by keyword.
+fn keywords_last(seen: bool, arguments: &[Argument]) -> bool
+    ensures { result ≡ keywords_last seen (map argument_of arguments.now) }
+{
+    let mut last = seen;
+    for argument in arguments {
+        let this = is_keyword(argument);
+        if last && !this {
+            return false;
+        }
+        last = this;
+    }
+    true
+}
+
+/// A call's arguments: the first may stand before a comprehension if it is positional, and those by keyword stand last.
 pub fn call(first: Deep<Argument>, rest: Rest<Argument>) -> Result<Deep<Trailer>, Stop>
     requires first_fits { first.depth + 1 < 2 ^ 32 }
     requires rest_fits { rest_depth (rest_of argument_of rest) + 1 < 2 ^ 32 }
-    ensures { Reads (deep_of trailer_of) result (if over_fits (deep_of argument_of first, rest_of argument_of rest) then Some (call_seen (Some (deep_of argument_of first, rest_of argument_of rest))) else None) }
+    ensures { Reads (deep_of trailer_of) result (if args_fit (deep_of argument_of first, rest_of argument_of rest) then Some (call_seen (Some (deep_of argument_of first, rest_of argument_of rest))) else None) }
 {
     let depth = first.depth.max(depth_of_arguments(&rest)) + 1;
     let item = match (first.item, rest) {
         (Argument::Positional(e), Rest::Over(each)) => Trailer::CallOf(e, each.item),
-        (first, Rest::More(listed)) => Trailer::Call(with_first(listed.items, first)?),
+        (first, Rest::More(listed)) => {
+            if !keywords_last(is_keyword(&first), listed.items.as_slice()) {
+                return Err(Stop::Unread);
+            }
+            Trailer::Call(with_first(listed.items, first)?)
+        }
         _ => return Err(Stop::Unread),
     };
     Ok(Deep { item, depth })

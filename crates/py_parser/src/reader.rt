@@ -286,9 +286,10 @@ fn read_trail(alloc: Global, words: &[Word], room: u32) -> Result<(Deep<Trailer>
     Ok((index, rest))
 }
 
+/// Arguments in round brackets.
 #[cycle(read)]
 #[tactic(auto, unfolding(py_grammar::specs::Reading::call, py_grammar::specs::Reading::args))]
-fn read_call(alloc: Global, words: &[Word], room: u32) -> Result<(Deep<Trailer>, &[Word]), Stop>
+pub fn read_call(alloc: Global, words: &[Word], room: u32) -> Result<(Deep<Trailer>, &[Word]), Stop>
     ensures reads { Reads (λ x. (deep_of trailer_of x.0, x.1.now)) result (call (inner room) words.now) }
     ensures shorter { IfOk result (λ x. length x.1.now < length words.now) }
     ensures shallow { IfOk result (λ x. x.0.depth ≤ room) }

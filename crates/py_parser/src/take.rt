@@ -4,6 +4,8 @@ ghost use Rattle.py_grammar.specs.Words.{name_of, keyword_of, sign_of, number_of
 ghost use Rattle.py_grammar.specs.Values.{constant_of, unary_of, term_of, sum_of, shift_of, comparison_of, only, sign_at, key_at};
 ghost use Rattle.py_grammar.specs.Readers.{Reads, one, sign, key, maybe};
 ghost use Rattle.py_grammar.specs.Reading.{begins_mark, begins, begins_argument, opens, leads, is_named, trails, starts_worded, is_operator, comma_then, amount};
+ghost use Rattle.py_grammar.specs.Line_reading.{name_next, param_next, augmented_next};
+ghost use Rattle.py_grammar.specs.Shapes.{augmented_of};
 
 use amh_host::Place;
 use py_grammar::{Mark, Stop, Word};
@@ -18,7 +20,8 @@ fn sign_is(mark: &Mark, this: &str) -> bool
     }
 }
 
-fn key_is(mark: &Mark, this: &str) -> bool
+/// Whether it is this keyword.
+pub fn key_is(mark: &Mark, this: &str) -> bool
     ensures { result ≡ is_text this.now (keyword_of mark.now) }
 {
     match mark {
@@ -153,6 +156,77 @@ fn unary_mark(mark: &Mark) -> Option<Sign>
     }
 }
 
+/// The operator of this sign of an augmented assignment.
+fn augmented(text: &Name) -> Option<Operator>
+    ensures { result ≡ augmented_of text.now }
+{
+    if text.is("+=") {
+        return Some(Operator::Add);
+    }
+    if text.is("-=") {
+        return Some(Operator::Sub);
+    }
+    if text.is("*=") {
+        return Some(Operator::Mul);
+    }
+    if text.is("//=") {
+        return Some(Operator::FloorDiv);
+    }
+    if text.is("%=") {
+        return Some(Operator::Mod);
+    }
+    if text.is("&=") {
+        return Some(Operator::BitAnd);
+    }
+    if text.is("|=") {
+        return Some(Operator::BitOr);
+    }
+    if text.is("^=") {
+        return Some(Operator::BitXor);
+    }
+    if text.is("<<=") {
+        return Some(Operator::ShiftLeft);
+    }
+    if text.is(">>=") {
+        return Some(Operator::ShiftRight);
+    }
+    None
+}
+
+fn augmented_mark(mark: &Mark) -> Option<Operator>
+    ensures { result ≡ valued sign_of augmented_of mark.now }
+{
+    match mark {
+        Mark::Sign(text) => augmented(text),
+        _ => None,
+    }
+}
+
+/// The operator of an augmented assignment, whose sign stands first, with its place.
+pub fn take_augmented(words: &[Word]) -> Result<((Place, Operator), &[Word]), Stop>
+    ensures reads { Reads (λ x. (x.0, x.1.now)) result (one (valued sign_of augmented_of) words.now) }
+    ensures shorter { IfOk result (λ x. length x.1.now < length words.now) }
+{
+    match words {
+        [] => Err(Stop::Unread),
+        [word, rest @ ..] => match augmented_mark(&word.mark) {
+            Some(operator) => Ok(((word.place, operator), rest)),
+            None => Err(Stop::Unread),
+        },
+    }
+}
+
+/// Whether the sign of an augmented assignment comes next.
+#[tactic(auto, unfolding(py_grammar::specs::Line_reading::augmented_next))]
+pub fn augmented_next(words: &[Word]) -> bool
+    ensures { result ≡ augmented_next words.now }
+{
+    match words {
+        [] => false,
+        [word, ..] => augmented_mark(&word.mark).is_some(),
+    }
+}
+
 /// Whether a sign before one operand comes next.
 pub fn unary_next(words: &[Word]) -> bool
     ensures { result ≡ next (λ m. is_some (valued sign_of unary_of m)) words.now }
@@ -225,6 +299,46 @@ pub fn comma_argument(words: &[Word]) -> bool
     match words {
         [] => false,
         [_, rest @ ..] => sign_next(words, ",") && argument_next(rest),
+    }
+}
+
+/// Whether a name comes next.
+#[tactic(auto, unfolding(py_grammar::specs::Line_reading::name_next))]
+pub fn name_next(words: &[Word]) -> bool
+    ensures { result ≡ name_next words.now }
+{
+    match words {
+        [] => false,
+        [word, ..] => matches!(word.mark, Mark::Name(_)),
+    }
+}
+
+/// Whether a comma comes next, and a name behind it.
+#[tactic(auto, unfolding(py_grammar::specs::Reading::comma_then))]
+pub fn comma_name(words: &[Word]) -> bool
+    ensures { result ≡ comma_then name_next words.now }
+{
+    match words {
+        [] => false,
+        [_, rest @ ..] => sign_next(words, ",") && name_next(rest),
+    }
+}
+
+#[tactic(auto, unfolding(py_grammar::specs::Line_reading::param_next))]
+fn param_next(words: &[Word]) -> bool
+    ensures { result ≡ param_next words.now }
+{
+    sign_next(words, "*") || name_next(words)
+}
+
+/// Whether a comma comes next, and a parameter can begin behind it.
+#[tactic(auto, unfolding(py_grammar::specs::Reading::comma_then))]
+pub fn comma_param(words: &[Word]) -> bool
+    ensures { result ≡ comma_then param_next words.now }
+{
+    match words {
+        [] => false,
+        [_, rest @ ..] => sign_next(words, ",") && param_next(rest),
     }
 }
 

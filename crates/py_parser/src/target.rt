@@ -48,8 +48,9 @@ pub fn is_target(e: &Expr) -> bool
     }
 }
 
+/// Whether each of them is a target.
 #[cycle(target)]
-fn are_targets(items: &[Expr]) -> bool
+pub fn are_targets(items: &[Expr]) -> bool
     ensures { result ≡ are_targets (trees (map tree items.now)) }
 {
     for item in items {

@@ -1,0 +1,17 @@
+use Rattle.std.proofs.Common.{arith, length, map, rules}
+use Rattle.std.specs.Prelude.{codes}
+use Rattle.py_tree.specs.Programs.{import_of}
+use Rattle.py_grammar.specs.Readers.{made, sign, ◌▹◌}
+use Rattle.py_grammar.specs.Reading.{comma_then}
+use Rattle.py_grammar.specs.Line_reading.{import_name, name_next}
+use Rattle.py_parser.specs.Line_forms.{second}
+use Rattle.py_parser.proofs.Lists.{map_pushed}
+use Rattle.py_parser.proofs.Loops.{made_reads, then_reads}
+use Rattle.py_parser.proofs.Runs.{push_turn}
+use Rattle.py_parser.proofs.imports.read_other_names.Goals as goal
+
+pub loop-turn-preserved : goal.loop-turn-preserved
+loop-turn-preserved c = record {
+  reads = push_turn (comma_then name_next) (made second (sign (codes ",") ▹ import_name)) (length c.args.words.now) c.loop-turn._turn (map import_of c.loop-turn.names.items) (map import_of c.push.new.self.items) (import_of c.in_ok-name.name) c.loop-turn.rest.now c.in_ok-name.after.now _ c.loop-turn.invariant.reads c.loop-turn-test.true (map_pushed import_of _ _ _ c.in_ok-push.ensures.items) (search rules) (made_reads second (sign (codes ",") ▹ import_name) c.loop-turn.rest.now c.in_ok-name.after.now _ (then_reads (sign (codes ",")) import_name c.loop-turn.rest.now c.in_ok-after.after.now c.in_ok-name.after.now _ _ c.in_ok-after.ensures.reads c.in_ok-name.ensures.reads));
+  shorter = omega (arith, c.loop-turn.invariant.shorter, c.in_ok-name.ensures.shorter, c.in_ok-after.ensures.shorter);
+}
