@@ -1,0 +1,107 @@
+-- The bits of signals' numbers after bits of a value are written to places.
+use Rattle.std.specs.Prelude.{◌≡◌, ◌≢◌, ℕ, zero, suc, ◌+◌, ◌-◌, ◌*◌, ◌/◌, ◌%◌, ◌^◌, ◌<◌, ◌≤◌, ◌⊎◌, Bool, List, [], ◌∷◌, length, ℤ, pos}
+use Rattle.std.proofs.Common.{sym, ◌∙◌, ap, arith, subst, ⊎_elim, inl, inr}
+use Rattle.std.proofs.lemmas.Bool.{cases_lt, cases_eq}
+use Rattle.std.proofs.lemmas.Nat.{pow_pos, mod_below}
+use Rattle.std.proofs.lemmas.List.{get_or-set_same, get_or-set_other}
+use Rattle.std.proofs.Math.Nat.{div-one}
+use Rattle.amh_bits.specs.Patterns.{pattern, number, nat_bit, int_bit}
+use Rattle.amh_bits.proofs.BitsOf.{bit_pattern, nat_bit_mod, int_bit_down, nat_bit_joined_low, nat_bit_joined_high}
+use Rattle.amh_bits.proofs.Wraps.{pattern_below, pattern_number}
+use Rattle.shape_rules.specs.Forms.{Form}
+use Rattle.design_ir.specs.declared.signal.Sig.{Sig}
+use Rattle.design_ir.specs.Pools.{Pooled}
+use Rattle.design_ir.specs.Values.{signal_form}
+use Rattle.design_ir.specs.Targets.{Bit}
+use Rattle.design_ir.specs.Put.{with_bit, put_bit}
+use Rattle.design_ir.specs.Circuits.{at}
+use Rattle.design_ir.proofs.Whole.{low_small, with_below}
+
+-- ---- one bit above others
+
+above : (high low j k : ℕ) → low < 2 ^ j → nat_bit (high * 2 ^ j + low) (j + k) ≡ nat_bit high k
+above high low j k small =
+    nat_bit_joined_high (record { width = j; bits = low }) (record { width = 0; bits = high }) k small
+
+beneath : (high low j k : ℕ) → low < 2 ^ j → k < j → nat_bit (high * 2 ^ j + low) k ≡ nat_bit low k
+beneath high low j k small h =
+    nat_bit_joined_low (record { width = j; bits = low }) (record { width = 0; bits = high }) k small h
+
+one_bit : (b : ℕ) → b < 2 → nat_bit b 0 ≡ b
+one_bit b h = ap (λ n. n % 2) (div-one b) ∙ (let e : b % 2 ≡ b = omega arith in e)
+
+nat_bit-with_bit_same : (j b bits : ℕ) → b < 2 → nat_bit (with_bit j b bits) j ≡ b
+nat_bit-with_bit_same j b bits h =
+    let low : ℕ = b * 2 ^ j + bits % 2 ^ j in
+    beneath (bits / 2 ^ (j + 1)) low (j + 1) j (low_small j b bits h) (omega arith)
+    ∙ ap (nat_bit low) (let e : j ≡ j + 0 = omega arith in e)
+    ∙ above b (bits % 2 ^ j) j 0 (mod_below bits (2 ^ j) (pow_pos j))
+    ∙ one_bit b h
+
+nat_bit-with_bit_other : (j b bits i : ℕ) → b < 2 → i ≢ j → nat_bit (with_bit j b bits) i ≡ nat_bit bits i
+nat_bit-with_bit_other j b bits i h apart =
+    let low : ℕ = b * 2 ^ j + bits % 2 ^ j in
+    let high : ℕ = bits / 2 ^ (j + 1) in
+    ⊎_elim
+    (λ (under : i < j).
+    beneath high low (j + 1) i (low_small j b bits h) (omega arith)
+    ∙ beneath b (bits % 2 ^ j) j i (mod_below bits (2 ^ j) (pow_pos j)) under
+    ∙ nat_bit_mod bits j i under)
+    (λ (over : j ≤ i).
+    let e : i ≡ (j + 1) + (i - suc j) = omega (arith, apart) in
+    ap (nat_bit (with_bit j b bits)) e
+    ∙ above high low (j + 1) (i - suc j) (low_small j b bits h)
+    ∙ int_bit_down (pos bits) (j + 1) (i - suc j)
+    ∙ ap (nat_bit bits) (sym e))
+    (cases_lt i j)
+
+-- ---- a bit of a signal
+
+int_bit-number : (signed : Bool) (width bits i : ℕ) → bits < 2 ^ width → i < width → int_bit (number signed width bits) i ≡ nat_bit bits i
+int_bit-number signed width bits i small h =
+    sym (bit_pattern (number signed width bits) width i h) ∙ ap (λ n. nat_bit n i) (pattern_number signed width bits small)
+
+-- a signal with bits is there
+pub some_signal : (sigs : List Sig) (s : ℕ) → 1 ≤ (signal_form sigs s).width → s < length sigs
+some_signal [] s h = absurd (omega arith)
+some_signal (x ∷ sigs) zero h = omega arith
+some_signal (x ∷ sigs) (suc s) h = omega (arith, some_signal sigs s h)
+
+-- ---- a bit is the one that is written, or keeps what it has
+
+pub cases_bit : (b c : Bit) → (b ≡ c) ⊎ (b ≢ c)
+cases_bit b c =
+    ⊎_elim
+    (λ (e : b.sig ≡ c.sig). ⊎_elim (λ (f : b.index ≡ c.index). inl (λ i. record { sig = e i; index = f i })) (λ (f : b.index ≢ c.index). inr (λ g. f (ap (λ (x : Bit). x.index) g))) (cases_eq b.index c.index))
+    (λ (e : b.sig ≢ c.sig). inr (λ g. e (ap (λ (x : Bit). x.sig) g)))
+    (cases_eq b.sig c.sig)
+
+module _ (p : Pooled) (x : Bit) (n : ℕ) (cur : List ℤ) (low : n < 2) (inside : x.index < (signal_form p.signals x.sig).width) (long : length cur ≡ length p.signals) where
+  there : x.sig < length cur
+  there = omega (arith, long, some_signal p.signals x.sig (omega (arith, inside)))
+
+  written : (i : ℕ) → i < (signal_form p.signals x.sig).width → int_bit (at (put_bit p x n cur) x.sig) i ≡ nat_bit (with_bit x.index n (pattern (signal_form p.signals x.sig).width (at cur x.sig))) i
+  written i h =
+      let f : Form = signal_form p.signals x.sig in
+      let old : ℕ = pattern f.width (at cur x.sig) in
+      ap (λ z. int_bit z i) (get_or-set_same cur x.sig (number f.signed f.width (with_bit x.index n old)) (pos 0) there)
+      ∙ int_bit-number f.signed f.width (with_bit x.index n old) i (with_below x.index n old f.width low inside (pattern_below f.width (at cur x.sig))) h
+
+  pub bit_written : (b : Bit) → b ≡ x → int_bit (at (put_bit p x n cur) b.sig) b.index ≡ n
+  bit_written b e =
+      subst (λ (c : Bit). int_bit (at (put_bit p x n cur) c.sig) c.index ≡ n) (sym e)
+      (written x.index inside ∙ nat_bit-with_bit_same x.index n (pattern (signal_form p.signals x.sig).width (at cur x.sig)) low)
+
+  own_kept : (i : ℕ) → i < (signal_form p.signals x.sig).width → i ≢ x.index → int_bit (at (put_bit p x n cur) x.sig) i ≡ int_bit (at cur x.sig) i
+  own_kept i h apart =
+      let w : ℕ = (signal_form p.signals x.sig).width in
+      written i h ∙ nat_bit-with_bit_other x.index n (pattern w (at cur x.sig)) i low apart ∙ bit_pattern (at cur x.sig) w i h
+
+  pub bit_kept : (b : Bit) → b.index < (signal_form p.signals b.sig).width → b ≢ x → int_bit (at (put_bit p x n cur) b.sig) b.index ≡ int_bit (at cur b.sig) b.index
+  bit_kept b h apart =
+      ⊎_elim
+      (λ (e : b.sig ≡ x.sig).
+      let other : b.index ≢ x.index = λ f. apart (λ i. record { sig = e i; index = f i }) in
+      subst (λ s. b.index < (signal_form p.signals s).width → int_bit (at (put_bit p x n cur) s) b.index ≡ int_bit (at cur s) b.index) (sym e) (λ l. own_kept b.index l other) h)
+      (λ (e : b.sig ≢ x.sig). ap (λ z. int_bit z b.index) (get_or-set_other cur x.sig b.sig _ (pos 0) e))
+      (cases_eq b.sig x.sig)

@@ -1,0 +1,11 @@
+pub mod Orders
+pub mod Rankings
+pub mod Refusals
+pub mod Laws
+pub mod Graphs
+pub mod Links
+pub mod Walks
+pub mod Searches
+pub mod Meanings
+pub mod Places
+pub mod Rules
