@@ -50,6 +50,10 @@ clocks_apart (z ∷ ds) (suc i) (suc j) x y h e f apart =
 
 -- ---- what an edge does to a clock
 
+pub length-toggle_at : (cur : List ℤ) (o : Option Domain) → length (toggle_at cur o) ≡ length cur
+length-toggle_at cur None = refl
+length-toggle_at cur (Some y) = length-set cur y.clk.0 (pos 1 -ℤ at cur y.clk.0)
+
 module _ (domains : List Domain) (distinct : IsDistinct nat_eq (map (λ (z : Domain). z.clk.0) domains)) (d : ℕ) (x : Domain) (is : slice_get domains d ≡ Some x) where
   other_at : (e : ℕ) (cur : List ℤ) (o : Option Domain) → slice_get domains e ≡ o → e ≢ d → at (toggle_at cur o) x.clk.0 ≡ at cur x.clk.0
   other_at e cur None f apart = refl
@@ -61,10 +65,6 @@ module _ (domains : List Domain) (distinct : IsDistinct nat_eq (map (λ (z : Dom
   toggle-same : (e : DomainId) (cur : List ℤ) → x.clk.0 < length cur → e.0 ≡ d → at (toggle domains cur e) x.clk.0 ≡ pos 1 -ℤ at cur x.clk.0
   toggle-same e cur there same =
       ap (λ o. at (toggle_at cur o) x.clk.0) (ap (slice_get domains) same ∙ is) ∙ get_or-set_same cur x.clk.0 (pos 1 -ℤ at cur x.clk.0) (pos 0) there
-
-  length-toggle_at : (cur : List ℤ) (o : Option Domain) → length (toggle_at cur o) ≡ length cur
-  length-toggle_at cur None = refl
-  length-toggle_at cur (Some y) = length-set cur y.clk.0 (pos 1 -ℤ at cur y.clk.0)
 
   -- domains past this one leave its clock alone
   toggles_past : (ds : List DomainId) (least : ℕ) (cur : List ℤ) → d < least → Ascending least ds → at (fold (toggle domains) cur ds) x.clk.0 ≡ at cur x.clk.0
@@ -96,7 +96,7 @@ edge_bit (pos (suc zero)) false h = refl
 edge_bit (pos (suc (suc n))) b h = absurd (omega arith)
 edge_bit (negsuc n) b h = absurd h
 
-turned : (b : Bool) (z : ℤ) → IsOf false 1 z → IsOf false 1 (cond b (pos 1 -ℤ z) z)
+pub turned : (b : Bool) (z : ℤ) → IsOf false 1 z → IsOf false 1 (cond b (pos 1 -ℤ z) z)
 turned false z h = h
 turned true (pos zero) h = omega arith
 turned true (pos (suc zero)) h = omega arith

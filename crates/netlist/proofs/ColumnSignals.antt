@@ -85,7 +85,7 @@ no_input : (ps : List Port) (s : ℕ) → IsNone s (map (λ (p : Port). p.sig.0)
 no_input [] s h = refl
 no_input (p ∷ ps) s h = let g = or-false (p.sig.0 == s) (is_among (map (λ (p : Port). p.sig.0) ps) s) h in rw (g.0, and-false p.is_input) (no_input ps s g.1)
 
-hidden_no_input : (c : Circuit) → IsDesign c → (s : ℕ) → column_of c s ≡ None → is_input c s ≡ false
+pub hidden_no_input : (c : Circuit) → IsDesign c → (s : ℕ) → column_of c s ≡ None → is_input c s ≡ false
 hidden_no_input c h s e =
     no_input c.ports s (among_left (port_signals c) h.columns.registers s (subst (IsNone s) h.columns.split (not_found c.columns s e)))
 
@@ -95,7 +95,7 @@ none_ports : (ps : List Port) (s t : ℕ) → s ≡ t → AllByRecursion (λ u. 
 none_ports [] s t e h = refl
 none_ports (p ∷ ps) s t e h = let f : (p.sig.0 == t) ≡ false = ne_eqb p.sig.0 t (λ g. eqb-false s p.sig.0 h.0 (e ∙ sym g)) in rw f (none_ports ps s t e h.1)
 
-input_side : (ps : List Port) (k s : ℕ) → IsDistinct nat_eq (map (λ (p : Port). p.sig.0) ps) → is_input_port (side_of k (find (λ (p : Port). p.sig.0 == s) ps)) ≡ list_any (λ (p : Port). p.is_input && (p.sig.0 == s)) ps
+pub input_side : (ps : List Port) (k s : ℕ) → IsDistinct nat_eq (map (λ (p : Port). p.sig.0) ps) → is_input_port (side_of k (find (λ (p : Port). p.sig.0 == s) ps)) ≡ list_any (λ (p : Port). p.is_input && (p.sig.0 == s)) ps
 unfolding IsDistinct
 input_side [] k s h = refl
 input_side (p ∷ ps) k s h = by (input_side ps k s h.1) (p.sig.0 == s) refl

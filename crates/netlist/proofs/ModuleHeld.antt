@@ -63,13 +63,13 @@ module _ (c : Circuit) where
   abbrev wires : List RtlWire
   wires = (module_of c).wires
 
-  in_columns : (w : RtlWire) → Among (column_wires c 0 c.columns) w → Among (module_of c).wires w
+  pub in_columns : (w : RtlWire) → Among (column_wires c 0 c.columns) w → Among (module_of c).wires w
   in_columns w a = subst (λ ws. Among ws w) (sym (module_wires c)) (Among-left (column_wires c 0 c.columns) (other_wires c) w a)
 
-  in_others : (w : RtlWire) → Among (other_wires c) w → Among (module_of c).wires w
+  pub in_others : (w : RtlWire) → Among (other_wires c) w → Among (module_of c).wires w
   in_others w a = subst (λ ws. Among ws w) (sym (module_wires c)) (Among-right (column_wires c 0 c.columns) (other_wires c) w a)
 
-  in_signals : (s : ℕ) (w : RtlWire) → s < length c.pool.signals → Among (signal_wires c s) w → Among (other_wires c) w
+  pub in_signals : (s : ℕ) (w : RtlWire) → s < length c.pool.signals → Among (signal_wires c s) w → Among (other_wires c) w
   unfolding other_wires
   in_signals s w p a =
       let R = range_with_len 0 (length c.pool.signals) in
@@ -77,7 +77,7 @@ module _ (c : Circuit) where
       let X = flat_map (expr_wires c) (range_with_len 0 (length c.pool.exprs)) in
       Among-left (S ++ X) (flat_map drawing_wires (all_drawings c)) w (Among-left S X w (Among-flat_map (signal_wires c) R s w (Among-range 0 (length c.pool.signals) s (omega arith) (omega arith)) a))
 
-  in_exprs : (k : ℕ) (w : RtlWire) → k < length c.pool.exprs → Among (expr_wires c k) w → Among (other_wires c) w
+  pub in_exprs : (k : ℕ) (w : RtlWire) → k < length c.pool.exprs → Among (expr_wires c k) w → Among (other_wires c) w
   unfolding other_wires
   in_exprs k w p a =
       let S = flat_map (signal_wires c) (range_with_len 0 (length c.pool.signals)) in
@@ -85,7 +85,7 @@ module _ (c : Circuit) where
       let X = flat_map (expr_wires c) Q in
       Among-left (S ++ X) (flat_map drawing_wires (all_drawings c)) w (Among-right S X w (Among-flat_map (expr_wires c) Q k w (Among-range 0 (length c.pool.exprs) k (omega arith) (omega arith)) a))
 
-  in_drawings : (d : Drawing) (w : RtlWire) → Among (all_drawings c) d → Among d.wires w → Among (other_wires c) w
+  pub in_drawings : (d : Drawing) (w : RtlWire) → Among (all_drawings c) d → Among d.wires w → Among (other_wires c) w
   unfolding other_wires
   in_drawings d w a b =
       let S = flat_map (signal_wires c) (range_with_len 0 (length c.pool.signals)) in

@@ -64,27 +64,37 @@ module _ (f : DesignProcess → List ℕ) (s : ℕ) where
       first true here e others = cc
       first false here e others = (here, others e)
 
-  -- ---- whether a clocked process drives the signal
+  -- ---- whether a process that passes a test drives the signal
+
+  module _ (g : DesignProcess → Bool) where
+    abbrev tests_it : DesignProcess → Bool
+    tests_it p = g p && is_among (f p) s
+
+    pub none_test : (ps : List DesignProcess) → AreNone ps → list_any tests_it ps ≡ false
+    none_test [] h = refl
+    none_test (p ∷ ps) h = or_from (tests_it p) (list_any tests_it ps) (and_right (g p) (is_among (f p) s) h.0) (none_test ps h.1)
+
+    split_test : (before after : List DesignProcess) (p : DesignProcess) → AreNone before → AreNone after → is_among (f p) s ≡ true → list_any tests_it (before ++ p ∷ after) ≡ g p
+    split_test [] after p h k e =
+        ap (λ t. (g p && t) || list_any tests_it after) e ∙ ap (λ t. (g p && true) || t) (none_test after k) ∙ whether (g p)
+      where
+        whether : (b : Bool) → ((b && true) || false) ≡ b
+        whether true = refl
+        whether false = refl
+    split_test (q ∷ before) after p h k e =
+        ap (λ t. t || list_any tests_it (before ++ p ∷ after)) (and_right (g q) (is_among (f q) s) h.0) ∙ split_test before after p h.1 k e
+
+    pub only_test : (ps : List DesignProcess) (p : DesignProcess) → IsOnly ps p → list_any tests_it ps ≡ g p
+    only_test ps p o = ap (list_any tests_it) o.split ∙ split_test o.before o.after p o.none_before o.none_after o.here
 
   abbrev pub clocks_it : DesignProcess → Bool
   clocks_it p = is_some p.domain && is_among (f p) s
 
   pub none_clock : (ps : List DesignProcess) → AreNone ps → list_any clocks_it ps ≡ false
-  none_clock [] h = refl
-  none_clock (p ∷ ps) h = or_from (clocks_it p) (list_any clocks_it ps) (and_right (is_some p.domain) (is_among (f p) s) h.0) (none_clock ps h.1)
-
-  split_clock : (before after : List DesignProcess) (p : DesignProcess) → AreNone before → AreNone after → is_among (f p) s ≡ true → list_any clocks_it (before ++ p ∷ after) ≡ is_some p.domain
-  split_clock [] after p h k e =
-      ap (λ t. (is_some p.domain && t) || list_any clocks_it after) e ∙ ap (λ t. (is_some p.domain && true) || t) (none_clock after k) ∙ whether (is_some p.domain)
-    where
-      whether : (b : Bool) → ((b && true) || false) ≡ b
-      whether true = refl
-      whether false = refl
-  split_clock (q ∷ before) after p h k e =
-      ap (λ t. t || list_any clocks_it (before ++ p ∷ after)) (and_right (is_some q.domain) (is_among (f q) s) h.0) ∙ split_clock before after p h.1 k e
+  none_clock ps h = none_test (λ p. is_some p.domain) ps h
 
   pub only_clock : (ps : List DesignProcess) (p : DesignProcess) → IsOnly ps p → list_any clocks_it ps ≡ is_some p.domain
-  only_clock ps p o = ap (list_any clocks_it) o.split ∙ split_clock o.before o.after p o.none_before o.none_after o.here
+  only_clock ps p o = only_test (λ p. is_some p.domain) ps p o
 
   -- ---- a fold over processes, each of which leaves alone what it does not drive
 

@@ -1,5 +1,5 @@
 -- Where one bit of a signal comes from behind a plain block: from before it, or from one bit of one value.
-use Rattle.std.specs.Prelude.{◌≡◌, ◌≢◌, refl, ℕ, ◌+◌, ◌<◌, ◌≤◌, ◌==◌, ◌⊎◌, true, List, [], ◌∷◌, map, length, ℤ, Some}
+use Rattle.std.specs.Prelude.{◌≡◌, ◌≢◌, refl, ⊤, ℕ, suc, slice_get, ◌+◌, ◌<◌, ◌≤◌, ◌==◌, ◌⊎◌, true, List, [], ◌∷◌, map, length, ℤ, Some}
 use Rattle.std.specs.List.{AllByRecursion}
 use Rattle.std.proofs.Common.{sym, ◌∙◌, ap, arith, subst, ⊎_elim, inl, inr}
 use Rattle.std.proofs.lemmas.Bool.{false≢true, cases_eq, and_parts}
@@ -19,19 +19,28 @@ use Rattle.netlist.specs.Latest.{Latest, places, is_fixed, source_at, with_sourc
 use Rattle.netlist.proofs.Reading.{bit_of}
 use Rattle.netlist.proofs.FixedTargets.{IsInside, target_bits-fixed, places_inside}
 use Rattle.netlist.proofs.BitWrites.{some_signal, at-put_bit_other, int_bit-put_bit_same, int_bit-put_bit_other}
-use Rattle.netlist.proofs.PutSources.{AreGiven, with_source_same, with_source_sig, with_source_index}
+use Rattle.netlist.proofs.PutSources.{with_source_same, with_source_sig, with_source_index}
 
-module _ (pool : Pooled) (env : List ℤ) (value : ℕ → Value) (P : ExprId → Type 0) (s i : ℕ) (inside : i < (signal_form pool.signals s).width) where
+-- what a block assigns, target and value, has this
+abbrev pub AreAssigned : (ExprId → ExprId → Type 0) → Block → Type 0
+AreAssigned P done = ⊤
+AreAssigned P (next (assign target source place) rest) = P target source × AreAssigned P rest
+AreAssigned P (next (choose arms) rest) = AreAssigned P rest
+
+module _ (pool : Pooled) (env : List ℤ) (value : ℕ → Value) (P : ExprId → ExprId → Type 0) (s i : ℕ) (inside : i < (signal_form pool.signals s).width) where
   -- the bit and its source are those from before
   pub record IsBefore (first : Latest) (from : List ℤ) (last : Latest) (to : List ℤ) : Type 0 where
     pub source : last s i ≡ first s i
     pub same : bit_of (at to s) i ≡ bit_of (at from s) i
 
-  -- they are those of one bit of one value
+  -- they are those of one bit of one value, which its target has at that place
   pub record IsAssigned (last : Latest) (to : List ℤ) : Type 0 where
+    pub target : ExprId
     pub expr : ExprId
     pub place : ℕ
-    pub holds : P expr
+    pub holds : P target expr
+    pub fixed : is_fixed pool target.0 ≡ true
+    pub lands : slice_get (places pool target.0) place ≡ Some (record { sig = s; index = i })
     pub source : last s i ≡ source_at (value expr.0) place
     pub same : bit_of (at to s) i ≡ bit_of (num pool env expr.0) place
 
@@ -45,14 +54,14 @@ module _ (pool : Pooled) (env : List ℤ) (value : ℕ → Value) (P : ExprId �
   one_more first from mid now last to o p = ⊎_elim
       (λ (b : IsBefore mid now last to). ⊎_elim
       (λ (a : IsBefore first from mid now). inl (record { source = b.source ∙ a.source; same = b.same ∙ a.same }))
-      (λ (a : IsAssigned mid now). inr (record { expr = a.expr; place = a.place; holds = a.holds; source = b.source ∙ a.source; same = b.same ∙ a.same }))
+      (λ (a : IsAssigned mid now). inr (record { target = a.target; expr = a.expr; place = a.place; holds = a.holds; fixed = a.fixed; lands = a.lands; source = b.source ∙ a.source; same = b.same ∙ a.same }))
       o)
       (λ (a : IsAssigned last to). inr a)
       p
 
   -- ---- one bit
 
-  module _ (v : ExprId) (holds : P v) (b : Bit) (k m : ℕ) (below : k < m) (latest : Latest) (cur : List ℤ) (count : length cur ≡ length pool.signals) (fits : b.index < (signal_form pool.signals b.sig).width) where
+  module _ (t v : ExprId) (holds : P t v) (fixed : is_fixed pool t.0 ≡ true) (b : Bit) (k m : ℕ) (lands : slice_get (places pool t.0) k ≡ Some b) (below : k < m) (latest : Latest) (cur : List ℤ) (count : length cur ≡ length pool.signals) (fits : b.index < (signal_form pool.signals b.sig).width) where
     -- the sources and the numbers behind it
     abbrev After : Latest
     After = with_source b (source_at (value v.0) k) latest
@@ -68,11 +77,14 @@ module _ (pool : Pooled) (env : List ℤ) (value : ℕ → Value) (P : ExprId �
 
     hit : s ≡ b.sig → i ≡ b.index → IsAssigned After Numbers
     hit e f = record {
+      target = t;
       expr = v;
       place = k;
       holds = holds;
-      source = ap (λ t. After t i) e ∙ ap (After b.sig) f ∙ with_source_same b (source_at (value v.0) k) latest;
-      same = ap (λ t. bit_of (at Numbers t) i) e ∙ ap (λ j. bit_of (at Numbers b.sig) j) f ∙ ap (λ n. n == 1) (int_bit-put_bit_same pool b (nat_bit (pattern m (num pool env v.0)) k) cur low fits there ∙ bit_pattern (num pool env v.0) m k below);
+      fixed = fixed;
+      lands = lands ∙ (λ j. Some (record { sig = sym e j; index = sym f j }));
+      source = ap (λ u. After u i) e ∙ ap (After b.sig) f ∙ with_source_same b (source_at (value v.0) k) latest;
+      same = ap (λ u. bit_of (at Numbers u) i) e ∙ ap (λ j. bit_of (at Numbers b.sig) j) f ∙ ap (λ n. n == 1) (int_bit-put_bit_same pool b (nat_bit (pattern m (num pool env v.0)) k) cur low fits there ∙ bit_pattern (num pool env v.0) m k below);
     }
 
     beside : s ≡ b.sig → i ≢ b.index → IsBefore latest cur After Numbers
@@ -98,25 +110,27 @@ module _ (pool : Pooled) (env : List ℤ) (value : ℕ → Value) (P : ExprId �
 
   -- ---- one assignment, and a block
 
-  given_origin : (v : ExprId) → P v → (bs : List Bit) (k m : ℕ) (latest : Latest) (cur : List ℤ) → k + length bs ≤ m → length cur ≡ length pool.signals → AllByRecursion (IsInside (signal_form pool.signals)) bs
+  given_origin : (t v : ExprId) → P t v → is_fixed pool t.0 ≡ true → (bs : List Bit) (k m : ℕ) (latest : Latest) (cur : List ℤ) → ((j : ℕ) (b : Bit) → slice_get bs j ≡ Some b → slice_get (places pool t.0) (k + j) ≡ Some b)
+      → k + length bs ≤ m → length cur ≡ length pool.signals → AllByRecursion (IsInside (signal_form pool.signals)) bs
       → Origin latest cur (given (value v.0) bs k latest) (put_bits pool (map (λ b. Some b) bs) (pattern m (num pool env v.0)) k cur)
-  given_origin v h [] k m latest cur le count fits = nothing_done latest cur
-  given_origin v h (b ∷ bs) k m latest cur le count fits =
+  given_origin t v h fixed [] k m latest cur lands le count fits = nothing_done latest cur
+  given_origin t v h fixed (b ∷ bs) k m latest cur lands le count fits =
       let mid : Latest = with_source b (source_at (value v.0) k) latest in
       let now : List ℤ = put_bit pool b (nat_bit (pattern m (num pool env v.0)) k) cur in
+      let here : k + 0 ≡ k = omega arith in
       one_more latest cur mid now (given (value v.0) bs (k + 1) mid) (put_bits pool (map (λ x. Some x) bs) (pattern m (num pool env v.0)) (k + 1) now)
-      (bit_origin v h b k m (omega arith) latest cur count fits.0)
-      (given_origin v h bs (k + 1) m mid now (omega (arith, le)) (length-set cur b.sig _ ∙ count) fits.1)
+      (bit_origin t v h fixed b k m (ap (slice_get (places pool t.0)) (sym here) ∙ lands 0 b refl) (omega arith) latest cur count fits.0)
+      (given_origin t v h fixed bs (k + 1) m mid now (λ j x e. let next : (k + 1) + j ≡ k + suc j = omega arith in ap (slice_get (places pool t.0)) next ∙ lands (suc j) x e) (omega (arith, le)) (length-set cur b.sig _ ∙ count) fits.1)
 
-  assigned_origin : (t v : ExprId) → P v → (latest : Latest) (cur : List ℤ) → is_fixed pool t.0 ≡ true → length cur ≡ length pool.signals
+  assigned_origin : (t v : ExprId) → P t v → (latest : Latest) (cur : List ℤ) → is_fixed pool t.0 ≡ true → length cur ≡ length pool.signals
       → Origin latest cur (given (value v.0) (places pool t.0) 0 latest) (put_number pool (target_bits pool env t.0) (num pool env v.0) cur)
   assigned_origin t v h latest cur fixed count =
       let bs : List Bit = places pool t.0 in
       let wide : length (map (λ b. Some b) bs) ≡ length bs = length-map bs (λ b. Some b) in
       subst (λ xs. Origin latest cur (given (value v.0) bs 0 latest) (put_number pool xs (num pool env v.0) cur)) (sym (target_bits-fixed pool env t.0 fixed))
-      (given_origin v h bs 0 (length (map (λ b. Some b) bs)) latest cur (omega (arith, wide)) count (places_inside pool t.0))
+      (given_origin t v h fixed bs 0 (length (map (λ b. Some b) bs)) latest cur (λ j b e. let d : 0 + j ≡ j = omega arith in ap (slice_get bs) d ∙ e) (omega (arith, wide)) count (places_inside pool t.0))
 
-  pub put_origin : (b : Block) (latest : Latest) (cur : List ℤ) → is_plain pool b ≡ true → AreGiven P b → length cur ≡ length pool.signals → Origin latest cur (latest_of pool value b latest) (put pool env b cur)
+  pub put_origin : (b : Block) (latest : Latest) (cur : List ℤ) → is_plain pool b ≡ true → AreAssigned P b → length cur ≡ length pool.signals → Origin latest cur (latest_of pool value b latest) (put pool env b cur)
   put_origin done latest cur plain h count = nothing_done latest cur
   put_origin (next (assign t v p) rest) latest cur plain h count =
       let parts = and_parts (is_fixed pool t.0) (is_plain pool rest) plain in

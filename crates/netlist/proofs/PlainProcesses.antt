@@ -10,13 +10,10 @@ use Rattle.design_ir.specs.Guards.{block_exprs}
 use Rattle.design_ir.specs.Circuits.{Circuit}
 use Rattle.design_ir.specs.Designs.{IsUsable, IsProcess, IsDesign}
 use Rattle.netlist.specs.Latest.{is_fixed, is_plain}
+use Rattle.netlist.specs.Plain.{ArePlain}
 use Rattle.netlist.proofs.PutSources.{AreGiven}
 use Rattle.netlist.proofs.OneDriver.{IsOnly, only_holds}
 use Rattle.netlist.proofs.Driven.{driven_by}
-
--- no process has a choice, or a target that is not fixed
-abbrev pub ArePlain : Circuit → Type 0
-ArePlain c = AllByRecursion (λ (p : DesignProcess). is_plain c.pool p.body ≡ true) c.processes
 
 block_given : (P Q : ExprId → Type 0) (pool : Pooled) (b : Block) → ((e : ExprId) → P e → Q e) → is_plain pool b ≡ true → AllByRecursion P (block_exprs b) → AreGiven Q b
 block_given P Q pool done f plain h = tt

@@ -28,7 +28,7 @@ use Rattle.netlist.proofs.Reading.{bit_of}
 use Rattle.netlist.proofs.OneDriver.{IsOnly, find_only, only_holds}
 use Rattle.netlist.proofs.Driven.{driven_by, distinct_processes, is_register-only}
 use Rattle.netlist.proofs.SettledWires.{Shows}
-use Rattle.netlist.proofs.PlainProcesses.{ArePlain}
+use Rattle.netlist.specs.Plain.{ArePlain}
 use Rattle.netlist.proofs.RegisterSteps.{next_spec, is_clocked, all_at, reads_register, held_register}
 use Rattle.netlist.proofs.ClockEdges.{rises_edge}
 
@@ -37,19 +37,19 @@ abbrev pub register_at : Circuit → ℕ → DesignProcess → DomainId → List
 register_at c s p d id = register_cell id (signal_form c.pool.signals s).width (clock_of c d) (next_spec c s p (reset_of c s d)) (whole (signal_value c s))
 
 module _ (c : Circuit) (design : IsDesign c) (rules : IsPool c.pool) (flat : c.memories ≡ []) (plain : ArePlain c)
-    (s : ℕ) (p : DesignProcess) (d : DomainId) (clock : driving c s ≡ ByClock p d) (some : 1 ≤ (signal_form c.pool.signals s).width) where
+    (s : ℕ) (p : DesignProcess) (d : DomainId) (clock : driving c s ≡ ByClock p d) where
   its_only : IsOnly (driven_by c) s c.processes p
   its_only = find_only (driven_by c) s c.processes p (distinct_processes c flat design) (is_clocked c p d s clock).found
 
   pub clocked_held : is_held c s ≡ true
   clocked_held = or_right (is_input c s) (is_register c s) (is_register-only c flat s p its_only ∙ ap is_some (is_clocked c p d s clock).domain)
 
-  its_domain : (x : Domain) × (slice_get c.domains d.0 ≡ Some x)
+  pub its_domain : (x : Domain) × (slice_get c.domains d.0 ≡ Some x)
   its_domain =
       let there : IsDomain c p.domain = (only_holds (IsProcess c) (driven_by c) s c.processes p its_only design.processes).domain in
       element c.domains d.0 (subst (IsDomain c) (is_clocked c p d s clock).domain there)
 
-  module _ (env : List ℤ) (fit : FitsSignals c.pool env) (st : State) (count : length st.held ≡ length c.pool.signals) (same : (t : ℕ) → is_held c t ≡ true → at st.held t ≡ at env t)
+  module _ (some : 1 ≤ (signal_form c.pool.signals s).width) (env : List ℤ) (fit : FitsSignals c.pool env) (st : State) (count : length st.held ≡ length c.pool.signals) (same : (t : ℕ) → is_held c t ≡ true → at st.held t ≡ at env t)
       (listed : List DomainId) (ordered : Ascending 0 listed) (m : RtlModule) (kept : Kept) (old new : Inputs)
       (shows : Shows (wire_bit m kept old) c env) (carried : (t : ℕ) → Carries (wire_bit m kept old) (signal_value c t) (at env t)) (obeys : ObeysComb (wire_bit m kept old) (signal_drawing c s))
       (events : (t : ℕ) → is_input c t ≡ true → Carries (wire_bit m kept new) (signal_value c t) (at (step c st env (Edge listed)).held t)) where

@@ -45,7 +45,7 @@ use Rattle.netlist.proofs.OneDriver.{IsOnly, IsFolded, find_only, fold_only}
 use Rattle.netlist.proofs.Driven.{driven_by, distinct_processes, by_comb, by_clock}
 use Rattle.netlist.proofs.ResetLaws.{length-reset_all, reset_all-other, reset_all-less, reset_all-full, IsResetOf, is_reset-of, reset_of-some, reset_of-none}
 use Rattle.netlist.proofs.SettledWires.{Shows, reads_next, signal_drawing-some}
-use Rattle.netlist.proofs.PlainProcesses.{ArePlain}
+use Rattle.netlist.specs.Plain.{ArePlain}
 use Rattle.netlist.proofs.SourcedSpecs.{init_bits_are, reads_constants}
 
 -- the bits at D of a register's cell: what the statements leave, or what the reset's `$mux` makes of it
@@ -128,6 +128,38 @@ module _ (c : Circuit) (design : IsDesign c) (flat : c.memories ≡ []) (s : ℕ
   only : IsOnly (driven_by c) s c.processes p
   only = find_only (driven_by c) s c.processes p (distinct_processes c flat design) (is_clocked c p d s clock).found
 
+  -- ---- the choice that a reset makes
+
+  module _ (env : List ℤ) (wires : Wires) (rules : IsPool c.pool) (plain : ArePlain c) (fit : FitsSignals c.pool env) (shows : Shows wires c env) (carried : (t : ℕ) → Carries wires (signal_value c t) (at env t))
+      (x : Sig) (is : slice_get c.pool.signals s ≡ Some x) where
+    -- the wire of a reset has one bit
+    reset_bit : (r : ℕ) → IsResetOf c d r → bit_at (source_value wires) (spec_bits (whole (signal_value c r))) 0 ≡ Some (not (is_zero (at env r)))
+    reset_bit r h =
+        let rules_of : IsClockDomain c h.domain = all_at (IsClockDomain c) c.domains d.0 h.domain design.domains h.listed in
+        let reset : IsSignalOf c (unsigned 1) h.signal = subst (IsReset c) h.has rules_of.reset in
+        let shape : signal_form c.pool.signals r ≡ unsigned 1 = ap (signal_form c.pool.signals) (sym h.number) ∙ reset.shape in
+        bit_at-signal wires c r (at env r) shape (fit r (subst (λ n. n < length c.pool.signals) h.number reset.there)) (carried r)
+
+    reads_init : Reads wires (spec_of (map Constant (init_bits c s))) (signal_form c.pool.signals s).width x.init
+    reads_init = subst (λ bits. Reads wires (spec_of (map Constant bits)) (signal_form c.pool.signals s).width x.init) (sym (init_bits_are c s x is)) (reads_constants wires (signal_form c.pool.signals s).width x.init)
+
+    -- the init where the reset is not 0, else what the statements leave
+    pub choice_bits : (r : ℕ) (left : ℤ) → reset_of c s d ≡ Some r → Reads wires (bits_at_last c true p s) (signal_form c.pool.signals s).width left → ObeysComb wires (register_drawing c s p d (Some r))
+        → HasBits wires (step_id (3 * s + 1)) (signal_form c.pool.signals s).width (cond (not (is_zero (at env r))) x.init left)
+    choice_bits r left e reads obeys =
+        let n : ℕ = (signal_form c.pool.signals s).width in
+        let out : List ℕ = step_id (3 * s + 1) in
+        let choice : RtlCell = mux_cell (step_id (3 * s + 2)) n (bits_at_last c true p s) (spec_of (map Constant (init_bits c s))) (whole (signal_value c r)) (wire_part out 0 n) in
+        let keeps : RtlCell = register_cell (step_id (3 * s)) n (clock_of c d) (wire_part out 0 n) (whole (signal_value c s)) in
+        mux_cell_bits wires (step_id (3 * s + 2)) n (bits_at_last c true p s) (spec_of (map Constant (init_bits c s))) (whole (signal_value c r)) out n (not (is_zero (at env r))) left x.init
+        (reset_bit r (reset_of-some c d env s x is r e).1) reads reads_init (All-head (ObeysUnkept wires) choice (keeps ∷ []) obeys.cells refl)
+
+    -- so each bit of it has a value
+    pub choice_some : (r : ℕ) (cur : List ℤ) → at cur s ≡ at env s → length cur ≡ length c.pool.signals → reset_of c s d ≡ Some r → ObeysComb wires (register_drawing c s p d (Some r))
+        → (i : ℕ) → i < (signal_form c.pool.signals s).width → (b : Bool) × (wires (step_id (3 * s + 1)) i ≡ Some b)
+    choice_some r cur same count e obeys i l =
+        (_, (choice_bits r (at (put c.pool env p.body cur) s) e (reads_next wires c env design rules plain fit shows s p (at env s) cur only (carried s) same count) obeys).at i l)
+
   module _ (env : List ℤ) (listed : List DomainId) (st : State) where
     folded : IsFolded (driven_by c) s (clocked c env listed) (λ cur q. length-clocked_at c env listed s q cur q.domain) (λ cur q h. clocked_at-other c env listed s q cur q.domain h) c.processes p st.held
     folded = fold_only (driven_by c) s (clocked c env listed) (λ cur q. length-clocked_at c env listed s q cur q.domain) (λ cur q h. clocked_at-other c env listed s q cur q.domain h) c.processes p st.held only
@@ -193,30 +225,14 @@ module _ (c : Circuit) (design : IsDesign c) (flat : c.memories ≡ []) (s : ℕ
             (λ on. reset_all-full c.pool.signals s sig.0 sig.1 h.0 (driven c.pool p.body) after there only.here ∙ sym (cond-true (not (is_zero (at env r))) sig.0.init (at after s) on))
             (λ off. sym (cond-false (not (is_zero (at env r))) sig.0.init (at after s) off))
 
-        -- the wire of a reset has one bit
-        reset_bit : (r : ℕ) → IsResetOf c d r → bit_at (source_value wires) (spec_bits (whole (signal_value c r))) 0 ≡ Some (not (is_zero (at env r)))
-        reset_bit r h =
-            let rules_of : IsClockDomain c h.domain = all_at (IsClockDomain c) c.domains d.0 h.domain design.domains h.listed in
-            let reset : IsSignalOf c (unsigned 1) h.signal = subst (IsReset c) h.has rules_of.reset in
-            let shape : signal_form c.pool.signals r ≡ unsigned 1 = ap (signal_form c.pool.signals) (sym h.number) ∙ reset.shape in
-            bit_at-signal wires c r (at env r) shape (fit r (subst (λ n. n < length c.pool.signals) h.number reset.there)) (carried r)
-
-        reads_init : Reads wires (spec_of (map Constant (init_bits c s))) (signal_form c.pool.signals s).width sig.0.init
-        reads_init =
-            subst (λ bits. Reads wires (spec_of (map Constant bits)) (signal_form c.pool.signals s).width sig.0.init) (sym (init_bits_are c s sig.0 sig.1)) (reads_constants wires (signal_form c.pool.signals s).width sig.0.init)
-
         by_reset : (o : Option ℕ) → reset_of c s d ≡ o → ObeysComb wires (register_drawing c s p d o) → Reads wires (next_spec c s p o) (signal_form c.pool.signals s).width (at (step c st env (Edge listed)).held s)
         by_reset None e obeys = subst (Reads wires (bits_at_last c true p s) (signal_form c.pool.signals s).width) (sym (unreset e)) reads_left
         by_reset (Some r) e obeys =
             let n : ℕ = (signal_form c.pool.signals s).width in
             let out : List ℕ = step_id (3 * s + 1) in
-            let choice : RtlCell = mux_cell (step_id (3 * s + 2)) n (bits_at_last c true p s) (spec_of (map Constant (init_bits c s))) (whole (signal_value c r)) (wire_part out 0 n) in
-            let keeps : RtlCell = register_cell (step_id (3 * s)) n (clock_of c d) (wire_part out 0 n) (whole (signal_value c s)) in
-            let t : Bool = not (is_zero (at env r)) in
-            let chosen : HasBits wires out n (cond t sig.0.init left) =
-            mux_cell_bits wires (step_id (3 * s + 2)) n (bits_at_last c true p s) (spec_of (map Constant (init_bits c s))) (whole (signal_value c r)) out n t left sig.0.init
-            (reset_bit r (reset_of-some c d env s sig.0 sig.1 r e).1) reads_left reads_init (All-head (ObeysUnkept wires) choice (keeps ∷ []) obeys.cells refl) in
-            reads_low wires out n n (at (step c st env (Edge listed)).held s) (omega arith) (has_equal wires out n (cond t sig.0.init left) (at (step c st env (Edge listed)).held s) (sym (reset_is r e)) chosen)
+            let chosen : HasBits wires out n (cond (not (is_zero (at env r))) sig.0.init left) = choice_bits env wires rules plain fit shows carried sig.0 sig.1 r left e reads_left obeys in
+            reads_low wires out n n (at (step c st env (Edge listed)).held s) (omega arith)
+            (has_equal wires out n (cond (not (is_zero (at env r))) sig.0.init left) (at (step c st env (Edge listed)).held s) (sym (reset_is r e)) chosen)
 
         -- the bits at D are those of its number after the edge
         pub reads_register : ObeysComb wires (signal_drawing c s) → Reads wires (next_spec c s p (reset_of c s d)) (signal_form c.pool.signals s).width (at (step c st env (Edge listed)).held s)

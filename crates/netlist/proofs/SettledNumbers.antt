@@ -14,7 +14,7 @@ use Rattle.design_ir.specs.Settled.{starts, comb_process, comb_reads, Settled}
 use Rattle.design_ir.proofs.NumbersFit.{element}
 use Rattle.design_ir.proofs.PutLaws.{put_length, put_other}
 use Rattle.netlist.specs.Module.{drives}
-use Rattle.netlist.proofs.OneDriver.{AreNone, IsOnly, find_only, find_none, fold_none, fold_only}
+use Rattle.netlist.proofs.OneDriver.{AreNone, IsOnly, find_only, find_none, length-fold, fold_none, fold_only}
 use Rattle.netlist.proofs.Driven.{driven_by, distinct_processes, input_none, is_register-none, is_register-only}
 use Rattle.netlist.proofs.Starts.{length-starts, at-starts, at-starts_held}
 
@@ -31,6 +31,11 @@ module _ (c : Circuit) (env : List ℤ) (design : IsDesign c) (st : State) (flat
 
   comb_others : (cur : List ℤ) (p : DesignProcess) → is_among (driven_by c p) s ≡ false → at (comb_process c.pool env cur p) s ≡ at cur s
   comb_others cur p h = cond_both (is_none p.domain) (put c.pool env p.body cur) cur (λ xs. at xs s ≡ at cur s) (λ e. put_other c.pool env p.body cur s h) (λ e. refl)
+
+  -- there is a number for each signal
+  pub length-settled : length env ≡ length c.pool.signals
+  unfolding begin
+  length-settled = ap length (sym settled_is) ∙ length-fold (driven_by c) s (comb_process c.pool env) comb_count comb_others c.processes begin ∙ length-starts c st 0 c.pool.signals
 
   -- a signal that nothing drives has its init
   pub settled_none : (x : Sig) → slice_get c.pool.signals s ≡ Some x → is_held c s ≡ false → AreNone (driven_by c) s c.processes → at env s ≡ x.init

@@ -32,7 +32,8 @@ use Rattle.netlist.proofs.PutSources.{IsSourced, IsShown, put_sourced}
 use Rattle.netlist.proofs.OneDriver.{IsOnly, find_only, find_none}
 use Rattle.netlist.proofs.Driven.{driven_by, distinct_processes, is_register-only, driving-found, driving-comb}
 use Rattle.netlist.proofs.SourcedSpecs.{reads_sources, reads_constants, init_bits_are, first_sourced, held_sourced}
-use Rattle.netlist.proofs.PlainProcesses.{ArePlain, process_plain, process_given}
+use Rattle.netlist.specs.Plain.{ArePlain}
+use Rattle.netlist.proofs.PlainProcesses.{process_plain, process_given}
 use Rattle.netlist.proofs.SettledNumbers.{settled_none, settled_by}
 
 -- ---- what expressions carry

@@ -9,7 +9,8 @@ use Rattle.amh_bits.specs.Patterns.{pattern}
 use Rattle.design_ir.specs.declared.signal.Sig.{Sig}
 use Rattle.design_ir.specs.Values.{signal_form}
 use Rattle.design_ir.specs.Circuits.{Circuit, at}
-use Rattle.rtlil_text.specs.Sources.{Source, Constant}
+use Rattle.rtlil_text.specs.Sources.{Source, Constant, spec_bits}
+use Rattle.rtlil_text.specs.Cells.{bit_at}
 use Rattle.rtlil_text.specs.Cells.{number_bits}
 use Rattle.rtlil_text.specs.Meaning.{source_value}
 use Rattle.rtlil_text.specs.History.{Wires}
@@ -27,15 +28,18 @@ from_zero : (n k : ℕ) → k < n → slice_get (range_with_len 0 n) k ≡ Some 
 from_zero n k h =
     slice_get-get_or (range_with_len 0 n) k 0 (rw (length-range_with_len 0 n) h) ∙ ap Some (get_or-range_with_len 0 n k 0 h ∙ (let e : 0 + k ≡ k = omega arith in e))
 
+-- bit k of a spec is its k-th source
+pub bit_at-sources : (wires : Wires) (sources : ℕ → Source) (w k : ℕ) → k < w → bit_at (source_value wires) (spec_bits (spec_of (map sources (range_with_len 0 w)))) k ≡ source_value wires (sources k)
+bit_at-sources wires sources w k l =
+    ap (λ ss. option_and_then (source_value wires) (slice_get ss k)) (spec_bits-spec_of (map sources (range_with_len 0 w)))
+    ∙ ap (option_and_then (source_value wires)) (slice_get-map sources (range_with_len 0 w) k ∙ ap (option_map sources) (from_zero w k l))
+
 pub reads_sources : (wires : Wires) (sources : ℕ → Source) (w : ℕ) (x : ℤ) → ((i : ℕ) → i < w → source_value wires (sources i) ≡ Some (bit_of x i)) → Reads wires (spec_of (map sources (range_with_len 0 w))) w x
 reads_sources wires sources w x h =
     let all : List Source = map sources (range_with_len 0 w) in
     record {
       wide = ap length (spec_bits-spec_of all) ∙ length-map (range_with_len 0 w) sources ∙ length-range_with_len 0 w;
-      at = λ k l.
-          ap (λ ss. option_and_then (source_value wires) (slice_get ss k)) (spec_bits-spec_of all)
-          ∙ ap (option_and_then (source_value wires)) (slice_get-map sources (range_with_len 0 w) k ∙ ap (option_map sources) (from_zero w k l))
-          ∙ h k l;
+      at = λ k l. bit_at-sources wires sources w k l ∙ h k l;
     }
 
 pub reads_constants : (wires : Wires) (w : ℕ) (x : ℤ) → Reads wires (spec_of (map Constant (number_bits w (pattern w x)))) w x

@@ -1,5 +1,5 @@
 -- What each bit of each signal is given by statements without choices: the last assignment to a bit wins.
-use Rattle.std.specs.Prelude.{ℕ, ◌+◌, ◌-◌, ◌==◌, ◌&&◌, nat_lt, Bool, true, false, if◌then◌else◌, List, [], ◌∷◌, map, take, drop, Option, Some, None}
+use Rattle.std.specs.Prelude.{ℕ, ◌+◌, ◌-◌, ◌==◌, ◌&&◌, nat_lt, Bool, true, false, if◌then◌else◌, List, [], ◌∷◌, take, drop}
 use Rattle.std.specs.List.{flat_map, list_all}
 use Rattle.shape_rules.specs.Forms.{Form}
 use Rattle.design_ir.specs.declared.ids.ExprId.{ExprId}
@@ -8,7 +8,7 @@ use Rattle.design_ir.specs.declared.expr.Expr.TheVariants as expr
 use Rattle.design_ir.specs.Pools.{Pooled, answer}
 use Rattle.design_ir.specs.Values.{signal_form}
 use Rattle.design_ir.specs.Targets.{Bit, bits_of}
-use Rattle.design_ir.specs.Trees.{Statement, assign, choose, Block, done, next}
+use Rattle.design_ir.specs.Trees.{assign, choose, Block, done, next}
 use Rattle.rtlil_text.specs.Sources.{Source, Constant, Net}
 use Rattle.netlist.specs.Operators.{Value}
 

@@ -1,5 +1,6 @@
 -- What is proved of the lowering, for every design.
-use Rattle.std.specs.Prelude.{ℕ, ◌<◌, ◌^◌}
+use Rattle.std.specs.Prelude.{◌<◌, ◌^◌, List}
+use Rattle.std.specs.List.{AllByRecursion}
 use Rattle.shape_rules.specs.declared.op.Op.{Op}
 use Rattle.design_ir.specs.declared.expr.Expr.{Expr}
 use Rattle.design_ir.specs.Circuits.{Circuit}
@@ -7,10 +8,14 @@ use Rattle.design_ir.specs.PoolRules.{IsPool}
 use Rattle.design_ir.specs.Designs.{IsDesign}
 use Rattle.rtlil_text.specs.Rules.{IsModule}
 use Rattle.netlist.specs.Carried.{MakesOperator}
-use Rattle.netlist.specs.Made.{MakesExpression}
+use Rattle.netlist.specs.Made.{HasByteStride, MakesExpression}
 use Rattle.netlist.specs.Expressions.{part_total}
 use Rattle.netlist.specs.Module.{module_of}
 use Rattle.netlist.specs.Corresponds.{Corresponds}
+use Rattle.netlist.specs.Plain.{IsPlain}
+use Rattle.netlist.specs.Histories.{SameHistory}
+use Rattle.design_ir.specs.Targets.{Bit}
+use Rattle.comb_graph.specs.Orders.{IsOrder}
 
 -- where the wires of operands carry two integers, the cells of an operator give its wire the operator's integer
 abbrev pub OperatorsAreMade : Type 0
@@ -27,3 +32,8 @@ ModulesKeepTheRules = (c : Circuit) → IsPool c.pool → IsDesign c → part_to
 -- the module has the design's columns
 abbrev pub ModulesCorrespond : Type 0
 ModulesCorrespond = (c : Circuit) → IsPool c.pool → Corresponds c (module_of c)
+
+-- where strides are bytes, as in the code, and the bits of comb signals have an order, the module has the design's history, and every bit of it has a value
+abbrev pub ModulesHaveTheHistory : Type 0
+ModulesHaveTheHistory =
+    (c : Circuit) (order : List Bit) → IsPool c.pool → AllByRecursion HasByteStride c.pool.exprs → IsDesign c → IsPlain c → part_total c.pool.exprs < 10 ^ 63 → IsOrder c order → SameHistory c (module_of c)

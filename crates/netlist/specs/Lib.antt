@@ -9,8 +9,12 @@ pub mod Made
 pub mod Latest
 pub mod Spelled
 pub mod CombDrawings
+pub mod ItemSteps
 pub mod Module
+pub mod Tables
 pub mod PoolsDrawn
 pub mod Drives
 pub mod Corresponds
+pub mod Plain
+pub mod Histories
 pub mod Laws

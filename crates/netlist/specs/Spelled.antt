@@ -1,5 +1,5 @@
 -- Bits of wires and constants as a spec with few parts: neighbours of one wire stand together.
-use Rattle.std.specs.Prelude.{ℕ, suc, ◌+◌, ◌==◌, ◌&&◌, Bool, true, false, if◌then◌else◌, List, [], ◌∷◌, ◌++◌}
+use Rattle.std.specs.Prelude.{suc, ◌==◌, ◌&&◌, if◌then◌else◌, List, [], ◌∷◌}
 use Rattle.lists.specs.Texts.{text_eq}
 use Rattle.rtlil_text.specs.declared.sig.SigPart.{SigPart}
 use Rattle.rtlil_text.specs.declared.sig.SigPart.TheVariants as parts

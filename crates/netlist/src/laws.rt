@@ -1,5 +1,5 @@
 // The laws of the lowering. The functions do nothing: their clauses are the laws.
-ghost use Rattle.netlist.specs.Laws.{OperatorsAreMade, ExpressionsAreMade, ModulesKeepTheRules, ModulesCorrespond};
+ghost use Rattle.netlist.specs.Laws.{OperatorsAreMade, ExpressionsAreMade, ModulesKeepTheRules, ModulesCorrespond, ModulesHaveTheHistory};
 
 /// Where the wires of its operands carry two integers, the cells of an operator give its wire the operator's integer:
 /// for each of the operators, and all shapes that it takes.
@@ -17,4 +17,10 @@ pub fn expressions_are_made()
 pub fn modules_are_sound()
     ensures rules { ModulesKeepTheRules }
     ensures columns { ModulesCorrespond }
+{}
+
+/// Where the bits of combinational signals have an order, the module of a plain design has the design's history, and
+/// every bit of it has a value, whatever legal events come.
+pub fn modules_have_the_history()
+    ensures { ModulesHaveTheHistory }
 {}

@@ -2,10 +2,32 @@
 //!
 //! specs/Module.antt says which module a design without memories and without choices is lowered to. Each expression has
 //! a wire of its own, which cells or a link drive (specs/Operators.antt, specs/Expressions.antt), and statements give
-//! each bit of a signal one source (specs/Latest.antt). The code that makes the module is to come; what it will rest
-//! on is proved for every design, and the functions of `laws` carry it in their clauses.
+//! each bit of a signal one source (specs/Latest.antt). `lower` makes that module in one pass over each list, and promises
+//! that it keeps the rules of RTLIL text, has the design's columns, and has the design's history over all legal events;
+//! what it rests on is proved for every design, and the functions of `laws` carry it in their clauses.
 #![tactic(auto)]
 
+mod cells;
+mod drawing;
+mod drawings;
+mod drivers;
+mod expressions;
+mod ids;
+mod item_cells;
 mod laws;
+mod lowering;
+mod muxes;
+mod operators;
+mod parts;
+mod pattern_cells;
+mod signals;
+mod sources;
+mod spelling;
+mod tables;
+mod targets;
+mod wires;
 
-pub use laws::{expressions_are_made, modules_are_sound, operators_are_made};
+pub use laws::{
+    expressions_are_made, modules_are_sound, modules_have_the_history, operators_are_made,
+};
+pub use lowering::lower;

@@ -1,0 +1,143 @@
+-- Along an order of the combinational bits, each bit of each signal's wire is that of the settled environment.
+use Rattle.std.specs.Prelude.{◌≡◌, refl, ℕ, zero, suc, ◌-◌, ◌==◌, ◌<◌, ◌≤◌, nat_lt, Bool, true, false, cond, List, [], ◌∷◌, ◌++◌, length, slice_get, ℤ, Some, Contains}
+use Rattle.std.specs.List.{AllByRecursion}
+use Rattle.std.proofs.Common.{sym, ◌∙◌, ap, subst, arith, ⊎_elim, inl, inr, append-nil, append_assoc}
+use Rattle.std.proofs.lemmas.Bool.{cond_below, ltb-true, ltb-false}
+use Rattle.amh_bits.specs.Patterns.{IsOf}
+use Rattle.amh_bits.proofs.Same.{past_unsigned, past_signed}
+use Rattle.shape_rules.specs.Forms.{Form, IsForm}
+use Rattle.design_ir.specs.declared.ids.ExprId.{ExprId}
+use Rattle.design_ir.specs.declared.signal.Sig.{Sig}
+use Rattle.design_ir.specs.PoolRules.{IsPool}
+use Rattle.design_ir.specs.Targets.{Bit}
+use Rattle.design_ir.specs.Needed.{extended, needed}
+use Rattle.design_ir.specs.Values.{form, num, signal_form}
+use Rattle.design_ir.specs.Circuits.{Circuit, State, at, is_held}
+use Rattle.design_ir.specs.Designs.{IsDesign}
+use Rattle.design_ir.specs.Settled.{Settled}
+use Rattle.design_ir.specs.Loops.{Needs}
+use Rattle.design_ir.proofs.NumbersFit.{element, FitsSignals, has_shape, num_fits}
+use Rattle.comb_graph.specs.Orders.{is_comb, IsCombBit, IsOrder}
+use Rattle.rtlil_text.specs.Sources.{Constant, Net}
+use Rattle.rtlil_text.specs.Meaning.{source_value}
+use Rattle.rtlil_text.specs.History.{Wires}
+use Rattle.rtlil_text.proofs.Among.{Among, Among-contains, Among-right, AllByRecursion-among, AllByRecursion-append}
+use Rattle.netlist.specs.Ids.{value_id}
+use Rattle.netlist.specs.Carried.{Carries}
+use Rattle.netlist.specs.CombDrawings.{ObeysComb}
+use Rattle.netlist.specs.Latest.{source_at}
+use Rattle.netlist.specs.Made.{SignalHas}
+use Rattle.netlist.specs.Plain.{ArePlain}
+use Rattle.netlist.specs.PoolsDrawn.{known_of, AllFollow}
+use Rattle.netlist.specs.Module.{wire_id, signal_value, expr_value, at_last, signal_drawing}
+use Rattle.netlist.proofs.Reading.{bit_of, has_carried, carries_bits}
+use Rattle.netlist.proofs.BitWrites.{some_signal}
+use Rattle.netlist.proofs.FixedTargets.{IsInside}
+use Rattle.netlist.proofs.NeededInside.{needed_inside}
+use Rattle.netlist.proofs.SettledBits.{IsFrom, settled_bit}
+use Rattle.netlist.proofs.CombSignals.{HasProcess, comb_process, comb_bit, free_bits}
+
+all_from : {A : Type 0} (P : A → Type 0) (xs : List A) → ((x : A) → Among xs x → P x) → AllByRecursion P xs
+all_from P [] f = tt
+all_from P (x ∷ xs) f = (f x (inl refl), all_from P xs (λ y a. f y (inr a)))
+
+module _ (c : Circuit) (order : List Bit) (rules : IsPool c.pool) (design : IsDesign c) (flat : c.memories ≡ []) (plain : ArePlain c) (is_order : IsOrder c order)
+    (wires : Wires) (st : State) (env : List ℤ) (settled : Settled c st env) (fit : FitsSignals c.pool env)
+    (follow : AllFollow wires c.pool env (wire_id c) value_id) (obeys : (s : ℕ) → s < length c.pool.signals → ObeysComb wires (signal_drawing c s))
+    (held : (s : ℕ) → is_held c s ≡ true → Carries wires (signal_value c s) (at env s)) where
+  -- the wire of the signal has the bit of its number
+  abbrev Has : Bit → Type 0
+  Has b = SignalHas wires (known_of c.pool env (wire_id c) value_id) b
+
+  abbrev width : Bit → ℕ
+  width b = (signal_form c.pool.signals b.sig).width
+
+  free_has : (b : Bit) → b.index < width b → is_comb c b.sig ≡ false → Has b
+  free_has b inside free = by (is_held c b.sig) refl
+    where
+      there : b.sig < length c.pool.signals
+      there = some_signal c.pool.signals b.sig (omega (arith, inside))
+
+      by : (t : Bool) → is_held c b.sig ≡ t → Has b
+      by true e = (has_carried wires (signal_value c b.sig) (at env b.sig) (held b.sig e)).at b.index inside
+      by false e = (free_bits c design flat b.sig wires (omega (arith, inside)) (obeys b.sig there) env st settled e free).at b.index inside
+
+  -- ---- one bit, where those before it are there
+
+  module _ (before : List Bit) (have : AllByRecursion Has before) where
+    needed_has : (b : Bit) → ((x : Bit) → IsCombBit c x → Needs c b x → Contains before x) → (e : ExprId) (k : ℕ) → e.0 < length c.pool.exprs
+        → ((x : Bit) → Among (extended (form c.pool e.0) (needed c.pool e.0) k) x → Needs c b x) → AllByRecursion Has (extended (form c.pool e.0) (needed c.pool e.0) k)
+    needed_has b behind e k there needs = all_from Has bits (λ x a. by x a (is_comb c x.sig) refl)
+      where
+        bits : List Bit
+        bits = extended (form c.pool e.0) (needed c.pool e.0) k
+
+        by : (x : Bit) → Among bits x → (t : Bool) → is_comb c x.sig ≡ t → Has x
+        by x a true comb =
+            let inside = AllByRecursion-among (IsInside (signal_form c.pool.signals)) bits x (needed_inside c.pool env rules fit e k there) a in
+            AllByRecursion-among Has before x have (Among-contains before x (behind x (record { comb = comb; inside = inside }) (needs x a)))
+        by x a false comb = free_has x (AllByRecursion-among (IsInside (signal_form c.pool.signals)) bits x (needed_inside c.pool env rules fit e k there) a) comb
+
+    -- ---- a bit of an expression, also past its end
+
+    past : (s : Bool) (w : ℕ) (id : List ℕ) (k : ℕ) (x : ℤ) (bits : ℕ → List Bit) → IsForm w s → IsOf s w x → ((i : ℕ) → i < w → AllByRecursion Has (bits i) → wires id i ≡ Some (bit_of x i)) → w ≤ k
+        → AllByRecursion Has (cond s (bits (w - 1)) []) → source_value wires (cond s (Net id (w - 1)) (Constant false)) ≡ Some (bit_of x k)
+    past false w id k x bits p f each le h = ap (λ d. Some (d == 1)) (sym (past_unsigned w k x f le))
+    past true zero id k x bits p f each le h = absurd (omega (arith, p.0))
+    past true (suc w) id k x bits p f each le h =
+        each (suc w - 1) (omega arith) h ∙ ap (λ i. Some (bit_of x i)) (let e : suc w - 1 ≡ w = omega arith in e) ∙ ap (λ d. Some (d == 1)) (sym (past_signed w k x f (omega arith)))
+
+    source_has : (e : ExprId) (k : ℕ) → e.0 < length c.pool.exprs → AllByRecursion Has (extended (form c.pool e.0) (needed c.pool e.0) k) → source_value wires (source_at (expr_value c e.0) k) ≡ Some (bit_of (num c.pool env e.0) k)
+    source_has e k there h = by (nat_lt k f.width) refl h
+      where
+        f : Form
+        f = form c.pool e.0
+
+        by : (t : Bool) → nat_lt k f.width ≡ t → AllByRecursion Has (cond t (needed c.pool e.0 k) (cond f.signed (needed c.pool e.0 (f.width - 1)) []))
+            → source_value wires (cond t (Net (value_id e.0) k) (cond f.signed (Net (value_id e.0) (f.width - 1)) (Constant false))) ≡ Some (bit_of (num c.pool env e.0) k)
+        by true l h = follow e there k (ltb-true k f.width l) h
+        by false l h = past f.signed f.width (value_id e.0) k (num c.pool env e.0) (needed c.pool e.0) (has_shape c.pool env rules fit e there) (num_fits c.pool env rules fit e there) (follow e there) (ltb-false k f.width l) h
+
+    comb_has : (b : Bit) → IsCombBit c b → ((x : Bit) → IsCombBit c x → Needs c b x → Contains before x) → Has b
+    comb_has b is behind =
+        let h : HasProcess c design flat b.sig = comb_process c design flat b.sig is.comb in
+        let there : b.sig < length c.pool.signals = some_signal c.pool.signals b.sig (omega (arith, is.inside)) in
+        let x : (y : Sig) × (slice_get c.pool.signals b.sig ≡ Some y) = element c.pool.signals b.sig there in
+        comb_bit c design flat b.sig wires (omega (arith, is.inside)) (obeys b.sig there) h b.index is.inside
+        ∙ ⊎_elim
+        (λ (e : at_last c false h.process b.sig b.index ≡ Constant (bit_of (at env b.sig) b.index)). ap (source_value wires) e)
+        (λ (f : IsFrom c env design rules plain st flat settled b.sig h.process b.index).
+        ap (source_value wires) f.source ∙ source_has f.expr f.place f.usable.there (needed_has b behind f.expr f.place f.usable.there f.needs) ∙ ap (λ t. Some t) (sym f.same))
+        (settled_bit c env design rules plain st flat settled b.sig h.process b.index x.0 x.1 h.unheld h.only h.domain is.inside)
+
+  -- ---- all bits
+
+  along : (before after : List Bit) → order ≡ before ++ after → AllByRecursion Has before → AllByRecursion Has order
+  along before [] e h = subst (AllByRecursion Has) (sym (e ∙ append-nil before)) h
+  along before (b ∷ after) e h =
+      let is : IsCombBit c b = AllByRecursion-among (IsCombBit c) order b is_order.only (subst (λ o. Among o b) (sym e) (Among-right before (b ∷ after) b (inl refl))) in
+      along (before ++ b ∷ []) after (e ∙ sym (append_assoc before (b ∷ []) after))
+      (AllByRecursion-append Has before (b ∷ []) h (comb_has before h b is (λ x. is_order.behind before after b x e), tt))
+
+  any_has : (b : Bit) → b.index < width b → Has b
+  any_has b inside = by (is_comb c b.sig) refl
+    where
+      by : (t : Bool) → is_comb c b.sig ≡ t → Has b
+      by true comb = AllByRecursion-among Has order b (along [] order refl tt) (Among-contains order b (is_order.all b (record { comb = comb; inside = inside })))
+      by false comb = free_has b inside comb
+
+  -- the wire of each signal carries its number
+  pub signal_carries : (s : ℕ) → Carries wires (signal_value c s) (at env s)
+  signal_carries s = carries_bits wires (signal_value c s) (at env s) (record { at = λ i l. any_has (record { sig = s; index = i }) l })
+
+  -- and that of each expression its integer
+  pub expr_carries : (e : ExprId) → e.0 < length c.pool.exprs → Carries wires (expr_value c e.0) (num c.pool env e.0)
+  expr_carries e there =
+      let f : Form = form c.pool e.0 in
+      carries_bits wires (expr_value c e.0) (num c.pool env e.0) (record {
+        at = λ k l.
+            let bits : List Bit = needed c.pool e.0 k in
+            let inside : AllByRecursion (IsInside (signal_form c.pool.signals)) bits =
+            rw (← cond_below k f.width bits (cond f.signed (needed c.pool e.0 (f.width - 1)) []) l) at (needed_inside c.pool env rules fit e k there) in
+            follow e there k l (all_from Has bits (λ x a. any_has x (AllByRecursion-among (IsInside (signal_form c.pool.signals)) bits x inside a)));
+      })
