@@ -1,0 +1,10 @@
+pub mod Names
+pub mod Items
+pub mod Formulas
+pub mod Form
+pub mod Elaborated
+pub mod Plain
+pub mod Sound
+pub mod Gives
+pub mod Trailing
+pub mod Laws
