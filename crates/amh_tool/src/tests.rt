@@ -139,36 +139,218 @@ fn assert_played(rt: &impl Abort, alloc: Global, played: &Played<'_>) -> Result<
     Ok(())
 }
 
+// A register that takes its own inverse, with a reset.
+const INVERSE: Played<'static> = Played {
+    members: &["q: Out(1)"],
+    assignments: &["sync += self.q.eq(~self.q)"],
+    script: &[
+        "edge sync",
+        "edge sync",
+        "set rst 1",
+        "edge sync",
+        "edge sync",
+        "edge sync",
+    ],
+    said: "done: 3 columns, 6 events\n",
+    trace: &[
+        "amh-trace 1",
+        "col clk u1",
+        "col rst u1",
+        "col q u1",
+        "0 init | clk=0 rst=0 q=0",
+        "1 edge sync+ | clk=1 q=1",
+        "2 edge sync- | clk=0",
+        "3 set rst 1 | rst=1",
+        "4 edge sync+ | clk=1 q=0",
+        "5 edge sync- | clk=0",
+        "6 edge sync+ | clk=1",
+        "end done",
+    ],
+};
+
+// Three registers, each of which takes the one before it.
+const SHIFT: Played<'static> = Played {
+    members: &["d: In(1)", "a: Out(1)", "b: Out(1)", "c: Out(1)"],
+    assignments: &[
+        "sync += self.a.eq(self.d)",
+        "sync += self.b.eq(self.a)",
+        "sync += self.c.eq(self.b)",
+    ],
+    script: &[
+        "set d 1",
+        "edge sync",
+        "set d 0",
+        "edge sync",
+        "edge sync",
+        "edge sync",
+        "edge sync",
+        "edge sync",
+        "edge sync",
+    ],
+    said: "done: 6 columns, 9 events\n",
+    trace: &[
+        "amh-trace 1",
+        "col clk u1",
+        "col rst u1",
+        "col d u1",
+        "col a u1",
+        "col b u1",
+        "col c u1",
+        "0 init | clk=0 rst=0 d=0 a=0 b=0 c=0",
+        "1 set d 1 | d=1",
+        "2 edge sync+ | clk=1 a=1",
+        "3 set d 0 | d=0",
+        "4 edge sync- | clk=0",
+        "5 edge sync+ | clk=1 a=0 b=1",
+        "6 edge sync- | clk=0",
+        "7 edge sync+ | clk=1 b=0 c=1",
+        "8 edge sync- | clk=0",
+        "9 edge sync+ | clk=1 c=0",
+        "end done",
+    ],
+};
+
+// Two registers, each of which takes the other.
+const SWAP: Played<'static> = Played {
+    members: &["go: In(1)", "a: Out(1)", "b: Out(1)"],
+    assignments: &[
+        "sync += self.a.eq(self.b | self.go)",
+        "sync += self.b.eq(self.a)",
+    ],
+    script: &[
+        "set go 1",
+        "edge sync",
+        "set go 0",
+        "edge sync",
+        "edge sync",
+        "edge sync",
+        "edge sync",
+    ],
+    said: "done: 5 columns, 7 events\n",
+    trace: &[
+        "amh-trace 1",
+        "col clk u1",
+        "col rst u1",
+        "col go u1",
+        "col a u1",
+        "col b u1",
+        "0 init | clk=0 rst=0 go=0 a=0 b=0",
+        "1 set go 1 | go=1",
+        "2 edge sync+ | clk=1 a=1",
+        "3 set go 0 | go=0",
+        "4 edge sync- | clk=0",
+        "5 edge sync+ | clk=1 a=0 b=1",
+        "6 edge sync- | clk=0",
+        "7 edge sync+ | clk=1 a=1 b=0",
+        "end done",
+    ],
+};
+
+// Of two assignments to one member the last wins, on either side.
+const LAST_WINS: Played<'static> = Played {
+    members: &["a: In(1)", "b: In(1)", "y: Out(1)", "q: Out(1)"],
+    assignments: &[
+        "comb += self.y.eq(self.a & self.b)",
+        "sync += self.q.eq(self.a)",
+        "comb += self.y.eq(self.a | self.b)",
+        "sync += self.q.eq(~self.a)",
+    ],
+    script: &["set a 1", "edge sync", "set a 0", "edge sync", "edge sync"],
+    said: "done: 6 columns, 5 events\n",
+    trace: &[
+        "amh-trace 1",
+        "col clk u1",
+        "col rst u1",
+        "col a u1",
+        "col b u1",
+        "col y u1",
+        "col q u1",
+        "0 init | clk=0 rst=0 a=0 b=0 y=0 q=0",
+        "1 set a 1 | a=1 y=1",
+        "2 edge sync+ | clk=1",
+        "3 set a 0 | a=0 y=0",
+        "4 edge sync- | clk=0",
+        "5 edge sync+ | clk=1 q=1",
+        "end done",
+    ],
+};
+
+// An output over two registers, one of which takes the other.
+const CONJUNCTION: Played<'static> = Played {
+    members: &["d: In(1)", "y: Out(1)", "a: Out(1)", "b: Out(1)"],
+    assignments: &[
+        "comb += self.y.eq(self.a & self.b)",
+        "sync += self.a.eq(self.d)",
+        "sync += self.b.eq(self.a)",
+    ],
+    script: &[
+        "set d 1",
+        "edge sync",
+        "edge sync",
+        "edge sync",
+        "set d 0",
+        "edge sync",
+        "edge sync",
+    ],
+    said: "done: 6 columns, 7 events\n",
+    trace: &[
+        "amh-trace 1",
+        "col clk u1",
+        "col rst u1",
+        "col d u1",
+        "col y u1",
+        "col a u1",
+        "col b u1",
+        "0 init | clk=0 rst=0 d=0 y=0 a=0 b=0",
+        "1 set d 1 | d=1",
+        "2 edge sync+ | clk=1 a=1",
+        "3 edge sync- | clk=0",
+        "4 edge sync+ | clk=1 y=1 b=1",
+        "5 set d 0 | d=0",
+        "6 edge sync- | clk=0",
+        "7 edge sync+ | clk=1 y=0 a=0",
+        "end done",
+    ],
+};
+
+// Members that have the names of the clock and of the reset.
+const RENAMED: Played<'static> = Played {
+    members: &["clk: Out(1)", "rst: In(1)", "d: In(1)"],
+    assignments: &["sync += self.clk.eq(self.d)"],
+    script: &[
+        "set d 1",
+        "set rst$1 1",
+        "edge sync",
+        "set rst 1",
+        "edge sync",
+        "edge sync",
+    ],
+    said: "done: 5 columns, 6 events\n",
+    trace: &[
+        "amh-trace 1",
+        "col clk u1",
+        "col rst u1",
+        "col clk$1 u1",
+        "col rst$1 u1",
+        "col d u1",
+        "0 init | clk=0 rst=0 clk$1=0 rst$1=0 d=0",
+        "1 set d 1 | d=1",
+        "2 set rst$1 1 | rst$1=1",
+        "3 edge sync+ | clk=1 clk$1=1",
+        "4 set rst 1 | rst=1",
+        "5 edge sync- | clk=0",
+        "6 edge sync+ | clk=1 clk$1=0",
+        "end done",
+    ],
+};
+
+// The traces are worked out by hand from what a step of a design is.
 #[test]
-fn a_register_takes_its_inverse(rt: HostRuntime) -> Result<(), Fail> {
-    let played = Played {
-        members: &["q: Out(1)"],
-        assignments: &["sync += self.q.eq(~self.q)"],
-        script: &[
-            "edge sync",
-            "edge sync",
-            "set rst 1",
-            "edge sync",
-            "edge sync",
-            "edge sync",
-        ],
-        said: "done: 3 columns, 6 events\n",
-        trace: &[
-            "amh-trace 1",
-            "col clk u1",
-            "col rst u1",
-            "col q u1",
-            "0 init | clk=0 rst=0 q=0",
-            "1 edge sync+ | clk=1 q=1",
-            "2 edge sync- | clk=0",
-            "3 set rst 1 | rst=1",
-            "4 edge sync+ | clk=1 q=0",
-            "5 edge sync- | clk=0",
-            "6 edge sync+ | clk=1",
-            "end done",
-        ],
-    };
-    assert_played(&rt, rt.alloc(), &played)
+fn registers_and_outputs_are_played(rt: HostRuntime) -> Result<(), Fail> {
+    for played in [&INVERSE, &SHIFT, &SWAP, &CONJUNCTION, &LAST_WINS, &RENAMED] {
+        assert_played(&rt, rt.alloc(), played)?;
+    }
+    Ok(())
 }
 
 // Its operator, the choice of the reset and the register are a cell each, over two wires of their own.
@@ -217,197 +399,6 @@ fn a_register_is_lowered(rt: HostRuntime) -> Result<(), Fail> {
     )?;
     assert_eq!(rt; host.bytes("top.il").ok_or("no RTLIL")?, module.as_bytes());
     Ok(())
-}
-
-#[test]
-fn three_registers_shift(rt: HostRuntime) -> Result<(), Fail> {
-    let played = Played {
-        members: &["d: In(1)", "a: Out(1)", "b: Out(1)", "c: Out(1)"],
-        assignments: &[
-            "sync += self.a.eq(self.d)",
-            "sync += self.b.eq(self.a)",
-            "sync += self.c.eq(self.b)",
-        ],
-        script: &[
-            "set d 1",
-            "edge sync",
-            "set d 0",
-            "edge sync",
-            "edge sync",
-            "edge sync",
-            "edge sync",
-            "edge sync",
-            "edge sync",
-        ],
-        said: "done: 6 columns, 9 events\n",
-        trace: &[
-            "amh-trace 1",
-            "col clk u1",
-            "col rst u1",
-            "col d u1",
-            "col a u1",
-            "col b u1",
-            "col c u1",
-            "0 init | clk=0 rst=0 d=0 a=0 b=0 c=0",
-            "1 set d 1 | d=1",
-            "2 edge sync+ | clk=1 a=1",
-            "3 set d 0 | d=0",
-            "4 edge sync- | clk=0",
-            "5 edge sync+ | clk=1 a=0 b=1",
-            "6 edge sync- | clk=0",
-            "7 edge sync+ | clk=1 b=0 c=1",
-            "8 edge sync- | clk=0",
-            "9 edge sync+ | clk=1 c=0",
-            "end done",
-        ],
-    };
-    assert_played(&rt, rt.alloc(), &played)
-}
-
-#[test]
-fn two_registers_swap(rt: HostRuntime) -> Result<(), Fail> {
-    let played = Played {
-        members: &["go: In(1)", "a: Out(1)", "b: Out(1)"],
-        assignments: &[
-            "sync += self.a.eq(self.b | self.go)",
-            "sync += self.b.eq(self.a)",
-        ],
-        script: &[
-            "set go 1",
-            "edge sync",
-            "set go 0",
-            "edge sync",
-            "edge sync",
-            "edge sync",
-            "edge sync",
-        ],
-        said: "done: 5 columns, 7 events\n",
-        trace: &[
-            "amh-trace 1",
-            "col clk u1",
-            "col rst u1",
-            "col go u1",
-            "col a u1",
-            "col b u1",
-            "0 init | clk=0 rst=0 go=0 a=0 b=0",
-            "1 set go 1 | go=1",
-            "2 edge sync+ | clk=1 a=1",
-            "3 set go 0 | go=0",
-            "4 edge sync- | clk=0",
-            "5 edge sync+ | clk=1 a=0 b=1",
-            "6 edge sync- | clk=0",
-            "7 edge sync+ | clk=1 a=1 b=0",
-            "end done",
-        ],
-    };
-    assert_played(&rt, rt.alloc(), &played)
-}
-
-#[test]
-fn the_last_assignment_wins(rt: HostRuntime) -> Result<(), Fail> {
-    let played = Played {
-        members: &["a: In(1)", "b: In(1)", "y: Out(1)", "q: Out(1)"],
-        assignments: &[
-            "comb += self.y.eq(self.a & self.b)",
-            "sync += self.q.eq(self.a)",
-            "comb += self.y.eq(self.a | self.b)",
-            "sync += self.q.eq(~self.a)",
-        ],
-        script: &["set a 1", "edge sync", "set a 0", "edge sync", "edge sync"],
-        said: "done: 6 columns, 5 events\n",
-        trace: &[
-            "amh-trace 1",
-            "col clk u1",
-            "col rst u1",
-            "col a u1",
-            "col b u1",
-            "col y u1",
-            "col q u1",
-            "0 init | clk=0 rst=0 a=0 b=0 y=0 q=0",
-            "1 set a 1 | a=1 y=1",
-            "2 edge sync+ | clk=1",
-            "3 set a 0 | a=0 y=0",
-            "4 edge sync- | clk=0",
-            "5 edge sync+ | clk=1 q=1",
-            "end done",
-        ],
-    };
-    assert_played(&rt, rt.alloc(), &played)
-}
-
-#[test]
-fn an_output_conjoins_two_registers(rt: HostRuntime) -> Result<(), Fail> {
-    let played = Played {
-        members: &["d: In(1)", "y: Out(1)", "a: Out(1)", "b: Out(1)"],
-        assignments: &[
-            "comb += self.y.eq(self.a & self.b)",
-            "sync += self.a.eq(self.d)",
-            "sync += self.b.eq(self.a)",
-        ],
-        script: &[
-            "set d 1",
-            "edge sync",
-            "edge sync",
-            "edge sync",
-            "set d 0",
-            "edge sync",
-            "edge sync",
-        ],
-        said: "done: 6 columns, 7 events\n",
-        trace: &[
-            "amh-trace 1",
-            "col clk u1",
-            "col rst u1",
-            "col d u1",
-            "col y u1",
-            "col a u1",
-            "col b u1",
-            "0 init | clk=0 rst=0 d=0 y=0 a=0 b=0",
-            "1 set d 1 | d=1",
-            "2 edge sync+ | clk=1 a=1",
-            "3 edge sync- | clk=0",
-            "4 edge sync+ | clk=1 y=1 b=1",
-            "5 set d 0 | d=0",
-            "6 edge sync- | clk=0",
-            "7 edge sync+ | clk=1 y=0 a=0",
-            "end done",
-        ],
-    };
-    assert_played(&rt, rt.alloc(), &played)
-}
-
-#[test]
-fn a_member_named_as_the_clock_is_renamed(rt: HostRuntime) -> Result<(), Fail> {
-    let played = Played {
-        members: &["clk: Out(1)", "rst: In(1)", "d: In(1)"],
-        assignments: &["sync += self.clk.eq(self.d)"],
-        script: &[
-            "set d 1",
-            "set rst$1 1",
-            "edge sync",
-            "set rst 1",
-            "edge sync",
-            "edge sync",
-        ],
-        said: "done: 5 columns, 6 events\n",
-        trace: &[
-            "amh-trace 1",
-            "col clk u1",
-            "col rst u1",
-            "col clk$1 u1",
-            "col rst$1 u1",
-            "col d u1",
-            "0 init | clk=0 rst=0 clk$1=0 rst$1=0 d=0",
-            "1 set d 1 | d=1",
-            "2 set rst$1 1 | rst$1=1",
-            "3 edge sync+ | clk=1 clk$1=1",
-            "4 set rst 1 | rst=1",
-            "5 edge sync- | clk=0",
-            "6 edge sync+ | clk=1 clk$1=0",
-            "end done",
-        ],
-    };
-    assert_played(&rt, rt.alloc(), &played)
 }
 
 #[test]
