@@ -61,7 +61,7 @@ map_of f (x ∷ xs) y in' =
       | inr rest ↦ let more = map_of f xs y rest in (more.0, (suc more.1.0, omega (arith, more.1.1), more.1.2), more.2)
     ]
 
-range_of : (a n k : ℕ) → Contains (range_with_len a n) k → k < a + n
+pub range_of : (a n k : ℕ) → Contains (range_with_len a n) k → k < a + n
 range_of a zero k in' = absurd (omega (arith, in'.1))
 range_of a (suc n) k in' =
     elim (contains-cases a k (range_with_len (a + 1) n) in') [ inl same ↦ omega (arith, same) | inr rest ↦ omega (arith, range_of (a + 1) n k rest) ]

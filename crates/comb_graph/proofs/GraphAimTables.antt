@@ -132,6 +132,6 @@ aims_of pool table rules h count = record {
   count = count;
   rows = λ e in'. h.rows e (omega (arith, in', count));
   inside = λ e in'.
-      let all = row_all pool e (λ a. a.node < bit_nodes pool) (λ x among. let a = aims_are pool e rules in' x among in signals_fit pool.signals rules.shapes x.bit.sig x.bit.index a.there a.index) in
+      let all = row_all pool e (λ a. a.node < bit_nodes pool) (λ x among. let a = aims_are pool e rules in' x among in (signals_fit pool.signals rules.shapes x.bit.sig x.bit.index a.there a.index).0) in
       subst (All (λ a. a.node < bit_nodes pool)) (sym (h.rows e (omega (arith, in', count)))) all;
 }

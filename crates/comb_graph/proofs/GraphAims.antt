@@ -1,5 +1,5 @@
 -- The edges of one bit more that an assignment may write.
-use Rattle.std.proofs.Common.{◌≡◌, ◌∙◌, inl, inr, ℕ, zero, suc, ◌+◌, ◌<◌, ◌≤◌, List, [], ◌∷◌, ◌++◌, map, length, refl, sym, ap, subst, arith, append_assoc, take, Option, Some, None, slice_get, option_map}
+use Rattle.std.proofs.Common.{◌≡◌, ◌∙◌, inl, inr, ℕ, zero, suc, ◌+◌, ◌<◌, ◌≤◌, List, [], ◌∷◌, ◌++◌, map, length, refl, sym, ap, subst, arith, append_assoc, take, Contains, Option, Some, None, slice_get, option_map}
 use Rattle.std.proofs.lemmas.List.{append-nil, map-append, length-map}
 use Rattle.std.proofs.lemmas.Option.{slice_get-map}
 use Rattle.design_ir.specs.declared.ids.ExprId.{ExprId}
@@ -78,16 +78,16 @@ aims_more g h pool firsts shared v nodes i a graph graph' p there at below so-fa
 
 -- ---- a whole assignment
 
-pub obeys_joined : (g : Digraph) (count : ℕ) (ts : List ℕ) (rules : List Rule) → IsGraph g → count ≤ g.size → ObeysRules g count rules → ObeysRules (joined g ts) count rules
-obeys_joined g count ts rules graph size o =
-    obeys_more g (joined g ts) count rules graph (extends_joined g count ts)
+pub obeys_joined : (g : Digraph) (count : ℕ) (ts : List ℕ) (rules : List Rule) → IsGraph g → count ≤ g.size → ((t : ℕ) → Contains ts t → t < g.size) → ObeysRules g count rules → ObeysRules (joined g ts) count rules
+obeys_joined g count ts rules graph size inside o =
+    obeys_more g (joined g ts) count rules graph (extends_joined g count ts inside)
     (λ a b below leads. elim (joined_leads g ts a b leads) [ inl old ↦ old | inr new ↦ absurd (omega (arith, new.0, below, size)) ]) o
 
 -- rules that hold after one more node
-pub adds_joined : (g h : Digraph) (pool : Pooled) (ts : List ℕ) (new : List Rule) → IsGraph g → bit_nodes pool ≤ g.size → Adds (joined g ts) h pool new → Adds g h pool new
-adds_joined g h pool ts new graph size a = record {
-  extends = extends_then g (joined g ts) h (bit_nodes pool) (extends_joined g (bit_nodes pool) ts) a.extends;
-  rules = λ rules o. a.rules rules (obeys_joined g (bit_nodes pool) ts rules graph size o);
+pub adds_joined : (g h : Digraph) (pool : Pooled) (ts : List ℕ) (new : List Rule) → IsGraph g → bit_nodes pool ≤ g.size → ((t : ℕ) → Contains ts t → t < g.size) → Adds (joined g ts) h pool new → Adds g h pool new
+adds_joined g h pool ts new graph size inside a = record {
+  extends = extends_then g (joined g ts) h (bit_nodes pool) (extends_joined g (bit_nodes pool) ts inside) a.extends;
+  rules = λ rules o. a.rules rules (obeys_joined g (bit_nodes pool) ts rules graph size inside o);
 }
 
 pub take_all : {X : Type 0} (xs : List X) → take (length xs) xs ≡ xs
@@ -109,4 +109,4 @@ assignment g h pool firsts guard target value row graph p there is added x same-
     let all : take (length row) xs ≡ xs = ap (λ n. take n xs) (ap length is ∙ length-map xs aimed) ∙ take_all xs in
     let a' = subst (λ ys. Adds (joined g (guard ∷ ind ∷ [])) h pool (map (reading pool value reads) ys)) all a in
     let P : ExprId → ExprId → Type 0 = λ t v. Adds g h pool (map (reading pool v (guard_reads pool x.guards ++ needed_indices pool t.0)) (aims pool t.0)) in
-    subst (λ t. P t x.value) (sym same-target) (subst (λ v. P target v) (sym same-value) (adds_joined g h pool (guard ∷ ind ∷ []) (map (reading pool value reads) xs) graph p.size a'))
+    subst (λ t. P t x.value) (sym same-target) (subst (λ v. P target v) (sym same-value) (adds_joined g h pool (guard ∷ ind ∷ []) (map (reading pool value reads) xs) graph p.size both.inside a'))

@@ -17,7 +17,7 @@ use Rattle.comb_graph.specs.Meanings.{Means, Extends}
 use Rattle.comb_graph.specs.Places.{HasPlaces, bit_nodes, first_of, whole_at}
 use Rattle.comb_graph.specs.Rules.{Rule, ObeysRules, Adds, AddsBlock, AddsStatement, AddsArms, MeansPassed, passed, guard_reads, rules_of, all_rules}
 use Rattle.comb_graph.proofs.GraphLists.{some-same}
-use Rattle.comb_graph.proofs.GraphMeanings.{mean-one, mean-cons, means_more, extends_same, extends_then, joined_means}
+use Rattle.comb_graph.proofs.GraphMeanings.{mean-one, mean-cons, means_more, extends_same, extends_then, joined_means, two_inside}
 use Rattle.comb_graph.proofs.GraphPlaces.{whole}
 use Rattle.comb_graph.proofs.GraphAims.{adds_joined, take_at, take_all}
 
@@ -48,7 +48,7 @@ passed-push : (gs : List Guard) (arms : List Arm) (a : Arm) → passed gs (choic
 passed-push gs [] a = refl
 passed-push gs (b ∷ arms) a = passed-push (gs ++ record { condition = b.condition; taken = false } ∷ []) arms a
 
-arms-push : (gs : List Guard) (arms : List Arm) (a : Arm)
+pub arms-push : (gs : List Guard) (arms : List Arm) (a : Arm)
     → guarded_arms gs (choices_of (arms ++ a ∷ [])) ≡ guarded_arms gs (choices_of arms) ++ guarded (passed gs (choices_of arms) ++ record { condition = a.condition; taken = true } ∷ []) a.body
 arms-push gs [] a = append-nil (guarded (gs ++ record { condition = a.condition; taken = true } ∷ []) a.body)
 arms-push gs (b ∷ arms) a =
@@ -80,7 +80,7 @@ arm_names n (b ∷ arms) (suc i) a h at = arm_names n arms i a (below-split n (b
 
 -- ---- turns
 
-take-push : {X : Type 0} (xs : List X) (i : ℕ) (x : X) → slice_get xs i ≡ Some x → take (i + 1) xs ≡ take i xs ++ x ∷ []
+pub take-push : {X : Type 0} (xs : List X) (i : ℕ) (x : X) → slice_get xs i ≡ Some x → take (i + 1) xs ≡ take i xs ++ x ∷ []
 take-push xs i x at = let next : i + 1 ≡ suc i = omega arith in ap (λ n. take n xs) next ∙ take_at xs i x at
 
 pub block_begin : (g : Digraph) (pool : Pooled) (guard : ℕ) → AddsBlock g g pool guard done
@@ -118,7 +118,8 @@ arms_turn g h j pool firsts guard inner arms i a graph p there at so-far means b
     let xs = guarded_arms gs (choices_of (take i arms)) in
     let ys = guarded (old ++ record { condition = c; taken = true } ∷ []) a.body in
     let b = body (old ++ record { condition = c; taken = true } ∷ []) (arm_mean h pool firsts inner old c true graph p there (means gs m)) in
-    let b' = adds_joined h j pool (inner ∷ w ∷ []) (all_rules pool ys) graph p.size b in
+    let inside = two_inside h inner w (means gs m).inside (whole h (bit_nodes pool) pool (first_of firsts) (length firsts) p.placed c there).inside in
+    let b' = adds_joined h j pool (inner ∷ w ∷ []) (all_rules pool ys) graph p.size inside b in
     let split : guarded_arms gs (choices_of (take (i + 1) arms)) ≡ xs ++ ys = ap (λ zs. guarded_arms gs (choices_of zs)) (take-push arms i a at) ∙ arms-push gs (take i arms) a in
     subst (Adds g j pool) (sym (ap (all_rules pool) split ∙ rules-append pool xs ys)) (adds_then g h j pool (all_rules pool xs) (all_rules pool ys) (so-far gs m) b')
 

@@ -40,13 +40,14 @@ means_more g h count n bits graph e m = record {
 }
 
 pub extends_same : (g : Digraph) (count : ℕ) → Extends g g count
-extends_same g count = record { size = omega arith; kept = λ a b leads. leads; old = λ a b past inside leads. leads }
+extends_same g count = record { size = omega arith; kept = λ a b leads. leads; old = λ a b past inside leads. leads; down = λ below. below }
 
 pub extends_then : (f g h : Digraph) (count : ℕ) → Extends f g count → Extends g h count → Extends f h count
 extends_then f g h count d e = record {
   size = omega (arith, d.size, e.size);
   kept = λ a b leads. e.kept a b (d.kept a b leads);
   old = λ a b past inside leads. d.old a b past inside (e.old a b past (omega (arith, inside, d.size)) leads);
+  down = λ below. e.down (d.down below);
 }
 
 -- ---- several nodes
@@ -69,10 +70,10 @@ mean-one g count n bits m = record {
 }
 
 bit_left : (bs cs : List Bit) (x : ℕ) → IsBitAt bs x → IsBitAt (bs ++ cs) x
-bit_left bs cs x h = record { bit = h.bit; among = Contains-append_left bs cs h.bit h.among; at = h.at }
+bit_left bs cs x h = record { bit = h.bit; among = Contains-append_left bs cs h.bit h.among; low = h.low; at = h.at }
 
 bit_right : (bs cs : List Bit) (x : ℕ) → IsBitAt cs x → IsBitAt (bs ++ cs) x
-bit_right bs cs x h = record { bit = h.bit; among = Contains-append_right bs cs h.bit h.among; at = h.at }
+bit_right bs cs x h = record { bit = h.bit; among = Contains-append_right bs cs h.bit h.among; low = h.low; at = h.at }
 
 pub mean-append : (g : Digraph) (count : ℕ) (ns ms : List ℕ) (bs cs : List Bit) → MeanAll g count ns bs → MeanAll g count ms cs → MeanAll g count (ns ++ ms) (bs ++ cs)
 mean-append g count ns ms bs cs m k = record {
@@ -96,11 +97,11 @@ stays g count n [] x below w = w
 stays g count n (m ∷ ms) x below w = absurd (omega (arith, below, w.0))
 
 -- the node of a signal's bit
-pub mean-bit : (g : Digraph) (count : ℕ) (b : Bit) → count ≤ g.size → node_of b < count → Means g count (node_of b) (b ∷ [])
-mean-bit g count b size below = record {
+pub mean-bit : (g : Digraph) (count : ℕ) (b : Bit) → count ≤ g.size → node_of b < count → b.index < 128 → Means g count (node_of b) (b ∷ [])
+mean-bit g count b size below low = record {
   inside = omega (arith, size, below);
   into = λ c in'. ([], elim (contains-cases b c [] in') [ inl same ↦ ap node_of same | inr none ↦ absurd (omega (arith, none.1)) ]);
-  only = λ x inside (ms, w). record { bit = b; among = contains-head b []; at = stays g count (node_of b) ms x below w };
+  only = λ x inside (ms, w). record { bit = b; among = contains-head b []; low = low; at = stays g count (node_of b) ms x below w };
 }
 
 -- ---- a node that leads to several
@@ -128,11 +129,12 @@ joined_leads g ts a b leads =
       | inr new ↦ inr (map_edges g.size a b ts new)
     ]
 
-pub extends_joined : (g : Digraph) (count : ℕ) (ts : List ℕ) → Extends g (joined g ts) count
-extends_joined g count ts = record {
+pub extends_joined : (g : Digraph) (count : ℕ) (ts : List ℕ) → ((t : ℕ) → Contains ts t → t < g.size) → Extends g (joined g ts) count
+extends_joined g count ts inside' = record {
   size = omega arith;
   kept = λ a b leads. Contains-append_left g.edges (map (edge g.size) ts) (edge a b) leads;
   old = λ a b past inside leads. elim (joined_leads g ts a b leads) [ inl old ↦ old | inr new ↦ absurd (omega (arith, new.0, inside)) ];
+  down = λ below a b past leads. elim (joined_leads g ts a b leads) [ inl old ↦ below a b past old | inr new ↦ omega (arith, new.0, inside' b new.1) ];
 }
 
 only-walk : (g : Digraph) (count : ℕ) (ts : List ℕ) (bits : List Bit) → IsGraph g → count ≤ g.size → MeanAll g count ts bits → (ms : List ℕ) (x : ℕ) → x < count → Walks (joined g ts) count g.size ms x → IsBitAt bits x
@@ -140,14 +142,14 @@ only-walk g count ts bits graph size m [] x below w = absurd (omega (arith, w, b
 only-walk g count ts bits graph size m (y ∷ ys) x below w =
     elim (joined_leads g ts g.size y w.1) [
       | inl old ↦ absurd (omega (arith, (leads_inside g g.size y graph old).from))
-      | inr new ↦ m.only y x new.1 below (comes_old g (joined g ts) count y x graph (extends_joined g count ts) (m.inside y new.1) (ys, w.2))
+      | inr new ↦ m.only y x new.1 below (comes_old g (joined g ts) count y x graph (extends_joined g count ts m.inside) (m.inside y new.1) (ys, w.2))
     ]
 
 -- it stands for what they stand for
 pub joined_means : (g : Digraph) (count : ℕ) (ts : List ℕ) (bits : List Bit) → IsGraph g → count ≤ g.size → MeanAll g count ts bits → Means (joined g ts) count g.size bits
 joined_means g count ts bits graph size m =
     let h = joined g ts in
-    let e = extends_joined g count ts in
+    let e = extends_joined g count ts m.inside in
     record {
       inside = omega arith;
       into = λ b in'.
@@ -156,6 +158,14 @@ joined_means g count ts bits graph size m =
           (found.0 ∷ more.0, (size, Contains-append_right g.edges (map (edge g.size) ts) (edge g.size found.0) (edges_map g.size found.0 ts found.1), more.1));
       only = λ x below (ms, w). only-walk g count ts bits graph size m ms x below w;
     }
+
+-- two nodes to which it may lead
+pub two_inside : (g : Digraph) (a b : ℕ) → a < g.size → b < g.size → (t : ℕ) → Contains (a ∷ b ∷ []) t → t < g.size
+two_inside g a b p q t in' =
+    elim (contains-cases a t (b ∷ []) in') [
+      | inl same ↦ subst (λ n. n < g.size) same p
+      | inr rest ↦ elim (contains-cases b t [] rest) [ inl same ↦ subst (λ n. n < g.size) same q | inr none ↦ absurd (omega (arith, none.1)) ]
+    ]
 
 -- a new node adds no edge to those of signals
 pub signals_joined : (g : Digraph) (count : ℕ) (ts : List ℕ) → count ≤ g.size → KeepsSignals g (joined g ts) count

@@ -89,7 +89,8 @@ module _ (g : Digraph) (count : ℕ) (pool : Pooled) (first : ℕ → ℕ) (belo
   bit_means (Const n s) k size names range fit inside = mean-none g count
   bit_means (expr.TheVariants.Sig s) k size names range fit inside =
       let b : Bit = record { sig = s.0; index = k } in
-      mean-one g count (node_of b) (b ∷ []) (mean-bit g count b size (fit s.0 k range inside))
+      let fits = fit s.0 k range inside in
+      mean-one g count (node_of b) (b ∷ []) (mean-bit g count b size fits.0 fits.1)
   bit_means (Unary op a) k size names range fit inside = unary_one op a k range names.0 inside
   bit_means (Binary op a b) k size names range fit inside = both (is_bitwise op) a b k names.0 names.1.0
   bit_means (Mux s a b) k size names range fit inside =

@@ -17,10 +17,11 @@ extends_leading g count n ts below = record {
   size = omega arith;
   kept = λ a b leads. Contains-append_left g.edges (map (edge n) ts) (edge a b) leads;
   old = λ a b past inside leads. elim (leading_cases g n ts a b leads) [ inl was ↦ was | inr new ↦ absurd (omega (arith, new.0, past, below)) ];
+  down = λ lesser a b past leads. elim (leading_cases g n ts a b leads) [ inl was ↦ lesser a b past was | inr new ↦ absurd (omega (arith, new.0, past, below)) ];
 }
 
 ruled_more : (rules : List Rule) (r : Rule) (n x : ℕ) → IsRuled rules n x → IsRuled (rules ++ r ∷ []) n x
-ruled_more rules r n x h = record { rule = h.rule; among = Contains-append_left rules (r ∷ []) h.rule h.among; bit = h.bit; read = h.read; reads = h.reads; at = h.at }
+ruled_more rules r n x h = record { rule = h.rule; among = Contains-append_left rules (r ∷ []) h.rule h.among; bit = h.bit; read = h.read; reads = h.reads; low = h.low; at = h.at }
 
 -- rules still hold where a graph grows and signals' nodes lead to what they led to
 pub obeys_more : (g h : Digraph) (count : ℕ) (rules : List Rule) → IsGraph g → Extends g h count → ((a b : ℕ) → a < count → Leads h a b → Leads g a b) → ObeysRules g count rules → ObeysRules h count rules
@@ -47,6 +48,6 @@ obeys_rule g count rules r ts graph below m o =
         | inl old ↦ ruled_more rules r a x (o.only a b x inside old x-below (comes_old g h count b x graph e (leads_inside g a b graph old).upto comes))
         | inr new ↦
             let found = m.only b x new.1 x-below (comes_old g h count b x graph e (m.inside b new.1) comes) in
-            record { rule = r; among = Contains-push rules r; bit = new.0; read = found.bit; reads = found.among; at = found.at }
+            record { rule = r; among = Contains-push rules r; bit = new.0; read = found.bit; reads = found.among; low = found.low; at = found.at }
       ];
     }

@@ -40,8 +40,8 @@ narrow w true h = h.1
 -- the bits of signals have their nodes first
 pub signals_fit : (sigs : List Sig) → AllByRecursion (λ (x : Sig). IsForm x.shape.width x.shape.signed) sigs → FitSignals (128 * length sigs) sigs
 signals_fit [] h s k there inside = absurd (omega (arith, there))
-signals_fit (x ∷ sigs) h zero k there inside = omega (arith, inside, narrow x.shape.width x.shape.signed h.0)
-signals_fit (x ∷ sigs) h (suc s) k there inside = omega (arith, signals_fit sigs h.1 s k (omega (arith, there)) inside)
+signals_fit (x ∷ sigs) h zero k there inside = let low = narrow x.shape.width x.shape.signed h.0 in (omega (arith, inside, low), omega (arith, inside, low))
+signals_fit (x ∷ sigs) h (suc s) k there inside = let more = signals_fit sigs h.1 s k (omega (arith, there)) inside in (omega (arith, more.0), more.1)
 
 pub inside_all : (g : Digraph) (count : ℕ) (ns : List ℕ) (bits : List Bit) → MeanAll g count ns bits → All (λ n. n < g.size) ns
 inside_all g count ns bits m = λ k d in'. m.inside (slice_index_or ns k d) (Contains-get_or ns k d in')
@@ -66,7 +66,7 @@ module _ (pool : Pooled) (rules : IsPool pool) (e : ℕ) (x : Expr) (is : slice_
       let ts = bit_targets (form pool) (first_of firsts) x k in
       let count = bit_nodes pool in
       let m = bit_leads g h firsts k p next graph bits inside in
-      let more = extends_joined h count ts in
+      let more = extends_joined h count ts m.inside in
       let new : Means (joined h ts) count h.size (bits_step (form pool) (needed pool) x k) = joined_means h count ts (bits_step (form pool) (needed pool) x k) graph' (omega (arith, p.size, bits.size)) m in
       record {
         size = omega (arith, bits.size);
@@ -91,7 +91,7 @@ module _ (pool : Pooled) (rules : IsPool pool) (e : ℕ) (x : Expr) (is : slice_
 pub node_more : (g : Digraph) (pool : Pooled) (ts : List ℕ) (bits : List Bit) → IsGraph g → bit_nodes pool ≤ g.size → MeanAll g (bit_nodes pool) ts bits → HasNode g (joined g ts) pool bits
 node_more g pool ts bits graph size m = record {
   size = refl;
-  extends = extends_joined g (bit_nodes pool) ts;
+  extends = extends_joined g (bit_nodes pool) ts m.inside;
   signals = signals_joined g (bit_nodes pool) ts size;
   means = joined_means g (bit_nodes pool) ts bits graph size m;
 }

@@ -49,3 +49,14 @@ pub mod GraphRows
 pub mod GraphAimTables
 pub mod GraphDesigns
 pub mod GraphNeeds
+pub mod DepthLaws
+pub mod ToldLaws
+pub mod ToldAims
+pub mod ReadLaws
+pub mod RankPaths
+pub mod RankNodes
+pub mod RankOrders
+pub mod RankEnds
+pub mod RankSanity
+pub mod CombMarks
+pub mod CombFinds

@@ -9,3 +9,7 @@ pub mod Searches
 pub mod Meanings
 pub mod Places
 pub mod Rules
+pub mod CombTargets
+pub mod Depths
+pub mod CombNodes
+pub mod Told

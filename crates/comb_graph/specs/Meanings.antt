@@ -20,6 +20,7 @@ Comes g count n end = (between : List ℕ) × Walks g count n between end
 pub record IsBitAt (bits : List Bit) (x : ℕ) : Type 0 where
   pub bit : Bit
   pub among : Contains bits bit
+  pub low : bit.index < 128
   pub at : node_of bit ≡ x
 
 -- from one of these nodes one comes to these bits, and to no others
@@ -34,11 +35,16 @@ pub record Means (g : Digraph) (count n : ℕ) (bits : List Bit) : Type 0 where
   pub into : (b : Bit) → Contains bits b → Comes g count n (node_of b)
   pub only : (x : ℕ) → x < count → Comes g count n x → IsBitAt bits x
 
+-- nodes past those of signals lead to lesser ones alone
+abbrev pub IsDown : Digraph → ℕ → Type 0
+IsDown g count = (a b : ℕ) → count ≤ a → Leads g a b → b < a
+
 -- a graph has become larger, and the nodes that it had past those of signals lead to what they led to
 pub record Extends (g h : Digraph) (count : ℕ) : Type 0 where
   pub size : g.size ≤ h.size
   pub kept : (a b : ℕ) → Leads g a b → Leads h a b
   pub old : (a b : ℕ) → count ≤ a → a < g.size → Leads h a b → Leads g a b
+  pub down : IsDown g count → IsDown h count
 
 -- the nodes of signals lead to what they led to
 abbrev pub KeepsSignals : Digraph → Digraph → ℕ → Type 0

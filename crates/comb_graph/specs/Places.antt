@@ -80,9 +80,9 @@ pub record ArePlaced (g : Digraph) (count : ℕ) (pool : Pooled) (first : ℕ �
   pub placed : (e : ℕ) → e < below → IsPlaced g count pool first e
   pub shaped : (e : ℕ) → e < below → IsForm (form pool e).width (form pool e).signed
 
--- the nodes of signals' bits are so many
+-- the nodes of signals' bits are so many, and 128 for each signal are enough
 abbrev pub FitSignals : ℕ → List Sig → Type 0
-FitSignals count sigs = (s k : ℕ) → s < length sigs → k < (signal_form sigs s).width → 128 * s + k < count
+FitSignals count sigs = (s k : ℕ) → s < length sigs → k < (signal_form sigs s).width → (128 * s + k < count) × (k < 128)
 
 -- the nodes of signals' bits
 abbrev pub bit_nodes : Pooled → ℕ

@@ -1,6 +1,8 @@
 -- What bits of signals need, rule by rule, and the edges that say so.
 use Rattle.std.specs.Prelude.{is_none, ◌<◌, ◌≤◌, ◌+◌, ◌-◌, nat_lt, nat_le, ◌&&◌, if◌then◌else◌, option_map, IfSome, false, All, take, ◌≡◌, ℕ, List, ◌∷◌, [], ◌++◌, map, Contains, Option, Some, None, length, slice_index_or}
 use Rattle.std.specs.List.{flat_map, filter_map, range_with_len}
+use Rattle.design_ir.specs.declared.memory.MemRead.{MemRead}
+use Rattle.design_ir.specs.declared.memory.Memory.{Memory}
 use Rattle.design_ir.specs.declared.process.DesignProcess.{DesignProcess}
 use Rattle.design_ir.specs.Circuits.{Circuit}
 use Rattle.design_ir.specs.Pools.{Pooled}
@@ -18,7 +20,7 @@ use Rattle.design_ir.specs.declared.expr.Expr.TheVariants.{Const, Unary, Binary,
 use Rattle.comb_graph.specs.declared.rules.Aimed.{Aimed}
 use Rattle.comb_graph.specs.Places.{bit_nodes, whole_at, extended_at}
 use Rattle.comb_graph.specs.Graphs.{Digraph, Leads}
-use Rattle.comb_graph.specs.Meanings.{node_of, Comes, Means, Extends}
+use Rattle.comb_graph.specs.Meanings.{node_of, Comes, Means, Extends, IsDown}
 
 -- a bit, and bits that it needs
 pub record Rule : Type 0 where
@@ -32,6 +34,7 @@ pub record IsRuled (rules : List Rule) (n x : ℕ) : Type 0 where
   pub bit : node_of rule.bit ≡ n
   pub read : Bit
   pub reads : Contains rule.reads read
+  pub low : read.index < 128
   pub at : node_of read ≡ x
 
 -- from the node of a signal's bit one comes to the next of such nodes exactly where a rule says that it needs that bit
@@ -176,10 +179,30 @@ comb_part p = if is_none p.domain then guarded [] p.body else []
 abbrev pub comb_assignments : List DesignProcess → List Guarded
 comb_assignments ps = flat_map comb_part ps
 
--- the edges are what the assignments of combinational processes ask
+-- what a combinational read port asks for a bit of its word: all bits of its address
+abbrev pub word_rule : Pooled → ℕ → ExprId → ℕ → Rule
+word_rule pool sig address k = record { bit = record { sig = sig; index = k }; reads = needed_whole pool address }
+
+-- what it asks for the first so many bits of its word
+abbrev pub word_rules : Pooled → ℕ → ExprId → ℕ → List Rule
+word_rules pool sig address width = map (word_rule pool sig address) (range_with_len 0 width)
+
+-- what a read port asks, where it is combinational
+abbrev pub read_rules : Pooled → MemRead → List Rule
+read_rules pool r = if is_none r.domain then word_rules pool r.word.0 r.addr (signal_form pool.signals r.word.0).width else []
+
+abbrev pub memory_rules : Pooled → Memory → List Rule
+memory_rules pool m = flat_map (read_rules pool) m.reads
+
+-- what a design asks: its assignments, and its read ports
+abbrev pub needs_rules : Circuit → List Rule
+needs_rules c = all_rules c.pool (comb_assignments c.processes) ++ flat_map (memory_rules c.pool) c.memories
+
+-- the edges are what the design asks
 pub record IsNeedsGraph (g : Digraph) (c : Circuit) : Type 0 where
   pub size : bit_nodes c.pool ≤ g.size
-  pub obeys : ObeysRules g (bit_nodes c.pool) (all_rules c.pool (comb_assignments c.processes))
+  pub down : IsDown g (bit_nodes c.pool)
+  pub obeys : ObeysRules g (bit_nodes c.pool) (needs_rules c)
 
 -- a rule by which a bit needs another
 pub record IsAsked (rules : List Rule) (b x : Bit) : Type 0 where

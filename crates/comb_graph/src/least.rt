@@ -10,7 +10,7 @@ use crate::walk::Mark;
 use amh_host::NoMemory;
 use std::alloc::Global;
 
-// Whether a node reaches itself, which none does that the walk left as done.
+// Whether a node reaches itself, which none does that the walk left as done or that has no edge.
 fn loops(alloc: Global, graph: &Graph, marks: &[Mark], node: usize) -> Result<bool, NoMemory>
     requires seen { IsSeen graph.now marks.now }
     requires node { node < graph.now.size }
@@ -18,7 +18,12 @@ fn loops(alloc: Global, graph: &Graph, marks: &[Mark], node: usize) -> Result<bo
 {
     match marks[node] {
         Mark::Done => Ok(false),
-        Mark::New | Mark::Open => reaches_itself(alloc, graph, node),
+        Mark::New | Mark::Open => {
+            if graph.last(node) == 0 {
+                return Ok(false);
+            }
+            reaches_itself(alloc, graph, node)
+        }
     }
 }
 

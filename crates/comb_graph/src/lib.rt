@@ -5,29 +5,37 @@
 //! needs (specs/Orders.antt), every state has exactly one settled environment (specs/Laws.antt). Which bit needs which is
 //! defined in design_ir.
 //!
-//! `rank`, which will find the order or the least loop, is to come. What stands of it is private: the graph of a design's
-//! needs (needs.rt), which has an edge for each way in which one bit needs another, and a walk that sorts the nodes of any
-//! graph or finds one that reaches itself (walk.rt, search.rt).
+//! `rank` finds the order, or the least loop (ranking.rt). It makes the graph of a design's needs (needs.rt), in which a
+//! signal's bit has a node of its own and comes, past nodes of expressions, to those of the bits that it needs. A walk
+//! sorts the nodes or finds one that reaches itself (walk.rt, search.rt), and the sorted nodes that are bits of
+//! combinational signals (comb.rt) are the order.
 #![tactic(auto)]
 
 mod aims;
 mod blocks;
+mod comb;
+mod depth;
+mod drives;
 mod graph;
 mod laws;
 mod least;
 mod needs;
 mod places;
+mod ranking;
 mod ranks;
+mod reads;
 mod rules;
 mod search;
 mod stop;
 #[cfg(test)]
 mod tests;
+mod told;
 mod walk;
 
 pub use laws::{
     deltas_are_few, ordered_have_no_loop, ordered_have_one_history, ordered_settle_once,
     rounds_settle,
 };
+pub use ranking::rank;
 pub use ranks::{RankedBit, RankedBits, Ranks};
 pub use stop::GraphStop;

@@ -14,6 +14,7 @@ use crate::aims::all_aims;
 use crate::blocks::add_block;
 use crate::graph::Graph;
 use crate::places::{Nodes, bit_targets, index_targets};
+use crate::reads::add_memories;
 use crate::rules::AimTable;
 use amh_host::{Items, NoMemory};
 use design_ir::{Design, DesignProcess, ExprId, Exprs};
@@ -198,6 +199,8 @@ pub fn needs_graph(alloc: Global, design: &Design) -> Result<Graph, NoMemory>
     graph.known();
     let guard = graph.join(&[])?;
     let _ = design.count();
+    graph.known();
     add_processes(alloc, design, &mut graph, (&firsts, &table), guard)?;
+    add_memories(design, &mut graph, &firsts)?;
     Ok(graph)
 }

@@ -13,7 +13,8 @@ use Rattle.comb_graph.specs.Graphs.{Digraph, joined}
 use Rattle.comb_graph.specs.Meanings.{Extends}
 use Rattle.comb_graph.specs.Places.{HasPlaces, bit_nodes, first_of, whole_at}
 use Rattle.comb_graph.specs.Rules.{Adds, AddsBlock, AddsStatement, AddsArms, MeansPassed, rules_of}
-use Rattle.comb_graph.proofs.GraphMeanings.{extends_then, extends_joined}
+use Rattle.comb_graph.proofs.GraphMeanings.{extends_then, extends_joined, two_inside}
+use Rattle.comb_graph.proofs.GraphPlaces.{whole}
 use Rattle.comb_graph.proofs.GraphTables.{places_more}
 use Rattle.comb_graph.proofs.GraphBlocks.{statement_names, arm_names, block_turn, arms_turn, passed_turn, take_end}
 use Rattle.comb_graph.proofs.blocks.+blocks.Goals as goal
@@ -104,7 +105,9 @@ add_arms-add_block-requires t c =
     let names = arm_names (length pool.exprs) items i item (subst (λ b. AllBelow (length pool.exprs) (choices_exprs b)) (sym c.as_slice-arm-items.ensures.value) c.requires.names) at in
     let ts = c.loop-arm.inner ∷ whole_at (form pool) (first_of firsts) item.condition ∷ [] in
     let before = places_more g h pool firsts c.known.ensures c.loop-arm.invariant.extends c.requires.places in
-    let after = places_more h (joined h ts) pool firsts c.known-in-loop-arm.ensures (extends_joined h (bit_nodes pool) ts) before in
+    let there : item.condition.0 < length firsts = omega (arith, names.0, c.requires.count) in
+    let last = whole h (bit_nodes pool) pool (first_of firsts) (length firsts) before.placed item.condition there in
+    let after = places_more h (joined h ts) pool firsts c.known-in-loop-arm.ensures (extends_joined h (bit_nodes pool) ts (two_inside h c.loop-arm.inner (whole_at (form pool) (first_of firsts) item.condition) c.loop-arm.invariant.inside last.inside)) before in
     let places = subst (λ j. HasPlaces j pool firsts) (sym c.in_ok-inner.ensures.graph) after in
     let small : block_size item.body < choices_size c.args.arms.now =
     subst (λ (a : Arm). block_size a.body < choices_size c.args.arms.now) (sym c.arm-item.is) (c.as_slice-arm-items.ensures.smaller i item c.loop-arm-test.true) in
@@ -137,7 +140,8 @@ add_arms-loop-arm-preserved t c =
     let e = subst (λ k. Extends k j count) graph c.in_ok-add_block.ensures.extends in
     let rules = subst (λ k. AddsBlock k j pool c.in_ok-inner.inner item.body) graph c.in_ok-add_block.ensures.rules in
     let rules' = subst (λ n. AddsBlock (joined h ts) j pool n item.body) c.in_ok-inner.ensures.node rules in
-    let all = extends_then h (joined h ts) j count (extends_joined h count ts) e in
+    let last = whole h count pool (first_of firsts) (length firsts) before.placed item.condition there in
+    let all = extends_then h (joined h ts) j count (extends_joined h count ts (two_inside h inner (whole_at (form pool) (first_of firsts) item.condition) c.loop-arm.invariant.inside last.inside)) e in
     let passed' = passed_turn g h j pool firsts guard inner items i item c.known-in-loop-arm.ensures before there at graph' e c.loop-arm.invariant.means in
     record {
       extends = extends_then g h j count c.loop-arm.invariant.extends all;

@@ -6,7 +6,7 @@ use Rattle.comb_graph.specs.Graphs.{joined}
 use Rattle.comb_graph.specs.Meanings.{Extends}
 use Rattle.comb_graph.specs.Places.{HasPlaces, bit_nodes, first_of, indices_at}
 use Rattle.comb_graph.specs.Rules.{AddsAims, aimed}
-use Rattle.comb_graph.proofs.GraphMeanings.{extends_then, extends_joined}
+use Rattle.comb_graph.proofs.GraphMeanings.{extends_then, extends_joined, two_inside}
 use Rattle.comb_graph.proofs.GraphTables.{places_more}
 use Rattle.comb_graph.proofs.GraphAims.{assignment}
 use Rattle.comb_graph.proofs.rules.add_assignment.Goals as goal
@@ -17,15 +17,20 @@ add_aims-requires-clause-places c =
     let pool = c.args.design.now.pool in
     let firsts = c.args.tables.0.now in
     let ts = c.args.guard ∷ indices_at (form pool) (first_of firsts) c.args.target ∷ [] in
-    subst (λ h. HasPlaces h pool firsts) (sym c.in_ok-shared.ensures.graph) (places_more g (joined g ts) pool firsts c.known.ensures (extends_joined g (bit_nodes pool) ts) c.requires.places)
+    let there : c.args.target.0 < length firsts = omega (arith, c.requires.target, c.requires.count) in
+    let inside = two_inside g c.args.guard (indices_at (form pool) (first_of firsts) c.args.target) c.requires.guard (c.requires.places.placed.placed c.args.target.0 there).indices.inside in
+    subst (λ h. HasPlaces h pool firsts) (sym c.in_ok-shared.ensures.graph) (places_more g (joined g ts) pool firsts c.known.ensures (extends_joined g (bit_nodes pool) ts inside) c.requires.places)
 
 pub returns-clause-extends : goal.returns-clause-extends
 returns-clause-extends c =
     let g = c.args.graph.now in
     let pool = c.args.design.now.pool in
-    let ts = c.args.guard ∷ indices_at (form pool) (first_of c.args.tables.0.now) c.args.target ∷ [] in
+    let firsts = c.args.tables.0.now in
+    let ts = c.args.guard ∷ indices_at (form pool) (first_of firsts) c.args.target ∷ [] in
+    let there : c.args.target.0 < length firsts = omega (arith, c.requires.target, c.requires.count) in
+    let inside = two_inside g c.args.guard (indices_at (form pool) (first_of firsts) c.args.target) c.requires.guard (c.requires.places.placed.placed c.args.target.0 there).indices.inside in
     let e = subst (λ h. Extends h c.add_aims.new.graph (bit_nodes pool)) c.in_ok-shared.ensures.graph c.in_ok-add_aims.ensures.extends in
-    extends_then g (joined g ts) c.add_aims.new.graph (bit_nodes pool) (extends_joined g (bit_nodes pool) ts) e
+    extends_then g (joined g ts) c.add_aims.new.graph (bit_nodes pool) (extends_joined g (bit_nodes pool) ts inside) e
 
 pub returns-clause-rules : goal.returns-clause-rules
 returns-clause-rules c =
