@@ -37,7 +37,7 @@ few n e = grind (arith, nat_tests)
 few_bits : (n : ℕ) → nat_lt 262144 n ≡ false → n ≤ 262144
 few_bits n e = grind (arith, nat_tests)
 
-zero_of : (signed : Bool) (width : ℕ) → IsOf signed width (pos 0)
+pub zero_of : (signed : Bool) (width : ℕ) → IsOf signed width (pos 0)
 zero_of false width = pow_pos width
 zero_of true width = pow_pos width
 

@@ -30,19 +30,19 @@ one_where : (b : Bool) (x y : Option Op) → HasOne x → HasOne y → HasOne (c
 one_where true x y h k = h
 one_where false x y h k = k
 
-method_one : (name : List ℕ) → HasOne (method_op name)
+pub method_one : (name : List ℕ) → HasOne (method_op name)
 method_one name =
     one_where (text_eq name (codes "bool")) _ _ refl
     (one_where (text_eq name (codes "any")) _ _ refl
     (one_where (text_eq name (codes "all")) _ _ refl
     (one_where (text_eq name (codes "xor")) _ _ refl tt)))
 
-unary_one : (s : Sign) → HasOne (unary_op s)
+pub unary_one : (s : Sign) → HasOne (unary_op s)
 unary_one Minus = refl
 unary_one Plus = tt
 unary_one Invert = refl
 
-binary_two : (s : Operator) → IfSome (binary_op s) (λ x. operand_count x ≡ 2)
+pub binary_two : (s : Operator) → IfSome (binary_op s) (λ x. operand_count x ≡ 2)
 binary_two sign.Add = refl
 binary_two sign.Sub = refl
 binary_two sign.Mul = refl
