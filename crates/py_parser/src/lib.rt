@@ -27,8 +27,6 @@ mod simple;
 mod strings;
 mod take;
 mod target;
-#[cfg(test)]
-mod tests;
 mod whole;
 mod words;
 
