@@ -1,115 +1,162 @@
--- The board of a component's design is that of its nets.
-use Rattle.std.specs.Prelude.{◌≡◌, ◌<◌, ◌≤◌, ◌+◌, ◌==◌, ◌&&◌, ◌||◌, not, ℕ, zero, suc, Bool, true, false, List, [], ◌∷◌, map, length}
+-- Marks, and the columns and domains that are copied one after another.
+use Rattle.std.specs.Prelude.{◌≡◌, ◌≢◌, refl, ℕ, zero, suc, ◌+◌, ◌<◌, ◌==◌, ◌&&◌, ◌||◌, not, Bool, true, false, List, [], ◌∷◌, ◌++◌, map, drop, length, replicate, fold, slice_get, slice_set, slice_index_or, Some}
 use Rattle.std.specs.List.{list_any}
-use Rattle.std.proofs.Common.{refl, sym, ap, ◌∙◌, subst, arith}
-use Rattle.std.proofs.lemmas.Bool.{ne_eqb, eq-eqb}
-use Rattle.shape_rules.specs.Forms.{unsigned}
+use Rattle.std.proofs.Math.Seq.{take-append_seam}
+use Rattle.std.proofs.Common.{cond, take, sym, ap, ◌∙◌, subst, add-one, append_assoc}
+use Rattle.std.proofs.lemmas.Bool.{eqb-true, eq-eqb, false≢true}
+use Rattle.std.proofs.lemmas.List.{length-set, get_or-set_same, get_or-set_other, length-replicate}
+use Rattle.delta_sim.specs.Reading.{AreFirst}
+use Rattle.delta_sim.proofs.Starts.{drop_get}
 use Rattle.design_ir.specs.declared.domain.Domain.{Domain}
 use Rattle.design_ir.specs.declared.port.Port.{Port}
-use Rattle.design_ir.specs.declared.signal.Sig.{Sig}
-use Rattle.design_ir.specs.Values.{signal_form}
-use Rattle.design_ir.specs.Circuits.{Circuit, is_input}
-use Rattle.amh_tool.specs.declared.board.Board.{Board}
-use Rattle.amh_tool.specs.declared.form.Component.{Component}
-use Rattle.amh_tool.specs.declared.nets.Net.{Net}
-use Rattle.amh_tool.specs.Form.{IsSound}
-use Rattle.amh_tool.specs.Elaborated.{circuit_of, bit_signal, ports_from, columns_from}
-use Rattle.amh_tool.specs.Boards.{board_of, shown_of, is_clock}
-use Rattle.amh_tool.specs.Nets.{is_input_drive, has_register, net_at, net_member, nets_of, HasNets}
-use Rattle.amh_tool.specs.NetColumns.{net_columns, net_domains, net_board}
-use Rattle.amh_tool.proofs.CircuitNets.{component_has_nets}
+use Rattle.design_ir.specs.Circuits.{Circuit, is_input, is_clock}
+use Rattle.design_ir.specs.Tests.{is_settable}
+use Rattle.amh_tool.specs.BoardMarks.{mark_input, unmark_clock}
 
--- ---- signals: each has one bit
+-- ---- lists, one element after another
 
-signal_form_of : (nets : List Net) (s : ℕ) → s < length nets → signal_form (map (λ (n : Net). bit_signal n.name) nets) s ≡ unsigned 1
-signal_form_of [] s h = absurd (omega arith)
-signal_form_of (n ∷ ns) zero h = refl
-signal_form_of (n ∷ ns) (suc s) h = signal_form_of ns s (omega arith)
+-- one element more of a fold
+pub fold_turn : {A B : Type 0} (f : B → A → B) (xs : List A) (i : ℕ) (x : A) (now more all : B)
+    → slice_get xs i ≡ Some x → more ≡ f now x → fold f now (drop i xs) ≡ all → fold f more (drop (i + 1) xs) ≡ all
+fold_turn f xs i x now more all is step known =
+    ap (λ k. fold f more (drop k xs)) (add-one i)
+    ∙ ap (λ y. fold f y (drop (suc i) xs)) step
+    ∙ sym (ap (fold f now) (drop_get xs i x is)) ∙ known
 
--- ---- ports: one for each net
+-- one element more of a copy
+pub map_turn : {A B : Type 0} (f : A → B) (xs : List A) (i : ℕ) (x : A) (now more all : List B)
+    → slice_get xs i ≡ Some x → more ≡ now ++ f x ∷ [] → now ++ map f (drop i xs) ≡ all → more ++ map f (drop (i + 1) xs) ≡ all
+map_turn f xs i x now more all is grown known =
+    ap (λ k. more ++ map f (drop k xs)) (add-one i)
+    ∙ ap (λ ys. ys ++ map f (drop (suc i) xs)) grown
+    ∙ append_assoc now (f x ∷ []) (map f (drop (suc i) xs))
+    ∙ sym (ap (λ ys. now ++ map f ys) (drop_get xs i x is)) ∙ known
 
--- an input port has this signal
+-- and where each element stands as it is
+pub copy_turn : {A : Type 0} (xs : List A) (i : ℕ) (x : A) (now more all : List A) → slice_get xs i ≡ Some x → more ≡ now ++ x ∷ [] → now ++ drop i xs ≡ all → more ++ drop (i + 1) xs ≡ all
+copy_turn xs i x now more all is grown known =
+    ap (λ k. more ++ drop k xs) (add-one i)
+    ∙ ap (λ ys. ys ++ drop (suc i) xs) grown
+    ∙ append_assoc now (x ∷ []) (drop (suc i) xs)
+    ∙ sym (ap (λ ys. now ++ ys) (drop_get xs i x is)) ∙ known
+
+-- ---- marks
+
+-- the mark of a signal
+abbrev mark_of : List Bool → ℕ → Bool
+mark_of marks s = slice_index_or marks s false
+
+mark_of-set : (marks : List Bool) (s t : ℕ) (b : Bool) → t < length marks → mark_of (slice_set marks s b) t ≡ cond (s == t) b (mark_of marks t)
+mark_of-set marks s t b there = split (s == t) refl
+  where
+    split : (q : Bool) → (s == t) ≡ q → mark_of (slice_set marks s b) t ≡ cond q b (mark_of marks t)
+    split true e =
+        let same : s ≡ t = eqb-true s t e in
+        ap (λ k. mark_of (slice_set marks k b) t) same ∙ get_or-set_same marks t b false there
+    split false e =
+        let other : t ≢ s = λ same. false≢true (sym e ∙ eq-eqb s t (sym same)) in
+        get_or-set_other marks s t b false other
+
+input_length : (marks : List Bool) (p : Port) → length (mark_input marks p) ≡ length marks
+input_length marks p = here p.is_input
+  where
+    here : (b : Bool) → length (cond b (slice_set marks p.sig.0 true) marks) ≡ length marks
+    here true = length-set marks p.sig.0 true
+    here false = refl
+
+input_mark : (marks : List Bool) (p : Port) (s : ℕ) → s < length marks → mark_of (mark_input marks p) s ≡ (mark_of marks s || (p.is_input && (p.sig.0 == s)))
+input_mark marks p s there = here p.is_input
+  where
+    set : (q m : Bool) → cond q true m ≡ (m || q)
+    set true true = refl
+    set true false = refl
+    set false true = refl
+    set false false = refl
+
+    same : (m : Bool) → m ≡ (m || false)
+    same true = refl
+    same false = refl
+
+    here : (b : Bool) → mark_of (cond b (slice_set marks p.sig.0 true) marks) s ≡ (mark_of marks s || (b && (p.sig.0 == s)))
+    here true = mark_of-set marks p.sig.0 s true there ∙ set (p.sig.0 == s) (mark_of marks s)
+    here false = same (mark_of marks s)
+
+-- a port's signal is an input
 abbrev has_input : List Port → ℕ → Bool
-has_input ports s = list_any (λ (p : Port). p.is_input && (p.sig.0 == s)) ports
+has_input ps s = list_any (λ (p : Port). p.is_input && (p.sig.0 == s)) ps
 
--- no port from a number on has a signal below it
-port_below : (nets : List Net) (k s : ℕ) → s < k → has_input (ports_from k (map net_member nets)) s ≡ false
-port_below [] k s h = refl
-port_below (n ∷ ns) k s h =
-    ap (λ b. (is_input_drive n.drive && b) || has_input (ports_from (suc k) (map net_member ns)) s) (ne_eqb k s (omega arith))
-    ∙ ap (λ b. (is_input_drive n.drive && false) || b) (port_below ns (suc k) s (omega arith))
-    ∙ and_or_false (is_input_drive n.drive)
+abbrev has_clock : List Domain → ℕ → Bool
+has_clock ds s = list_any (λ (d : Domain). d.clk.0 == s) ds
+
+inputs_length : (ps : List Port) (marks : List Bool) → length (fold mark_input marks ps) ≡ length marks
+inputs_length [] marks = refl
+inputs_length (p ∷ ps) marks = inputs_length ps (mark_input marks p) ∙ input_length marks p
+
+inputs_mark : (ps : List Port) (marks : List Bool) (s : ℕ) → s < length marks → mark_of (fold mark_input marks ps) s ≡ (mark_of marks s || has_input ps s)
+inputs_mark [] marks s there = none (mark_of marks s)
   where
-    and_or_false : (b : Bool) → ((b && false) || false) ≡ false
-    and_or_false false = refl
-    and_or_false true = refl
-
--- a signal is an input where its net is one
-input_in : (nets : List Net) (k i s : ℕ) → s ≡ k + i → i < length nets → has_input (ports_from k (map net_member nets)) s ≡ is_input_drive (net_at nets i).drive
-input_in [] k i s e h = absurd (omega arith)
-input_in (n ∷ ns) k zero s e h =
-    ap (λ b. (is_input_drive n.drive && b) || has_input (ports_from (suc k) (map net_member ns)) s) (eq-eqb k s (omega arith))
-    ∙ ap (λ b. (is_input_drive n.drive && true) || b) (port_below ns (suc k) s (omega arith))
-    ∙ and_or_true (is_input_drive n.drive)
+    none : (m : Bool) → m ≡ (m || false)
+    none true = refl
+    none false = refl
+inputs_mark (p ∷ ps) marks s there =
+    inputs_mark ps (mark_input marks p) s (subst (λ n. s < n) (sym (input_length marks p)) there)
+    ∙ ap (λ m. m || has_input ps s) (input_mark marks p s there)
+    ∙ assoc (mark_of marks s) (p.is_input && (p.sig.0 == s)) (has_input ps s)
   where
-    and_or_true : (b : Bool) → ((b && true) || false) ≡ b
-    and_or_true false = refl
-    and_or_true true = refl
-input_in (n ∷ ns) k (suc i) s e h =
-    ap (λ b. (is_input_drive n.drive && b) || has_input (ports_from (suc k) (map net_member ns)) s) (ne_eqb k s (omega arith))
-    ∙ only_rest (is_input_drive n.drive) (has_input (ports_from (suc k) (map net_member ns)) s)
-    ∙ input_in ns (suc k) i s (omega arith) (omega arith)
+    assoc : (a b c : Bool) → ((a || b) || c) ≡ (a || (b || c))
+    assoc true b c = refl
+    assoc false b c = refl
+
+clocks_length : (ds : List Domain) (marks : List Bool) → length (fold unmark_clock marks ds) ≡ length marks
+clocks_length [] marks = refl
+clocks_length (d ∷ ds) marks = clocks_length ds (unmark_clock marks d) ∙ length-set marks d.clk.0 false
+
+clocks_mark : (ds : List Domain) (marks : List Bool) (s : ℕ) → s < length marks → mark_of (fold unmark_clock marks ds) s ≡ (mark_of marks s && not (has_clock ds s))
+clocks_mark [] marks s there = none (mark_of marks s)
   where
-    only_rest : (b c : Bool) → ((b && false) || c) ≡ c
-    only_rest false c = refl
-    only_rest true c = refl
-
--- ---- the clock
-
-clock_of : (clocked : Bool) (s : ℕ) → list_any (λ (d : Domain). d.clk.0 == s) (net_domains clocked) ≡ (clocked && (s == 0))
-clock_of false s = refl
-clock_of true zero = refl
-clock_of true (suc s) = ap (λ b. b || false) (ne_eqb 0 (suc s) (omega arith)) ∙ sym (ne_eqb (suc s) 0 (omega arith))
-
--- ---- columns
-
--- the nets from this number on
-record AreFrom (all : List Net) (k : ℕ) (nets : List Net) : Type 0 where
-  size : k + length nets ≡ length all
-  at : (i : ℕ) → net_at all (k + i) ≡ net_at nets i
-
-from_first : (nets : List Net) → AreFrom nets 0 nets
-from_first nets = record { size = omega arith; at = λ i. ap (net_at nets) (omega arith) }
-
-from_next : (all : List Net) (k : ℕ) (n : Net) (nets : List Net) → AreFrom all k (n ∷ nets) → AreFrom all (suc k) nets
-from_next all k n nets h = record { size = omega (arith, h.size); at = λ i. ap (net_at all) (omega arith) ∙ h.at (suc i) }
-
-columns_shown : (d : Circuit) (all : List Net) (k : ℕ) (nets : List Net) → HasNets d all → AreFrom all k nets
-    → map (shown_of d) (columns_from k (map net_member nets)) ≡ net_columns (has_register all) k nets
-columns_shown d all k [] has from = refl
-columns_shown d all k (n ∷ ns) has from =
-    let here : net_at all k ≡ n = ap (net_at all) (omega arith) ∙ from.at 0 in
-    let held : k < length all = omega (arith, from.size) in
-    let shape : signal_form d.pool.signals k ≡ unsigned 1 = ap (λ (x : List Sig). signal_form x k) has.signals ∙ signal_form_of all k held in
-    let input : is_input d k ≡ is_input_drive n.drive =
-    ap (λ (x : List Port). has_input x k) has.ports ∙ input_in all 0 k k (omega arith) held ∙ ap (λ (x : Net). is_input_drive x.drive) here in
-    let clock : is_clock d k ≡ (has_register all && (k == 0)) =
-    ap (λ (x : List Domain). list_any (λ (d : Domain). d.clk.0 == k) x) has.domains ∙ clock_of (has_register all) k in
-    let rest = columns_shown d all (suc k) ns has (from_next all k n ns from) in
-    λ i. record { name = n.name; sig = record { 0 = k }; shape = shape i; is_settable = input i && not (clock i) } ∷ rest i
-
-pub board_of-nets : (d : Circuit) (nets : List Net) → HasNets d nets → board_of d ≡ net_board nets
-board_of-nets d nets has =
-    let columns = ap (map (shown_of d)) has.columns ∙ columns_shown d nets 0 nets has (from_first nets) in
-    λ i. record { columns = columns i; domains = has.domains i }
-
-pub board_of-component : (c : Component) → IsSound c → board_of (circuit_of c) ≡ net_board (nets_of c)
-board_of-component c sound = board_of-nets (circuit_of c) (nets_of c) (component_has_nets c sound)
-
--- a component has at most one domain
-pub board_of-few_domains : (c : Component) (b : Board) → IsSound c → b ≡ board_of (circuit_of c) → length b.domains ≤ 65_536
-board_of-few_domains c b sound is = subst (λ (k : Board). length k.domains ≤ 65_536) (sym (is ∙ board_of-component c sound)) (few (has_register (nets_of c)))
+    none : (m : Bool) → m ≡ (m && true)
+    none true = refl
+    none false = refl
+clocks_mark (d ∷ ds) marks s there =
+    clocks_mark ds (unmark_clock marks d) s (subst (λ n. s < n) (sym (length-set marks d.clk.0 false)) there)
+    ∙ ap (λ m. m && not (has_clock ds s)) (mark_of-set marks d.clk.0 s false there)
+    ∙ joined (d.clk.0 == s) (mark_of marks s) (has_clock ds s)
   where
-    few : (clocked : Bool) → length (net_domains clocked) ≤ 65_536
-    few true = omega arith
-    few false = omega arith
+    joined : (q m h : Bool) → (cond q false m && not h) ≡ (m && not (q || h))
+    joined true true h = refl
+    joined true false h = refl
+    joined false m h = refl
+
+no_marks : (n s : ℕ) → mark_of (replicate n false) s ≡ false
+no_marks zero s = refl
+no_marks (suc n) zero = refl
+no_marks (suc n) (suc s) = no_marks n s
+
+marks_of : (c : Circuit) (n : ℕ) (first inputs marks : List Bool) → first ≡ replicate n false → inputs ≡ fold mark_input first c.ports → marks ≡ fold unmark_clock inputs c.domains
+    → AreFirst false (is_settable c) n marks
+marks_of c n first inputs marks is made cleared =
+    let size : length first ≡ n = ap length is ∙ length-replicate n false in
+    let all : length inputs ≡ n = ap length made ∙ inputs_length c.ports first ∙ size in
+    record {
+      count = ap length cleared ∙ clocks_length c.domains inputs ∙ all;
+      each = λ s there.
+          ap (λ ms. mark_of ms s) cleared
+          ∙ clocks_mark c.domains inputs s (subst (λ k. s < k) (sym all) there)
+          ∙ ap (λ m. m && not (is_clock c s)) (ap (λ ms. mark_of ms s) made ∙ inputs_mark c.ports first s (subst (λ k. s < k) (sym size) there) ∙ ap (λ m. m || is_input c s) (ap (λ ms. mark_of ms s) is ∙ no_marks n s));
+    }
+
+-- what was written through a slice of all of it
+written_back : {A : Type 0} (xs new : List A) (len : ℕ) → length new ≡ len → take len (new ++ drop (length new) xs) ≡ new
+written_back xs new len e = subst (λ k. take k (new ++ drop (length new) xs) ≡ new) e (take-append_seam new (drop (length new) xs))
+
+-- the marks of a design
+pub settable_marks : (c : Circuit) (n len : ℕ) (items before inputs between marks : List Bool) → items ≡ replicate n false → len ≡ n → before ≡ items → inputs ≡ fold mark_input before c.ports
+    → between ≡ take len (inputs ++ drop (length inputs) items) → marks ≡ fold unmark_clock between c.domains
+    → AreFirst false (is_settable c) n (take len (marks ++ drop (length marks) (take len (inputs ++ drop (length inputs) items))))
+settable_marks c n len items before inputs between marks is size seen made seen_again cleared =
+    let count : length before ≡ n = ap length (seen ∙ is) ∙ length-replicate n false in
+    let inputs_count : length inputs ≡ len = ap length made ∙ inputs_length c.ports before ∙ count ∙ sym size in
+    let back = written_back items inputs len inputs_count in
+    let marks_count : length marks ≡ len = ap length cleared ∙ clocks_length c.domains between ∙ ap length (seen_again ∙ back) ∙ inputs_count in
+    subst (AreFirst false (is_settable c) n) (sym (written_back (take len (inputs ++ drop (length inputs) items)) marks len marks_count))
+    (marks_of c n before inputs marks (seen ∙ is) made (cleared ∙ ap (λ ms. fold unmark_clock ms c.domains) (seen_again ∙ back)))

@@ -13,9 +13,9 @@ use Rattle.design_ir.specs.declared.event.Event.{Event}
 use Rattle.design_ir.specs.Circuits.{Circuit}
 use Rattle.amh_tool.specs.Trace.{Row, End, Done as EndDone, timed}
 use Rattle.amh_tool.specs.Plan.{Plan, plan_of, differ, are_distinct}
-use Rattle.amh_tool.specs.Outcome.{Outcome, Unread, BadWords, Refuses, BadLine, Accepts, outcome, planned, status_of, said_of, warned_of, names, no_plan, usage_text}
-use Rattle.amh_tool.specs.Headline.{Tells, IfAccepted, IsAccepted, HoldsRtlil, HoldsTrace, IsWritten, grown}
-use Rattle.amh_tool.specs.Work.{Owed, Works, WorksFor, Fails, FailsFor, Carries, CarriesPart, IsFor, with_files}
+use Rattle.amh_tool.specs.Outcome.{Outcome, Unread, BadWords, Refuses, BadLine, Accepts, IsOutcome, IsPlanned, status_of, said_of, warned_of, names, no_plan, usage_text}
+use Rattle.amh_tool.specs.Headline.{HasOutcome, Tells, IfAccepted, IsAccepted, HoldsRtlil, HoldsTrace, IsWritten, grown}
+use Rattle.amh_tool.specs.Work.{Owed, Works, WorksFor, WorksUsage, Fails, FailsFor, Carries, CarriesPart, IsFor, with_files}
 use Rattle.amh_tool.specs.declared.run.Status.{Status}
 use Rattle.amh_tool.specs.declared.run.Status.TheVariants.{Fault, NoMemory}
 
@@ -24,7 +24,7 @@ nothing_more None = refl
 nothing_more (Some x) = ap Some (sym (append-nil x))
 
 -- the outcome where the files are told
-found_told : (p : Plan) (o : Outcome) (told : Option Files) (files : Files) → told ≡ Some files → IsFor p o told → planned p files ≡ o
+found_told : (p : Plan) (o : Outcome) (told : Option Files) (files : Files) → told ≡ Some files → IsFor p o told → IsPlanned p files o
 found_told p o told files e h = subst (λ (t : Option Files). IsFor p o t) e h
 
 -- for a plan
@@ -134,56 +134,57 @@ plan-apart (a ∷ b ∷ c ∷ d ∷ f ∷ []) p e =
 plan-apart (a ∷ b ∷ c ∷ d ∷ f ∷ g ∷ rest) p e = absurd ((cc))
 
 -- what the words ask for, by their plan
-abbrev outcome_at : Option Plan → Files → Outcome
-outcome_at op files = option_map_or (λ p. planned p files) op BadWords
+abbrev IsOutcome_at : Option Plan → Files → Outcome → Type 0
+IsOutcome_at op files o = MatchOption op (o ≡ BadWords) (λ p. IsPlanned p files o)
 
 abbrev names_at : Option Plan → Plan
 names_at op = option_map_or (λ p. p) op no_plan
 
-texts_at : (words : List (List ℕ)) (op : Option Plan) → plan_of words ≡ op → (answer : Status) (old new : Seen) (files : Files) → old.files ≡ Some files → Works op answer old new → Tells words (outcome_at op files) answer old new
-texts_at words None n answer old new files e w = record { status = ap Some (sym w.usage); said = ap (λ x. x.said) w.warned ∙ nothing_more old.said; warned = ap (λ x. x.warned) w.warned }
-texts_at words (Some p) n answer old new files e w =
-    subst (λ (o : Outcome). Tells words o answer old new) (sym (found_told p w.found old.files files e w.is_for)) (tells_for words p w.found answer old new (ap names_at n) w.status w.carries)
+-- the outcome that the work carried out
+outcome_at : (op : Option Plan) (P : Outcome → Type 0) (answer : Status) (old new : Seen) (files : Files) → old.files ≡ Some files
+    → (op ≡ None → WorksUsage answer old new → P BadWords) → ((p : Plan) → op ≡ Some p → (w : WorksFor p answer old new) → P w.found)
+    → Works op answer old new → (o : Outcome) × IsOutcome_at op files o × P o
+outcome_at None P answer old new files e bad good w = (BadWords, refl, bad refl w)
+outcome_at (Some p) P answer old new files e bad good w = (w.found, found_told p w.found old.files files e w.is_for, good p refl w)
 
-pub texts : (words : List (List ℕ)) (answer : Status) (old new : Seen) (files : Files) → old.files ≡ Some files → Works (plan_of words) answer old new → Tells words (outcome words files) answer old new
-unfolding outcome
-texts words answer old new files e w = texts_at words (plan_of words) refl answer old new files e w
+has_outcome : (words : List (List ℕ)) (P : Outcome → Type 0) (answer : Status) (old new : Seen) (files : Files) → old.files ≡ Some files
+    → (plan_of words ≡ None → WorksUsage answer old new → P BadWords) → ((p : Plan) → plan_of words ≡ Some p → (w : WorksFor p answer old new) → P w.found)
+    → Works (plan_of words) answer old new → HasOutcome words files P
+has_outcome words P answer old new files e bad good w =
+    let x = outcome_at (plan_of words) P answer old new files e bad good w in
+    record { found = x.0; is_outcome = x.1; holds = x.2 }
 
-rtlil_at : (op : Option Plan) → ((p : Plan) → op ≡ Some p → p.il ≢ p.trace) → (answer : Status) (old new : Seen) (files : Files) → old.files ≡ Some files → Works op answer old new → IfAccepted (outcome_at op files) (λ c rows end. HoldsRtlil new (names_at op).il c)
-rtlil_at None apart answer old new files e w = tt
-rtlil_at (Some p) apart answer old new files e w =
-    subst (λ (o : Outcome). IfAccepted o (λ c rows end. HoldsRtlil new p.il c)) (sym (found_told p w.found old.files files e w.is_for)) (rtlil_for p w.found old new files e (apart p refl) w.carries)
+pub texts : (words : List (List ℕ)) (answer : Status) (old new : Seen) (files : Files) → old.files ≡ Some files → Works (plan_of words) answer old new → HasOutcome words files (λ o. Tells words o answer old new)
+texts words answer old new files e =
+    has_outcome words (λ o. Tells words o answer old new) answer old new files e
+    (λ n w. record { status = ap Some (sym w.usage); said = ap (λ x. x.said) w.warned ∙ nothing_more old.said; warned = ap (λ x. x.warned) w.warned })
+    (λ p n w. tells_for words p w.found answer old new (ap names_at n) w.status w.carries)
 
-pub rtlil : (words : List (List ℕ)) (answer : Status) (old new : Seen) (files : Files) → old.files ≡ Some files → Works (plan_of words) answer old new → IfAccepted (outcome words files) (λ c rows end. HoldsRtlil new (names words).il c)
-unfolding outcome
-rtlil words answer old new files e w = rtlil_at (plan_of words) (plan-apart words) answer old new files e w
+pub rtlil : (words : List (List ℕ)) (answer : Status) (old new : Seen) (files : Files) → old.files ≡ Some files → Works (plan_of words) answer old new
+    → HasOutcome words files (λ o. IfAccepted o (λ c rows end. HoldsRtlil new (names words).il c))
+rtlil words answer old new files e =
+    has_outcome words (λ o. IfAccepted o (λ c rows end. HoldsRtlil new (names words).il c)) answer old new files e (λ n w. tt)
+    (λ p n w. subst (λ (q : Plan). IfAccepted w.found (λ c rows end. HoldsRtlil new q.il c)) (sym (ap names_at n)) (rtlil_for p w.found old new files e (plan-apart words p n) w.carries))
 
-trace_at : (op : Option Plan) (answer : Status) (old new : Seen) (files : Files) → old.files ≡ Some files → Works op answer old new → IfAccepted (outcome_at op files) (λ c rows end. HoldsTrace new (names_at op).trace c rows end)
-trace_at None answer old new files e w = tt
-trace_at (Some p) answer old new files e w =
-    subst (λ (o : Outcome). IfAccepted o (λ c rows end. HoldsTrace new p.trace c rows end)) (sym (found_told p w.found old.files files e w.is_for)) (trace_for p w.found old new files e w.carries)
+pub trace : (words : List (List ℕ)) (answer : Status) (old new : Seen) (files : Files) → old.files ≡ Some files → Works (plan_of words) answer old new
+    → HasOutcome words files (λ o. IfAccepted o (λ c rows end. HoldsTrace new (names words).trace c rows end))
+trace words answer old new files e =
+    has_outcome words (λ o. IfAccepted o (λ c rows end. HoldsTrace new (names words).trace c rows end)) answer old new files e (λ n w. tt)
+    (λ p n w. subst (λ (q : Plan). IfAccepted w.found (λ c rows end. HoldsTrace new q.trace c rows end)) (sym (ap names_at n)) (trace_for p w.found old new files e w.carries))
 
-pub trace : (words : List (List ℕ)) (answer : Status) (old new : Seen) (files : Files) → old.files ≡ Some files → Works (plan_of words) answer old new → IfAccepted (outcome words files) (λ c rows end. HoldsTrace new (names words).trace c rows end)
-unfolding outcome
-trace words answer old new files e w = trace_at (plan_of words) answer old new files e w
-
-untouched_at : (op : Option Plan) (answer : Status) (old new : Seen) (files : Files) → old.files ≡ Some files → (IsAccepted (outcome_at op files) → ⊥) → Works op answer old new → new.files ≡ old.files
+untouched_at : (op : Option Plan) (answer : Status) (old new : Seen) (files : Files) → old.files ≡ Some files → ((o : Outcome) → IsOutcome_at op files o → IsAccepted o → ⊥) → Works op answer old new → new.files ≡ old.files
 untouched_at None answer old new files e not w = ap (λ x. x.files) w.warned
-untouched_at (Some p) answer old new files e not w =
-    untouched_for p w.found old new (subst (λ (o : Outcome). IsAccepted o → ⊥) (found_told p w.found old.files files e w.is_for) not) w.carries
+untouched_at (Some p) answer old new files e not w = untouched_for p w.found old new (not w.found (found_told p w.found old.files files e w.is_for)) w.carries
 
-pub untouched : (words : List (List ℕ)) (answer : Status) (old new : Seen) (files : Files) → old.files ≡ Some files → (IsAccepted (outcome words files) → ⊥) → Works (plan_of words) answer old new → new.files ≡ old.files
-unfolding outcome
+pub untouched : (words : List (List ℕ)) (answer : Status) (old new : Seen) (files : Files) → old.files ≡ Some files → ((o : Outcome) → IsOutcome words files o → IsAccepted o → ⊥) → Works (plan_of words) answer old new → new.files ≡ old.files
 untouched words answer old new files e not w = untouched_at (plan_of words) answer old new files e not w
 
-untouched_fails_at : (op : Option Plan) (old new : Seen) (files : Files) → old.files ≡ Some files → (IsAccepted (outcome_at op files) → ⊥) → Fails op old new → new.files ≡ old.files
+untouched_fails_at : (op : Option Plan) (old new : Seen) (files : Files) → old.files ≡ Some files → ((o : Outcome) → IsOutcome_at op files o → IsAccepted o → ⊥) → Fails op old new → new.files ≡ old.files
 untouched_fails_at op old new files e not (inl h) = ap (λ x. x.files) h
 untouched_fails_at None old new files e not (inr h) = ap (λ x. x.files) h.changed
-untouched_fails_at (Some p) old new files e not (inr h) =
-    untouched_part p h.0 old new (subst (λ (o : Outcome). IsAccepted o → ⊥) (found_told p h.0 old.files files e h.1) not) h.2
+untouched_fails_at (Some p) old new files e not (inr h) = untouched_part p h.0 old new (not h.0 (found_told p h.0 old.files files e h.1)) h.2
 
-pub untouched_fails : (words : List (List ℕ)) (old new : Seen) (files : Files) → old.files ≡ Some files → (IsAccepted (outcome words files) → ⊥) → Fails (plan_of words) old new → new.files ≡ old.files
-unfolding outcome
+pub untouched_fails : (words : List (List ℕ)) (old new : Seen) (files : Files) → old.files ≡ Some files → ((o : Outcome) → IsOutcome words files o → IsAccepted o → ⊥) → Fails (plan_of words) old new → new.files ≡ old.files
 untouched_fails words old new files e not w = untouched_fails_at (plan_of words) old new files e not w
 
 abbrev IsWritten_at : Option Plan → List ℕ → Type 0

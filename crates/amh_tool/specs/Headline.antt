@@ -1,16 +1,17 @@
 -- What is proved of the whole program.
 use Rattle.std.specs.Prelude.{◌≡◌, ◌≢◌, ◌⊎◌, ℕ, List, ◌++◌, Option, Some, MatchOption, ℤ}
 use Rattle.std.specs.Option.{option_map}
-use Rattle.amh_host.specs.Seen.{Seen, file_of}
+use Rattle.amh_host.specs.Seen.{Files, Seen, file_of}
 use Rattle.amh_host.specs.Causes.{Stood}
 use Rattle.design_ir.specs.Circuits.{Circuit}
 use Rattle.rtlil_text.specs.Reads.{Reads}
 use Rattle.rtlil_text.specs.declared.module.RtlModule.{RtlModule}
-use Rattle.amh_tool.specs.Corresponds.{Corresponds, SameHistory, IsHistory}
+use Rattle.netlist.specs.Corresponds.{Corresponds}
+use Rattle.netlist.specs.Histories.{SameHistory, IsHistory}
 use Rattle.amh_tool.specs.Boards.{board_of}
 use Rattle.amh_tool.specs.Trace.{Row, End, trace_text, events_in}
 use Rattle.amh_tool.specs.Plan.{plan_of}
-use Rattle.amh_tool.specs.Outcome.{Outcome, Unread, BadWords, Refuses, BadLine, Accepts, status_of, said_of, warned_of, names}
+use Rattle.amh_tool.specs.Outcome.{Outcome, IsOutcome, Unread, BadWords, Refuses, BadLine, Accepts, status_of, said_of, warned_of, names}
 use Rattle.amh_tool.specs.declared.run.Status.{Status}
 use Rattle.amh_tool.specs.declared.run.Status.TheVariants.{NoMemory}
 
@@ -71,3 +72,15 @@ pub record IsPlain (status : Status) (before now : ℕ) : Type 0 where
 -- the words name it as one of the two files that are written
 abbrev pub IsWritten : List (List ℕ) → List ℕ → Type 0
 IsWritten words name = MatchOption (plan_of words) ⊥ (λ p. (name ≡ p.il) ⊎ (name ≡ p.trace))
+
+-- ---- the outcome
+
+-- the words and the files have an outcome, of which this holds
+pub record HasOutcome (words : List (List ℕ)) (files : Files) (P : Outcome → Type 0) : Type 0 where
+  pub found : Outcome
+  pub is_outcome : IsOutcome words files found
+  pub holds : P found
+
+-- words and files have one outcome
+abbrev pub OneOutcome : Type 0
+OneOutcome = (words : List (List ℕ)) (files : Files) (a b : Outcome) → IsOutcome words files a → IsOutcome words files b → a ≡ b

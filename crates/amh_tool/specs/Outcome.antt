@@ -1,5 +1,5 @@
 -- What the words and the files ask for.
-use Rattle.std.specs.Prelude.{ℕ, nat_lt, if◌then◌else◌, List, [], length, Option, None, Some, codes, Result, Ok, Err}
+use Rattle.std.specs.Prelude.{◌≡◌, ℕ, List, [], length, Option, None, Some, MatchOption, codes, Result, Ok, Err}
 use Rattle.std.specs.Option.{option_map_or}
 use Rattle.std.specs.Fmt.{decimal}
 use Rattle.amh_host.specs.Seen.{Files}
@@ -7,14 +7,12 @@ use Rattle.amh_host.specs.declared.place.Kind.{Kind}
 use Rattle.amh_host.specs.declared.place.Kind.TheVariants.{Text, Subset, Raised, Width, TwoDrivers, DrivenInput, DomainClash, Loop, Limit, Script}
 use Rattle.design_ir.specs.declared.event.Event.{Event}
 use Rattle.design_ir.specs.Circuits.{Circuit}
-use Rattle.amh_tool.specs.declared.form.Component.{Component}
-use Rattle.amh_tool.specs.declared.component.Refusal.{Refusal}
+use Rattle.component_form.specs.declared.refusal.Refusal.{Refusal}
 use Rattle.amh_tool.specs.declared.run.Status.{Status}
 use Rattle.amh_tool.specs.declared.run.Status.TheVariants.{Done, Refused, AssertFailed, Usage, Spent, Fault, NoMemory}
 use Rattle.amh_tool.specs.Trace.{Row, End, Done as EndDone, timed, ◌▸◌, line_feed}
 use Rattle.amh_tool.specs.Plan.{Plan, plan_of}
-use Rattle.amh_tool.specs.Component.{component, refused}
-use Rattle.amh_tool.specs.Elaborated.{circuit_of}
+use Rattle.amh_tool.specs.Designs.{Designed, IsDesigned}
 use Rattle.amh_tool.specs.Boards.{board_of}
 use Rattle.amh_tool.specs.Script.{script_events}
 
@@ -26,31 +24,32 @@ pub data Outcome : Type 0 where
   BadLine : (line : ℕ) → Outcome
   Accepts : (design : Circuit) (rows : List Row) (end : End) → Outcome
 
-abbrev pub with_bytes : Files → List ℕ → (List ℕ → Outcome) → Outcome
-with_bytes files name go = option_map_or go (files name) Unread
-
 -- a script's events take place one after another
 abbrev pub played : Circuit → Result (List Event) ℕ → Outcome
 played c (Ok events) = Accepts c (timed 1 events) EndDone
 played c (Err line) = BadLine line
 
+-- what follows from the bytes of a file, where it is held
+abbrev pub Follows : Files → List ℕ → (List ℕ → Outcome → Type 0) → Outcome → Type 0
+Follows files name from o = MatchOption (files name) (o ≡ Unread) (λ bytes. from bytes o)
+
 -- the design is refused, or its script is read
-abbrev pub designed : Plan → Files → Result Component Refusal → Outcome
-designed p files (Err r) = Refuses r
-designed p files (Ok f) = with_bytes files p.script (λ script. played (circuit_of f) (script_events (board_of (circuit_of f)) script))
+abbrev pub IsJudged : Plan → Files → Designed → Outcome → Type 0
+IsJudged p files (Err r) o = o ≡ Refuses r
+IsJudged p files (Ok c) o = Follows files p.script (λ script x. x ≡ played c (script_events (board_of c) script)) o
 
--- how many bytes a design file may have
-abbrev pub most_design : ℕ
-most_design = 1_048_576
+-- what a design file leads to
+pub record FromDesign (p : Plan) (files : Files) (bytes : List ℕ) (o : Outcome) : Type 0 where
+  pub found : Designed
+  pub designed : IsDesigned bytes found
+  pub judged : IsJudged p files found o
 
-abbrev pub judged : Plan → Files → List ℕ → Outcome
-judged p files bytes = if nat_lt most_design (length bytes) then Refuses (refused Limit 1) else designed p files (component bytes)
+abbrev pub IsPlanned : Plan → Files → Outcome → Type 0
+IsPlanned p files o = Follows files p.design (FromDesign p files) o
 
-unfoldable pub planned : Plan → Files → Outcome
-planned p files = with_bytes files p.design (judged p files)
-
-unfoldable pub outcome : List (List ℕ) → Files → Outcome
-outcome words files = option_map_or (λ p. planned p files) (plan_of words) BadWords
+-- the outcome of the words; there is one, and no other
+abbrev pub IsOutcome : List (List ℕ) → Files → Outcome → Type 0
+IsOutcome words files o = MatchOption (plan_of words) (o ≡ BadWords) (λ p. IsPlanned p files o)
 
 -- ---- the answer
 

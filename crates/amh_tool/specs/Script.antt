@@ -8,7 +8,7 @@ use Rattle.design_ir.specs.declared.ids.DomainId.{DomainId}
 use Rattle.design_ir.specs.declared.domain.Domain.{Domain}
 use Rattle.design_ir.specs.declared.event.Event.{Event}
 use Rattle.design_ir.specs.declared.event.Event.TheVariants.{Set, Edge}
-use Rattle.amh_tool.specs.FormLines.{Line, lines_in}
+use Rattle.amh_tool.specs.TextLines.{Line, lines_in}
 use Rattle.amh_tool.specs.declared.board.Shown.{Shown}
 use Rattle.amh_tool.specs.declared.board.Board.{Board}
 use Rattle.amh_tool.specs.declared.script_saying.Saying.{Saying}

@@ -1,28 +1,34 @@
 -- The outcome that the program found.
 use Rattle.std.specs.Prelude.{◌≡◌}
 use Rattle.design_ir.specs.Legal.{AllLegal}
-use Rattle.amh_tool.specs.Form.{IsSound}
-use Rattle.amh_tool.specs.Elaborated.{circuit_of}
+use Rattle.comb_graph.specs.Rankings.{IsRanking}
+use Rattle.netlist.specs.Plain.{IsPlain}
 use Rattle.amh_tool.specs.Boards.{board_of}
 use Rattle.amh_tool.specs.Trace.{timed, Done}
 use Rattle.amh_tool.specs.Outcome.{Outcome, Refuses, BadLine, Accepts}
+use Rattle.amh_tool.specs.declared.design_text.Ranked.{Ranked}
 use Rattle.amh_tool.specs.declared.accept.Accepted.{Accepted}
 use Rattle.amh_tool.specs.declared.accept.Verdict.{Verdict}
 use Rattle.amh_tool.specs.declared.accept.Verdict.TheVariants as verdict
 
+-- the ranks are the design's, and the design can be lowered
+pub record IsReady (r : Ranked) : Type 0 where
+  pub ranking : IsRanking r.design r.ranks
+  pub plain : IsPlain r.design
+
 abbrev pub accepted_seen : Accepted → Outcome
-accepted_seen a = Accepts (circuit_of a.component) (timed 1 a.events) Done
+accepted_seen a = Accepts a.ranked.design (timed 1 a.events) Done
 
 abbrev pub verdict_seen : Verdict → Outcome
 verdict_seen (verdict.Refused r) = Refuses r
 verdict_seen (verdict.BadLine line) = BadLine line
 verdict_seen (verdict.Accepted a) = accepted_seen a
 
--- what is accepted is sound, with its own columns and legal events
+-- what is accepted is ready, with its own columns and legal events
 pub record IsFitting (a : Accepted) : Type 0 where
-  pub sound : IsSound a.component
-  pub board : a.board ≡ board_of (circuit_of a.component)
-  pub legal : AllLegal (circuit_of a.component) a.events
+  pub ready : IsReady a.ranked
+  pub board : a.board ≡ board_of a.ranked.design
+  pub legal : AllLegal a.ranked.design a.events
 
 abbrev pub IsFit : Verdict → Type 0
 IsFit (verdict.Refused r) = Unit {0}

@@ -6,7 +6,7 @@ use Rattle.amh_host.specs.Written.{WritesFront}
 use Rattle.design_ir.specs.Circuits.{Circuit}
 use Rattle.amh_tool.specs.Trace.{Row, End}
 use Rattle.amh_tool.specs.Plan.{Plan}
-use Rattle.amh_tool.specs.Outcome.{Outcome, Unread, BadWords, Refuses, BadLine, Accepts, planned, status_of, said_of, warned_of, usage_text, fault_text}
+use Rattle.amh_tool.specs.Outcome.{Outcome, Unread, BadWords, Refuses, BadLine, Accepts, IsPlanned, status_of, said_of, warned_of, usage_text, fault_text}
 use Rattle.amh_tool.specs.Headline.{StandsFor, IsTrace}
 use Rattle.amh_tool.specs.declared.run.Status.{Status}
 use Rattle.amh_tool.specs.declared.run.Status.TheVariants.{Usage}
@@ -52,7 +52,7 @@ CarriesPart p (Accepts c rows end) old new =
 
 -- this is what the plan leads to, where the host tells its files
 abbrev pub IsFor : Plan → Outcome → Option Files → Type 0
-IsFor p o told = IfSome told (λ files. planned p files ≡ o)
+IsFor p o told = IfSome told (λ files. IsPlanned p files o)
 
 pub record WorksFor (p : Plan) (answer : Status) (old new : Seen) : Type 0 where
   pub found : Outcome

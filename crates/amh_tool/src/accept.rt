@@ -1,19 +1,18 @@
 // What the files ask for: the design is read and judged, then its script.
 ghost use Rattle.std.specs.Prelude.{◌≡◌, ◌≤◌, length, IfOk, IfSome, Ok};
 ghost use Rattle.amh_host.specs.Causes.{HasCause};
-ghost use Rattle.amh_tool.specs.Outcome.{planned, designed};
-ghost use Rattle.amh_tool.specs.Component.{refused};
-ghost use Rattle.amh_tool.specs.Form.{IsSound};
-ghost use Rattle.amh_tool.specs.Verdicts.{verdict_seen, IsFit};
+ghost use Rattle.amh_tool.specs.Outcome.{IsPlanned, IsJudged};
+ghost use Rattle.amh_tool.specs.Designs.{refusal, line_start};
+ghost use Rattle.amh_tool.specs.Verdicts.{verdict_seen, IsFit, IsReady};
 ghost use Rattle.amh_tool.specs.ScriptGives.{ReadsScript};
 ghost use Rattle.amh_tool.specs.Views.{plan_seen};
 
 use crate::board::{Board, board_of};
-use crate::component::{FormStop, Refusal, parse};
-use crate::form::Component;
+use crate::design_text::{Ranked, read_design};
 use crate::plan::Plan;
 use crate::script::{ScriptStop, read_script};
 use amh_host::{Host, HostStop, Items, Kind, Place, Whole, read_whole};
+use component_form::{FormStop, Refusal};
 use design_ir::Event;
 use std::alloc::Global;
 
@@ -26,7 +25,7 @@ const MOST_SCRIPT: usize = 16_777_216;
 /// A design with its columns, and the events of its script.
 #[derive(Drop)]
 pub struct Accepted {
-    pub component: Component,
+    pub ranked: Ranked,
     pub board: Board,
     pub events: Items<Event>,
 }
@@ -41,7 +40,7 @@ pub enum Verdict {
 
 /// Reads the design and then the script, and says what they ask for. It changes nothing.
 pub fn accept<H: Host>(alloc: Global, host: &mut H, plan: &Plan<'_>) -> Result<Verdict, HostStop>
-    ensures given { IfOk result (λ v. IfSome (H.seen host.old).files (λ files. planned (plan_seen plan.now) files ≡ verdict_seen v)) }
+    ensures given { IfOk result (λ v. IfSome (H.seen host.old).files (λ files. IsPlanned (plan_seen plan.now) files (verdict_seen v))) }
     ensures fit { IfOk result IsFit }
     ensures same { H.seen host.new ≡ H.seen host.old }
     ensures cause { HasCause (H.faults host.old) (H.faults host.new) result }
@@ -50,8 +49,8 @@ pub fn accept<H: Host>(alloc: Global, host: &mut H, plan: &Plan<'_>) -> Result<V
         Whole::Bytes(text) => text,
         Whole::TooLong(_) => return Ok(Verdict::Refused(too_long())),
     };
-    match parse(alloc, &text) {
-        Ok(component) => accept_script(alloc, host, plan, component),
+    match read_design(alloc, &text) {
+        Ok(ranked) => accept_script(alloc, host, plan, ranked),
         Err(FormStop::Refused(why)) => Ok(Verdict::Refused(why)),
         Err(FormStop::NoMemory) => Err(HostStop::NoMemory),
     }
@@ -59,7 +58,7 @@ pub fn accept<H: Host>(alloc: Global, host: &mut H, plan: &Plan<'_>) -> Result<V
 
 // A design file that is longer than it may be.
 fn too_long() -> Refusal
-    ensures { result ≡ refused Kind.Limit 1 }
+    ensures { result ≡ refusal Kind.Limit (line_start 1) }
 {
     Refusal {
         place: Place { line: 1, col: 1 },
@@ -72,19 +71,21 @@ fn accept_script<H: Host>(
     alloc: Global,
     host: &mut H,
     plan: &Plan<'_>,
-    component: Component,
+    ranked: Ranked,
 ) -> Result<Verdict, HostStop>
-    requires { IsSound component }
-    ensures given { IfOk result (λ v. IfSome (H.seen host.old).files (λ files. designed (plan_seen plan.now) files (Ok component) ≡ verdict_seen v)) }
+    requires { IsReady ranked }
+    ensures given { IfOk result (λ v. IfSome (H.seen host.old).files (λ files. IsJudged (plan_seen plan.now) files (Ok ranked.design) (verdict_seen v))) }
     ensures fit { IfOk result IsFit }
     ensures same { H.seen host.new ≡ H.seen host.old }
     ensures cause { HasCause (H.faults host.old) (H.faults host.new) result }
 {
-    let board = board_of(alloc, &component)?;
+    // A design numbers its domains, so there are few of them.
+    let _ = ranked.design.domains();
+    let board = board_of(alloc, &ranked.design)?;
     let text = script_text(alloc, host, plan.script)?;
     match read_script(alloc, &board, &text) {
         Ok(events) => Ok(Verdict::Accepted(Accepted {
-            component,
+            ranked,
             board,
             events,
         })),

@@ -1,16 +1,12 @@
 // What the trace and the script see of a design.
-ghost use Rattle.std.specs.Prelude.{◌≡◌, ◌≤◌, length, IfOk};
-ghost use Rattle.shape_rules.specs.Forms.{unsigned};
-ghost use Rattle.amh_tool.specs.Form.{IsSound};
-ghost use Rattle.amh_tool.specs.Elaborated.{circuit_of, sync};
-ghost use Rattle.amh_tool.specs.Boards.{board_of};
-ghost use Rattle.amh_tool.specs.Nets.{is_input_drive, is_register_drive, has_register};
-ghost use Rattle.amh_tool.specs.NetColumns.{net_column, net_columns, net_domains};
+ghost use Rattle.std.specs.Prelude.{◌≡◌, ◌<◌, false, fold, length, map, slice_set, IfOk};
+ghost use Rattle.delta_sim.specs.Reading.{AreFirst};
+ghost use Rattle.design_ir.specs.Tests.{is_settable};
+ghost use Rattle.amh_tool.specs.BoardMarks.{mark_input, unmark_clock};
+ghost use Rattle.amh_tool.specs.Boards.{board_of, shown_of};
 
-use crate::form::Component;
-use crate::nets::{Drive, Net, nets_of};
 use amh_host::{Items, NoMemory, Text};
-use design_ir::{Domain, SigId};
+use design_ir::{Column, Design, Domain, DomainId, Port, SigId};
 use shape_rules::Shape;
 use std::alloc::Global;
 
@@ -31,97 +27,114 @@ pub struct Board {
     pub domains: Items<Domain>,
 }
 
-/// The columns and domains of the design that the component stands for.
-pub fn board_of(alloc: Global, component: &Component) -> Result<Board, NoMemory>
-    requires { IsSound component.now }
-    ensures { IfOk result (λ b. b ≡ board_of (circuit_of component.now)) }
+/// The columns and domains of a design, in time that is linear in its signals, ports, columns and domains.
+pub fn board_of(alloc: Global, design: &Design) -> Result<Board, NoMemory>
+    ensures { IfOk result (λ b. b ≡ board_of design.now) }
 {
-    let nets = nets_of(alloc, component)?;
-    let clocked = has_register(nets.as_slice());
+    let settable = settable_signals(alloc, design)?;
     Ok(Board {
-        columns: columns_of(alloc, clocked, nets.as_slice())?,
-        domains: domains_of(alloc, clocked)?,
+        columns: all_columns(alloc, design, settable.as_slice())?,
+        domains: all_domains(alloc, design)?,
     })
 }
 
-// A column for each net.
-fn columns_of(alloc: Global, clocked: bool, nets: &[Net]) -> Result<Items<Shown>, NoMemory>
-    requires { length nets.now ≤ 16384 }
-    ensures { IfOk result (λ columns. columns ≡ net_columns clocked 0 nets.now) }
+// For each signal, whether a script may set it.
+fn settable_signals(alloc: Global, design: &Design) -> Result<Vec<bool>, NoMemory>
+    ensures { IfOk result (λ v. AreFirst false (is_settable design.now) (length design.now.pool.signals) v.items) }
 {
+    let mut marks = vec![in alloc; false; design.signals() as usize]?;
+    mark_inputs(design, &mut marks);
+    unmark_clocks(design, &mut marks);
+    Ok(marks)
+}
+
+fn mark_inputs(design: &Design, marks: &mut [bool])
+    ensures { marks.new ≡ fold mark_input marks.old design.now.ports }
+{
+    for i in 0..design.ports() {
+        mark_input(design.port(i), marks);
+    }
+}
+
+fn mark_input(port: &Port, marks: &mut [bool])
+    ensures { marks.new ≡ mark_input marks.old port.now }
+{
+    if port.is_input {
+        put_mark(marks, port.sig, true);
+    }
+}
+
+fn unmark_clocks(design: &Design, marks: &mut [bool])
+    ensures { marks.new ≡ fold unmark_clock marks.old design.now.domains }
+{
+    for d in 0..design.domains() {
+        put_mark(marks, design.domain(DomainId(d)).clk, false);
+    }
+}
+
+fn put_mark(marks: &mut [bool], sig: SigId, mark: bool)
+    ensures { marks.new ≡ slice_set marks.old sig.0 mark }
+{
+    let s = sig.0 as usize;
+    if s < marks.len() {
+        marks[s] = mark;
+    }
+}
+
+fn all_columns(alloc: Global, design: &Design, settable: &[bool]) -> Result<Items<Shown>, NoMemory>
+    requires { AreFirst false (is_settable design.now) (length design.now.pool.signals) settable.now }
+    ensures { IfOk result (λ columns. columns ≡ map (shown_of design.now) design.now.columns) }
+{
+    let _ = design.processes();
     let mut columns = Items::new(alloc);
-    for (s, net) in nets.iter().enumerate() {
-        columns.push(column_of(alloc, clocked, s as u32, net)?)?;
+    for i in 0..design.columns() {
+        columns.push(shown_column(alloc, design, settable, design.column(i))?)?;
     }
     Ok(columns)
 }
 
-// The column of a net. Where there are registers, the first net is the clock.
-fn column_of(alloc: Global, clocked: bool, number: u32, net: &Net) -> Result<Shown, NoMemory>
-    ensures { IfOk result (λ x. x ≡ net_column clocked number net.now) }
+fn shown_column(
+    alloc: Global,
+    design: &Design,
+    settable: &[bool],
+    column: &Column,
+) -> Result<Shown, NoMemory>
+    requires settable { AreFirst false (is_settable design.now) (length design.now.pool.signals) settable.now }
+    requires there { column.now.sig.0 < length design.now.pool.signals }
+    ensures { IfOk result (λ x. x ≡ shown_of design.now column.now) }
 {
-    let is_clock = clocked && number == 0;
     Ok(Shown {
-        name: text_of(alloc, net.name.as_str())?,
-        sig: SigId(number),
-        shape: one_bit(),
-        is_settable: is_input(net.drive) && !is_clock,
+        name: copied_text(alloc, &column.name)?,
+        sig: column.sig,
+        shape: design.sig_at(column.sig).shape,
+        is_settable: settable[column.sig.0 as usize],
     })
 }
 
-// The domain that registers stand in.
-fn domains_of(alloc: Global, clocked: bool) -> Result<Items<Domain>, NoMemory>
-    ensures { IfOk result (λ domains. domains ≡ net_domains clocked) }
+fn all_domains(alloc: Global, design: &Design) -> Result<Items<Domain>, NoMemory>
+    ensures { IfOk result (λ domains. domains ≡ design.now.domains) }
 {
     let mut domains = Items::new(alloc);
-    if clocked {
-        domains.push(sync(alloc)?)?;
+    for d in 0..design.domains() {
+        domains.push(copied_domain(alloc, design.domain(DomainId(d)))?)?;
     }
     Ok(domains)
 }
 
-fn sync(alloc: Global) -> Result<Domain, NoMemory>
-    ensures { IfOk result (λ d. d ≡ sync) }
+fn copied_domain(alloc: Global, domain: &Domain) -> Result<Domain, NoMemory>
+    ensures { IfOk result (λ d. d ≡ domain.now) }
 {
     Ok(Domain {
-        name: text_of(alloc, "sync")?,
-        clk: SigId(0),
-        rst: Some(SigId(1)),
+        name: copied_text(alloc, &domain.name)?,
+        clk: domain.clk,
+        rst: domain.rst,
     })
 }
 
-fn text_of(alloc: Global, s: &str) -> Result<Text, NoMemory>
-    ensures { IfOk result (λ text. text ≡ s.now) }
+fn copied_text(alloc: Global, text: &Text) -> Result<Text, NoMemory>
+    ensures { IfOk result (λ copy. copy ≡ text.now) }
 {
-    let mut text = Text::new(alloc);
-    text.push(s)?;
-    Ok(text)
-}
-
-fn has_register(nets: &[Net]) -> bool
-    ensures { result ≡ has_register nets.now }
-{
-    nets.iter().any(|net| is_register(net.drive))
-}
-
-fn is_register(drive: Drive) -> bool
-    ensures { result ≡ is_register_drive drive }
-{
-    matches!(drive, Drive::Clocked(_))
-}
-
-fn is_input(drive: Drive) -> bool
-    ensures { result ≡ is_input_drive drive }
-{
-    matches!(drive, Drive::Input)
-}
-
-// The shape of every signal.
-fn one_bit() -> Shape
-    ensures { result ≡ unsigned 1 }
-{
-    Shape {
-        width: 1,
-        signed: false,
-    }
+    let mut copy = Text::new(alloc);
+    copy.push(text.as_str())?;
+    Ok(copy)
 }

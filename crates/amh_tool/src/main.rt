@@ -2,26 +2,18 @@
 //! port after every event of a script.
 //!
 //! `run` is the whole of it, over any host. Its clauses say what is proved of the program: specs/Headline.antt has
-//! their words, and specs/Outcome.antt what the words and the files ask for. `main` makes the real host and calls it.
+//! their words, specs/Outcome.antt what the words and the files ask for, and specs/Designs.antt what a design file stands
+//! for. `main` makes the real host and calls it.
 #![tactic(auto)]
 
 mod accept;
 mod board;
-mod cells;
-mod component;
-mod form;
-mod form_lines;
-mod form_names;
-mod form_rules;
-mod form_sides;
-mod lower;
-mod net_ids;
-mod nets;
+mod design_text;
+mod laws;
 mod perform;
 mod plan;
 mod play;
 mod run;
-mod running;
 mod script;
 mod script_edge;
 mod script_line;
@@ -29,9 +21,9 @@ mod script_names;
 mod script_numbers;
 mod script_saying;
 mod script_words;
-mod sim;
 #[cfg(test)]
 mod tests;
+mod text_lines;
 mod texts;
 mod trace;
 mod trace_events;

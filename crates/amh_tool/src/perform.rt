@@ -6,11 +6,11 @@ ghost use Rattle.amh_tool.specs.Views.{plan_seen};
 ghost use Rattle.amh_tool.specs.Work.{Carries, CarriesPart};
 
 use crate::accept::Accepted;
-use crate::lower::lower;
 use crate::plan::Plan;
 use crate::texts::done_text;
 use crate::trace::write_trace;
 use amh_host::{Host, HostStop};
+use netlist::lower;
 use rtlil_text::write;
 use std::alloc::Global;
 
@@ -26,7 +26,7 @@ pub fn perform<H: Host>(
     ensures err { OnErr result (CarriesPart (plan_seen plan.now) (accepted_seen accepted.now) (H.seen host.old) (H.seen host.new)) }
     ensures cause { HasCause (H.faults host.old) (H.faults host.new) result }
 {
-    let module = lower(alloc, &accepted.component)?;
+    let module = lower(alloc, &accepted.ranked.design, &accepted.ranked.ranks)?;
     write(alloc, &module, host, plan.il)?;
     write_trace(alloc, host, plan.trace, accepted)?;
     let text = done_text(alloc, accepted.board.columns.len(), accepted.events.len())?;

@@ -1,10 +1,10 @@
 // The whole program: what the words ask for, carried out.
-ghost use Rattle.std.specs.Prelude.{◌≡◌, ◌<◌, ◌⊎◌, ℕ, List, Some, OnErr, IfOk};
+ghost use Rattle.std.specs.Prelude.{◌≡◌, ◌<◌, ℕ, List, Some, OnErr, IfOk};
 ghost use Rattle.amh_host.specs.Seen.{Files, file_of};
 ghost use Rattle.amh_host.specs.Causes.{HasCause, Rose};
 ghost use Rattle.amh_tool.specs.Plan.{plan_of};
-ghost use Rattle.amh_tool.specs.Outcome.{outcome, names, code_of};
-ghost use Rattle.amh_tool.specs.Headline.{Tells, IsPlain, IfAccepted, IsAccepted, HoldsRtlil, HoldsTrace, IsWritten};
+ghost use Rattle.amh_tool.specs.Outcome.{Outcome, IsOutcome, names, code_of};
+ghost use Rattle.amh_tool.specs.Headline.{HasOutcome, Tells, IsPlain, IfAccepted, IsAccepted, HoldsRtlil, HoldsTrace, IsWritten};
 ghost use Rattle.amh_tool.specs.Work.{Works, Fails, FaultsAfter};
 
 use crate::accept::{Verdict, accept};
@@ -63,18 +63,18 @@ pub fn run<H: Host, L: Ledger>(
 ) -> Status
     // The answer and the texts are those that the words and the files ask for.
     ensures texts { (files : Files) → (H.seen host.old).files ≡ Some files → IsPlain result (H.faults host.old) (H.faults host.new)
-        → Tells words.now (outcome words.now files) result (H.seen host.old) (H.seen host.new) }
+        → HasOutcome words.now files (λ o. Tells words.now o result (H.seen host.old) (H.seen host.new)) }
 
     // The text of RTLIL, read back by its grammar and evaluated by its cells, has the history of the source.
     ensures rtlil { (files : Files) → (H.seen host.old).files ≡ Some files → IsPlain result (H.faults host.old) (H.faults host.new)
-        → IfAccepted (outcome words.now files) (λ c rows end. HoldsRtlil (H.seen host.new) (names words.now).il c) }
+        → HasOutcome words.now files (λ o. IfAccepted o (λ c rows end. HoldsRtlil (H.seen host.new) (names words.now).il c)) }
 
     // The trace is the text of that history over the events of the script.
     ensures trace { (files : Files) → (H.seen host.old).files ≡ Some files → IsPlain result (H.faults host.old) (H.faults host.new)
-        → IfAccepted (outcome words.now files) (λ c rows end. HoldsTrace (H.seen host.new) (names words.now).trace c rows end) }
+        → HasOutcome words.now files (λ o. IfAccepted o (λ c rows end. HoldsTrace (H.seen host.new) (names words.now).trace c rows end)) }
 
     // Where nothing is accepted, each file is as before, whatever the answer.
-    ensures untouched { (files : Files) → (H.seen host.old).files ≡ Some files → (IsAccepted (outcome words.now files) → ⊥)
+    ensures untouched { (files : Files) → (H.seen host.old).files ≡ Some files → ((o : Outcome) → IsOutcome words.now files o → IsAccepted o → ⊥)
         → (H.seen host.new).files ≡ (H.seen host.old).files }
 
     // No other file changes.
@@ -84,9 +84,9 @@ pub fn run<H: Host, L: Ledger>(
     ensures part { result ≡ Status.Fault → FaultsAfter (plan_of words.now) (H.seen host.old) (H.seen host.new) }
     ensures memory { result ≡ Status.NoMemory → Fails (plan_of words.now) (H.seen host.old) (H.seen host.new) }
 
-    // A fault has its cause, and a cause is answered.
+    // A fault has its cause, and a cause is answered, by a fault alone.
     ensures fault { result ≡ Status.Fault → Rose (H.faults host.old) (H.faults host.new) }
-    ensures told { H.faults host.old < H.faults host.new → (result ≡ Status.Fault) ⊎ (result ≡ Status.NoMemory) }
+    ensures told { H.faults host.old < H.faults host.new → result ≡ Status.Fault }
     ensures counted { steps.new ≡ steps.old }
 {
     let _ = steps;

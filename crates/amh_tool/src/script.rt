@@ -4,11 +4,11 @@ ghost use Rattle.amh_tool.specs.Script.{script_events};
 ghost use Rattle.amh_tool.specs.ScriptGives.{ScriptGives};
 
 use crate::board::Board;
-use crate::form_lines::first_line;
 use crate::script_line::says;
 use crate::script_names::settable_numbers;
 use crate::script_saying::Saying;
 use crate::script_words::content;
+use crate::text_lines::first_line;
 use amh_host::{Items, NoMemory};
 use design_ir::Event;
 use std::alloc::Global;

@@ -2,8 +2,8 @@
 ghost use Rattle.std.specs.Prelude.{◌≡◌, IfOk, string_bytes};
 ghost use Rattle.amh_tool.specs.Outcome.{kind_text, refusal_text, bad_line_text, done_text, fault_text, usage_text};
 
-use crate::component::Refusal;
 use amh_host::Kind;
+use component_form::Refusal;
 use std::alloc::{AllocError, Global};
 
 const USAGE: &str =

@@ -1,23 +1,29 @@
 // The trace of a script, row by row.
-ghost use Rattle.std.specs.Prelude.{List, ℕ};
+ghost use Rattle.std.specs.Prelude.{◌≡◌, ◌<◌, ◌++◌, ◌∷◌, [], List, ℕ, ℤ, MatchResult};
 ghost use Rattle.std.specs.List.{flat_map};
 ghost use Rattle.amh_host.specs.Seen.{written};
 ghost use Rattle.amh_host.specs.Calls.{Adds};
 ghost use Rattle.amh_host.specs.Causes.{HasCause};
 ghost use Rattle.amh_host.specs.Written.{Writes};
+ghost use Rattle.design_ir.specs.declared.event.Event.{Event};
+ghost use Rattle.design_ir.specs.Histories.{History};
+ghost use Rattle.design_ir.specs.Legal.{IsLegal, AllLegal};
+ghost use Rattle.comb_graph.specs.Laws.{HasOneHistory};
+ghost use Rattle.delta_sim.specs.Standing.{IsSimOf, Stands};
 ghost use Rattle.amh_tool.specs.Headline.{IsTrace};
-ghost use Rattle.amh_tool.specs.Elaborated.{circuit_of};
 ghost use Rattle.amh_tool.specs.Trace.{timed, column_line, row_lines, Done};
-ghost use Rattle.amh_tool.specs.Running.{later, first_held};
-ghost use Rattle.amh_tool.specs.Simulated.{IsStarted};
 ghost use Rattle.amh_tool.specs.Verdicts.{IsFitting};
 
 use crate::accept::Accepted;
 use crate::board::Shown;
-use crate::sim::Sim;
 use crate::trace_lines::{column_line, done_line, first_line, head_line, row_line};
-use amh_host::{Host, HostStop};
+use amh_host::{Host, HostStop, NoMemory, Steps};
+use comb_graph::ordered_have_one_history;
+use delta_sim::Sim;
+use design_ir::{Design, Event, Exprs};
 use std::alloc::Global;
+use std::marker::Brand;
+use std::sync::ledger::{Blank, Ledger};
 
 /// Writes the trace of the events. Each line is one `put`.
 pub fn write_trace<H: Host>(
@@ -27,10 +33,11 @@ pub fn write_trace<H: Host>(
     accepted: &Accepted,
 ) -> Result<(), HostStop>
     requires { IsFitting accepted.now }
-    ensures text { (text : List ℕ) × IsTrace text (circuit_of accepted.now.component) (timed 1 accepted.now.events) Done × Writes name.now text result (H.seen host.old) (H.seen host.new) }
+    ensures text { (text : List ℕ) × IsTrace text accepted.now.ranked.design (timed 1 accepted.now.events) Done × Writes name.now text result (H.seen host.old) (H.seen host.new) }
     ensures cause { HasCause (H.faults host.old) (H.faults host.new) result }
 {
-    let sim = Sim::start(alloc, &accepted.component)?;
+    has_one_history(accepted);
+    let sim = Sim::start(alloc, &accepted.ranked.design, &accepted.ranked.ranks)?;
     let first = first_line(alloc, &accepted.board, sim.values())?;
     host.start(name)?;
     host.put(name, head_line())?;
@@ -38,6 +45,16 @@ pub fn write_trace<H: Host>(
     host.put(name, first.as_bytes())?;
     put_rows(alloc, host, name, accepted, sim)?;
     host.put(name, done_line())
+}
+
+// Whatever legal events come, an accepted design has one history. It does nothing: its clause is the law.
+fn has_one_history(accepted: &Accepted)
+    requires { IsFitting accepted.now }
+    ensures { (events : List Event) → AllLegal accepted.now.ranked.design events → HasOneHistory accepted.now.ranked.design events }
+{
+    ordered_have_one_history();
+    let _ = accepted.ranked.design.count();
+    let _ = accepted.ranked.design.processes();
 }
 
 fn put_columns<H: Host>(
@@ -56,7 +73,7 @@ fn put_columns<H: Host>(
     Ok(())
 }
 
-// A row for each event, from the component before any of them on.
+// A row for each event, from the design before any of them on.
 fn put_rows<H: Host>(
     alloc: Global,
     host: &mut H,
@@ -65,24 +82,56 @@ fn put_rows<H: Host>(
     sim: Sim,
 ) -> Result<(), HostStop>
     requires fitting { IsFitting accepted.now }
-    requires first { IsStarted accepted.now.component sim }
-    ensures done { Adds (written name.now) (row_lines accepted.now.board (timed 1 accepted.now.events) sim.values (later sim.nets (first_held sim.nets) accepted.now.events)) result (H.seen host.old) (H.seen host.new) }
+    requires first { Stands accepted.now.ranked.design [] sim }
+    ensures done { (envs : List (List ℤ)) → History accepted.now.ranked.design accepted.now.events (sim.env ∷ envs)
+        → Adds (written name.now) (row_lines accepted.now.board (timed 1 accepted.now.events) sim.env envs) result (H.seen host.old) (H.seen host.new) }
     ensures cause { HasCause (H.faults host.old) (H.faults host.new) result }
 {
+    has_one_history(accepted);
     let mut sim = sim;
     let mut time = 0;
     for event in accepted.events.as_slice() {
         time += 1;
-        sim.apply(event);
+        let before = Vec::from_slice(alloc, sim.values())?;
+        apply(&mut sim, &accepted.ranked.design, event)?;
         let line = row_line(
             alloc,
             &accepted.board,
             time,
             event,
-            sim.before(),
+            before.as_slice(),
             sim.values(),
         )?;
         host.put(name, line.as_bytes())?;
     }
     Ok(())
+}
+
+// What an event does, with a counter of steps of its own: nothing is said yet of how many a simulator takes.
+fn apply(sim: &mut Sim, design: &Design, event: &Event) -> Result<(), NoMemory>
+    requires flat { design.now.memories ≡ [] }
+    requires legal { IsLegal design.now event.now }
+    requires of_design { IsSimOf design.now sim.old }
+    ensures of_design { IsSimOf design.now sim.new }
+    ensures lives { (events : List Event) → Stands design.now events sim.old → MatchResult result (λ _. Stands design.now (events ++ event.now ∷ []) sim.new) (λ _. Stands design.now events sim.new) }
+{
+    counted_apply::<Brand>(sim, design, event, Blank::new(1))
+}
+
+// The ledger of the counter is picked at the call, so the counter is made below it.
+fn counted_apply<L: Ledger>(
+    sim: &mut Sim,
+    design: &Design,
+    event: &Event,
+    blank: Blank,
+) -> Result<(), NoMemory>
+    requires blank { (blank.name ≡ L.name) × (blank.parts ≡ L.parts) × (0 < L.parts) }
+    requires flat { design.now.memories ≡ [] }
+    requires legal { IsLegal design.now event.now }
+    requires of_design { IsSimOf design.now sim.old }
+    ensures of_design { IsSimOf design.now sim.new }
+    ensures lives { (events : List Event) → Stands design.now events sim.old → MatchResult result (λ _. Stands design.now (events ++ event.now ∷ []) sim.new) (λ _. Stands design.now events sim.new) }
+{
+    let mut steps = Steps::<L>::new(blank);
+    sim.apply(design, event, &mut steps)
 }

@@ -7,7 +7,6 @@ use Rattle.amh_host.proofs.SeenLaws.{AddsFront-nothing, with_said-nil}
 use Rattle.amh_tool.specs.declared.board.Board.{Board}
 use Rattle.amh_tool.specs.Trace.{timed, Done}
 use Rattle.amh_tool.specs.Boards.{shown_of}
-use Rattle.amh_tool.specs.Elaborated.{circuit_of}
 use Rattle.amh_tool.specs.Headline.{StandsFor}
 use Rattle.amh_tool.specs.Outcome.{Accepts, done_text, said_of}
 use Rattle.amh_tool.specs.Views.{plan_seen}
@@ -20,7 +19,7 @@ returns-in_err-write-clause-err g c =
     let old = g.H.Host.seen c.args.host.now in
     let p = plan_seen c.args.plan.now in
     let a = c.args.accepted.now in
-    let d = circuit_of a.component in
+    let d = a.ranked.design in
     let rows = timed 1 a.events in
     let il = c.write.ensures.text.0 in
     let stands : StandsFor il d = record { netlist = c.in_ok-module.module; reads = c.write.ensures.text.1; corresponds = c.in_ok-module.ensures.corresponds; same_history = c.in_ok-module.ensures.history } in
@@ -31,7 +30,7 @@ returns-in_err-write_trace-clause-err g c =
     let old = g.H.Host.seen c.args.host.now in
     let p = plan_seen c.args.plan.now in
     let a = c.args.accepted.now in
-    let d = circuit_of a.component in
+    let d = a.ranked.design in
     let rows = timed 1 a.events in
     let il = c.write.ensures.text.0 in
     let stands : StandsFor il d = record { netlist = c.in_ok-module.module; reads = c.write.ensures.text.1; corresponds = c.in_ok-module.ensures.corresponds; same_history = c.in_ok-module.ensures.history } in
@@ -47,7 +46,7 @@ returns-in_err-text-clause-err g c =
     let old = g.H.Host.seen c.args.host.now in
     let p = plan_seen c.args.plan.now in
     let a = c.args.accepted.now in
-    let d = circuit_of a.component in
+    let d = a.ranked.design in
     let rows = timed 1 a.events in
     let il = c.write.ensures.text.0 in
     let stands : StandsFor il d = record { netlist = c.in_ok-module.module; reads = c.write.ensures.text.1; corresponds = c.in_ok-module.ensures.corresponds; same_history = c.in_ok-module.ensures.history } in
@@ -63,7 +62,7 @@ returns-clause-done g c =
     let old = g.H.Host.seen c.args.host.now in
     let p = plan_seen c.args.plan.now in
     let a = c.args.accepted.now in
-    let d = circuit_of a.component in
+    let d = a.ranked.design in
     let rows = timed 1 a.events in
     let il = c.write.ensures.text.0 in
     let stands : StandsFor il d = record { netlist = c.in_ok-module.module; reads = c.write.ensures.text.1; corresponds = c.in_ok-module.ensures.corresponds; same_history = c.in_ok-module.ensures.history } in
@@ -85,7 +84,7 @@ returns-clause-err g c =
     let old = g.H.Host.seen c.args.host.now in
     let p = plan_seen c.args.plan.now in
     let a = c.args.accepted.now in
-    let d = circuit_of a.component in
+    let d = a.ranked.design in
     let rows = timed 1 a.events in
     let il = c.write.ensures.text.0 in
     let stands : StandsFor il d = record { netlist = c.in_ok-module.module; reads = c.write.ensures.text.1; corresponds = c.in_ok-module.ensures.corresponds; same_history = c.in_ok-module.ensures.history } in

@@ -3,7 +3,7 @@ use Rattle.std.specs.Prelude.{Some, IfSome}
 use Rattle.amh_host.specs.Seen.{Seen, with_warned}
 use Rattle.amh_host.specs.Calls.{AddsFront}
 use Rattle.amh_tool.specs.Plan.{plan_of}
-use Rattle.amh_tool.specs.Outcome.{Refuses, BadLine, planned, refusal_text, bad_line_text}
+use Rattle.amh_tool.specs.Outcome.{Refuses, BadLine, IsPlanned, refusal_text, bad_line_text}
 use Rattle.amh_tool.specs.Views.{plan_seen}
 use Rattle.amh_tool.specs.Verdicts.{verdict_seen, accepted_seen}
 use Rattle.amh_tool.specs.Work.{Carries, CarriesPart}
@@ -20,7 +20,7 @@ returns-in_err-warn-in-Refused-clause-err g c =
     let text : c.as_str.result.now ≡ refusal_text p.design c.in-Refused.why = c.as_str.ensures.value ∙ c.in_ok-text-in-Refused.ensures in
     on_err _ (fails_for (plan_of c.args.words.now) p old new is (
       Refuses c.in-Refused.why,
-      subst (λ (v : Verdict). IfSome old.files (λ files. planned p files ≡ verdict_seen v)) c.in-Refused.is c.in_ok-why.ensures.given,
+      subst (λ (v : Verdict). IfSome old.files (λ files. IsPlanned p files (verdict_seen v))) c.in-Refused.is c.in_ok-why.ensures.given,
       subst (λ (b : List ℕ). AddsFront with_warned b old new) text
           (subst (λ (s : Seen). AddsFront with_warned c.as_str.result.now s new) c.in_ok-why.ensures.same c.in_err-warn-in-Refused.ensures.done),
     ))
@@ -34,7 +34,7 @@ returns-in_ok-warn-in-Refused-clause-done g c =
     let text : c.as_str.result.now ≡ refusal_text p.design c.in-Refused.why = c.as_str.ensures.value ∙ c.in_ok-text-in-Refused.ensures in
     works_for (plan_of c.args.words.now) p _ old new is (record {
       found = Refuses c.in-Refused.why;
-      is_for = subst (λ (v : Verdict). IfSome old.files (λ files. planned p files ≡ verdict_seen v)) c.in-Refused.is c.in_ok-why.ensures.given;
+      is_for = subst (λ (v : Verdict). IfSome old.files (λ files. IsPlanned p files (verdict_seen v))) c.in-Refused.is c.in_ok-why.ensures.given;
       status = refl;
       carries = c.in_ok-warn-in-Refused.ensures.done ∙ (λ i. with_warned (text i) (c.in_ok-why.ensures.same i));
     })
@@ -48,7 +48,7 @@ returns-in_err-warn-in-BadLine-clause-err g c =
     let text : c.as_str-in-BadLine.result.now ≡ bad_line_text p.script c.in-BadLine.line = c.as_str-in-BadLine.ensures.value ∙ c.in_ok-text-in-BadLine.ensures in
     on_err _ (fails_for (plan_of c.args.words.now) p old new is (
       BadLine c.in-BadLine.line,
-      subst (λ (v : Verdict). IfSome old.files (λ files. planned p files ≡ verdict_seen v)) c.in-BadLine.is c.in_ok-why.ensures.given,
+      subst (λ (v : Verdict). IfSome old.files (λ files. IsPlanned p files (verdict_seen v))) c.in-BadLine.is c.in_ok-why.ensures.given,
       subst (λ (b : List ℕ). AddsFront with_warned b old new) text
           (subst (λ (s : Seen). AddsFront with_warned c.as_str-in-BadLine.result.now s new) c.in_ok-why.ensures.same c.in_err-warn-in-BadLine.ensures.done),
     ))
@@ -62,7 +62,7 @@ returns-in_ok-warn-in-BadLine-clause-done g c =
     let text : c.as_str-in-BadLine.result.now ≡ bad_line_text p.script c.in-BadLine.line = c.as_str-in-BadLine.ensures.value ∙ c.in_ok-text-in-BadLine.ensures in
     works_for (plan_of c.args.words.now) p _ old new is (record {
       found = BadLine c.in-BadLine.line;
-      is_for = subst (λ (v : Verdict). IfSome old.files (λ files. planned p files ≡ verdict_seen v)) c.in-BadLine.is c.in_ok-why.ensures.given;
+      is_for = subst (λ (v : Verdict). IfSome old.files (λ files. IsPlanned p files (verdict_seen v))) c.in-BadLine.is c.in_ok-why.ensures.given;
       status = refl;
       carries = c.in_ok-warn-in-BadLine.ensures.done ∙ (λ i. with_warned (text i) (c.in_ok-why.ensures.same i));
     })
@@ -75,7 +75,7 @@ returns-in_err-perform-in-Accepted-clause-err g c =
     let is : plan_of c.args.words.now ≡ Some p = plan_is plan_seen c.plan_of.result c.in-Some.plan (plan_of c.args.words.now) c.in-Some.is (c.plan_of.ensures ∙ ap plan_of c.items.ensures) in
     on_err _ (fails_for (plan_of c.args.words.now) p old new is (
       accepted_seen c.in-Accepted.accepted,
-      subst (λ (v : Verdict). IfSome old.files (λ files. planned p files ≡ verdict_seen v)) c.in-Accepted.is c.in_ok-why.ensures.given,
+      subst (λ (v : Verdict). IfSome old.files (λ files. IsPlanned p files (verdict_seen v))) c.in-Accepted.is c.in_ok-why.ensures.given,
       subst (λ (s : Seen). CarriesPart p (accepted_seen c.in-Accepted.accepted) s new) c.in_ok-why.ensures.same c.in_err-perform-in-Accepted.ensures.err,
     ))
 
@@ -87,7 +87,7 @@ returns-in_ok-perform-in-Accepted-clause-done g c =
     let is : plan_of c.args.words.now ≡ Some p = plan_is plan_seen c.plan_of.result c.in-Some.plan (plan_of c.args.words.now) c.in-Some.is (c.plan_of.ensures ∙ ap plan_of c.items.ensures) in
     works_for (plan_of c.args.words.now) p _ old new is (record {
       found = accepted_seen c.in-Accepted.accepted;
-      is_for = subst (λ (v : Verdict). IfSome old.files (λ files. planned p files ≡ verdict_seen v)) c.in-Accepted.is c.in_ok-why.ensures.given;
+      is_for = subst (λ (v : Verdict). IfSome old.files (λ files. IsPlanned p files (verdict_seen v))) c.in-Accepted.is c.in_ok-why.ensures.given;
       status = refl;
       carries = subst (λ (s : Seen). Carries p (accepted_seen c.in-Accepted.accepted) s new) c.in_ok-why.ensures.same c.in_ok-perform-in-Accepted.ensures.done;
     })

@@ -1,5 +1,5 @@
 use Rattle.std.proofs.Common.{◌≡◌, ◌≤◌, ◌+◌, length}
-use Rattle.amh_tool.specs.FormLines.{lines_in}
+use Rattle.amh_tool.specs.TextLines.{lines_in}
 use Rattle.amh_tool.specs.Script.{events_from, most_bytes, most_events}
 use Rattle.amh_tool.proofs.ScriptEvents.{behind_events}
 use Rattle.amh_tool.proofs.script.read_script.Given as goal

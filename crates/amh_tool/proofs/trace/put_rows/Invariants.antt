@@ -1,21 +1,21 @@
-use Rattle.std.proofs.Common.{◌≡◌, ◌++◌, suc, drop, ℕ, ℤ, List}
+use Rattle.std.proofs.Common.{◌≡◌, ◌++◌, ◌∷◌, drop, ℕ, ℤ, List}
 use Rattle.amh_host.specs.Seen.{written}
-use Rattle.design_ir.specs.Legal.{AllLegal}
-use Rattle.amh_tool.specs.Elaborated.{circuit_of}
-use Rattle.amh_tool.specs.Running.{settled, later, first_held}
+use Rattle.design_ir.specs.declared.event.Event.{Event}
+use Rattle.design_ir.specs.Histories.{History}
+use Rattle.delta_sim.specs.Standing.{Stands}
 use Rattle.amh_tool.specs.Trace.{row_lines, timed}
-use Rattle.amh_tool.proofs.TraceLaws.{IsSettledFrom}
+use Rattle.amh_tool.proofs.TraceLaws.{GoesOn}
 use Rattle.amh_tool.proofs.trace.put_rows.Given as goal
 
 abbrev pub invariant-loop-event : goal.invariant-loop-event
 invariant-loop-event g l = record {
   faults : g.H.Host.faults l.host ≡ g.H.Host.faults l.fn.host;
   time : l.time ≡ l.event-index;
-  held : List ℤ;
-  sim : IsSettledFrom l.fn.sim.nets held l.sim;
-  legal : AllLegal (circuit_of l.accepted.component) (drop l.event-index l.event-items);
+  gone : List Event;
+  whole : gone ++ drop l.event-index l.event-items ≡ l.event-items;
+  stands : Stands l.accepted.ranked.design gone l.sim;
   so_far : List ℕ;
   seen : g.H.Host.seen l.host ≡ written l.name so_far (g.H.Host.seen l.fn.host);
-  rest : so_far ++ row_lines l.accepted.board (timed (suc l.time) (drop l.event-index l.event-items)) (settled l.fn.sim.nets held) (later l.fn.sim.nets held (drop l.event-index l.event-items))
-      ≡ row_lines l.accepted.board (timed 1 l.accepted.events) l.fn.sim.values (later l.fn.sim.nets (first_held l.fn.sim.nets) l.accepted.events);
+  rest : (envs : List (List ℤ)) → History l.accepted.ranked.design l.accepted.events (l.fn.sim.env ∷ envs)
+      → GoesOn l.accepted.ranked.design l.accepted.board l.time (drop l.event-index l.event-items) l.sim so_far (row_lines l.accepted.board (timed 1 l.accepted.events) l.fn.sim.env envs);
 }

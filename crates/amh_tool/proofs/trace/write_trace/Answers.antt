@@ -5,27 +5,26 @@ use Rattle.amh_host.specs.Seen.{written}
 use Rattle.amh_host.specs.Calls.{Adds, AddsFront}
 use Rattle.amh_host.proofs.SeenLaws.{IsAt, IsAt-put, IsAt-refused}
 use Rattle.rtlil_text.proofs.WriteLaws.{WritesFront-start, Writes-last}
-use Rattle.amh_tool.specs.Running.{later, first_held}
 use Rattle.amh_tool.specs.Trace.{Done, timed, head_line, done_line, column_line, first_line, row_lines, trace_text}
-use Rattle.amh_tool.proofs.TraceLaws.{started_of, nets_trace, trace_text-order}
+use Rattle.amh_tool.proofs.TraceLaws.{begins_with, has_trace, history_trace, trace_text-order}
 use Rattle.amh_tool.proofs.trace.write_trace.Goals as goal
 
 pub returns-in_err-sim-clause-text : goal.returns-in_err-sim-clause-text
 returns-in_err-sim-clause-text g c =
     let p = err_from_is_err_and c.from_residual.result c.from_residual.ensures.1 in
     let a = c.args.accepted.now in
-    let r = started_of a.component in
-    let envs = later r.0.nets (first_held r.0.nets) a.events in
-    (trace_text a.board (timed 1 a.events) (r.0.values ∷ envs) Done, nets_trace a r.0 c.requires r.1, rw p.1 (inl refl))
+    let trace = has_trace a c.requires (c.has_one_history.ensures a.events c.requires.legal) in
+    (trace.text, trace.is_trace, rw p.1 (inl refl))
 
 pub returns-in_err-first-clause-text : goal.returns-in_err-first-clause-text
 returns-in_err-first-clause-text g c =
     let p = err_from_is_err_and c.from_residual-in_err-first.result c.from_residual-in_err-first.ensures.1 in
     let a = c.args.accepted.now in
     let s = c.in_ok-sim.sim in
-    let envs = later s.nets (first_held s.nets) a.events in
-    let all = trace_text a.board (timed 1 a.events) (s.values ∷ envs) Done in
-    let trace = nets_trace a s c.requires c.in_ok-sim.ensures in
+    let begun = begins_with a.ranked.design a.events s c.has_one_history.ensures c.requires.legal c.in_ok-sim.ensures in
+    let envs = begun.envs in
+    let all = trace_text a.board (timed 1 a.events) (s.env ∷ envs) Done in
+    let trace = history_trace a (s.env ∷ envs) c.requires begun.is_history in
     (all, trace, rw p.1 (inl refl))
 
 pub returns-in_err-start-clause-text : goal.returns-in_err-start-clause-text
@@ -33,9 +32,10 @@ returns-in_err-start-clause-text g c =
     let p = err_from_is_err_and c.from_residual-in_err-start.result c.from_residual-in_err-start.ensures.1 in
     let a = c.args.accepted.now in
     let s = c.in_ok-sim.sim in
-    let envs = later s.nets (first_held s.nets) a.events in
-    let all = trace_text a.board (timed 1 a.events) (s.values ∷ envs) Done in
-    let trace = nets_trace a s c.requires c.in_ok-sim.ensures in
+    let begun = begins_with a.ranked.design a.events s c.has_one_history.ensures c.requires.legal c.in_ok-sim.ensures in
+    let envs = begun.envs in
+    let all = trace_text a.board (timed 1 a.events) (s.env ∷ envs) Done in
+    let trace = history_trace a (s.env ∷ envs) c.requires begun.is_history in
     (all, trace, rw p.1 (WritesFront-start c.args.name.now all (g.H.Host.seen c.args.host.now) (g.H.Host.seen c.start-2.new.self) c.in_err-start.ensures.done))
 
 pub returns-in_err-put-clause-text : goal.returns-in_err-put-clause-text
@@ -43,15 +43,16 @@ returns-in_err-put-clause-text g c =
     let p = err_from_is_err_and c.from_residual-in_err-put.result c.from_residual-in_err-put.ensures.1 in
     let a = c.args.accepted.now in
     let s = c.in_ok-sim.sim in
-    let envs = later s.nets (first_held s.nets) a.events in
-    let all = trace_text a.board (timed 1 a.events) (s.values ∷ envs) Done in
-    let trace = nets_trace a s c.requires c.in_ok-sim.ensures in
+    let begun = begins_with a.ranked.design a.events s c.has_one_history.ensures c.requires.legal c.in_ok-sim.ensures in
+    let envs = begun.envs in
+    let all = trace_text a.board (timed 1 a.events) (s.env ∷ envs) Done in
+    let trace = history_trace a (s.env ∷ envs) c.requires begun.is_history in
     let name = c.args.name.now in
     let old = g.H.Host.seen c.args.host.now in
     let columns = flat_map column_line a.board.columns in
-    let first = first_line a.board s.values in
-    let rows = row_lines a.board (timed 1 a.events) s.values envs in
-    let order : head_line ++ (columns ++ (first ++ (rows ++ done_line))) ≡ all = trace_text-order a.board (timed 1 a.events) s.values envs in
+    let first = first_line a.board s.env in
+    let rows = row_lines a.board (timed 1 a.events) s.env envs in
+    let order : head_line ++ (columns ++ (first ++ (rows ++ done_line))) ≡ all = trace_text-order a.board (timed 1 a.events) s.env envs in
     let s1 = g.H.Host.seen c.start-2.new.self in
     let at1 : IsAt name [] old s1 = record { seen = c.in_ok-start.ensures.done } in
     let s2 = g.H.Host.seen c.put.new.self in
@@ -63,15 +64,16 @@ returns-in_err-put_columns-clause-text g c =
     let p = err_from_is_err_and c.from_residual-in_err-put_columns.result c.from_residual-in_err-put_columns.ensures.1 in
     let a = c.args.accepted.now in
     let s = c.in_ok-sim.sim in
-    let envs = later s.nets (first_held s.nets) a.events in
-    let all = trace_text a.board (timed 1 a.events) (s.values ∷ envs) Done in
-    let trace = nets_trace a s c.requires c.in_ok-sim.ensures in
+    let begun = begins_with a.ranked.design a.events s c.has_one_history.ensures c.requires.legal c.in_ok-sim.ensures in
+    let envs = begun.envs in
+    let all = trace_text a.board (timed 1 a.events) (s.env ∷ envs) Done in
+    let trace = history_trace a (s.env ∷ envs) c.requires begun.is_history in
     let name = c.args.name.now in
     let old = g.H.Host.seen c.args.host.now in
     let columns = flat_map column_line a.board.columns in
-    let first = first_line a.board s.values in
-    let rows = row_lines a.board (timed 1 a.events) s.values envs in
-    let order : head_line ++ (columns ++ (first ++ (rows ++ done_line))) ≡ all = trace_text-order a.board (timed 1 a.events) s.values envs in
+    let first = first_line a.board s.env in
+    let rows = row_lines a.board (timed 1 a.events) s.env envs in
+    let order : head_line ++ (columns ++ (first ++ (rows ++ done_line))) ≡ all = trace_text-order a.board (timed 1 a.events) s.env envs in
     let s1 = g.H.Host.seen c.start-2.new.self in
     let at1 : IsAt name [] old s1 = record { seen = c.in_ok-start.ensures.done } in
     let s2 = g.H.Host.seen c.put.new.self in
@@ -87,15 +89,16 @@ returns-in_err-put-2-clause-text g c =
     let p = err_from_is_err_and c.from_residual-in_err-put-2.result c.from_residual-in_err-put-2.ensures.1 in
     let a = c.args.accepted.now in
     let s = c.in_ok-sim.sim in
-    let envs = later s.nets (first_held s.nets) a.events in
-    let all = trace_text a.board (timed 1 a.events) (s.values ∷ envs) Done in
-    let trace = nets_trace a s c.requires c.in_ok-sim.ensures in
+    let begun = begins_with a.ranked.design a.events s c.has_one_history.ensures c.requires.legal c.in_ok-sim.ensures in
+    let envs = begun.envs in
+    let all = trace_text a.board (timed 1 a.events) (s.env ∷ envs) Done in
+    let trace = history_trace a (s.env ∷ envs) c.requires begun.is_history in
     let name = c.args.name.now in
     let old = g.H.Host.seen c.args.host.now in
     let columns = flat_map column_line a.board.columns in
-    let first = first_line a.board s.values in
-    let rows = row_lines a.board (timed 1 a.events) s.values envs in
-    let order : head_line ++ (columns ++ (first ++ (rows ++ done_line))) ≡ all = trace_text-order a.board (timed 1 a.events) s.values envs in
+    let first = first_line a.board s.env in
+    let rows = row_lines a.board (timed 1 a.events) s.env envs in
+    let order : head_line ++ (columns ++ (first ++ (rows ++ done_line))) ≡ all = trace_text-order a.board (timed 1 a.events) s.env envs in
     let s1 = g.H.Host.seen c.start-2.new.self in
     let at1 : IsAt name [] old s1 = record { seen = c.in_ok-start.ensures.done } in
     let s2 = g.H.Host.seen c.put.new.self in
@@ -115,15 +118,16 @@ returns-in_err-put_rows-clause-text g c =
     let p = err_from_is_err_and c.from_residual-in_err-put_rows.result c.from_residual-in_err-put_rows.ensures.1 in
     let a = c.args.accepted.now in
     let s = c.in_ok-sim.sim in
-    let envs = later s.nets (first_held s.nets) a.events in
-    let all = trace_text a.board (timed 1 a.events) (s.values ∷ envs) Done in
-    let trace = nets_trace a s c.requires c.in_ok-sim.ensures in
+    let begun = begins_with a.ranked.design a.events s c.has_one_history.ensures c.requires.legal c.in_ok-sim.ensures in
+    let envs = begun.envs in
+    let all = trace_text a.board (timed 1 a.events) (s.env ∷ envs) Done in
+    let trace = history_trace a (s.env ∷ envs) c.requires begun.is_history in
     let name = c.args.name.now in
     let old = g.H.Host.seen c.args.host.now in
     let columns = flat_map column_line a.board.columns in
-    let first = first_line a.board s.values in
-    let rows = row_lines a.board (timed 1 a.events) s.values envs in
-    let order : head_line ++ (columns ++ (first ++ (rows ++ done_line))) ≡ all = trace_text-order a.board (timed 1 a.events) s.values envs in
+    let first = first_line a.board s.env in
+    let rows = row_lines a.board (timed 1 a.events) s.env envs in
+    let order : head_line ++ (columns ++ (first ++ (rows ++ done_line))) ≡ all = trace_text-order a.board (timed 1 a.events) s.env envs in
     let s1 = g.H.Host.seen c.start-2.new.self in
     let at1 : IsAt name [] old s1 = record { seen = c.in_ok-start.ensures.done } in
     let s2 = g.H.Host.seen c.put.new.self in
@@ -138,21 +142,22 @@ returns-in_err-put_rows-clause-text g c =
     let at4 : IsAt name ((head_line ++ columns) ++ first) old s4 = IsAt-put name (head_line ++ columns) first old s3 s4 at3 (c.in_ok-put-2.ensures.done ∙ ap (λ (b : List ℕ). written name b s3) first_is) in
     let order4 : (((head_line ++ columns) ++ first) ++ rows) ++ done_line ≡ all = append_assoc ((head_line ++ columns) ++ first) rows done_line ∙ order3 in
     let s5 = g.H.Host.seen c.put_rows.new.host in
-    (all, trace, rw p.1 (inr (IsAt-refused name ((head_line ++ columns) ++ first) rows done_line all old s4 s5 at4 order4 c.in_err-put_rows.ensures.done)))
+    (all, trace, rw p.1 (inr (IsAt-refused name ((head_line ++ columns) ++ first) rows done_line all old s4 s5 at4 order4 (c.in_err-put_rows.ensures.done envs begun.is_history.settles))))
 
 pub returns-clause-text : goal.returns-clause-text
 returns-clause-text g c =
     let a = c.args.accepted.now in
     let s = c.in_ok-sim.sim in
-    let envs = later s.nets (first_held s.nets) a.events in
-    let all = trace_text a.board (timed 1 a.events) (s.values ∷ envs) Done in
-    let trace = nets_trace a s c.requires c.in_ok-sim.ensures in
+    let begun = begins_with a.ranked.design a.events s c.has_one_history.ensures c.requires.legal c.in_ok-sim.ensures in
+    let envs = begun.envs in
+    let all = trace_text a.board (timed 1 a.events) (s.env ∷ envs) Done in
+    let trace = history_trace a (s.env ∷ envs) c.requires begun.is_history in
     let name = c.args.name.now in
     let old = g.H.Host.seen c.args.host.now in
     let columns = flat_map column_line a.board.columns in
-    let first = first_line a.board s.values in
-    let rows = row_lines a.board (timed 1 a.events) s.values envs in
-    let order : head_line ++ (columns ++ (first ++ (rows ++ done_line))) ≡ all = trace_text-order a.board (timed 1 a.events) s.values envs in
+    let first = first_line a.board s.env in
+    let rows = row_lines a.board (timed 1 a.events) s.env envs in
+    let order : head_line ++ (columns ++ (first ++ (rows ++ done_line))) ≡ all = trace_text-order a.board (timed 1 a.events) s.env envs in
     let s1 = g.H.Host.seen c.start-2.new.self in
     let at1 : IsAt name [] old s1 = record { seen = c.in_ok-start.ensures.done } in
     let s2 = g.H.Host.seen c.put.new.self in
@@ -167,7 +172,7 @@ returns-clause-text g c =
     let at4 : IsAt name ((head_line ++ columns) ++ first) old s4 = IsAt-put name (head_line ++ columns) first old s3 s4 at3 (c.in_ok-put-2.ensures.done ∙ ap (λ (b : List ℕ). written name b s3) first_is) in
     let order4 : (((head_line ++ columns) ++ first) ++ rows) ++ done_line ≡ all = append_assoc ((head_line ++ columns) ++ first) rows done_line ∙ order3 in
     let s5 = g.H.Host.seen c.put_rows.new.host in
-    let at5 : IsAt name (((head_line ++ columns) ++ first) ++ rows) old s5 = IsAt-put name ((head_line ++ columns) ++ first) rows old s4 s5 at4 c.in_ok-put_rows.ensures.done in
+    let at5 : IsAt name (((head_line ++ columns) ++ first) ++ rows) old s5 = IsAt-put name ((head_line ++ columns) ++ first) rows old s4 s5 at4 (c.in_ok-put_rows.ensures.done envs begun.is_history.settles) in
     let s6 = g.H.Host.seen c.put-3.new.self in
     let last : Adds (written name) done_line c.put-3.result s5 s6 = subst (λ (b : List ℕ). Adds (written name) b c.put-3.result s5 s6) c.done_line.ensures c.put-3.ensures.done in
     (all, trace, Writes-last c.put-3.result name (((head_line ++ columns) ++ first) ++ rows) done_line all old s5 s6 at5 order4 last)

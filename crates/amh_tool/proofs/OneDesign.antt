@@ -1,0 +1,100 @@
+-- The bytes of a design file stand for one design, or for one refusal.
+use Rattle.std.specs.Prelude.{◌≡◌, refl, ℕ, ◌==◌, nat_lt, Bool, true, false, List, length, Result, Ok, Err}
+use Rattle.std.specs.Bool.{MatchBool}
+use Rattle.std.specs.Str.{chars}
+use Rattle.std.specs.Str.Lossy.{utf8_valid_len}
+use Rattle.std.proofs.Common.{sym, ◌∙◌, ap, subst, arith, inl, inr}
+use Rattle.amh_host.specs.declared.place.Place.{Place}
+use Rattle.amh_host.specs.declared.place.Kind.TheVariants.{Text, Subset, Limit}
+use Rattle.py_lexer.specs.declared.line.Line.{Line}
+use Rattle.py_lexer.specs.Lines.{logical_lines}
+use Rattle.py_tree.specs.Steps.{Steps}
+use Rattle.py_grammar.specs.Block_laws.{OneProgram, FrontOfFront}
+use Rattle.py_parser.specs.Parsing.{file_lines, words_line, IsRefusedAt}
+use Rattle.design_ir.specs.Targets.{Bit}
+use Rattle.design_ir.specs.Circuits.{Circuit}
+use Rattle.component_form.specs.Elaborated.{elaborated}
+use Rattle.comb_graph.specs.Refusals.{IsUpTo, IsLeastLoop, loop_place}
+use Rattle.amh_tool.specs.Designs.{Designed, refusal, line_start, line_places, bad_line, IsLoopTold, IsRanked, IsChecked, IsElaborated, IsUnparsed, IsCut, IsText, IsDesigned}
+use Rattle.amh_tool.proofs.LinePlaces.{place_by_words}
+use Rattle.amh_tool.proofs.RefusedLines.{refused_once, program_stands}
+
+-- it holds of one at most
+abbrev pub Once : {A : Type 0} → (A → Type 0) → Type 0
+Once {A} P = (x y : A) → P x → P y → x ≡ y
+
+pub once_equal : {A : Type 0} (a : A) → Once (λ (x : A). x ≡ a)
+once_equal a x y h k = h ∙ sym k
+
+-- ---- loops
+
+up_to_once : (a b : Bit) → IsUpTo a b → IsUpTo b a → a ≡ b
+up_to_once a b (inl h) (inl k) = absurd (omega (arith, h, k))
+up_to_once a b (inl h) (inr k) = absurd (omega (arith, h, k.0))
+up_to_once a b (inr h) (inl k) = absurd (omega (arith, h.0, k))
+up_to_once a b (inr h) (inr k) =
+    let index : a.index ≡ b.index = omega (arith, h.1, k.1) in
+    λ i. record { sig = h.0 i; index = index i }
+
+least_once : (c : Circuit) → Once (IsLeastLoop c)
+least_once c a b h k = up_to_once a b (h.least b k.loops) (k.least a h.loops)
+
+told_once : (c : Circuit) → Once (IsLoopTold c)
+told_once c r s h k =
+    let bit : h.bit ≡ k.bit = least_once c h.bit k.bit h.told.is_least k.told.is_least in
+    let place : r.place ≡ s.place = h.told.place ∙ ap (loop_place c) bit ∙ sym k.told.place in
+    let kind : r.kind ≡ s.kind = h.kind ∙ sym k.kind in
+    λ i. record { place = place i; kind = kind i }
+
+ranked_once : (c : Circuit) → Once (IsRanked c)
+ranked_once c (Ok d) (Ok e) h k = ap Ok (h.same ∙ sym k.same)
+ranked_once c (Ok d) (Err s) h k = absurd (h.loopless k.bit k.told.is_least.loops)
+ranked_once c (Err r) (Ok e) h k = absurd (k.loopless h.bit h.told.is_least.loops)
+ranked_once c (Err r) (Err s) h k = ap Err (told_once c r s h k)
+
+checked_once : (d : Designed) → Once (IsChecked d)
+checked_once (Ok c) = ranked_once c
+checked_once (Err r) = once_equal (Err r)
+
+-- ---- lines
+
+module _ (one_program : OneProgram) (front_of_front : FrontOfFront) where
+  elaborated_once : (text : List ℕ) (lines : List Line) → Once (IsElaborated text lines)
+  elaborated_once text lines x y h k =
+      let body : h.body ≡ k.body = one_program (file_lines text lines) h.body k.body h.program k.program in
+      checked_once (elaborated (line_places lines) k.body) x y (subst (λ (b : Steps). IsChecked (elaborated (line_places lines) b) x) body h.checked) k.checked
+
+  refused_at_once : (text cs : List ℕ) (lines : List Line) → logical_lines cs ≡ Ok lines → Once (IsRefusedAt text lines)
+  refused_at_once text cs lines cut x y h k =
+      let same : words_line text h.line ≡ words_line text k.line = refused_once front_of_front (file_lines text lines) (words_line text h.line) (words_line text k.line) h.refused k.refused in
+      h.begins ∙ place_by_words text cs lines h.number k.number h.line k.line cut h.there k.there same ∙ sym k.begins
+
+  unparsed_once : (text cs : List ℕ) (lines : List Line) → logical_lines cs ≡ Ok lines → Once (IsUnparsed text lines)
+  unparsed_once text cs lines cut x y h k =
+      h.is ∙ ap (λ (p : Place). Err (refusal Subset p)) (refused_at_once text cs lines cut h.place k.place h.refused k.refused) ∙ sym k.is
+
+  not_both : (text : List ℕ) (lines : List Line) (x y : Designed) → IsElaborated text lines x → IsUnparsed text lines y → ⊥
+  not_both text lines x y h k = program_stands front_of_front (file_lines text lines) h.body (words_line text k.refused.line) h.program k.refused.refused
+
+  cut_once : (text cs : List ℕ) (cut : Result (List Line) Place) → logical_lines cs ≡ cut → Once (IsCut text cut)
+  cut_once text cs (Ok lines) is x y (inl h) (inl k) = elaborated_once text lines x y h k
+  cut_once text cs (Ok lines) is x y (inl h) (inr k) = absurd (not_both text lines x y h k)
+  cut_once text cs (Ok lines) is x y (inr h) (inl k) = absurd (not_both text lines y x k h)
+  cut_once text cs (Ok lines) is x y (inr h) (inr k) = unparsed_once text cs lines is x y h k
+  cut_once text cs (Err place) is x y h k = once_equal (Err (refusal Subset place)) x y h k
+
+  -- ---- bytes
+
+  either_once : (b : Bool) (P Q : Designed → Type 0) → Once P → Once Q → Once (λ (x : Designed). MatchBool b (P x) (Q x))
+  either_once true P Q h k = h
+  either_once false P Q h k = k
+
+  text_once : (bytes : List ℕ) → Once (IsText bytes)
+  text_once bytes =
+      either_once (utf8_valid_len bytes == length bytes) (IsCut bytes (logical_lines (chars bytes))) (λ found. found ≡ Err (refusal Text (line_start (bad_line bytes))))
+      (cut_once bytes (chars bytes) (logical_lines (chars bytes)) refl) (once_equal (Err (refusal Text (line_start (bad_line bytes)))))
+
+  pub designed_once : (bytes : List ℕ) → Once (IsDesigned bytes)
+  designed_once bytes =
+      either_once (nat_lt 1_048_576 (length bytes)) (λ found. found ≡ Err (refusal Limit (line_start 1))) (IsText bytes)
+      (once_equal (Err (refusal Limit (line_start 1)))) (text_once bytes)

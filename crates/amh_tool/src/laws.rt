@@ -1,0 +1,11 @@
+// The law of outcomes. The function does nothing: its clause is the law.
+ghost use Rattle.amh_tool.specs.Headline.{OneOutcome};
+
+use py_grammar::programs_are_exact;
+
+/// Words and files have one outcome, and no other.
+pub fn outcomes_are_one()
+    ensures { OneOutcome }
+{
+    programs_are_exact();
+}
