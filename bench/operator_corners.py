@@ -161,4 +161,5 @@ def main():
     print_table("STOPS", "Stop", "stops", refused)
 
 
-main()
+if __name__ == "__main__":
+    main()

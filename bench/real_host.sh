@@ -1,6 +1,6 @@
 #!/bin/bash
 # The program over the system's files, in an empty folder: the two files that it writes are compared byte for byte
-# with those in examples/, which were worked out by hand. No part of the gate.
+# with those in examples/. The traces were worked out by hand; the RTLIL is what the program wrote. No part of the gate.
 set -eu
 here="$(cd "$(dirname "$0")/.." && pwd)"
 folder="$(mktemp -d)"
