@@ -36,6 +36,7 @@ pub mod WalkTurns
 pub mod WalkWork
 pub mod WalkEnds
 pub mod SearchLaws
+pub mod CutLaws
 pub mod GraphMeanings
 pub mod GraphPlaces
 pub mod GraphNeeded

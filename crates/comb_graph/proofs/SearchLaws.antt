@@ -3,10 +3,9 @@ use Rattle.std.proofs.Common.{◌≡◌, ◌∙◌, ◌⊎◌, inl, inr, ◌↔�
 use Rattle.std.specs.List.{Contains, count_by}
 use Rattle.std.proofs.lemmas.Bool.{cases_eq, cases_lt}
 use Rattle.std.proofs.lemmas.List.{get_or-set_same, get_or-set_other, length-set, length-append}
-use Rattle.std.proofs.lemmas.Option.{slice_get_within}
 use Rattle.std.proofs.lemmas.List.Sums.{sum_by-set}
 use Rattle.std.proofs.lemmas.List.Elements.{Contains-append_left, Contains-push, Contains-push_cases}
-use Rattle.comb_graph.specs.Graphs.{Digraph, Leads, Path, Reaches, EdgeAt, IsNext, NoneWithin, edge}
+use Rattle.comb_graph.specs.Graphs.{Digraph, Leads, Path, Reaches, EdgeAt, IsNext}
 use Rattle.comb_graph.specs.Searches.{Searching, is_reached, IsFrom, WasMet, IsSpread, IsSearch, IsSpreading, Reached}
 use Rattle.comb_graph.proofs.WalkLaws.{at_leads, same_edge}
 use Rattle.comb_graph.proofs.WalkTurns.{reaches-then}
@@ -140,13 +139,3 @@ pub search_ends : (g : Digraph) (root : ℕ) (rs : List Bool) (x : ℕ) → IsSe
 search_ends g root rs x h =
     let all = λ (n : ℕ) (met : WasMet rs root n). elim (h.spread n met) as (λ _. IsSpread g rs n) [ inl left ↦ absurd (omega (arith, left.1)) | inr spread ↦ spread ] in
     (h.sound x, λ (between, path). all_reached g rs root all root between x (inl refl) path)
-
--- a node without edges reaches nothing
-leads_none : (g : Digraph) (n x last : ℕ) → last ≡ 0 → NoneWithin g n last (length g.edges) → Leads g n x → ⊥
-leads_none g n x last zero' none leads =
-    let found = at_leads g n x leads in
-    none found.0 x (omega (arith, zero')) (slice_get_within g.edges found.0 (edge n x) found.1) found.1
-
-pub edgeless : (g : Digraph) (n x last : ℕ) → last ≡ 0 → NoneWithin g n last (length g.edges) → Reaches g n x → ⊥
-edgeless g n x last zero' none ([], leads) = leads_none g n x last zero' none leads
-edgeless g n x last zero' none (y ∷ ys, path) = leads_none g n y last zero' none path.0

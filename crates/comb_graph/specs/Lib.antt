@@ -6,6 +6,7 @@ pub mod Graphs
 pub mod Links
 pub mod Walks
 pub mod Searches
+pub mod Cuts
 pub mod Meanings
 pub mod Places
 pub mod Rules

@@ -1,6 +1,6 @@
 // A graph, with the edges of each node at hand.
 ghost use Rattle.std.specs.Prelude.{◌≡◌, ℕ, ◌+◌, ◌^◌, ◌<◌, ◌≤◌, All, ◌++◌, ◌∷◌, [], length, OnOk, IfOk};
-ghost use Rattle.comb_graph.specs.Graphs.{Digraph, IsGraph, joined, leading, IsRest, IsNext, NoneWithin, edge};
+ghost use Rattle.comb_graph.specs.Graphs.{Digraph, IsGraph, joined, leading, IsEdge, EdgeAt, IsRest, IsNext, NoneWithin, edge};
 
 use amh_host::{Items, NoMemory};
 use std::alloc::Global;
@@ -120,6 +120,22 @@ impl Graph {
         self.links.push(link)?;
         self.lasts[from] = self.links.len();
         Ok(())
+    }
+
+    /// How many edges there are.
+    pub fn count(&self) -> usize
+        ensures { result ≡ length self.now.edges }
+    {
+        self.links.len()
+    }
+
+    /// The edge at a place.
+    pub fn edge(&self, place: usize) -> Edge
+        requires { place < length self.now.edges }
+        ensures at { EdgeAt self.now place result.from result.upto }
+        ensures inside { IsEdge self.now.size result }
+    {
+        self.links[place].edge
     }
 
     /// The count of edges up to the node's last.

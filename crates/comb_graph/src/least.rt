@@ -3,23 +3,32 @@ ghost use Rattle.std.specs.Prelude.{◌≡◌, ◌≤◌, ◌<◌, ◌↔◌, Is
 ghost use Rattle.comb_graph.specs.Graphs.{Digraph, Reaches};
 ghost use Rattle.comb_graph.specs.Walks.{IsSeen};
 ghost use Rattle.comb_graph.specs.Searches.{IsLeast};
+ghost use Rattle.comb_graph.specs.Cuts.{IsLeft};
 
+use crate::cut::left;
 use crate::graph::Graph;
 use crate::search::reaches_itself;
 use crate::walk::Mark;
 use amh_host::NoMemory;
 use std::alloc::Global;
 
-// Whether a node reaches itself, which none does that the walk left as done or that has no edge.
-fn loops(alloc: Global, graph: &Graph, marks: &[Mark], node: usize) -> Result<bool, NoMemory>
+// Whether a node reaches itself, which none does that the walk left as done or that was cut away.
+fn loops(
+    alloc: Global,
+    graph: &Graph,
+    marks: &[Mark],
+    left: &[bool],
+    node: usize,
+) -> Result<bool, NoMemory>
     requires seen { IsSeen graph.now marks.now }
+    requires left { IsLeft graph.now left.now }
     requires node { node < graph.now.size }
     ensures { IfOk result (λ r. IsTrue r ↔ Reaches graph.now node node) }
 {
     match marks[node] {
         Mark::Done => Ok(false),
         Mark::New | Mark::Open => {
-            if graph.last(node) == 0 {
+            if !left[node] {
                 return Ok(false);
             }
             reaches_itself(alloc, graph, node)
@@ -38,8 +47,9 @@ pub fn least_loop(
     requires count { count ≤ graph.now.size }
     ensures { IfOk result (IsLeast graph.now count) }
 {
+    let left = left(alloc, graph)?;
     for node in 0..count {
-        if loops(alloc, graph, marks, node)? {
+        if loops(alloc, graph, marks, &left, node)? {
             return Ok(Some(node));
         }
     }

@@ -7,13 +7,15 @@
 //!
 //! `rank` finds the order, or the least loop (ranking.rt). It makes the graph of a design's needs (needs.rt), in which a
 //! signal's bit has a node of its own and comes, past nodes of expressions, to those of the bits that it needs. A walk
-//! sorts the nodes or finds one that reaches itself (walk.rt, search.rt), and the sorted nodes that are bits of
-//! combinational signals (comb.rt) are the order.
+//! sorts the nodes or finds one that reaches itself (walk.rt), and the sorted nodes that are bits of combinational signals
+//! (comb.rt) are the order. Where there is a loop, the least is sought (least.rt, search.rt) among the nodes that are left
+//! once those that no loop leads to, and those that lead to none, were cut away (cut.rt).
 #![tactic(auto)]
 
 mod aims;
 mod blocks;
 mod comb;
+mod cut;
 mod depth;
 mod drives;
 mod graph;
