@@ -7,6 +7,7 @@ RTLIL for the same inputs. Each number of the trace must be that of Python's own
 Operators are those of operator_corners.py. Skipped where yosys is not installed (Debian's package `yosys`). No part of the gate.
 """
 import itertools
+import os
 import pathlib
 import re
 import shutil
@@ -16,7 +17,7 @@ import tempfile
 
 from operator_corners import UNARY, corners, integer, stop
 
-TOOL = pathlib.Path(__file__).resolve().parent.parent / "amh_tool"
+TOOL = os.environ.get("AMH_TOOL") or pathlib.Path(__file__).resolve().parent.parent / "amh_tool"
 SHAPES = [(1, False), (1, True), (3, False), (4, True), (64, False), (127, True), (128, False), (128, True)]
 NOTHING = (0, False)
 FORMS = {
