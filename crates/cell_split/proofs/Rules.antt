@@ -1,0 +1,4 @@
+use Rattle.cell_split.specs.Laws.{SplitsKeepTheRules}
+
+pub splits_keep_rules : SplitsKeepTheRules
+splits_keep_rules = ?

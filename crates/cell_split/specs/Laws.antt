@@ -1,0 +1,15 @@
+-- What is proved of cut cells, whichever cells are marked.
+use Rattle.std.specs.Prelude.{ℕ, ◌≤◌, ◌+◌, ◌^◌, Bool, List, length}
+use Rattle.rtlil_text.specs.declared.module.RtlModule.{RtlModule}
+use Rattle.rtlil_text.specs.Rules.{IsModule, module_ids}
+use Rattle.cell_split.specs.Split.{split_cells, split_of}
+use Rattle.cell_split.specs.Kept.{KeepsHistory, AreBelow}
+
+-- where new numbers begin behind those of the module, it keeps the rules
+abbrev pub SplitsKeepTheRules : Type 0
+SplitsKeepTheRules =
+    (n : ℕ) (marks : List Bool) (m : RtlModule) → IsModule m → AreBelow n (module_ids m) → n + length (split_cells n marks m.cells) ≤ 10 ^ 64 → IsModule (split_of n marks m)
+
+-- the module keeps its history, whatever it is
+abbrev pub SplitsKeepTheHistory : Type 0
+SplitsKeepTheHistory = (n : ℕ) (marks : List Bool) (m : RtlModule) → KeepsHistory m (split_of n marks m)

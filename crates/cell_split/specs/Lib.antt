@@ -1,0 +1,4 @@
+pub mod Pieces
+pub mod Split
+pub mod Kept
+pub mod Laws

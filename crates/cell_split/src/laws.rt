@@ -1,0 +1,13 @@
+// The laws of cut cells. The functions do nothing: their clauses are the laws.
+ghost use Rattle.cell_split.specs.Laws.{SplitsKeepTheRules, SplitsKeepTheHistory};
+
+/// Where new numbers begin behind those of the module, it keeps the rules of RTLIL text, whichever cells are marked.
+pub fn splits_keep_the_rules()
+    ensures { SplitsKeepTheRules }
+{}
+
+/// Whichever cells are marked, the module has the same history: whatever inputs come, each bit of each wire has the
+/// same value after every event, or has none in both.
+pub fn splits_keep_the_history()
+    ensures { SplitsKeepTheHistory }
+{}
