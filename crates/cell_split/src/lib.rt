@@ -6,6 +6,7 @@
 //! history; the functions of `laws` carry that in their clauses.
 #![tactic(auto)]
 
+mod copies;
 mod laws;
 
 pub use laws::{splits_keep_the_history, splits_keep_the_rules};
