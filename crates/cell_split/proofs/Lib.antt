@@ -1,5 +1,6 @@
 pub mod PieceBits
 pub mod PieceDrivers
+pub mod PieceCode
 pub mod Written
 pub mod Steps
 pub mod Histories

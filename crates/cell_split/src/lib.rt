@@ -8,5 +8,12 @@
 
 mod copies;
 mod laws;
+mod needs;
+mod numbers;
+mod peel;
+mod pieces;
+mod split;
+mod tangled;
 
 pub use laws::{splits_keep_the_history, splits_keep_the_rules};
+pub use split::split_tangled;

@@ -1,0 +1,134 @@
+// A module of which the cells that lie on a loop are cut.
+ghost use Rattle.std.specs.Prelude.{◌≡◌, ◌<◌, ◌≤◌, ◌^◌, ◌+◌, ◌++◌, ◌∷◌, [], length, take, All, codes, IfOk, OnOk, IfSome, slice_get, Some};
+ghost use Rattle.rtlil_text.specs.Rules.{IsModule, module_ids};
+ghost use Rattle.rtlil_text.specs.Sources.{end_width, number_at};
+ghost use Rattle.cell_split.specs.Split.{can_split, split_cell, split_cells, split_of};
+ghost use Rattle.cell_split.specs.Kept.{KeepsHistory, AreBelow};
+ghost use Rattle.cell_split.specs.Short.{IsPlainCell, AreNarrow, width_name};
+
+use crate::copies::copied_cell;
+use crate::laws::{splits_keep_the_history, splits_keep_the_rules};
+use crate::numbers::first_number;
+use crate::pieces::{is_bitwise, push_pieces};
+use crate::tangled::tangled;
+use amh_host::{Items, NoMemory};
+use rtlil_text::{RtlCell, RtlCells, RtlModule, RtlValue, RtlWires};
+use shape_rules::CellKind;
+use std::alloc::Global;
+
+/// The module with each bitwise cell cut into cells of one bit where it lies on a loop between cells. Its wires,
+/// memories and links stay, it keeps the rules of RTLIL text, and every bit of every wire has the value of before
+/// after every event, or has none in both. Which cells lie on a loop is found in time that is linear in the bits of
+/// the module, but for the look-up of wires by their ids.
+pub fn split_tangled(alloc: Global, rtl: RtlModule) -> Result<RtlModule, NoMemory>
+    requires { IsModule rtl }
+    ensures rules { IfOk result IsModule }
+    ensures wires { IfOk result (λ m. m.wires ≡ rtl.wires) }
+    ensures memories { IfOk result (λ m. m.memories ≡ rtl.memories) }
+    ensures links { IfOk result (λ m. m.links ≡ rtl.links) }
+    ensures history { IfOk result (KeepsHistory rtl) }
+{
+    let marks = tangled(alloc, &rtl)?;
+    if !any(&marks) {
+        return Ok(rtl);
+    }
+    let Some(first) = first_number(&rtl) else {
+        return Ok(rtl);
+    };
+    splits_keep_the_rules();
+    splits_keep_the_history();
+    split(alloc, first, &marks, rtl)
+}
+
+// Whether a cell is marked.
+fn any(marks: &[bool]) -> bool {
+    marks.iter().any(|b| *b)
+}
+
+/// The module of which the marked cells are cut, with new cells numbered from `first` on.
+fn split(
+    alloc: Global,
+    first: u128,
+    marks: &[bool],
+    rtl: RtlModule,
+) -> Result<RtlModule, NoMemory>
+    requires rules { IsModule rtl }
+    requires first { first < 2 ^ 127 }
+    requires marks { length marks.now ≡ length rtl.cells }
+    ensures split { IfOk result (λ m. m ≡ split_of first marks.now rtl) }
+    ensures few { IfOk result (λ m. first + length (split_cells first marks.now rtl.cells) ≤ 10 ^ 64) }
+{
+    let cells = split_cells(alloc, first, marks, &rtl)?;
+    Ok(RtlModule {
+        wires: rtl.wires,
+        memories: rtl.memories,
+        cells,
+        links: rtl.links,
+    })
+}
+
+// Reads the width of each wire, so that a caller knows that it is a number of 32 bits.
+fn wires_are_narrow(wires: &RtlWires)
+    ensures { AreNarrow wires.now }
+{
+    for wire in wires.as_slice() {
+        is_narrow(wire.width);
+    }
+}
+
+fn is_narrow(_width: u32)
+    ensures { _width < 2 ^ 32 }
+{}
+
+// The width of the output of a bitwise cell, which a parameter has.
+fn output_width(cell: &RtlCell) -> u32
+    ensures { result ≡ number_at cell.now (width_name cell.now.kind) }
+{
+    let name = if cell.kind == CellKind::Mux { "\\WIDTH" } else { "\\Y_WIDTH" };
+    match cell.parameter(name) {
+        Some(RtlValue::Number(n)) => *n,
+        _ => 0,
+    }
+}
+
+// The cell, or the cells of its bits.
+fn push_split(
+    alloc: Global,
+    first: u128,
+    marked: bool,
+    cell: &RtlCell,
+    cells: &mut RtlCells,
+) -> Result<(), NoMemory>
+    requires plain { IsPlainCell cell.now }
+    requires first { first < 2 ^ 127 }
+    ensures { OnOk result (cells.new ≡ cells.old ++ split_cell (first + length cells.old) marked cell.now) }
+{
+    if marked && is_bitwise(cell.kind) {
+        let width = output_width(cell);
+        if 1 < width {
+            return push_pieces(alloc, first, cell, width, cells);
+        }
+    }
+    cells.push(copied_cell(alloc, cell)?)
+}
+
+fn split_cells(
+    alloc: Global,
+    first: u128,
+    marks: &[bool],
+    rtl: &RtlModule,
+) -> Result<RtlCells, NoMemory>
+    requires rules { IsModule rtl.now }
+    requires first { first < 2 ^ 127 }
+    requires marks { length marks.now ≡ length rtl.now.cells }
+    ensures cells { IfOk result (λ cells. cells ≡ split_cells first marks.now rtl.now.cells) }
+    ensures few { IfOk result (λ cells. first + length cells ≤ 10 ^ 64) }
+{
+    wires_are_narrow(&rtl.wires);
+    let mut cells = Items::new(alloc);
+    for (k, marked) in marks.iter().enumerate() {
+        push_split(alloc, first, *marked, rtl.cells.get(k), &mut cells)?;
+    }
+    let _ = cells.len();
+    Ok(cells)
+}
