@@ -7,3 +7,5 @@ pub mod Histories
 pub mod Places
 pub mod PieceRules
 pub mod Rules
+pub mod Digits
+pub mod SplitCode

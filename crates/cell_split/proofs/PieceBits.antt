@@ -1,23 +1,22 @@
 -- The ends and the output of a piece.
-use Rattle.std.proofs.Common.{◌≡◌, ◌∙◌, ◌<◌, ◌≤◌, ◌+◌, ◌&&◌, ◌||◌, ℕ, zero, suc, Bool, true, false, cond, not, List, [], ◌∷◌, ◌++◌, map, length, get_or, refl, sym, ap, arith, subst}
-use Rattle.std.specs.Prelude.{Option, Some, None, option_map, option_and_then, slice_get, unwrap_or, codes, if◌then◌else◌}
+use Rattle.std.proofs.Common.{◌≡◌, ◌∙◌, ◌<◌, ◌&&◌, ◌||◌, ℕ, Bool, true, false, cond, not, List, [], ◌∷◌, map, length, get_or, refl, sym, ap}
+use Rattle.std.specs.Prelude.{Option, Some, None, option_map, option_and_then, slice_get, unwrap_or, codes}
 use Rattle.std.specs.List.{find}
 use Rattle.std.proofs.lemmas.Option.{slice_get-get_or}
 use Rattle.lists.specs.Texts.{text_eq}
 use Rattle.lists.proofs.TextLaws.{text_eq_true}
 use Rattle.shape_rules.specs.declared.cell.CellKind.{CellKind}
-use Rattle.shape_rules.specs.declared.cell.CellKind.TheVariants.{Not, And, Or, Xor, ReduceOr, ReduceAnd, ReduceXor, Add, Sub, Mul, Eq, Lt, Le, Shl, Shr, Sshr, DivFloor, ModFloor, Mux, Dff, Adff, MemoryRead, MemoryWrite, MemoryInit, Many}
+use Rattle.shape_rules.specs.declared.cell.CellKind.TheVariants.{Not, And, Or, Xor, Mux, Dff, Adff, MemoryRead, MemoryWrite, MemoryInit}
 use Rattle.rtlil_text.specs.declared.sig.SigPart.{SigPart}
-use Rattle.rtlil_text.specs.declared.sig.SigPart.TheVariants as parts
 use Rattle.rtlil_text.specs.declared.cell.RtlEnd.{RtlEnd}
 use Rattle.rtlil_text.specs.declared.cell.RtlCell.{RtlCell}
 use Rattle.rtlil_text.specs.declared.module.RtlModule.{RtlModule}
 use Rattle.rtlil_text.specs.Sources.{Source, Constant, Net, spec_bits, end_of, end_bits, end_width}
 use Rattle.rtlil_text.specs.CellTables.{output_of}
 use Rattle.rtlil_text.specs.Drivers.{output_bits}
-use Rattle.rtlil_text.specs.Cells.{bit_at, both, xor, mux_bit, cell_bit}
+use Rattle.rtlil_text.specs.Cells.{bit_at, both, xor, mux_bit}
 use Rattle.rtlil_text.specs.Meaning.{State, comb_bit}
-use Rattle.cell_split.specs.Pieces.{is_bitwise, bit_part, bit_parts, bit_spec, is_shared, piece_spec, piece_end, piece, pieces}
+use Rattle.cell_split.specs.Pieces.{is_bitwise, bit_part, bit_parts, bit_spec, is_shared, piece_spec, piece_end, piece}
 
 -- ---- one bit of a spec
 

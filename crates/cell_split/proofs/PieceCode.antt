@@ -1,6 +1,6 @@
 -- One bit of a spec, found part by part.
-use Rattle.std.proofs.Common.{◌≡◌, ◌∙◌, ◌<◌, ◌≤◌, ◌+◌, ◌-◌, ℕ, zero, suc, Bool, false, List, [], ◌∷◌, ◌++◌, map, length, get_or, take, drop, refl, sym, ap, arith, subst, length-append, append_assoc}
-use Rattle.std.specs.Prelude.{Option, Some, None, option_map, slice_get}
+use Rattle.std.proofs.Common.{◌≡◌, ◌∙◌, ◌<◌, ◌≤◌, ◌+◌, ◌-◌, ℕ, zero, suc, Bool, false, List, [], ◌∷◌, ◌++◌, map, length, take, drop, refl, sym, ap, arith, subst, length-append, append_assoc}
+use Rattle.std.specs.Prelude.{Option, Some, option_map, slice_get}
 use Rattle.std.specs.List.{range_with_len}
 use Rattle.std.proofs.lemmas.Option.{slice_get-get_or, slice_get-map, slice_get_past, get_or_from_slice_get}
 use Rattle.std.proofs.lemmas.List.{take-append-drop, drop_more, append-nil}
@@ -9,7 +9,7 @@ use Rattle.rtlil_text.specs.declared.sig.SigPart.{SigPart}
 use Rattle.rtlil_text.specs.declared.sig.SigPart.TheVariants as parts
 use Rattle.rtlil_text.specs.declared.cell.RtlCell.{RtlCell}
 use Rattle.rtlil_text.specs.Sources.{Source, Constant, Net, part_bits, spec_bits}
-use Rattle.cell_split.specs.Pieces.{bit_part, bit_parts, bit_spec}
+use Rattle.cell_split.specs.Pieces.{bit_parts, bit_spec}
 
 -- ---- lists
 
@@ -66,8 +66,8 @@ bit_found spec k place left p q bit new h e passed here is empty pushed =
     let front : List Source = spec_bits (drop (k + 1) spec) in
     let within : place < length (front ++ part_bits p) = omega (arith, length-append front (part_bits p), passed, here) in
     let at : slice_get (spec_bits spec) place ≡ slice_get (part_bits p) left =
-        ap (λ (bits : List Source). slice_get bits place) (bits-at spec k p h e)
-        ∙ slice_get-front (front ++ part_bits p) (spec_bits (take k spec)) place within ∙ slice_get-behind front (part_bits p) left place passed in
+    ap (λ (bits : List Source). slice_get bits place) (bits-at spec k p h e)
+    ∙ slice_get-front (front ++ part_bits p) (spec_bits (take k spec)) place within ∙ slice_get-behind front (part_bits p) left place passed in
     pushed ∙ ap (λ (b : List SigPart). b ++ q ∷ []) empty ∙ sym (ap bit_parts at ∙ is)
 
 -- the place is in a part above it

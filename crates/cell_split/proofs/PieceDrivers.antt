@@ -1,6 +1,6 @@
 -- The drivers of a module of which cells are cut: each is that of before, or the piece of a bit of a cell.
-use Rattle.std.proofs.Common.{◌≡◌, ◌∙◌, ◌+◌, ◌&&◌, ℕ, zero, suc, Bool, true, false, cond, List, [], ◌∷◌, ◌++◌, map, length, drop, refl, sym, ap, arith, subst, add-one}
-use Rattle.std.specs.Prelude.{Option, Some, slice_get, nat_lt, codes}
+use Rattle.std.proofs.Common.{◌≡◌, ◌∙◌, ◌+◌, ◌&&◌, ℕ, zero, suc, Bool, true, false, cond, List, [], ◌∷◌, ◌++◌, map, length, drop, refl, sym, ap, subst, add-one}
+use Rattle.std.specs.Prelude.{Some, slice_get, nat_lt, codes}
 use Rattle.std.specs.List.{flat_map, range_with_len, AllZip}
 use Rattle.std.proofs.lemmas.Bool.{and_parts}
 use Rattle.std.proofs.lemmas.List.{append-nil}
@@ -9,7 +9,6 @@ use Rattle.rtlil_text.specs.declared.cell.RtlCell.{RtlCell}
 use Rattle.rtlil_text.specs.declared.module.RtlLink.{RtlLink}
 use Rattle.rtlil_text.specs.declared.module.RtlModule.{RtlModule}
 use Rattle.rtlil_text.specs.Sources.{Source, end_bits, end_width, spec_bits, is_input}
-use Rattle.rtlil_text.specs.CellTables.{output_of}
 use Rattle.rtlil_text.specs.Drivers.{Driver, ByInput, ByLink, ByCell, ByNone, output_bits, numbered, drivers, driver, driver_in, is_bit, driven_bits}
 use Rattle.cell_split.specs.Pieces.{is_bitwise, piece, pieces}
 use Rattle.cell_split.specs.Split.{can_split, split_cell, split_cells, split_of}

@@ -1,5 +1,5 @@
 -- The rules on a piece, and on the other cells of a module of which cells are cut.
-use Rattle.std.proofs.Common.{◌≡◌, ◌∙◌, ◌<◌, ◌≤◌, ◌+◌, ℕ, zero, suc, Bool, true, false, cond, List, [], ◌∷◌, ◌++◌, map, length, replicate, refl, sym, ap, arith, subst, All}
+use Rattle.std.proofs.Common.{◌≡◌, ◌∙◌, ◌<◌, ℕ, Bool, true, false, cond, List, [], ◌∷◌, map, length, replicate, refl, sym, ap, arith, subst, All}
 use Rattle.std.specs.Prelude.{Option, Some, None, option_map, slice_get, unwrap_or, codes, MatchOption, max}
 use Rattle.std.specs.List.{find, range_with_len, AllByRecursion}
 use Rattle.std.proofs.lemmas.List.Elements.{All-nil, All-cons, All-head, All-tail, All-append, All-map, All-weaker, All-contains}
@@ -17,10 +17,9 @@ use Rattle.rtlil_text.specs.declared.cell.RtlCell.{RtlCell}
 use Rattle.rtlil_text.specs.declared.module.RtlWire.{RtlWire}
 use Rattle.rtlil_text.specs.declared.module.RtlMemory.{RtlMemory}
 use Rattle.rtlil_text.specs.declared.module.RtlModule.{RtlModule}
-use Rattle.rtlil_text.specs.Sources.{Source, Constant, Net, spec_bits, part_bits, parameter_of, as_number, number_at, bits_at, end_bits, end_width, memory_id}
-use Rattle.rtlil_text.specs.CellTables.{Named, ValueForm, IsNumber, value_form, parameters_of, ends_of}
+use Rattle.rtlil_text.specs.Sources.{Source, Constant, Net, spec_bits, part_bits, parameter_of, as_number, number_at, end_width, memory_id}
+use Rattle.rtlil_text.specs.CellTables.{Named, ValueForm, IsNumber, value_form, parameters_of}
 use Rattle.rtlil_text.specs.CellRules.{GivesWidth, FitsNot, FitsArithmetic, FitsMux}
-use Rattle.rtlil_text.specs.Memories.{writes_of, inits_of}
 use Rattle.rtlil_text.specs.MemoryRules.{FitsMemory, HaveOneClock, FitsRead, FitsWrite, FitsInit, MemoryFits, AreNumbered}
 use Rattle.rtlil_text.specs.Rules.{IsSlice, PartFits, SpecFits, ValueFits, KindFits, CellFits}
 use Rattle.rtlil_text.proofs.Among.{Contains-among, Among-slice_get}

@@ -1,5 +1,5 @@
 -- The rules on a module of which cells are cut.
-use Rattle.std.proofs.Common.{◌≡◌, ◌≢◌, ◌∙◌, ◌<◌, ◌≤◌, ◌+◌, ◌^◌, ◌&&◌, ℕ, zero, suc, Bool, true, false, cond, List, [], ◌∷◌, ◌++◌, map, length, slice_index_or, refl, sym, ap, arith, subst, All, inr, length-append, append_assoc}
+use Rattle.std.proofs.Common.{◌≡◌, ◌≢◌, ◌∙◌, ◌<◌, ◌≤◌, ◌+◌, ◌^◌, ◌&&◌, ℕ, zero, suc, Bool, true, false, cond, List, [], ◌∷◌, ◌++◌, map, length, slice_index_or, refl, sym, ap, arith, subst, All, inr, length-append}
 use Rattle.std.specs.Prelude.{AllPairs, codes, IsPermutation}
 use Rattle.std.specs.List.{range_with_len}
 use Rattle.std.specs.Fmt.{decimal}
@@ -18,12 +18,12 @@ use Rattle.rtlil_text.specs.Drivers.{inner_bits}
 use Rattle.rtlil_text.specs.MemoryRules.{MemoryFits}
 use Rattle.rtlil_text.specs.Rules.{IsModule, module_ids, CellFits}
 use Rattle.rtlil_text.proofs.SpecOnce.{All-left, All-right}
-use Rattle.cell_split.specs.Pieces.{is_bitwise, numbered_id, piece, pieces}
+use Rattle.cell_split.specs.Pieces.{numbered_id, piece, pieces}
 use Rattle.cell_split.specs.Split.{can_split, split_cell, split_cells, split_of}
 use Rattle.cell_split.specs.Kept.{AreBelow}
 use Rattle.cell_split.specs.Laws.{SplitsKeepTheRules}
 use Rattle.cell_split.proofs.PieceDrivers.{driven_bits-split}
-use Rattle.cell_split.proofs.Places.{All-unmap, All-range, AllPairs-tail, AllPairs-head, AllPairs-append, AllPairs-nil, AllPairs-left, AllPairs-right, AllPairs-across, IsPieceOf, length-pieces, splits, All-split_cells}
+use Rattle.cell_split.proofs.Places.{All-unmap, All-range, AllPairs-tail, AllPairs-head, AllPairs-append, AllPairs-nil, AllPairs-left, AllPairs-right, AllPairs-across, length-pieces, All-split_cells}
 use Rattle.cell_split.proofs.PieceRules.{piece_fits, cell_fits-split, memory_fits-split}
 
 -- ---- ids

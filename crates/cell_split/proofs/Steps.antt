@@ -1,15 +1,15 @@
 -- The wires, the first state and the steps of a module of which cells are cut.
-use Rattle.std.proofs.Common.{◌≡◌, ◌∙◌, ℕ, zero, suc, Bool, true, false, cond, List, [], ◌∷◌, length, refl, sym, ap}
-use Rattle.std.specs.Prelude.{◌==◌, Option, Some, None, option_map, option_and_then, codes, nat_lt, fold, slice_get}
+use Rattle.std.proofs.Common.{◌≡◌, ◌∙◌, ℕ, zero, suc, Bool, true, false, cond, List, length, refl, sym, ap}
+use Rattle.std.specs.Prelude.{◌==◌, Option, None, option_map, option_and_then, codes, nat_lt, fold, slice_get}
 use Rattle.std.proofs.Math.Path.{fun_ext}
 use Rattle.shape_rules.specs.declared.cell.CellKind.{CellKind}
 use Rattle.shape_rules.specs.declared.cell.CellKind.TheVariants.{Dff, Adff, MemoryRead}
 use Rattle.rtlil_text.specs.declared.cell.RtlCell.{RtlCell}
 use Rattle.rtlil_text.specs.declared.module.RtlModule.{RtlModule}
 use Rattle.rtlil_text.specs.Sources.{Source, end_bits, number_at, memory_id, bits_at}
-use Rattle.rtlil_text.specs.Drivers.{Driver, ByInput, ByLink, ByCell, ByNone, driver, driven_bits}
+use Rattle.rtlil_text.specs.Drivers.{Driver, ByInput, ByLink, ByCell, ByNone, driver}
 use Rattle.rtlil_text.specs.Cells.{read, bit_at, bits_number}
-use Rattle.rtlil_text.specs.Memories.{writes_of, inits_of, masked}
+use Rattle.rtlil_text.specs.Memories.{writes_of, masked}
 use Rattle.rtlil_text.specs.Meaning.{Inputs, State, is_kept_kind, is_kept, source_value, comb_bit, driven_bit, bit, memory_size}
 use Rattle.rtlil_text.specs.History.{depth, wire_bit, end_bit, address, first_bit, first_register, data_bit, first_state, acts, is_reset, after_write, after_writes, taken_bit, clocked_bit, next_bit, is_edge, is_level, enabled, next_register, step, Wires}
 use Rattle.cell_split.specs.Pieces.{is_bitwise, piece}
@@ -89,9 +89,9 @@ module _ (n : ℕ) (marks : List Bool) (m : RtlModule) where
   pub first_state-split : first_state (split_of n marks m) ≡ first_state m
   first_state-split =
       let registers : (first_state (split_of n marks m)).registers ≡ (first_state m).registers =
-          fun_ext λ wire. fun_ext λ i. first_register-alike wire i (driver m wire i) (driver (split_of n marks m) wire i) (driver-alike n marks m wire i) in
+      fun_ext λ wire. fun_ext λ i. first_register-alike wire i (driver m wire i) (driver (split_of n marks m) wire i) (driver-alike n marks m wire i) in
       let rows : (first_state (split_of n marks m)).rows ≡ (first_state m).rows =
-          fun_ext λ id. fun_ext λ row. fun_ext λ k. ap (λ (cells : List RtlCell). data_bit cells row k) (inits_of-split n marks m id) in
+      fun_ext λ id. fun_ext λ row. fun_ext λ k. ap (λ (cells : List RtlCell). data_bit cells row k) (inits_of-split n marks m id) in
       ap (λ (r : List ℕ → ℕ → Option Bool). state_of r (first_state (split_of n marks m)).rows) registers ∙ ap (state_of (first_state m).registers) rows
 
   -- ---- one event
@@ -133,7 +133,7 @@ module _ (n : ℕ) (marks : List Bool) (m : RtlModule) where
       let id = memory_id c in
       let mask = bits_at c (codes "\\TRANSPARENCY_MASK") in
       let here : (row : ℕ) → after_writes (split_of n marks m) st old new (masked mask (writes_of (split_of n marks m) id)) id row k ≡ after_writes m st old new (masked mask (writes_of m id)) id row k =
-          λ row. after_writes-split st old new (masked mask (writes_of (split_of n marks m) id)) (masked mask (writes_of m id)) id row k (ap (masked mask) (writes_of-split n marks m id)) in
+      λ row. after_writes-split st old new (masked mask (writes_of (split_of n marks m) id)) (masked mask (writes_of m id)) id row k (ap (masked mask) (writes_of-split n marks m id)) in
       ap (λ (f : ℕ → Option Bool). option_and_then f (address (split_of n marks m) st old c)) (fun_ext here)
       ∙ ap (option_and_then (λ row. after_writes m st old new (masked mask (writes_of m id)) id row k)) (address-split st old c)
 
@@ -165,7 +165,7 @@ module _ (n : ℕ) (marks : List Bool) (m : RtlModule) where
   pub step-split : (old new : Inputs) (st : State) → step (split_of n marks m) old new st ≡ step m old new st
   step-split old new st =
       let registers : (step (split_of n marks m) old new st).registers ≡ (step m old new st).registers =
-          fun_ext λ wire. fun_ext λ i. next_register-alike st old new (st.registers wire i) (driver m wire i) (driver (split_of n marks m) wire i) (driver-alike n marks m wire i) in
+      fun_ext λ wire. fun_ext λ i. next_register-alike st old new (st.registers wire i) (driver m wire i) (driver (split_of n marks m) wire i) (driver-alike n marks m wire i) in
       let rows : (step (split_of n marks m) old new st).rows ≡ (step m old new st).rows =
-          fun_ext λ id. fun_ext λ row. fun_ext λ k. after_writes-split st old new (writes_of (split_of n marks m) id) (writes_of m id) id row k (writes_of-split n marks m id) in
+      fun_ext λ id. fun_ext λ row. fun_ext λ k. after_writes-split st old new (writes_of (split_of n marks m) id) (writes_of m id) id row k (writes_of-split n marks m id) in
       ap (λ (r : List ℕ → ℕ → Option Bool). state_of r (step (split_of n marks m) old new st).rows) registers ∙ ap (state_of (step m old new st).registers) rows

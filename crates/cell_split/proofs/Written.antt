@@ -1,6 +1,6 @@
 -- The cells of memories, which are never cut.
 use Rattle.std.proofs.Common.{◌≡◌, ◌∙◌, ◌+◌, ◌&&◌, ℕ, Bool, true, false, cond, List, [], ◌∷◌, ◌++◌, map, length, refl, sym, ap}
-use Rattle.std.specs.Prelude.{nat_lt, max, codes}
+use Rattle.std.specs.Prelude.{max, codes}
 use Rattle.std.specs.List.{filter, range_with_len}
 use Rattle.std.proofs.lemmas.List.Elements.{filter-append}
 use Rattle.lists.specs.Texts.{text_eq}

@@ -59,11 +59,7 @@ fn push_wire(
     Ok(())
 }
 
-fn push_part(
-    all: &Nodes,
-    nodes: &mut Vec<Option<usize>>,
-    part: &SigPart,
-) -> Result<(), NoMemory> {
+fn push_part(all: &Nodes, nodes: &mut Vec<Option<usize>>, part: &SigPart) -> Result<(), NoMemory> {
     match part {
         SigPart::Const(bits) => push_constants(nodes, bits.len()),
         SigPart::Wire { id, low, width } => match all.first(id.as_str()) {

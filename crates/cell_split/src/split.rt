@@ -46,12 +46,7 @@ fn any(marks: &[bool]) -> bool {
 }
 
 /// The module of which the marked cells are cut, with new cells numbered from `first` on.
-fn split(
-    alloc: Global,
-    first: u128,
-    marks: &[bool],
-    rtl: RtlModule,
-) -> Result<RtlModule, NoMemory>
+fn split(alloc: Global, first: u128, marks: &[bool], rtl: RtlModule) -> Result<RtlModule, NoMemory>
     requires rules { IsModule rtl }
     requires first { first < 2 ^ 127 }
     requires marks { length marks.now ≡ length rtl.cells }
@@ -84,7 +79,11 @@ fn is_narrow(_width: u32)
 fn output_width(cell: &RtlCell) -> u32
     ensures { result ≡ number_at cell.now (width_name cell.now.kind) }
 {
-    let name = if cell.kind == CellKind::Mux { "\\WIDTH" } else { "\\Y_WIDTH" };
+    let name = if cell.kind == CellKind::Mux {
+        "\\WIDTH"
+    } else {
+        "\\Y_WIDTH"
+    };
     match cell.parameter(name) {
         Some(RtlValue::Number(n)) => *n,
         _ => 0,

@@ -1,5 +1,4 @@
-use Rattle.std.proofs.Common.{◌≡◌, ◌≤◌, ◌+◌, ◌^◌, ◌∙◌, ◌++◌, ◌∷◌, [], List, Bool, ap, subst, arith, length}
-use Rattle.rtlil_text.specs.Sources.{part_bits}
+use Rattle.std.proofs.Common.{◌≤◌, ◌+◌, ◌^◌, ◌∙◌, ◌++◌, ◌∷◌, [], List, Bool, ap, subst, arith}
 use Rattle.cell_split.specs.Short.{PartIsShort}
 use Rattle.cell_split.proofs.PieceCode.{length-wire, bit_of_constant, bit_of_wire}
 use Rattle.cell_split.proofs.pieces.bit_part.Goals as goal

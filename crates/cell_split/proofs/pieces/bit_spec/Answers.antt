@@ -10,7 +10,7 @@ returns-then-left-width c =
     let next : c.loop-above.above ≡ k + 1 = omega (arith, c.loop-above-test.true) in
     let within : k < length spec = omega (arith, c.loop-above-test.true, c.loop-above.invariant.within) in
     let passed : length (spec_bits (drop (k + 1) spec)) + c.loop-above.left ≡ c.args.place =
-        subst (λ (j : ℕ). length (spec_bits (drop j spec)) + c.loop-above.left ≡ c.args.place) next c.loop-above.invariant.passed in
+    subst (λ (j : ℕ). length (spec_bits (drop j spec)) + c.loop-above.left ≡ c.args.place) next c.loop-above.invariant.passed in
     bit_found spec k c.args.place c.loop-above.left c.get-part.result.now c.in_ok-bit_part.field-0 c.loop-above.bit c.push.new.self within c.get-part.ensures.lookup passed
     (omega (arith, c.if-left-width.true, c.part_width-width.ensures)) c.in_ok-bit_part.ensures c.loop-above.invariant.empty c.in_ok-push.ensures.ok
 
