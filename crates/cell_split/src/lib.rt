@@ -14,6 +14,8 @@ mod peel;
 mod pieces;
 mod split;
 mod tangled;
+#[cfg(test)]
+mod tests;
 
 pub use laws::{splits_keep_the_history, splits_keep_the_rules};
 pub use split::split_tangled;

@@ -1,6 +1,7 @@
 pub mod Places
 pub mod Reading
 pub mod Whole
+pub mod SplitModules
 pub mod Drawn
 pub mod Arithmetic
 pub mod Comparisons

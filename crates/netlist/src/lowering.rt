@@ -19,6 +19,7 @@ use crate::laws::modules_have_the_history;
 use crate::signals::{Tables, push_signals};
 use crate::wires::{push_columns, push_others, push_values};
 use amh_host::{Items, NoMemory};
+use cell_split::split_tangled;
 use comb_graph::Ranks;
 use design_ir::{Design, Expr, ExprId, Exprs};
 use rtlil_text::{RtlModule, RtlWire};
@@ -26,6 +27,7 @@ use std::alloc::Global;
 
 /// The module of a design that has no memories, no choices and fixed targets alone. It keeps the rules of RTLIL text, has
 /// the design's columns, and has the design's history over all legal events, with a value on every bit of every wire.
+/// Cells whose bits need each other in turn are cut into cells of one bit.
 pub fn lower(alloc: Global, design: &Design, ranks: &Ranks) -> Result<RtlModule, NoMemory>
     requires plain { IsPlain design.now }
     requires ranked { IsRanking design.now ranks.now }
@@ -37,7 +39,8 @@ pub fn lower(alloc: Global, design: &Design, ranks: &Ranks) -> Result<RtlModule,
     strides_are_bytes(design);
     let _ = design.count();
     let _ = design.processes();
-    draw(alloc, design)
+    let drawn = draw(alloc, design)?;
+    split_tangled(alloc, drawn)
 }
 
 // Reads each expression, so that a caller knows of each stride that it is a byte.
