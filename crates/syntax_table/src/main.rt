@@ -10,6 +10,10 @@ mod answer;
 mod escapes;
 mod expressions;
 mod forms;
+mod nodes;
+mod spelling;
+mod steps;
+mod tree;
 mod words;
 
 use amh_host::NoMemory;
@@ -49,6 +53,7 @@ fn answer_to(alloc: Global, line: &str) -> Result<String, NoMemory> {
 fn question_of(word: &str) -> Option<Question> {
     match word {
         "program" => Some(Question::Program),
+        "tree" => Some(Question::Tree),
         "words" => Some(Question::Lines(Aspect::Words)),
         "form" => Some(Question::Lines(Aspect::Form)),
         "expression" => Some(Question::Lines(Aspect::Expression)),
