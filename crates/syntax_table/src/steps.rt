@@ -15,6 +15,7 @@ pub fn program_tree(alloc: Global, program: &Program) -> Result<String, NoMemory
     Ok(said)
 }
 
+#[cycle(stmt)]
 fn say_stmts(alloc: Global, said: &mut String, block: &Block) -> Result<(), NoMemory> {
     for stmt in block.stmts.as_slice() {
         say_stmt(alloc, said, stmt)?;
@@ -22,12 +23,14 @@ fn say_stmts(alloc: Global, said: &mut String, block: &Block) -> Result<(), NoMe
     Ok(())
 }
 
+#[cycle(stmt)]
 fn say_block(alloc: Global, said: &mut String, head: &str, block: &Block) -> Result<(), NoMemory> {
     open(said, head)?;
     say_stmts(alloc, said, block)?;
     close(said)
 }
 
+#[cycle(stmt)]
 fn say_stmt(alloc: Global, said: &mut String, stmt: &Stmt) -> Result<(), NoMemory> {
     open_at(said, head_of(&stmt.kind), stmt.place)?;
     match &*stmt.kind {
@@ -125,11 +128,12 @@ fn say_imported(alloc: Global, said: &mut String, names: &[Imported]) -> Result<
 }
 
 // What stands behind the place of a statement with a block.
+#[cycle(stmt)]
 fn say_compound(alloc: Global, said: &mut String, kind: &StmtKind) -> Result<(), NoMemory> {
     match kind {
         StmtKind::If(branches, other) => {
             say_branches(alloc, said, branches.as_slice())?;
-            say_else(alloc, said, other.as_ref())
+            say_else(alloc, said, other)
         }
         StmtKind::While(test, body) => {
             say_expr(alloc, said, test)?;
@@ -169,6 +173,7 @@ fn say_compound(alloc: Global, said: &mut String, kind: &StmtKind) -> Result<(),
     }
 }
 
+#[cycle(stmt)]
 fn say_branches(alloc: Global, said: &mut String, branches: &[Branch]) -> Result<(), NoMemory> {
     for branch in branches {
         open(said, "branch")?;
@@ -179,7 +184,8 @@ fn say_branches(alloc: Global, said: &mut String, branches: &[Branch]) -> Result
     Ok(())
 }
 
-fn say_else(alloc: Global, said: &mut String, other: Option<&Block>) -> Result<(), NoMemory> {
+#[cycle(stmt)]
+fn say_else(alloc: Global, said: &mut String, other: &Option<Block>) -> Result<(), NoMemory> {
     match other {
         Some(block) => say_block(alloc, said, "else", block),
         None => Ok(()),
@@ -200,8 +206,13 @@ fn say_labelled(
     close(said)
 }
 
+#[cycle(stmt)]
 fn say_function(alloc: Global, said: &mut String, function: &Function) -> Result<(), NoMemory> {
-    let head = if function.is_async { "async-function" } else { "function" };
+    let head = if function.is_async {
+        "async-function"
+    } else {
+        "function"
+    };
     open_at(said, head, function.place)?;
     say_name(alloc, said, function.name.as_str())?;
     say_params(alloc, said, function.params.as_slice())?;

@@ -9,6 +9,7 @@ use py_tree::{
 use std::alloc::Global;
 
 /// The tree of an expression.
+#[cycle(expr)]
 pub fn say_expr(alloc: Global, said: &mut String, expr: &Expr) -> Result<(), NoMemory> {
     open_at(said, head_of(&expr.kind), expr.place)?;
     say_parts(alloc, said, &expr.kind)?;
@@ -16,11 +17,7 @@ pub fn say_expr(alloc: Global, said: &mut String, expr: &Expr) -> Result<(), NoM
 }
 
 /// The tree of an expression, where there is one.
-pub fn say_perhaps(
-    alloc: Global,
-    said: &mut String,
-    expr: Option<&Expr>,
-) -> Result<(), NoMemory> {
+pub fn say_perhaps(alloc: Global, said: &mut String, expr: Option<&Expr>) -> Result<(), NoMemory> {
     match expr {
         Some(expr) => say_expr(alloc, said, expr),
         None => Ok(()),
@@ -28,6 +25,7 @@ pub fn say_perhaps(
 }
 
 /// The trees of expressions, one after the other.
+#[cycle(expr)]
 pub fn say_exprs(alloc: Global, said: &mut String, exprs: &[Expr]) -> Result<(), NoMemory> {
     for expr in exprs {
         say_expr(alloc, said, expr)?;
@@ -60,7 +58,53 @@ fn head_of(kind: &ExprKind) -> &'static str {
 }
 
 // What stands in a node behind its place.
+#[cycle(expr)]
 fn say_parts(alloc: Global, said: &mut String, kind: &ExprKind) -> Result<(), NoMemory> {
+    match kind {
+        ExprKind::Tuple(items) | ExprKind::List(items) => say_exprs(alloc, said, items.as_slice()),
+        ExprKind::Dict(pairs) => say_pairs(alloc, said, pairs.as_slice()),
+        ExprKind::ListOf(item, each) => {
+            say_expr(alloc, said, item)?;
+            say_each(alloc, said, each)
+        }
+        ExprKind::DictOf(pair, each) => {
+            say_pair(alloc, said, pair)?;
+            say_each(alloc, said, each)
+        }
+        ExprKind::Trailed(first, behind) => {
+            say_expr(alloc, said, first)?;
+            say_trailers(alloc, said, behind.as_slice())
+        }
+        ExprKind::Await(operand) | ExprKind::Not(operand) => say_expr(alloc, said, operand),
+        ExprKind::Power(base, exponent) => {
+            say_expr(alloc, said, base)?;
+            say_expr(alloc, said, exponent)
+        }
+        ExprKind::Unary(sign, operand) => {
+            say_word(said, sign_said(*sign))?;
+            say_expr(alloc, said, operand)
+        }
+        ExprKind::Binary(first, links)
+        | ExprKind::Compare(first, links)
+        | ExprKind::Boolean(first, links) => {
+            say_expr(alloc, said, first)?;
+            say_links(alloc, said, links.as_slice())
+        }
+        ExprKind::Choice {
+            chosen,
+            test,
+            other,
+        } => {
+            say_expr(alloc, said, chosen)?;
+            say_expr(alloc, said, test)?;
+            say_expr(alloc, said, other)
+        }
+        _ => say_leaf(alloc, said, kind),
+    }
+}
+
+// What stands in a node without nodes in it.
+fn say_leaf(alloc: Global, said: &mut String, kind: &ExprKind) -> Result<(), NoMemory> {
     match kind {
         ExprKind::Name(name) => say_name(alloc, said, name.as_str()),
         ExprKind::Number(n) => say_number(said, *n),
@@ -69,27 +113,7 @@ fn say_parts(alloc: Global, said: &mut String, kind: &ExprKind) -> Result<(), No
         ExprKind::Str(text) => say_quoted(alloc, said, text.as_str()),
         ExprKind::Format(pieces) => say_pieces(alloc, said, pieces.as_slice()),
         ExprKind::Constant(constant) => say_word(said, constant_said(*constant)),
-        ExprKind::Tuple(items) | ExprKind::List(items) => {
-            say_exprs(alloc, said, items.as_slice())
-        }
-        ExprKind::Dict(pairs) => say_pairs(alloc, said, pairs.as_slice()),
-        ExprKind::ListOf(item, each) => say_each_expr(alloc, said, item, each),
-        ExprKind::DictOf(pair, each) => say_each_pair(alloc, said, pair, each),
-        ExprKind::Trailed(first, behind) => say_trailed(alloc, said, first, behind.as_slice()),
-        ExprKind::Await(operand) | ExprKind::Not(operand) => say_expr(alloc, said, operand),
-        ExprKind::Power(base, exponent) => say_two(alloc, said, base, exponent),
-        ExprKind::Unary(sign, operand) => say_unary(alloc, said, *sign, operand),
-        ExprKind::Binary(first, links)
-        | ExprKind::Compare(first, links)
-        | ExprKind::Boolean(first, links) => say_chain(alloc, said, first, links.as_slice()),
-        ExprKind::Choice {
-            chosen,
-            test,
-            other,
-        } => {
-            say_two(alloc, said, chosen, test)?;
-            say_expr(alloc, said, other)
-        }
+        _ => Ok(()),
     }
 }
 
@@ -129,26 +153,6 @@ fn constant_said(constant: Constant) -> &'static str {
     }
 }
 
-fn say_two(
-    alloc: Global,
-    said: &mut String,
-    first: &Expr,
-    second: &Expr,
-) -> Result<(), NoMemory> {
-    say_expr(alloc, said, first)?;
-    say_expr(alloc, said, second)
-}
-
-fn say_unary(
-    alloc: Global,
-    said: &mut String,
-    sign: Sign,
-    operand: &Expr,
-) -> Result<(), NoMemory> {
-    say_word(said, sign_said(sign))?;
-    say_expr(alloc, said, operand)
-}
-
 fn sign_said(sign: Sign) -> &'static str {
     match sign {
         Sign::Minus => "-",
@@ -157,13 +161,8 @@ fn sign_said(sign: Sign) -> &'static str {
     }
 }
 
-fn say_chain(
-    alloc: Global,
-    said: &mut String,
-    first: &Expr,
-    links: &[Link],
-) -> Result<(), NoMemory> {
-    say_expr(alloc, said, first)?;
+#[cycle(expr)]
+fn say_links(alloc: Global, said: &mut String, links: &[Link]) -> Result<(), NoMemory> {
     for link in links {
         open(said, operator_said(link.operator))?;
         say_expr(alloc, said, &link.operand)?;
@@ -200,6 +199,7 @@ pub fn operator_said(operator: Operator) -> &'static str {
     }
 }
 
+#[cycle(expr)]
 fn say_pair(alloc: Global, said: &mut String, pair: &Pair) -> Result<(), NoMemory> {
     open(said, "pair")?;
     say_expr(alloc, said, &pair.key)?;
@@ -207,6 +207,7 @@ fn say_pair(alloc: Global, said: &mut String, pair: &Pair) -> Result<(), NoMemor
     close(said)
 }
 
+#[cycle(expr)]
 fn say_pairs(alloc: Global, said: &mut String, pairs: &[Pair]) -> Result<(), NoMemory> {
     for pair in pairs {
         say_pair(alloc, said, pair)?;
@@ -214,59 +215,41 @@ fn say_pairs(alloc: Global, said: &mut String, pairs: &[Pair]) -> Result<(), NoM
     Ok(())
 }
 
+#[cycle(expr)]
 fn say_each(alloc: Global, said: &mut String, each: &Comprehension) -> Result<(), NoMemory> {
     open(said, "each")?;
     say_expr(alloc, said, &each.targets)?;
     say_expr(alloc, said, &each.source)?;
-    say_perhaps(alloc, said, each.condition.as_ref())?;
+    if let Some(condition) = &each.condition {
+        say_expr(alloc, said, condition)?;
+    }
     close(said)
 }
 
-fn say_each_expr(
-    alloc: Global,
-    said: &mut String,
-    item: &Expr,
-    each: &Comprehension,
-) -> Result<(), NoMemory> {
-    say_expr(alloc, said, item)?;
-    say_each(alloc, said, each)
-}
-
-fn say_each_pair(
-    alloc: Global,
-    said: &mut String,
-    pair: &Pair,
-    each: &Comprehension,
-) -> Result<(), NoMemory> {
-    say_pair(alloc, said, pair)?;
-    say_each(alloc, said, each)
-}
-
-fn say_trailed(
-    alloc: Global,
-    said: &mut String,
-    first: &Expr,
-    behind: &[Trailer],
-) -> Result<(), NoMemory> {
-    say_expr(alloc, said, first)?;
-    for trailer in behind {
+#[cycle(expr)]
+fn say_trailers(alloc: Global, said: &mut String, trailers: &[Trailer]) -> Result<(), NoMemory> {
+    for trailer in trailers {
         say_trailer(alloc, said, trailer)?;
     }
     Ok(())
 }
 
 /// What trails a primary.
+#[cycle(expr)]
 pub fn say_trailer(alloc: Global, said: &mut String, trailer: &Trailer) -> Result<(), NoMemory> {
     open(said, trailer_head(trailer))?;
     match trailer {
         Trailer::Attribute(name) => say_name(alloc, said, name.as_str())?,
         Trailer::Call(arguments) => say_arguments(alloc, said, arguments.as_slice())?,
-        Trailer::CallOf(item, each) => say_each_expr(alloc, said, item, each)?,
+        Trailer::CallOf(item, each) => {
+            say_expr(alloc, said, item)?;
+            say_each(alloc, said, each)?;
+        }
         Trailer::Index(index) => say_expr(alloc, said, index)?,
         Trailer::Slice { start, stop, step } => {
-            say_bound(alloc, said, start.as_ref())?;
-            say_bound(alloc, said, stop.as_ref())?;
-            say_bound(alloc, said, step.as_ref())?;
+            say_bound(alloc, said, start)?;
+            say_bound(alloc, said, stop)?;
+            say_bound(alloc, said, step)?;
         }
     }
     close(said)
@@ -282,24 +265,23 @@ fn trailer_head(trailer: &Trailer) -> &'static str {
 }
 
 // A part of a slice: `-` where it is absent.
-fn say_bound(alloc: Global, said: &mut String, bound: Option<&Expr>) -> Result<(), NoMemory> {
+#[cycle(expr)]
+fn say_bound(alloc: Global, said: &mut String, bound: &Option<Expr>) -> Result<(), NoMemory> {
     match bound {
         Some(expr) => say_expr(alloc, said, expr),
         None => say_word(said, "-"),
     }
 }
 
-fn say_arguments(
-    alloc: Global,
-    said: &mut String,
-    arguments: &[Argument],
-) -> Result<(), NoMemory> {
+#[cycle(expr)]
+fn say_arguments(alloc: Global, said: &mut String, arguments: &[Argument]) -> Result<(), NoMemory> {
     for argument in arguments {
         say_argument(alloc, said, argument)?;
     }
     Ok(())
 }
 
+#[cycle(expr)]
 fn say_argument(alloc: Global, said: &mut String, argument: &Argument) -> Result<(), NoMemory> {
     match argument {
         Argument::Positional(value) => say_expr(alloc, said, value),
