@@ -1,13 +1,13 @@
 #!/usr/bin/env python3
 """Feeds each text that the language takes (the tables in bench/lines, and the examples) to CPython's own parser.
 
-python_accepts.py [--random SEED COUNT] [--answers FILE] prints how many texts CPython took, and each that it refused; of how
-many its tree is the language's, node by node with the places, and the first node of each tree that differs. The texts of
-bench/lines/accepted_here_alone.txt it has to refuse. Where readings differ on purpose is listed in python_trees.py. With
---random the texts are programs that are derived from the grammar at random (random_programs.py).
+python_accepts.py [--random SEED COUNT] [--answers FILE] prints how many texts CPython took, and each that it refused; of
+how many its tree is the language's, node by node with the places, and the first node of each tree that differs; the exit
+status is 1 where anything does. The texts of bench/lines/accepted_here_alone.txt it has to refuse. Where readings differ
+on purpose is listed in python_trees.py. With --random the texts are programs derived from the grammar (random_programs.py).
 
-The language's trees are those that the program syntax_table prints, which is run as it was built, or by `rt try` where its
-source is newer; or those in a file, as it printed them. Which texts the language takes is shown by its stored run.
+The language's trees are those that the program syntax_table prints, which is run as it was built, or by `rt try` where
+its source is newer; or those in a file, as it printed them. Which texts the language takes is shown by its stored run.
 """
 import argparse
 import ast

@@ -1,8 +1,9 @@
-"""The tree that CPython makes of a text, in the notation of trees of the program syntax_table (crates/syntax_table/src/main.rt).
+"""The tree that CPython makes of a text, in the notation of trees that the program syntax_table prints.
 
-A tree is a list: a head, a place where it has one, and parts, each a tree or a word. CPython shows no brackets round one
-expression, but a node begins at its first token, so brackets are told by the places: `a + b + c` is a sum whose left
-side begins where it begins, `(a + b) + c` is none. So chains and trailers are put together where the places agree.
+The notation is told in crates/syntax_table/src/main.rt. Here a tree is a list: a head, a place where it has one, and parts,
+each a tree or a word. CPython nests a chain to the left and shows no brackets round one expression, but a node begins at
+its first token, so both are told by the places: `a + b + c` is a sum whose left side begins where it begins itself, and
+`(a + b) + c` is none. So chains and trailers are put together where the places agree.
 
 CPython reads some texts in another way. Before it reads, these are put in other words of the same width:
 
@@ -10,8 +11,8 @@ CPython reads some texts in another way. Before it reads, these are put in other
 - `1.e5` is the number 1 and an attribute, and no decimal: a name stands in the number's place;
 - `with (a, b):` has one tuple, and not two contexts: `if` stands in the place of `with`.
 
-Three things are not in CPython's tree and are taken from its tokens: the digits of a decimal, the place of a lone `*` among
-parameters, and whether a class without arguments has brackets.
+Three things are not in CPython's tree and are taken from its tokens: the digits of a decimal, the place of a lone `*`
+among parameters, and whether a class without arguments has brackets.
 """
 import ast
 import io
@@ -19,12 +20,19 @@ import re
 import tokenize
 
 SIGNS = {
-    ast.Mult: "*", ast.FloorDiv: "//", ast.Mod: "%", ast.Add: "+", ast.Sub: "-", ast.LShift: "<<", ast.RShift: ">>",
-    ast.BitAnd: "&", ast.BitXor: "^", ast.BitOr: "|", ast.Lt: "<", ast.LtE: "<=", ast.Gt: ">", ast.GtE: ">=", ast.Eq: "==",
-    ast.NotEq: "!=", ast.In: "in", ast.NotIn: "not-in", ast.Is: "is", ast.IsNot: "is-not", ast.And: "and", ast.Or: "or",
-    ast.USub: "-", ast.UAdd: "+", ast.Invert: "~",
+    **{ast.Mult: "*", ast.FloorDiv: "//", ast.Mod: "%", ast.Add: "+", ast.Sub: "-", ast.LShift: "<<", ast.RShift: ">>"},
+    **{ast.BitAnd: "&", ast.BitXor: "^", ast.BitOr: "|", ast.Lt: "<", ast.LtE: "<=", ast.Gt: ">", ast.GtE: ">="},
+    **{ast.Eq: "==", ast.NotEq: "!=", ast.In: "in", ast.NotIn: "not-in", ast.Is: "is", ast.IsNot: "is-not"},
+    **{ast.And: "and", ast.Or: "or", ast.USub: "-", ast.UAdd: "+", ast.Invert: "~"},
 }
-LEVELS = [(ast.Mult, ast.FloorDiv, ast.Mod), (ast.Add, ast.Sub), (ast.LShift, ast.RShift), (ast.BitAnd,), (ast.BitXor,), (ast.BitOr,)]
+LEVELS = [
+    (ast.Mult, ast.FloorDiv, ast.Mod),
+    (ast.Add, ast.Sub),
+    (ast.LShift, ast.RShift),
+    (ast.BitAnd,),
+    (ast.BitXor,),
+    (ast.BitOr,),
+]
 
 
 def spelled(text):
@@ -70,7 +78,7 @@ class Source:
             self.cover(first, "_")
             self.cover(second, " ")
             self.cover(third, " ")
-        elif first.type == tokenize.NUMBER and re.match(r"[0-9]+\.[eE_]", first.string):
+        elif first.type == tokenize.NUMBER and re.match(r"[0-9]+\.[eE]", first.string):
             self.numbers[first.start] = [first.string.split(".")[0]]
             self.cover(first, "_", len(first.string.split(".")[0]))
         elif first.string == "with" and second.string == "(" and not self.binds(tokens, k):

@@ -225,14 +225,16 @@ class Maker:
     def make_import(self):
         path = self.sign(".").join(self.pick(NAMES) for _ in range(self.random.randint(1, 3)))
         name = lambda: self.pick(NAMES) + (self.word("as") + self.pick(NAMES) if self.chance(0.3) else "")
-        names = self.pick([lambda: "*", lambda: self.listed(name, trailing=False), lambda: self.bracketed("(", lambda: self.listed(name), ")")])
+        in_brackets = lambda: self.bracketed("(", lambda: self.listed(name), ")")
+        names = self.pick([lambda: "*", lambda: self.listed(name, trailing=False), in_brackets])
         return "from" + self.gap(False) + path + self.word("import") + names()
 
     def make_assign(self):
         return "".join(self.targets(2) + self.sign("=") for _ in range(self.random.randint(1, 2))) + self.exprs(2)
 
     def make_annotate(self):
-        return self.target(2) + self.sign(":") + self.expr(2) + (self.sign("=") + self.exprs(2) if self.chance(0.5) else "")
+        value = self.sign("=") + self.exprs(2) if self.chance(0.5) else ""
+        return self.target(2) + self.sign(":") + self.expr(2) + value
 
     def make_augment(self):
         return self.target(2) + self.sign(self.pick(AUGMENTS)) + self.exprs(2)
@@ -296,7 +298,8 @@ class Maker:
         names = self.random.sample(NAMES, self.random.randint(0, 4))
         star = self.random.randint(0, len(names)) if names and self.chance(0.3) else len(names)
         first_default = self.random.randint(0, star)
-        texts = [self.param(name, first_default <= k < star or k > star and self.chance(0.5)) for k, name in enumerate(names)]
+        has_default = lambda k: first_default <= k < star or k >= star and self.chance(0.5)
+        texts = [self.param(name, has_default(k)) for k, name in enumerate(names)]
         texts[star:star] = ["*"] if star < len(names) else []
         return (self.gap() + "," + self.gap()).join(texts) + ("," if texts and self.chance(0.2) else "")
 
