@@ -106,7 +106,7 @@ fn say_simple(alloc: Global, said: &mut String, kind: &StmtKind) -> Result<(), N
     }
 }
 
-// The names of a path, with a dot between each two.
+// The names of a path.
 fn say_path(alloc: Global, said: &mut String, path: &[Name]) -> Result<(), NoMemory> {
     open(said, "path")?;
     for name in path {
