@@ -49,3 +49,8 @@ def forms():
 def expressions():
     """Texts with what each of their lines is as an expression, or as some with commas."""
     return rows("expressions.txt")
+
+
+def trees():
+    """Texts with the whole tree of their program, or what refuses them."""
+    return rows("trees.txt")

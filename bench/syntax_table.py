@@ -30,6 +30,8 @@ def cases():
         yield "form", text, form
     for text, expression in line_tables.expressions():
         yield "expression", text, expression
+    for text, tree in line_tables.trees():
+        yield "tree", text, tree
 
 
 def main():

@@ -1,5 +1,5 @@
 -- What a line spells, byte by byte.
-use Rattle.std.proofs.Common.{◌≡◌, ◌++◌, ◌∷◌, [], List, ℕ, Option, Some, None, subst, sym, ◌∙◌, append_assoc, ap}
+use Rattle.std.proofs.Common.{◌≡◌, ◌++◌, ◌∷◌, [], List, ℕ, Option, Some, None, subst, sym, ◌∙◌, append_assoc, ap, arith}
 use Rattle.std.proofs.lemmas.List.{append-nil}
 use Rattle.std.proofs.lemmas.Option.{none-some}
 use Rattle.syntax_table.specs.Escapes.{first_byte, Spells}
@@ -36,3 +36,16 @@ none_behind b behind bs rest begins none Spells.nothing = none-some (b, behind) 
 none_behind b behind bs rest begins none (Spells.one_more c cs after line found tail) =
     let same : after ≡ behind = same_behind (c, after) (b, behind) (sym found ∙ begins)
     in none cs (subst (λ xs. Spells cs xs) same tail)
+
+-- what spells a byte spells it so whatever stands behind it
+pub first_byte_behind : (b : ℕ) (piece behind rest : List ℕ) → first_byte piece ≡ Some (b, behind) → first_byte (piece ++ rest) ≡ Some (b, behind ++ rest)
+first_byte_behind b [] behind rest e = grind arith
+first_byte_behind b (x ∷ []) behind rest e = grind arith
+first_byte_behind b (x ∷ y ∷ []) behind rest e = grind arith
+first_byte_behind b (x ∷ y ∷ z ∷ []) behind rest e = grind arith
+first_byte_behind b (x ∷ y ∷ z ∷ w ∷ more) behind rest e = grind arith
+
+pub spells_then : (bs line : List ℕ) (b : ℕ) (piece : List ℕ) → Spells bs line → first_byte piece ≡ Some (b, []) → Spells (bs ++ b ∷ []) (line ++ piece)
+spells_then bs line b piece Spells.nothing e = Spells.one_more b [] [] piece e Spells.nothing
+spells_then bs line b piece (Spells.one_more c cs behind whole begins tail) e =
+    Spells.one_more c (cs ++ b ∷ []) (behind ++ piece) (whole ++ piece) (first_byte_behind c whole behind piece begins) (spells_then cs behind b piece tail e)

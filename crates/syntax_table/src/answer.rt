@@ -3,6 +3,7 @@ ghost use Rattle.std.specs.Prelude.{◌≤◌, length};
 
 use crate::expressions::expression_said;
 use crate::forms::form_said;
+use crate::steps::program_tree;
 use crate::words::words_said;
 use amh_host::{NoMemory, Place};
 use py_grammar::Word;
@@ -16,6 +17,8 @@ use std::str;
 pub enum Question {
     /// Whether it has a program.
     Program,
+    /// The tree of its program.
+    Tree,
     /// Something of each of its lines.
     Lines(Aspect),
 }
@@ -46,6 +49,7 @@ pub fn answer(alloc: Global, question: Question, bytes: &[u8]) -> Result<String,
     };
     match question {
         Question::Program => program_said(alloc, text, &lines),
+        Question::Tree => tree_said(alloc, text, &lines),
         Question::Lines(aspect) => lines_said(alloc, aspect, text, &lines),
     }
 }
@@ -53,6 +57,14 @@ pub fn answer(alloc: Global, question: Question, bytes: &[u8]) -> Result<String,
 fn program_said(alloc: Global, text: &str, lines: &Lines) -> Result<String, NoMemory> {
     match parse(alloc, text, lines) {
         Ok(_) => Ok(String::from_str(alloc, "accepted")?),
+        Err(ParseStop::Subset(place)) => refused(alloc, "parser", place),
+        Err(ParseStop::NoMemory) => Err(NoMemory),
+    }
+}
+
+fn tree_said(alloc: Global, text: &str, lines: &Lines) -> Result<String, NoMemory> {
+    match parse(alloc, text, lines) {
+        Ok(program) => program_tree(alloc, &program),
         Err(ParseStop::Subset(place)) => refused(alloc, "parser", place),
         Err(ParseStop::NoMemory) => Err(NoMemory),
     }
