@@ -121,7 +121,7 @@ fn a_cell_that_needs_itself_is_marked(rt: HostRuntime) -> Result<(), Fail> {
     let alloc = rt.alloc();
     let cells = one_cell(alloc, above_a(alloc, "$1")?)?;
     let marks = tangled(alloc, &rtl(alloc, cells, RtlLinks::new(alloc))?)?;
-    assert_eq!(rt; marks.as_slice(), &[true]);
+    assert_eq!(rt; marks.as_slice(), [true].as_slice());
     Ok(())
 }
 
@@ -130,7 +130,7 @@ fn a_cell_that_needs_itself_through_a_link_is_marked(rt: HostRuntime) -> Result<
     let alloc = rt.alloc();
     let cells = one_cell(alloc, above_a(alloc, "$2")?)?;
     let marks = tangled(alloc, &rtl(alloc, cells, links(alloc)?)?)?;
-    assert_eq!(rt; marks.as_slice(), &[true]);
+    assert_eq!(rt; marks.as_slice(), [true].as_slice());
     Ok(())
 }
 
@@ -139,7 +139,7 @@ fn a_cell_of_other_wires_is_not(rt: HostRuntime) -> Result<(), Fail> {
     let alloc = rt.alloc();
     let cells = one_cell(alloc, spec(alloc, "\\a", 0, 2)?)?;
     let marks = tangled(alloc, &rtl(alloc, cells, links(alloc)?)?)?;
-    assert_eq!(rt; marks.as_slice(), &[false]);
+    assert_eq!(rt; marks.as_slice(), [false].as_slice());
     Ok(())
 }
 
@@ -149,6 +149,6 @@ fn a_register_between_is_no_loop(rt: HostRuntime) -> Result<(), Fail> {
     let mut cells = one_cell(alloc, above_a(alloc, "$2")?)?;
     cells.push(register(alloc)?)?;
     let marks = tangled(alloc, &rtl(alloc, cells, RtlLinks::new(alloc))?)?;
-    assert_eq!(rt; marks.as_slice(), &[false, false]);
+    assert_eq!(rt; marks.as_slice(), [false, false].as_slice());
     Ok(())
 }
