@@ -1,5 +1,5 @@
 // The cells of each operator.
-ghost use Rattle.std.specs.Prelude.{◌≡◌, ◌<◌, ◌+◌, ◌^◌, pos, IfOk, if◌then◌else◌};
+ghost use Rattle.std.specs.Prelude.{◌≡◌, ◌<◌, ◌+◌, ◌^◌, true, false, pos, IfOk, if◌then◌else◌};
 ghost use Rattle.shape_rules.specs.Forms.{unsigned};
 ghost use Rattle.shape_rules.specs.Stops.{IsTaken};
 ghost use Rattle.shape_rules.specs.declared.cell.CellKind.TheVariants as kind;
@@ -15,7 +15,7 @@ use crate::parts::{Form, at_width, const_spec};
 use amh_bits::Int;
 use amh_host::NoMemory;
 use rtlil_text::{RtlCell, SigSpec};
-use shape_rules::{CellKind, Op, Shape, work_of};
+use shape_rules::{CellKind, Op, Shape, operators, work_of};
 use std::alloc::Global;
 
 // ---- cells by their number
@@ -408,6 +408,79 @@ fn absolute(alloc: Global, n: u128, shape: Shape, a: &Value, y: &Value) -> Resul
     linked(alloc, y, whole)
 }
 
+// A number without a sign shifted down, or one with its sign.
+fn shifted_down(
+    alloc: Global,
+    n: u128,
+    a: &Value,
+    b: &Value,
+    y: &Value,
+) -> Result<Drawing, NoMemory>
+    requires { n < 2 ^ 99 }
+    ensures { IfOk result (λ d. d ≡ (if a.now.form.signed then shifted kind.Sshr true n a.now b.now y.now else shifted kind.Shr false n a.now b.now y.now)) }
+{
+    if a.shape.signed {
+        shifted(alloc, CellKind::Sshr, true, n, a, b, y)
+    } else {
+        shifted(alloc, CellKind::Shr, false, n, a, b, y)
+    }
+}
+
+macro_rules! lowering_arms {
+    (($of:ident $with:tt) $(($op:ident $operands:tt $cell:ident $result:ident $work:ident $integer:ident))*) => {
+        match $of {
+            $(Op::$op => lowering_arm!($operands $cell $work $integer $with),)*
+        }
+    };
+}
+
+// The cells of a row: of several cells or operands in turned order by its rule, else by its cell and the shape at
+// which it is worked.
+macro_rules! lowering_arm {
+    (1 Many least magnitude ($alloc:ident $n:ident $shape:ident $a:ident $b:ident $y:ident)) => {
+        absolute($alloc, $n, $shape, $a, $y)
+    };
+    (2 Many least quotient ($alloc:ident $n:ident $shape:ident $a:ident $b:ident $y:ident)) => {
+        divided($alloc, CellKind::DivFloor, $n, $shape, $a, $b, $y)
+    };
+    (2 Many least remainder ($alloc:ident $n:ident $shape:ident $a:ident $b:ident $y:ident)) => {
+        divided($alloc, CellKind::ModFloor, $n, $shape, $a, $b, $y)
+    };
+    (2 Many common unequal ($alloc:ident $n:ident $shape:ident $a:ident $b:ident $y:ident)) => {
+        unequal($alloc, $n, $shape, $a, $b, $y)
+    };
+    (2 Many least shifted_down ($alloc:ident $n:ident $shape:ident $a:ident $b:ident $y:ident)) => {
+        shifted_down($alloc, $n, $a, $b, $y)
+    };
+    (2 $cell:ident common greater ($alloc:ident $n:ident $shape:ident $a:ident $b:ident $y:ident)) => {
+        compared($alloc, CellKind::$cell, $n, $shape, $b, $a, $y)
+    };
+    (2 $cell:ident common at_least ($alloc:ident $n:ident $shape:ident $a:ident $b:ident $y:ident)) => {
+        compared($alloc, CellKind::$cell, $n, $shape, $b, $a, $y)
+    };
+    (2 $cell:ident common $integer:ident ($alloc:ident $n:ident $shape:ident $a:ident $b:ident $y:ident)) => {
+        compared($alloc, CellKind::$cell, $n, $shape, $a, $b, $y)
+    };
+    (2 Shl least $integer:ident ($alloc:ident $n:ident $shape:ident $a:ident $b:ident $y:ident)) => {
+        shifted($alloc, CellKind::Shl, $a.shape.signed, $n, $a, $b, $y)
+    };
+    (2 $cell:ident $work:ident $integer:ident ($alloc:ident $n:ident $shape:ident $a:ident $b:ident $y:ident)) => {
+        alike($alloc, CellKind::$cell, $n, $shape, $a, $b, $y)
+    };
+    (1 Sub least $integer:ident ($alloc:ident $n:ident $shape:ident $a:ident $b:ident $y:ident)) => {
+        opposite($alloc, $n, $shape, $a, $y)
+    };
+    (1 Not least $integer:ident ($alloc:ident $n:ident $shape:ident $a:ident $b:ident $y:ident)) => {
+        turned($alloc, $n, $shape, $a, $y)
+    };
+    (1 ReduceAnd least $integer:ident ($alloc:ident $n:ident $shape:ident $a:ident $b:ident $y:ident)) => {
+        reduced($alloc, CellKind::ReduceAnd, Int::of_u128(1), $n, $a, $y)
+    };
+    (1 $cell:ident least $integer:ident ($alloc:ident $n:ident $shape:ident $a:ident $b:ident $y:ident)) => {
+        reduced($alloc, CellKind::$cell, zero(), $n, $a, $y)
+    };
+}
+
 // The wires, cells and links that give y the operator of a and b.
 fn operated(
     alloc: Global,
@@ -421,33 +494,7 @@ fn operated(
     requires { n < 2 ^ 99 }
     ensures { IfOk result (λ d. d ≡ operated op n shape a.now b.now y.now) }
 {
-    let one = Int::of_u128(1);
-    let signed = a.shape.signed;
-    match op {
-        Op::Add => alike(alloc, CellKind::Add, n, shape, a, b, y),
-        Op::Sub => alike(alloc, CellKind::Sub, n, shape, a, b, y),
-        Op::Neg => opposite(alloc, n, shape, a, y),
-        Op::Mul => alike(alloc, CellKind::Mul, n, shape, a, b, y),
-        Op::Div => divided(alloc, CellKind::DivFloor, n, shape, a, b, y),
-        Op::Mod => divided(alloc, CellKind::ModFloor, n, shape, a, b, y),
-        Op::Abs => absolute(alloc, n, shape, a, y),
-        Op::Not => turned(alloc, n, shape, a, y),
-        Op::And => alike(alloc, CellKind::And, n, shape, a, b, y),
-        Op::Or => alike(alloc, CellKind::Or, n, shape, a, b, y),
-        Op::Xor => alike(alloc, CellKind::Xor, n, shape, a, b, y),
-        Op::Eq => compared(alloc, CellKind::Eq, n, shape, a, b, y),
-        Op::Ne => unequal(alloc, n, shape, a, b, y),
-        Op::Lt => compared(alloc, CellKind::Lt, n, shape, a, b, y),
-        Op::Le => compared(alloc, CellKind::Le, n, shape, a, b, y),
-        Op::Gt => compared(alloc, CellKind::Lt, n, shape, b, a, y),
-        Op::Ge => compared(alloc, CellKind::Le, n, shape, b, a, y),
-        Op::Any => reduced(alloc, CellKind::ReduceOr, zero(), n, a, y),
-        Op::All => reduced(alloc, CellKind::ReduceAnd, one, n, a, y),
-        Op::Parity => reduced(alloc, CellKind::ReduceXor, zero(), n, a, y),
-        Op::Shl => shifted(alloc, CellKind::Shl, signed, n, a, b, y),
-        Op::Shr if signed => shifted(alloc, CellKind::Sshr, true, n, a, b, y),
-        Op::Shr => shifted(alloc, CellKind::Shr, false, n, a, b, y),
-    }
+    operators!(lowering_arms(op (alloc n shape a b y)))
 }
 
 /// The drawing of an operator at its own work shape; a value without bits takes nothing.
