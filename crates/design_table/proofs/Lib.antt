@@ -1,0 +1,7 @@
+mod DesignSides
+pub mod DesignSound
+pub mod Marks
+mod NoResets
+mod Ports
+mod Statements
+mod TargetSides
