@@ -4,5 +4,6 @@ pub mod EqualityLaws
 pub mod MemberLaws
 pub mod SumLaws
 pub mod ChargeLaws
-pub mod BindLaws
+pub mod BindingLaws
+pub mod ScopeLaws
 pub mod Samples

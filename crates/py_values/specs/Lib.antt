@@ -9,5 +9,7 @@ pub mod Truths
 pub mod Members
 pub mod Sums
 pub mod Operators
+pub mod Bindings
 pub mod Names
+pub mod Objects
 pub mod Changes

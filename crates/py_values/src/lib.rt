@@ -9,7 +9,7 @@
 //! definitions are worked out in proofs/Samples.antt.
 #![tactic(auto)]
 
-mod bind;
+mod bindings;
 mod change;
 mod equality;
 mod fresh;
@@ -22,6 +22,7 @@ mod op;
 mod operate;
 mod powers;
 mod range;
+mod scopes;
 mod spend;
 mod sums;
 #[cfg(test)]
@@ -30,8 +31,10 @@ mod truth;
 mod val;
 mod vals;
 
+pub use bindings::{Bindings, OwnNames};
 pub use func::{Code, Func, Scope};
 pub use heap::{Frozen, Heap};
 pub use op::{Builtin, PyOp};
+pub use scopes::LookUp;
 pub use val::{FuncId, Hw, ObjId, ScopeId, StrId, Val, ValueStop};
 pub use vals::Vals;
