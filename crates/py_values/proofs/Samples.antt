@@ -78,11 +78,11 @@ nested = seen nothing (record {
   rows = [];
   funcs = [];
   scopes =
-    record { enclosing = None; is_class = false; own = []; bindings = (codes "x", number 1) ∷ [] }
-    ∷ record { enclosing = within 0; is_class = false; own = codes "a" ∷ codes "y" ∷ []; bindings = (codes "a", number 3) ∷ [] }
-    ∷ record { enclosing = within 1; is_class = true; own = codes "a" ∷ codes "x" ∷ []; bindings = (codes "x", number 2) ∷ [] }
-    ∷ record { enclosing = within 2; is_class = false; own = codes "b" ∷ []; bindings = [] }
-    ∷ [];
+      record { enclosing = None; is_class = false; own = []; bindings = (codes "x", number 1) ∷ [] }
+      ∷ record { enclosing = within 0; is_class = false; own = codes "a" ∷ codes "y" ∷ []; bindings = (codes "a", number 3) ∷ [] }
+      ∷ record { enclosing = within 1; is_class = true; own = codes "a" ∷ codes "x" ∷ []; bindings = (codes "x", number 2) ∷ [] }
+      ∷ record { enclosing = within 2; is_class = false; own = codes "b" ∷ []; bindings = [] }
+      ∷ [];
   chars = 0;
   items = 0;
 })

@@ -86,13 +86,7 @@ impl Heap {
     }
 
     // What the scopes of a chain say of a name.
-    fn in_chain(
-        &self,
-        frozen: &Frozen,
-        scopes: u32,
-        first: Option<ScopeId>,
-        name: &str,
-    ) -> LookUp
+    fn in_chain(&self, frozen: &Frozen, scopes: u32, first: Option<ScopeId>, name: &str) -> LookUp
         ensures { result ≡ in_chain scopes (seen frozen.now self.now) name.now first }
     {
         let mut at = first;
