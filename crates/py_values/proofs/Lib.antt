@@ -6,4 +6,5 @@ pub mod SumLaws
 pub mod ChargeLaws
 pub mod BindingLaws
 pub mod ScopeLaws
+pub mod ObjectLaws
 pub mod Samples

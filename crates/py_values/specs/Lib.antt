@@ -11,5 +11,5 @@ pub mod Sums
 pub mod Operators
 pub mod Bindings
 pub mod Names
-pub mod Objects
 pub mod Changes
+pub mod Objects

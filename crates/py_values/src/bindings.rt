@@ -1,5 +1,5 @@
 // Names, each with its value.
-ghost use Rattle.std.specs.Prelude.{◌≡◌, [], OnOk, OnErr, IfOk, string_bytes};
+ghost use Rattle.std.specs.Prelude.{◌≡◌, ◌<◌, ◌^◌, [], length, slice_get, OnOk, OnErr, IfOk, Some, string_bytes};
 ghost use Rattle.std.specs.List.{list_any};
 ghost use Rattle.std.specs.Str.{bytes_eq};
 ghost use Rattle.py_values.specs.Bindings.{bound_in, bound_to, is_among};
@@ -35,6 +35,25 @@ impl Bindings {
         Bindings {
             alloc,
             map: IndexMap::new(alloc),
+        }
+    }
+
+    /// How many names there are.
+    pub fn len(&self) -> usize
+        ensures len { result ≡ length self.now }
+        ensures small { result < 2 ^ 63 }
+    {
+        self.map.len()
+    }
+
+    /// The name and the value at a place, counted from 0.
+    pub fn at(&self, i: usize) -> (&str, Val)
+        requires { i < length self.now }
+        ensures { slice_get self.now i ≡ Some (result.0.now, result.1) }
+    {
+        match self.map.get_index(i) {
+            Some((name, v)) => (name.as_str(), *v),
+            None => ("", Val::None),
         }
     }
 
