@@ -7,4 +7,5 @@ pub mod ChargeLaws
 pub mod BindingLaws
 pub mod ScopeLaws
 pub mod ObjectLaws
+pub mod DictLaws
 pub mod Samples

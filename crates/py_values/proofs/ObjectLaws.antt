@@ -35,7 +35,7 @@ module _ (before : ℕ) (texts : List (List ℕ)) (row : List Val) (name : List 
       rw (h, n, append_assoc texts (name ∷ []) (names_in bs), append_assoc row) refl
 
   listed_by : (b : Bool) (texts' : List (List ℕ)) (row' : List Val) → is_long name ≡ b → name_listed before texts row name v ≡ Ok (tt, (texts', row')) → names_listed before texts row ((name, v) ∷ bs) ≡ names_listed before texts' row' bs
-  listed_by true texts' row' e h = let f : Err Limit ≡ Ok (tt, (texts', row')) = rw e at h in cc
+  listed_by true texts' row' e h = let f = rw e at h in cc
   listed_by false texts' row' e h =
       let p = ap (value_or (texts', row')) (rw e at h) in
       more e ∙ (λ i. names_listed before (p i).0 (p i).1 bs)

@@ -13,3 +13,4 @@ pub mod Bindings
 pub mod Names
 pub mod Changes
 pub mod Objects
+pub mod Dicts

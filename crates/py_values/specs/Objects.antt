@@ -103,11 +103,14 @@ new_class s base n =
 abbrev pub attribute_added : Seen → ℕ → List Val → List ℕ → Val → Result (Unit {0} × Made) ValueStop
 attribute_added s i row name v =
     if is_long name || items_pass s 1 then Err Limit
-    else Ok (tt, record s.own {
-      texts = s.own.texts ++ name ∷ [];
-      rows = slice_set s.own.rows i (row ++ val.Str (record { 0 = length s.frozen.texts + length s.own.texts }) ∷ v ∷ []);
-      items = s.own.items + 1;
-    })
+    else Ok (
+      tt,
+      record s.own {
+        texts = s.own.texts ++ name ∷ [];
+        rows = slice_set s.own.rows i (row ++ val.Str (record { 0 = length s.frozen.texts + length s.own.texts }) ∷ v ∷ []);
+        items = s.own.items + 1;
+      },
+    )
 
 -- the place is counted behind the first item
 abbrev pub attribute_set_in : Seen → ℕ → List Val → Option ℕ → List ℕ → Val → Result (Unit {0} × Made) ValueStop

@@ -11,6 +11,7 @@
 
 mod bindings;
 mod change;
+mod dicts;
 mod equality;
 mod fresh;
 mod func;

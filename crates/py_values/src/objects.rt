@@ -246,7 +246,13 @@ impl Heap {
             return Err(ValueStop::Raised);
         };
         let texts = &mut self.texts;
-        match class_row(self.alloc, texts, frozen.made.texts.len(), base, &scope.bindings) {
+        match class_row(
+            self.alloc,
+            texts,
+            frozen.made.texts.len(),
+            base,
+            &scope.bindings,
+        ) {
             Ok(row) => self.add_class(frozen, row, count),
             Err(stop) => Err(stop),
         }
