@@ -7,5 +7,7 @@ pub mod ChargeLaws
 pub mod BindingLaws
 pub mod ScopeLaws
 pub mod ObjectLaws
+pub mod ScalarLaws
 pub mod DictLaws
 pub mod Samples
+pub mod BuiltinSamples

@@ -13,4 +13,5 @@ pub mod Bindings
 pub mod Names
 pub mod Changes
 pub mod Objects
+pub mod Scalars
 pub mod Dicts

@@ -24,6 +24,7 @@ mod op;
 mod operate;
 mod powers;
 mod range;
+mod scalars;
 mod scopes;
 mod spend;
 mod sums;
