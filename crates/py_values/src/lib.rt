@@ -10,6 +10,8 @@
 #![tactic(auto)]
 
 mod bindings;
+#[cfg(test)]
+mod builtin_tests;
 mod change;
 mod dicts;
 mod equality;
