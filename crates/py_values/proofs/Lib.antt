@@ -4,5 +4,10 @@ pub mod EqualityLaws
 pub mod MemberLaws
 pub mod SumLaws
 pub mod ChargeLaws
-pub mod BindLaws
+pub mod BindingLaws
+pub mod ScopeLaws
+pub mod ObjectLaws
+pub mod ScalarLaws
+pub mod DictLaws
 pub mod Samples
+pub mod BuiltinSamples

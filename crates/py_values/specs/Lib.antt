@@ -9,5 +9,9 @@ pub mod Truths
 pub mod Members
 pub mod Sums
 pub mod Operators
+pub mod Bindings
 pub mod Names
 pub mod Changes
+pub mod Objects
+pub mod Scalars
+pub mod Dicts

@@ -9,8 +9,8 @@ use crate::members::is_key;
 use crate::val::{ObjId, Val, ValueStop};
 use amh_bits::Int;
 
-// The place in this heap of what a number stands for.
-fn own_number(before: usize, count: usize, n: u32) -> Option<usize>
+/// The place in this heap of what a number stands for.
+pub(crate) fn own_number(before: usize, count: usize, n: u32) -> Option<usize>
     ensures place { result ≡ own_number before count n }
     ensures within { IfSome result (λ i. i < count) }
 {
@@ -78,8 +78,8 @@ fn index_place(len: usize, n: Int) -> Option<usize>
 }
 
 impl Heap {
-    // Puts a value at a place of a row of this heap.
-    fn set_own(&mut self, i: usize, k: Option<usize>, v: Val) -> Result<(), ValueStop>
+    /// Puts a value at a place of a row of this heap.
+    pub(crate) fn set_own(&mut self, i: usize, k: Option<usize>, v: Val) -> Result<(), ValueStop>
         requires row { i < length self.old.rows }
         requires within { IfSome k (λ k. k < length (row_of self.old.rows i)) }
         ensures { Answers (paired result self.new) (row_set self.old i (row_of self.old.rows i) k v) }

@@ -9,8 +9,11 @@
 //! definitions are worked out in proofs/Samples.antt.
 #![tactic(auto)]
 
-mod bind;
+mod bindings;
+#[cfg(test)]
+mod builtin_tests;
 mod change;
+mod dicts;
 mod equality;
 mod fresh;
 mod func;
@@ -18,10 +21,13 @@ mod heap;
 mod members;
 mod names;
 mod numbers;
+mod objects;
 mod op;
 mod operate;
 mod powers;
 mod range;
+mod scalars;
+mod scopes;
 mod spend;
 mod sums;
 #[cfg(test)]
@@ -30,8 +36,11 @@ mod truth;
 mod val;
 mod vals;
 
+pub use bindings::{Bindings, OwnNames};
 pub use func::{Code, Func, Scope};
 pub use heap::{Frozen, Heap};
+pub use objects::Inherited;
 pub use op::{Builtin, PyOp};
+pub use scopes::LookUp;
 pub use val::{FuncId, Hw, ObjId, ScopeId, StrId, Val, ValueStop};
 pub use vals::Vals;
