@@ -5,4 +5,8 @@ pub mod MemberLaws
 pub mod SumLaws
 pub mod ChargeLaws
 pub mod BindLaws
+pub mod SpanLaws
+pub mod StepLaws
+pub mod ElementLaws
+pub mod ElementsAre
 pub mod Samples

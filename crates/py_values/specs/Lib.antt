@@ -11,3 +11,5 @@ pub mod Sums
 pub mod Operators
 pub mod Names
 pub mod Changes
+pub mod Spans
+pub mod Elements

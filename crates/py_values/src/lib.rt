@@ -11,6 +11,7 @@
 
 mod bind;
 mod change;
+mod elements;
 mod equality;
 mod fresh;
 mod func;
@@ -22,6 +23,7 @@ mod op;
 mod operate;
 mod powers;
 mod range;
+mod spans;
 mod spend;
 mod sums;
 #[cfg(test)]
