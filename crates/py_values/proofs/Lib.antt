@@ -8,5 +8,6 @@ pub mod BindLaws
 pub mod SpanLaws
 pub mod StepLaws
 pub mod ElementLaws
+pub mod TupleLaws
 pub mod ElementsAre
 pub mod Samples

@@ -13,3 +13,4 @@ pub mod Names
 pub mod Changes
 pub mod Spans
 pub mod Elements
+pub mod Sequences

@@ -23,12 +23,14 @@ mod op;
 mod operate;
 mod powers;
 mod range;
+mod sequences;
 mod spans;
 mod spend;
 mod sums;
 #[cfg(test)]
 mod tests;
 mod truth;
+mod tuples;
 mod val;
 mod vals;
 
