@@ -8,6 +8,7 @@ pub mod BindLaws
 pub mod SpanLaws
 pub mod StepLaws
 pub mod ElementLaws
+pub mod SliceLaws
 pub mod TupleLaws
 pub mod ElementsAre
 pub mod Samples

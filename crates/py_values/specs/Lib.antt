@@ -14,3 +14,4 @@ pub mod Changes
 pub mod Spans
 pub mod Elements
 pub mod Sequences
+pub mod Indices
