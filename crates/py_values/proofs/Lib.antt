@@ -12,3 +12,4 @@ pub mod SliceLaws
 pub mod TupleLaws
 pub mod ElementsAre
 pub mod Samples
+pub mod SamplesSequences

@@ -15,3 +15,4 @@ pub mod Spans
 pub mod Elements
 pub mod Sequences
 pub mod Indices
+pub mod Lists

@@ -18,6 +18,7 @@ mod func;
 mod heap;
 mod indices;
 mod members;
+mod methods;
 mod names;
 mod numbers;
 mod op;
