@@ -1,5 +1,5 @@
 -- The elements of a value are its elements by their number, and as many as are counted.
-use Rattle.std.proofs.Common.{◌≡◌, ℕ, ◌≤◌, ◌<◌, ◌⊎◌, inl, inr, Bool, true, false, List, length, map, Option, Some, None, Result, Ok, Err, refl, arith, ap, sym, ◌∙◌}
+use Rattle.std.proofs.Common.{◌≡◌, ℕ, zero-add, ◌≤◌, ◌<◌, ◌⊎◌, inl, inr, Bool, true, false, List, length, map, Option, Some, None, Result, Ok, Err, refl, arith, ap, sym, ◌∙◌}
 use Rattle.std.specs.Prelude.{ℤ, slice_get, nat_lt}
 use Rattle.std.specs.Option.{option_map}
 use Rattle.std.proofs.lemmas.Bool.{cases_lt, cases_Bool}
@@ -12,7 +12,7 @@ use Rattle.py_values.specs.declared.val.ValueStop.{ValueStop}
 use Rattle.py_values.specs.declared.val.ValueStop.TheVariants.{Limit}
 use Rattle.py_values.specs.Heaps.{Seen, row_at}
 use Rattle.py_values.specs.Ranges.{span_of}
-use Rattle.py_values.specs.Spans.{span_count, span_element, span_numbers}
+use Rattle.py_values.specs.Spans.{stepped, span_count, span_element, span_numbers}
 use Rattle.py_values.specs.Elements.{elements, element, sized, keys_in, span_listed, span_sized}
 use Rattle.py_values.proofs.EqualityLaws.{ok_or_err}
 use Rattle.py_values.proofs.StepLaws.{element_there, element_past}
@@ -30,7 +30,7 @@ same_list xs ys e =
 span_numbers_are : (r : Span) (i : ℕ) → slice_get (span_numbers r) i ≡ span_element r i
 span_numbers_are r i =
     elim (cases_lt i (span_count r)) [
-      | inl l ↦ slice_get-numbers_from (span_count r) 0 i r l ∙ sym (element_there r i l)
+      | inl l ↦ slice_get-numbers_from (span_count r) 0 i r l ∙ ap (λ (j : ℕ). Some (stepped r.start r.step j)) (zero-add i) ∙ sym (element_there r i l)
       | inr g ↦ slice_get_past (span_numbers r) i (omega (arith, length-numbers_from (span_count r) 0 r)) ∙ sym (element_past r i g)
     ]
 

@@ -1,5 +1,6 @@
 -- Small values of sequences, worked out; each is what CPython answers.
-use Rattle.std.specs.Prelude.{◌≡◌, refl, ℕ, ◌*◌, ◌-◌, ◌^◌, true, false, List, [], ◌∷◌, ℤ, pos, negsuc, Ok, Err, Some, None, codes}
+use Rattle.std.specs.Prelude.{◌≡◌, refl, ℕ, ◌*◌, ◌-◌, ◌^◌, true, false, List, [], ◌∷◌, ℤ, pos, negsuc, Ok, Err, Some, None, codes, encode_utf8, encode_utf8_all}
+use Rattle.std.specs.Str.{chars}
 use Rattle.py_values.specs.declared.val.Val.{Val}
 use Rattle.py_values.specs.declared.val.Val.TheVariants as val
 use Rattle.py_values.specs.declared.val.ValueStop.TheVariants as stop
@@ -56,7 +57,7 @@ ranges = (refl, refl, refl, refl)
 
 -- len of a string, of a dict, and of a number
 lengths : (count_of some (text 1) ≡ Some 3) × (count_of some (val.Dict (record { 0 = 3 })) ≡ Some 1) × (count_of some (number 1) ≡ None)
-unfolding number text some
+unfolding number text some chars
 lengths = (refl, refl, refl)
 
 -- the keys of a dict, a string, and reversed(range(0, 10, 3))
@@ -65,13 +66,13 @@ unfolding number text some numbers_from
 gone_over = (refl, refl, refl)
 
 -- "añb"[1], [7, 8, 9][-1], [7, 8, 9][3], {"b": 7}["b"], range(10, 0, -3)[True]
-indices : (index_of some (text 1 ∷ number 1 ∷ []) ≡ Ok (fresh.Text (195 ∷ 177 ∷ []))) × (index_of some (list 0 ∷ below 0 ∷ []) ≡ Ok (fresh.Val (number 9))) × (index_of some (list 0 ∷ number 3 ∷ []) ≡ Err stop.Raised) × (index_of some (val.Dict (record { 0 = 3 }) ∷ text 0 ∷ []) ≡ Ok (fresh.Val (number 7))) × (index_of some (val.Range (record { 0 = 2 }) ∷ val.Bool true ∷ []) ≡ Ok (fresh.Val (number 7)))
-unfolding number below list text some
+indices : (index_of some (text 1 ∷ number 1 ∷ []) ≡ Ok (fresh.Text (encode_utf8 241))) × (index_of some (list 0 ∷ below 0 ∷ []) ≡ Ok (fresh.Val (number 9))) × (index_of some (list 0 ∷ number 3 ∷ []) ≡ Err stop.Raised) × (index_of some (val.Dict (record { 0 = 3 }) ∷ text 0 ∷ []) ≡ Ok (fresh.Val (number 7))) × (index_of some (val.Range (record { 0 = 2 }) ∷ val.Bool true ∷ []) ≡ Ok (fresh.Val (number 7)))
+unfolding number below list text some chars
 indices = (refl, refl, refl, refl, refl)
 
 -- [7, 8, 9][::-1], [7, 8, 9][-2:], [7, 8, 9][5:-9:-2], [7, 8, 9][::0], "añb"[1:]
-slices : (slice_of some (list 0 ∷ val.None ∷ val.None ∷ below 0 ∷ []) ≡ Ok (fresh.List (number 9 ∷ number 8 ∷ number 7 ∷ []))) × (slice_of some (list 0 ∷ below 1 ∷ val.None ∷ val.None ∷ []) ≡ Ok (fresh.List (number 8 ∷ number 9 ∷ []))) × (slice_of some (list 0 ∷ number 5 ∷ below 8 ∷ below 1 ∷ []) ≡ Ok (fresh.List (number 9 ∷ number 7 ∷ []))) × (slice_of some (list 0 ∷ val.None ∷ val.None ∷ number 0 ∷ []) ≡ Err stop.Raised) × (slice_of some (text 1 ∷ number 1 ∷ val.None ∷ val.None ∷ []) ≡ Ok (fresh.Text (195 ∷ 177 ∷ 98 ∷ [])))
-unfolding number below list text some numbers_from
+slices : (slice_of some (list 0 ∷ val.None ∷ val.None ∷ below 0 ∷ []) ≡ Ok (fresh.List (number 9 ∷ number 8 ∷ number 7 ∷ []))) × (slice_of some (list 0 ∷ below 1 ∷ val.None ∷ val.None ∷ []) ≡ Ok (fresh.List (number 8 ∷ number 9 ∷ []))) × (slice_of some (list 0 ∷ number 5 ∷ below 8 ∷ below 1 ∷ []) ≡ Ok (fresh.List (number 9 ∷ number 7 ∷ []))) × (slice_of some (list 0 ∷ val.None ∷ val.None ∷ number 0 ∷ []) ≡ Err stop.Raised) × (slice_of some (text 1 ∷ number 1 ∷ val.None ∷ val.None ∷ []) ≡ Ok (fresh.Text (encode_utf8_all (241 ∷ 98 ∷ []))))
+unfolding number below list text some numbers_from chars
 slices = (refl, refl, refl, refl, refl)
 
 -- enumerate([7, 8], 5), zip([7, 8, 9], {"b": 7}), and where insert puts a value into three
