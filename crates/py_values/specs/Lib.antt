@@ -16,3 +16,4 @@ pub mod Elements
 pub mod Sequences
 pub mod Indices
 pub mod Lists
+pub mod Builtins

@@ -7,9 +7,14 @@
 //! (specs/Runs.antt), and `Limit` where a count would be passed (specs/Places.antt). Scopes bind names, and lists
 //! and dicts change in place, unless they were frozen (specs/Names.antt, specs/Changes.antt). Samples of the
 //! definitions are worked out in proofs/Samples.antt.
+//!
+//! `builtin` gives exactly what the builtins, methods, indices and slices give (specs/Builtins.antt, which stands on
+//! Elements, Spans, Sequences, Indices and Lists among others). `elements` and `element` tell what a loop or a call
+//! goes over, and a law says that they tell the same (proofs/ElementsAre.antt).
 #![tactic(auto)]
 
 mod bind;
+mod builtin;
 mod change;
 mod elements;
 mod equality;
@@ -25,6 +30,8 @@ mod op;
 mod operate;
 mod powers;
 mod range;
+#[cfg(test)]
+mod sequence_tests;
 mod sequences;
 mod slices;
 mod spans;
