@@ -11,3 +11,10 @@ pub mod ScalarLaws
 pub mod DictLaws
 pub mod Samples
 pub mod BuiltinSamples
+pub mod SpanLaws
+pub mod StepLaws
+pub mod ElementLaws
+pub mod SliceLaws
+pub mod TupleLaws
+pub mod ElementsAre
+pub mod SamplesSequences

@@ -15,3 +15,9 @@ pub mod Changes
 pub mod Objects
 pub mod Scalars
 pub mod Dicts
+pub mod Spans
+pub mod Elements
+pub mod Sequences
+pub mod Indices
+pub mod Lists
+pub mod Builtins

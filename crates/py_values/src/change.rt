@@ -26,8 +26,8 @@ pub(crate) fn own_number(before: usize, count: usize, n: u32) -> Option<usize>
 }
 
 impl Heap {
-    // Whether one item more passes a count.
-    fn item_passes(&self, frozen: &Frozen, row: &[Val]) -> bool
+    /// Whether one item more passes a count.
+    pub(crate) fn item_passes(&self, frozen: &Frozen, row: &[Val]) -> bool
         ensures { result ≡ item_passes (seen frozen.now self.now) row.now }
     {
         row.len() > 65_535 || frozen.made.items as u64 + self.items as u64 + 1 > 4_194_304
@@ -59,8 +59,8 @@ impl Heap {
     }
 }
 
-// Python's place of an index in a row of so many values.
-fn index_place(len: usize, n: Int) -> Option<usize>
+/// Python's place of an index in a row of so many values.
+pub(crate) fn index_place(len: usize, n: Int) -> Option<usize>
     ensures place { result ≡ index_place len n }
     ensures within { IfSome result (λ i. i < len) }
 {

@@ -7,18 +7,26 @@
 //! (specs/Runs.antt), and `Limit` where a count would be passed (specs/Places.antt). Scopes bind names, and lists
 //! and dicts change in place, unless they were frozen (specs/Names.antt, specs/Changes.antt). Samples of the
 //! definitions are worked out in proofs/Samples.antt.
+//!
+//! `builtin` gives exactly what the builtins, methods, indices and slices give (specs/Builtins.antt, which stands on
+//! Elements, Spans, Sequences, Indices and Lists among others). `elements` and `element` tell what a loop or a call
+//! goes over, and a law says that they tell the same (proofs/ElementsAre.antt).
 #![tactic(auto)]
 
 mod bindings;
+mod builtin;
 #[cfg(test)]
 mod builtin_tests;
 mod change;
 mod dicts;
+mod elements;
 mod equality;
 mod fresh;
 mod func;
 mod heap;
+mod indices;
 mod members;
+mod methods;
 mod names;
 mod numbers;
 mod objects;
@@ -28,11 +36,17 @@ mod powers;
 mod range;
 mod scalars;
 mod scopes;
+#[cfg(test)]
+mod sequence_tests;
+mod sequences;
+mod slices;
+mod spans;
 mod spend;
 mod sums;
 #[cfg(test)]
 mod tests;
 mod truth;
+mod tuples;
 mod val;
 mod vals;
 
