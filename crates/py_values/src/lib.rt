@@ -5,8 +5,10 @@
 //! gives exactly the values, the refusals and the cost of Python's operators (specs/Operators.antt, which stands on
 //! Numbers, Equality, Truths, Members, Ranges and Sums); `Spent` comes exactly where the cost reaches what is left
 //! (specs/Runs.antt), and `Limit` where a count would be passed (specs/Places.antt). Scopes bind names, and lists
-//! and dicts change in place, unless they were frozen (specs/Names.antt, specs/Changes.antt). Samples of the
-//! definitions are worked out in proofs/Samples.antt.
+//! and dicts change in place, unless they were frozen (specs/Names.antt, specs/Changes.antt). `look_up` gives what a name
+//! means where it is read (specs/Names.antt), and `inherited` what a class has by itself or from its base
+//! (specs/Objects.antt). Builtins of numbers and of dicts stand in specs/Scalars.antt and specs/Dicts.antt. Samples of
+//! the definitions are worked out in proofs/Samples.antt and proofs/BuiltinSamples.antt.
 #![tactic(auto)]
 
 mod bindings;
