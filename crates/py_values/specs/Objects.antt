@@ -45,8 +45,8 @@ abbrev pub new_object : Seen → Val → Result (Val × Made) ValueStop
 new_object s class = named (λ n. val.Object (record { 0 = n })) (new_row s (class ∷ []))
 
 -- so many items more pass the count of all
-abbrev pub items_pass : Seen → ℕ → Bool
-items_pass s n = nat_lt 4194304 (s.frozen.items + s.own.items + n)
+abbrev pub attributes_pass : Seen → ℕ → Bool
+attributes_pass s n = nat_lt 4194304 (s.frozen.items + s.own.items + n)
 
 abbrev pub names_in : List Binding → List (List ℕ)
 names_in bs = map (λ b. b.0) bs
@@ -85,7 +85,7 @@ class_with s n (Ok x) =
 -- a class counts as one item, and each of its names as one
 abbrev pub class_of : Seen → Option Val → List Binding → Result (Val × Made) ValueStop
 class_of s base bs =
-    if items_pass s (1 + length bs) then Err Limit
+    if attributes_pass s (1 + length bs) then Err Limit
     else class_with s (1 + length bs) (class_row (length s.frozen.texts) s.own.texts base bs)
 
 -- of a scope of this heap; what was frozen makes none
@@ -102,7 +102,7 @@ new_class s base n =
 
 abbrev pub attribute_added : Seen → ℕ → List Val → List ℕ → Val → Result (Unit {0} × Made) ValueStop
 attribute_added s i row name v =
-    if is_long name || items_pass s 1 then Err Limit
+    if is_long name || attributes_pass s 1 then Err Limit
     else Ok (
       tt,
       record s.own {

@@ -5,12 +5,12 @@
 //! gives exactly the values, the refusals and the cost of Python's operators (specs/Operators.antt, which stands on
 //! Numbers, Equality, Truths, Members, Ranges and Sums); `Spent` comes exactly where the cost reaches what is left
 //! (specs/Runs.antt), and `Limit` where a count would be passed (specs/Places.antt). Scopes bind names, and lists
-//! and dicts change in place, unless they were frozen (specs/Names.antt, specs/Changes.antt). Samples of the
-//! definitions are worked out in proofs/Samples.antt.
-//!
-//! `builtin` gives exactly what the builtins, methods, indices and slices give (specs/Builtins.antt, which stands on
-//! Elements, Spans, Sequences, Indices and Lists among others). `elements` and `element` tell what a loop or a call
-//! goes over, and a law says that they tell the same (proofs/ElementsAre.antt).
+//! and dicts change in place, unless they were frozen (specs/Names.antt, specs/Changes.antt). `look_up` gives what a name
+//! means where it is read (specs/Names.antt), and `inherited` what a class has by itself or from its base
+//! (specs/Objects.antt). `builtin` gives exactly what the builtins, methods, indices and slices give (specs/Builtins.antt,
+//! which stands on Elements, Spans, Sequences, Indices, Lists, Scalars and Dicts). `elements` and `element` tell what a loop
+//! or a call goes over, and a law says that they tell the same (proofs/ElementsAre.antt). Samples of the definitions are
+//! worked out in proofs/Samples.antt, SamplesSequences.antt and BuiltinSamples.antt.
 #![tactic(auto)]
 
 mod bindings;

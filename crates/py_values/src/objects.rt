@@ -4,7 +4,7 @@ ghost use Rattle.std.specs.Option.{option_map};
 ghost use Rattle.py_values.specs.Heaps.{seen, row_at, row_of};
 ghost use Rattle.py_values.specs.Runs.{Answers, paired};
 ghost use Rattle.py_values.specs.Members.{value_place};
-ghost use Rattle.py_values.specs.Objects.{attributes, is_named, attribute_in, name_listed, names_listed, base_of, new_object, items_pass, class_row, class_with, class_at, new_class, attribute_added, attribute_set_at, attribute_set, first_in, inherited};
+ghost use Rattle.py_values.specs.Objects.{attributes, is_named, attribute_in, name_listed, names_listed, base_of, new_object, attributes_pass, class_row, class_with, class_at, new_class, attribute_added, attribute_set_at, attribute_set, first_in, inherited};
 
 use crate::bindings::Bindings;
 use crate::change::own_number;
@@ -180,9 +180,9 @@ impl Heap {
     }
 
     // Whether so many items more pass the count of all.
-    pub(crate) fn items_pass(&self, frozen: &Frozen, n: usize) -> bool
+    pub(crate) fn attributes_pass(&self, frozen: &Frozen, n: usize) -> bool
         requires { n ≤ 2 ^ 63 }
-        ensures { result ≡ items_pass (seen frozen.now self.now) n }
+        ensures { result ≡ attributes_pass (seen frozen.now self.now) n }
     {
         frozen.made.items as u64 + self.items as u64 + n as u64 > 4_194_304
     }
@@ -239,7 +239,7 @@ impl Heap {
         requires small { count ≤ 2 ^ 63 }
         ensures { Answers (paired result self.new) (class_at (seen frozen.now self.old) base (slice_get self.old.scopes i)) }
     {
-        if self.items_pass(frozen, count) {
+        if self.attributes_pass(frozen, count) {
             return Err(ValueStop::Limit);
         }
         let Some(scope) = self.scopes.get(i) else {
@@ -290,7 +290,7 @@ impl Heap {
         requires { i < length self.old.rows }
         ensures { Answers (paired result self.new) (attribute_added (seen frozen.now self.old) i (row_of self.old.rows i) name.now v) }
     {
-        if char_count(name) > 4096 || self.items_pass(frozen, 1) {
+        if char_count(name) > 4096 || self.attributes_pass(frozen, 1) {
             return Err(ValueStop::Limit);
         }
         let Ok(id) = next_number(frozen.made.texts.len(), self.texts.len()) else {
