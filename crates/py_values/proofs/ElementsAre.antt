@@ -1,6 +1,6 @@
 -- The elements of a value are its elements by their number, and as many as are counted.
-use Rattle.std.proofs.Common.{◌≡◌, ℕ, zero-add, ◌≤◌, ◌<◌, ◌⊎◌, inl, inr, Bool, true, false, List, length, map, Option, Some, None, Result, Ok, Err, refl, arith, ap, sym, ◌∙◌}
-use Rattle.std.specs.Prelude.{ℤ, slice_get, nat_lt}
+use Rattle.std.proofs.Common.{◌≡◌, ℕ, zero-add, inl, inr, true, false, List, length, map, Some, Result, Ok, Err, refl, arith, ap, sym, ◌∙◌}
+use Rattle.std.specs.Prelude.{slice_get, nat_lt}
 use Rattle.std.specs.Option.{option_map}
 use Rattle.std.proofs.lemmas.Bool.{cases_lt, cases_Bool}
 use Rattle.std.proofs.lemmas.List.{length-map}

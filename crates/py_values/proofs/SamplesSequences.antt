@@ -1,16 +1,16 @@
 -- Small values of sequences, worked out; each is what CPython answers.
-use Rattle.std.specs.Prelude.{◌≡◌, refl, ℕ, ◌*◌, ◌-◌, ◌^◌, true, false, List, [], ◌∷◌, ℤ, pos, negsuc, Ok, Err, Some, None, codes, encode_utf8, encode_utf8_all}
+use Rattle.std.specs.Prelude.{◌≡◌, refl, ℕ, ◌*◌, ◌-◌, ◌^◌, true, [], ◌∷◌, pos, negsuc, Ok, Err, Some, None, codes, encode_utf8, encode_utf8_all}
 use Rattle.std.specs.Str.{chars}
 use Rattle.py_values.specs.declared.val.Val.{Val}
 use Rattle.py_values.specs.declared.val.Val.TheVariants as val
 use Rattle.py_values.specs.declared.val.ValueStop.TheVariants as stop
 use Rattle.py_values.specs.declared.fresh.Fresh.TheVariants as fresh
 use Rattle.py_values.specs.declared.range.Span.{Span}
-use Rattle.py_values.specs.Heaps.{Made, Seen, seen, nothing}
+use Rattle.py_values.specs.Heaps.{Seen, seen, nothing}
 use Rattle.py_values.specs.Spans.{span_count, span_element, span_numbers, span_item, numbers_from}
-use Rattle.py_values.specs.Elements.{elements, element, count_of}
-use Rattle.py_values.specs.Sequences.{span_given, len_of, reversed_of, numbered, all_kept, columns, shortest}
-use Rattle.py_values.specs.Indices.{index_of, slice_of, cut_of, cut_span, cut_items, picked}
+use Rattle.py_values.specs.Elements.{elements, count_of}
+use Rattle.py_values.specs.Sequences.{span_given, reversed_of, numbered, columns, shortest}
+use Rattle.py_values.specs.Indices.{index_of, slice_of}
 use Rattle.py_values.specs.Lists.{insert_place}
 
 number : ℕ → Val

@@ -1,6 +1,6 @@
 -- The numbers that steps lead to, and which of them are kept.
 use Rattle.std.proofs.Common.{◌≡◌, ℕ, zero, suc, ◌+◌, ◌-◌, ◌*◌, ◌/◌, ◌%◌, ◌^◌, ◌≤◌, ◌<◌, ◌⊎◌, inl, inr, Bool, true, false, Option, Some, None, refl, arith, ap, sym, ◌∙◌, subst}
-use Rattle.std.specs.Prelude.{ℤ, pos, negsuc, neg_ℤ, ◌+ℤ◌, ◌-ℤ◌, ◌*ℤ◌, ◌≤ℤ◌, ◌<ℤ◌, not, IsTrue, int_lt, unsigned_abs, nat_lt, SomeIff, IfSome, IfNone, if◌then◌else◌}
+use Rattle.std.specs.Prelude.{ℤ, pos, negsuc, neg_ℤ, ◌+ℤ◌, ◌-ℤ◌, ◌≤ℤ◌, ◌<ℤ◌, not, IsTrue, int_lt, unsigned_abs, nat_lt, SomeIff, if◌then◌else◌}
 use Rattle.std.specs.Int.{int_gap, div_ceil}
 use Rattle.std.proofs.lemmas.Int.{ints}
 use Rattle.std.proofs.lemmas.Bool.{cases_lt, cases_Bool}

@@ -1,6 +1,6 @@
 -- Lists of new tuples, and the rows that they are made of.
-use Rattle.std.proofs.Common.{◌≡◌, ℕ, zero, suc, ◌+◌, ◌-◌, ◌*◌, ◌≤◌, ◌<◌, ◌⊎◌, inl, inr, Bool, true, false, List, [], ◌∷◌, ◌++◌, length, drop, map, Result, Ok, Err, refl, arith, ap, sym, ◌∙◌, subst}
-use Rattle.std.specs.Prelude.{ℤ, pos, ◌+ℤ◌, reverse, slice_index_or, nat_lt, ◌||◌, unwrap_or}
+use Rattle.std.proofs.Common.{◌≡◌, ℕ, zero, suc, ◌+◌, ◌-◌, ◌*◌, ◌≤◌, ◌<◌, inl, inr, true, false, List, [], ◌∷◌, ◌++◌, length, drop, Result, Ok, Err, refl, arith, ap, sym, ◌∙◌, subst}
+use Rattle.std.specs.Prelude.{ℤ, pos, ◌+ℤ◌, reverse, slice_index_or, unwrap_or}
 use Rattle.std.proofs.Math.Seq.{drop-cons}
 use Rattle.std.proofs.lemmas.Int.{ints}
 use Rattle.std.proofs.lemmas.List.{reverse-append, length-map}
@@ -12,7 +12,7 @@ use Rattle.py_values.specs.declared.val.ValueStop.{ValueStop}
 use Rattle.py_values.specs.declared.val.ValueStop.TheVariants.{Raised, Width, Limit, Spent, NoMemory}
 use Rattle.py_values.specs.declared.fresh.Fresh.TheVariants as fresh
 use Rattle.py_values.specs.Heaps.{Made, Seen, seen}
-use Rattle.py_values.specs.Places.{placed, new_row, row_passes}
+use Rattle.py_values.specs.Places.{placed, row_passes}
 use Rattle.py_values.specs.Runs.{Answers}
 use Rattle.py_values.specs.Elements.{element}
 use Rattle.py_values.specs.Sequences.{onward, tuples_onto, tuple_list, numbered, column, columns}

@@ -1,5 +1,5 @@
 -- What a builtin goes over: its elements, one of them, and how many there are.
-use Rattle.std.specs.Prelude.{ℕ, suc, ◌/◌, nat_lt, Bool, true, false, if◌then◌else◌, List, [], ◌∷◌, length, map, slice_get, Option, Some, None, Result, Ok, Err}
+use Rattle.std.specs.Prelude.{ℕ, ◌/◌, nat_lt, if◌then◌else◌, List, [], ◌∷◌, length, map, slice_get, Option, Some, None, Result, Ok, Err}
 use Rattle.std.specs.Str.{chars}
 use Rattle.std.specs.Option.{option_map}
 use Rattle.py_values.specs.declared.val.Val.{Val}

@@ -1,4 +1,4 @@
-use Rattle.std.proofs.Common.{◌≡◌, ◌*◌, ◌++◌, [], ◌∷◌, drop, Ok, arith, ap}
+use Rattle.std.proofs.Common.{Ok, ap}
 use Rattle.py_values.proofs.ElementLaws.{listed_turn, listed_end}
 use Rattle.py_values.proofs.elements.keys_in.Goals as goal
 

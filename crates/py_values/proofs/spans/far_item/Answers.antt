@@ -1,5 +1,4 @@
 use Rattle.std.proofs.Common.{◌≡◌, true, false, sym, ◌∙◌, ap}
-use Rattle.std.specs.Prelude.{◌+ℤ◌, ◌-ℤ◌}
 use Rattle.amh_bits.specs.Integers.{sign_of, inverse_is}
 use Rattle.py_values.proofs.StepLaws.{far_back, far_forth}
 use Rattle.py_values.proofs.spans.far_item.Goals as goal

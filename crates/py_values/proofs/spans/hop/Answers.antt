@@ -1,4 +1,4 @@
-use Rattle.std.proofs.Common.{◌≡◌, ◌*◌, ◌<◌, ◌^◌, arith}
+use Rattle.std.proofs.Common.{◌*◌, ◌<◌, ◌^◌, arith}
 use Rattle.py_values.proofs.StepLaws.{moved_hops, far_hops, some_is, none_is}
 use Rattle.py_values.proofs.spans.hop.Goals as goal
 

@@ -1,6 +1,4 @@
-use Rattle.std.proofs.Common.{◌≡◌, Some}
 use Rattle.py_values.proofs.StepLaws.{element_there}
-use Rattle.py_values.specs.Spans.{stepped, span_element}
 use Rattle.py_values.proofs.spans.span_number.Goals as goal
 
 pub unreachable-requires : goal.unreachable-requires

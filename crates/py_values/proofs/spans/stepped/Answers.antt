@@ -1,4 +1,4 @@
-use Rattle.std.proofs.Common.{◌≡◌, ◌+◌, ◌-◌, ◌*◌, ◌/◌, ◌≤◌, arith}
+use Rattle.std.proofs.Common.{◌≡◌, ◌+◌, ◌-◌, ◌/◌, ◌≤◌, arith}
 use Rattle.py_values.proofs.StepLaws.{half_fails_at, there_at, rest_decides}
 use Rattle.py_values.proofs.spans.stepped.Goals as goal
 
