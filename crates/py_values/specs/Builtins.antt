@@ -29,6 +29,7 @@ fresh_of s of.Index args = index_of s args
 fresh_of s of.Slice args = slice_of s args
 fresh_of s _ args = Err Raised
 
+-- `super` and what it gives are the machine's
 abbrev pub built : Seen → Builtin → List Val → Result (Val × Made) ValueStop
 built s of.Range args = range_of s args
 built s of.Len args = settled s (fresh_of s of.Len args)
@@ -46,6 +47,9 @@ built s of.Max args = greatest_of s args
 built s of.Sum args = sum_of s args
 built s of.Abs args = magnitude_of s args
 built s of.Print args = nothing_printed s args
+built s of.Super args = Err Raised
+built s of.InitThing args = Err Raised
+built s of.InitNothing args = Err Raised
 built s of.CeilLog2 args = ceil_log2 s args
 built s of.BitsFor args = bits_for s args
 built s of.Append args = append_to s args

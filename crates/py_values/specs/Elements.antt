@@ -1,5 +1,5 @@
 -- What a builtin goes over: its elements, one of them, and how many there are.
-use Rattle.std.specs.Prelude.{ℕ, ◌/◌, nat_lt, if◌then◌else◌, List, [], ◌∷◌, length, map, slice_get, Option, Some, None, Result, Ok, Err}
+use Rattle.std.specs.Prelude.{ℕ, ◌/◌, ◌==◌, nat_lt, Bool, false, if◌then◌else◌, List, [], ◌∷◌, length, map, slice_get, Option, Some, None, Result, Ok, Err}
 use Rattle.std.specs.Str.{chars}
 use Rattle.std.specs.Option.{option_map}
 use Rattle.py_values.specs.declared.val.Val.{Val}
@@ -56,3 +56,11 @@ count_of s (val.Tuple o) = Some (length (row_at s o.0))
 count_of s (val.Dict o) = Some (length (row_at s o.0) / 2)
 count_of s (val.Range o) = Some (span_count (span_of (row_at s o.0)))
 count_of s _ = None
+
+-- whether there are so many elements
+abbrev pub counts_to : Seen → Val → ℕ → Bool
+counts_to s (val.List o) n = length (row_at s o.0) == n
+counts_to s (val.Tuple o) n = length (row_at s o.0) == n
+counts_to s (val.Dict o) n = length (row_at s o.0) / 2 == n
+counts_to s (val.Range o) n = span_count (span_of (row_at s o.0)) == n
+counts_to s _ n = false

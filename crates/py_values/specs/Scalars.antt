@@ -52,6 +52,12 @@ text_made s (Some (val.Int n)) = new_text s (int_text n)
 text_made s (Some (val.Str x)) = new_text s (text_at s x.0)
 text_made s _ = Err stop.Raised
 
+-- the text that a hole of a string shows for a value
+abbrev pub shown_text : Seen → Val → Option (List ℕ)
+shown_text s (val.Int n) = Some (int_text n)
+shown_text s (val.Str x) = Some (text_at s x.0)
+shown_text s _ = None
+
 abbrev pub str_of : Seen → List Val → Result (Val × Made) ValueStop
 str_of s args = text_made s (only args)
 

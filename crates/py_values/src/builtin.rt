@@ -64,6 +64,7 @@ impl Heap {
             Builtin::Sum => self.sum_of(frozen, args),
             Builtin::Abs => self.magnitude_of(frozen, args),
             Builtin::Print => self.nothing_printed(frozen, args),
+            Builtin::Super | Builtin::InitThing | Builtin::InitNothing => Err(ValueStop::Raised),
             Builtin::CeilLog2 => self.ceil_log2(frozen, args),
             Builtin::BitsFor => self.bits_for(frozen, args),
             Builtin::Dict => self.dict_of(frozen, args),

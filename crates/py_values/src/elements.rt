@@ -2,11 +2,11 @@
 ghost use Rattle.std.specs.Prelude.{◌≡◌, slice_get, length, Ok};
 ghost use Rattle.py_values.specs.Heaps.{seen};
 ghost use Rattle.py_values.specs.Runs.{Answers};
-ghost use Rattle.py_values.specs.Elements.{keys_in, elements, element, sized};
+ghost use Rattle.py_values.specs.Elements.{keys_in, elements, element, counts_to, sized};
 
 use crate::heap::{Frozen, Heap};
 use crate::range::span_of;
-use crate::spans::{span_element, span_listed, span_sized};
+use crate::spans::{span_counts, span_element, span_listed, span_sized};
 use crate::val::{Val, ValueStop};
 use crate::vals::Vals;
 use std::alloc::Global;
@@ -82,6 +82,18 @@ impl Heap {
                 None => None,
             },
             _ => None,
+        }
+    }
+
+    /// Whether a value has so many elements.
+    pub fn counts_to(&self, frozen: &Frozen, v: Val, n: usize) -> bool
+        ensures { result ≡ counts_to (seen frozen.now self.now) v n }
+    {
+        match v {
+            Val::List(o) | Val::Tuple(o) => self.row(frozen, o).len() == n,
+            Val::Dict(o) => self.row(frozen, o).len() / 2 == n,
+            Val::Range(o) => span_counts(&span_of(self.row(frozen, o)), n),
+            _ => false,
         }
     }
 

@@ -1,10 +1,10 @@
 // Builtins that give a number, a boolean, a string or None.
-ghost use Rattle.std.specs.Prelude.{◌≡◌, ◌<◌, ◌≤◌, ◌^◌, nat_lt, pos, unsigned_abs, string_bytes, IfOk, Some, if◌then◌else◌};
+ghost use Rattle.std.specs.Prelude.{◌≡◌, ◌<◌, ◌≤◌, ◌^◌, nat_lt, pos, unsigned_abs, string_bytes, IfOk, Some, Ok, if◌then◌else◌};
 ghost use Rattle.std.specs.List.{list_all, best_of};
 ghost use Rattle.amh_bits.specs.Decimals.{int_text};
 ghost use Rattle.py_values.specs.Heaps.{seen, text_at};
 ghost use Rattle.py_values.specs.Runs.{Answers, paired};
-ghost use Rattle.py_values.specs.Scalars.{only, int_of, text_made, str_of, bool_of, magnitude_of, nothing_printed, bit_length, log_of, ceil_log2, width_of, bits_for, is_number, worth, is_before, extreme, extreme_of, least_of, greatest_of, summed, sum_from, sum_of, only_number};
+ghost use Rattle.py_values.specs.Scalars.{only, int_of, text_made, str_of, shown_text, bool_of, magnitude_of, nothing_printed, bit_length, log_of, ceil_log2, width_of, bits_for, is_number, worth, is_before, extreme, extreme_of, least_of, greatest_of, summed, sum_from, sum_of, only_number};
 
 use crate::heap::{Frozen, Heap};
 use crate::numbers::{is_less, number_of, on_numbers};
@@ -186,6 +186,35 @@ impl Heap {
                 Err(_) => Err(ValueStop::NoMemory),
             },
             _ => Err(ValueStop::Raised),
+        }
+    }
+
+    /// The text that a hole of a string shows for a value: of an integer its digits, of a string itself. There is none
+    /// for other values.
+    pub fn shown(&self, frozen: &Frozen, v: Val) -> Result<Option<Text>, ValueStop>
+        ensures { Answers result (Ok (shown_text (seen frozen.now self.now) v)) }
+    {
+        match v {
+            Val::Int(n) => self.digits(n),
+            Val::Str(x) => match self.text_again(frozen, x) {
+                Ok(text) => Ok(Some(text)),
+                Err(_) => Err(ValueStop::NoMemory),
+            },
+            _ => Ok(None),
+        }
+    }
+
+    // The decimal text of an integer.
+    fn digits(&self, n: Int) -> Result<Option<Text>, ValueStop>
+        ensures { Answers result (Ok (Some (int_text n))) }
+    {
+        let Ok(digits) = int_text(self.alloc, n) else {
+            return Err(ValueStop::NoMemory);
+        };
+        let mut text = Text::new(self.alloc);
+        match text.push(digits.as_str()) {
+            Ok(()) => Ok(Some(text)),
+            Err(_) => Err(ValueStop::NoMemory),
         }
     }
 

@@ -1,5 +1,5 @@
 // The elements of a range.
-ghost use Rattle.std.specs.Prelude.{◌≡◌, ◌+◌, ◌*◌, ◌^◌, ◌<◌, ◌≤◌, IsTrue, ◌∷◌, pos, ◌+ℤ◌, ◌-ℤ◌, if◌then◌else◌, map, SomeIff, Ok};
+ghost use Rattle.std.specs.Prelude.{◌≡◌, ◌+◌, ◌==◌, ◌*◌, ◌^◌, ◌<◌, ◌≤◌, IsTrue, ◌∷◌, pos, ◌+ℤ◌, ◌-ℤ◌, if◌then◌else◌, map, SomeIff, Ok};
 ghost use Rattle.std.specs.Int.{div_ceil};
 ghost use Rattle.amh_bits.specs.Integers.{IsKept, sign_of};
 ghost use Rattle.py_values.specs.declared.val.Val.TheVariants as val;
@@ -64,6 +64,16 @@ pub(crate) fn span_count(r: &Span) -> Option<u128>
     }
     let (a, b) = way_parts(step, r.start, r.stop);
     steps_for_way(a, b, step.size)
+}
+
+/// Whether a range has so many elements.
+pub(crate) fn span_counts(r: &Span, n: usize) -> bool
+    ensures { result ≡ (span_count r.now == n) }
+{
+    match span_count(r) {
+        Some(count) => count == n as u128,
+        None => false,
+    }
 }
 
 /// Nothing is done; callers learn from it that an integer is kept.
