@@ -1,5 +1,5 @@
 -- Small values, worked out; each is what CPython answers, but for the costs.
-use Rattle.std.specs.Prelude.{◌≡◌, refl, ℕ, true, false, List, [], ◌∷◌, ℤ, pos, negsuc, Ok, Err, Some, None, codes}
+use Rattle.std.specs.Prelude.{◌≡◌, refl, ℕ, Bool, true, false, List, Option, [], ◌∷◌, ℤ, pos, negsuc, Ok, Err, Some, None, codes}
 use Rattle.py_values.specs.declared.val.Val.{Val}
 use Rattle.py_values.specs.declared.val.Val.TheVariants as val
 use Rattle.py_values.specs.declared.val.ValueStop.TheVariants as stop
@@ -13,7 +13,12 @@ use Rattle.py_values.specs.Equality.{equal, deeper}
 use Rattle.py_values.specs.Members.{member, has_part}
 use Rattle.py_values.specs.Sums.{copies, repeated}
 use Rattle.py_values.specs.Operators.{operated}
-use Rattle.py_values.specs.Names.{bound}
+use Rattle.py_values.specs.declared.func.Scope.{Scope}
+use Rattle.py_values.specs.declared.val.ScopeId.{ScopeId}
+use Rattle.py_values.specs.declared.scopes.LookUp.TheVariants.{Found, Unbound, Nowhere}
+use Rattle.py_values.specs.Bindings.{bound_to}
+use Rattle.py_values.specs.Names.{look_up, in_chain}
+use Rattle.py_values.specs.Objects.{attribute_in}
 
 -- -7 // 2, -7 % 2, 7 % -2, (-2) ** 127, 2 ** 128, 1 << 127, -5 >> 1, 1 // 0
 numbers : (calculated FloorDiv (negsuc 6) (pos 2) ≡ Ok (val.Int (negsuc 3))) × (calculated Rem (negsuc 6) (pos 2) ≡ Ok (val.Int (pos 1))) × (calculated Rem (pos 7) (negsuc 1) ≡ Ok (val.Int (negsuc 0))) × (calculated Pow (negsuc 1) (pos 127) ≡ Ok (val.Int (negsuc 170141183460469231731687303715884105727))) × (calculated Pow (pos 2) (pos 128) ≡ Err Width) × (calculated Shl (pos 1) (pos 127) ≡ Ok (val.Int (pos 170141183460469231731687303715884105728))) × (calculated Shr (negsuc 4) (pos 1) ≡ Ok (val.Int (negsuc 2))) × (calculated FloorDiv (pos 1) (pos 0) ≡ Err Raised)
@@ -59,6 +64,40 @@ unfolding copies number list some
 others = (refl, refl, refl, refl, refl)
 
 -- the value of a name in a row of names and values
-names : (bound some (codes "b") (text 0 ∷ number 7 ∷ []) ≡ Some (number 7)) × (bound some (codes "c") (text 0 ∷ number 7 ∷ []) ≡ None)
+names : (attribute_in some (codes "b") (text 0 ∷ number 7 ∷ []) ≡ Some (number 7)) × (attribute_in some (codes "c") (text 0 ∷ number 7 ∷ []) ≡ None)
 unfolding number text some
 names = (refl, refl)
+
+within : ℕ → Option ScopeId
+within n = Some (record { 0 = n })
+
+-- module: x = 1; in it def f with its own a = 3 and y; in it class C with its own a and x = 2; in it def g with its own b
+nested : Seen
+nested = seen nothing (record {
+  texts = [];
+  rows = [];
+  funcs = [];
+  scopes =
+      record { enclosing = None; is_class = false; own = []; bindings = (codes "x", number 1) ∷ [] }
+      ∷ record { enclosing = within 0; is_class = false; own = codes "a" ∷ codes "y" ∷ []; bindings = (codes "a", number 3) ∷ [] }
+      ∷ record { enclosing = within 1; is_class = true; own = codes "a" ∷ codes "x" ∷ []; bindings = (codes "x", number 2) ∷ [] }
+      ∷ record { enclosing = within 2; is_class = false; own = codes "b" ∷ []; bindings = [] }
+      ∷ [];
+  chars = 0;
+  items = 0;
+})
+
+-- in g: x is the module's, a is f's, b is not bound yet, c is a builtin or nothing
+in_function : (look_up nested 3 (codes "x") ≡ Found (number 1)) × (look_up nested 3 (codes "a") ≡ Found (number 3)) × (look_up nested 3 (codes "b") ≡ Unbound) × (look_up nested 3 (codes "c") ≡ Nowhere)
+unfolding in_chain number within nested
+in_function = (refl, refl, refl, refl)
+
+-- in C: x is its own, a is its own and looked for in the module alone, y is not bound yet
+in_class_body : (look_up nested 2 (codes "x") ≡ Found (number 2)) × (look_up nested 2 (codes "a") ≡ Nowhere) × (look_up nested 2 (codes "y") ≡ Unbound)
+unfolding in_chain number within nested
+in_class_body = (refl, refl, refl)
+
+-- a name keeps its place
+rebinding : bound_to (codes "x") (number 7) ((codes "x", number 1) ∷ (codes "y", number 2) ∷ []) ≡ (codes "x", number 7) ∷ (codes "y", number 2) ∷ []
+unfolding number
+rebinding = refl

@@ -1,5 +1,5 @@
 -- What machines made: strings, rows, functions and scopes by number.
-use Rattle.std.specs.Prelude.{ℕ, ◌-◌, nat_lt, if◌then◌else◌, List, [], slice_get, length, unwrap_or}
+use Rattle.std.specs.Prelude.{ℕ, ◌-◌, nat_lt, if◌then◌else◌, List, [], slice_get, length, unwrap_or, Option, Some, None}
 use Rattle.py_values.specs.declared.val.Val.{Val}
 use Rattle.py_values.specs.declared.func.Func.{Func}
 use Rattle.py_values.specs.declared.func.Scope.{Scope}
@@ -44,3 +44,7 @@ text_at s n = at_number text_of s.frozen.texts s.own.texts n
 
 abbrev pub row_at : Seen → ℕ → List Val
 row_at s n = at_number row_of s.frozen.rows s.own.rows n
+
+-- the function of a number, where there is one
+abbrev pub func_at : Seen → ℕ → Option Func
+func_at s n = if nat_lt n (length s.frozen.funcs) then slice_get s.frozen.funcs n else slice_get s.own.funcs (n - length s.frozen.funcs)

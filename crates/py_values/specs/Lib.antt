@@ -9,5 +9,15 @@ pub mod Truths
 pub mod Members
 pub mod Sums
 pub mod Operators
+pub mod Bindings
 pub mod Names
 pub mod Changes
+pub mod Objects
+pub mod Scalars
+pub mod Dicts
+pub mod Spans
+pub mod Elements
+pub mod Sequences
+pub mod Indices
+pub mod Lists
+pub mod Builtins

@@ -1,17 +1,17 @@
 -- Names and what they are bound to.
-use Rattle.std.specs.Prelude.{ℕ, ◌+◌, ◌-◌, nat_lt, if◌then◌else◌, Bool, false, List, [], ◌∷◌, ◌++◌, length, slice_get, slice_set, Option, Some, None, Result, Ok, Err}
+use Rattle.std.specs.Prelude.{ℕ, zero, suc, ◌+◌, ◌-◌, nat_lt, if◌then◌else◌, Bool, true, false, List, [], ◌∷◌, ◌++◌, length, slice_get, slice_set, Option, Some, None, Result, Ok, Err}
 use Rattle.std.specs.Str.{chars}
-use Rattle.lists.specs.Texts.{text_eq}
 use Rattle.py_values.specs.declared.val.Val.{Val}
 use Rattle.py_values.specs.declared.val.Val.TheVariants as val
 use Rattle.py_values.specs.declared.val.ScopeId.{ScopeId}
-use Rattle.py_values.specs.declared.val.StrId.{StrId}
 use Rattle.py_values.specs.declared.val.ValueStop.{ValueStop}
 use Rattle.py_values.specs.declared.val.ValueStop.TheVariants.{Limit, Raised}
 use Rattle.py_values.specs.declared.func.Func.{Func}
 use Rattle.py_values.specs.declared.func.Scope.{Scope}
-use Rattle.py_values.specs.Heaps.{Made, Seen, text_at}
-use Rattle.py_values.specs.Members.{value_place}
+use Rattle.py_values.specs.declared.scopes.LookUp.{LookUp}
+use Rattle.py_values.specs.declared.scopes.LookUp.TheVariants.{Found, Unbound, Nowhere}
+use Rattle.py_values.specs.Heaps.{Made, Seen}
+use Rattle.py_values.specs.Bindings.{Binding, bound_in, bound_to, is_among}
 
 -- a string of the program's text, which no operator made
 abbrev pub literal : Seen → List ℕ → Result (Val × Made) ValueStop
@@ -22,58 +22,82 @@ literal s text =
 abbrev pub new_func : Seen → Func → Result (Val × Made) ValueStop
 new_func s f = Ok (val.Func (record { 0 = length s.frozen.funcs + length s.own.funcs }), record s.own { funcs = s.own.funcs ++ f ∷ [] })
 
-abbrev pub new_scope : Seen → Option ScopeId → Result (ScopeId × Made) ValueStop
-new_scope s enclosing =
-    Ok (record { 0 = length s.frozen.scopes + length s.own.scopes }, record s.own { scopes = s.own.scopes ++ record { enclosing = enclosing; bindings = [] } ∷ [] })
+-- a scope that binds nothing yet
+abbrev pub new_scope : Seen → Option ScopeId → Bool → List (List ℕ) → Result (ScopeId × Made) ValueStop
+new_scope s enclosing is_class own =
+    Ok (record { 0 = length s.frozen.scopes + length s.own.scopes }, record s.own { scopes = s.own.scopes ++ record { enclosing = enclosing; is_class = is_class; own = own; bindings = [] } ∷ [] })
 
--- a number that stands for none reads as without names
-abbrev pub bindings_in : Option Scope → List Val
+-- the scope of a number, where there is one
+abbrev pub scope_at : Seen → ℕ → Option Scope
+scope_at s n = if nat_lt n (length s.frozen.scopes) then slice_get s.frozen.scopes n else slice_get s.own.scopes (n - length s.frozen.scopes)
+
+abbrev pub bindings_in : Option Scope → List Binding
 bindings_in None = []
 bindings_in (Some scope) = scope.bindings
 
-abbrev pub bindings_of : List Scope → ℕ → List Val
-bindings_of scopes i = bindings_in (slice_get scopes i)
+abbrev pub enclosing_in : Option Scope → Option ScopeId
+enclosing_in None = None
+enclosing_in (Some scope) = scope.enclosing
 
-abbrev pub scope_number : {A : Type 0} → (List Scope → ℕ → A) → Seen → ℕ → A
-scope_number read s n = if nat_lt n (length s.frozen.scopes) then read s.frozen.scopes n else read s.own.scopes (n - length s.frozen.scopes)
+-- a number that stands for none reads as without names
+abbrev pub bindings_at : Seen → ℕ → List Binding
+bindings_at s n = bindings_in (scope_at s n)
 
-abbrev pub bindings_at : Seen → ℕ → List Val
-bindings_at s n = scope_number bindings_of s n
+-- ---- what a name means where it is read
 
-abbrev pub is_named : Seen → List ℕ → Val → Bool
-is_named s name (val.Str x) = text_eq (text_at s x.0) name
-is_named s name _ = false
+abbrev pub found_or : Option Val → LookUp → LookUp
+found_or (Some v) other = Found v
+found_or None other = other
 
-abbrev pub value_at : List Val → Option ℕ → Option Val
-value_at row None = None
-value_at row (Some i) = slice_get row i
+-- in the module's scope alone
+abbrev pub in_module : Seen → List ℕ → LookUp
+in_module s name = found_or (bound_in name (bindings_at s 0)) Nowhere
 
--- the value of a name in a row of names and their values
-abbrev pub bound : Seen → List ℕ → List Val → Option Val
-bound s name row = value_at row (value_place (is_named s name) 0 row)
+-- in one scope of the chain, by what the chain behind it answers: a class shows its names to none that it encloses,
+-- and the name of a body is its own before it is bound
+abbrev pub in_chained : List ℕ → Scope → LookUp → LookUp
+in_chained name scope behind =
+    if scope.is_class then behind
+    else found_or (bound_in name scope.bindings) (if is_among name scope.own then Unbound else behind)
 
--- behind its first item a class or an object has its attributes
-abbrev pub attributes : List Val → List Val
-attributes [] = []
-attributes (x ∷ row) = row
+abbrev pub chained : Seen → List ℕ → (Option ScopeId → LookUp) → Option Scope → LookUp
+chained s name behind None = Nowhere
+chained s name behind (Some scope) = in_chained name scope (behind scope.enclosing)
 
--- ---- binding: a name keeps its place, and a new one comes last
+-- in so many scopes at most, each the one that encloses the last; past the module is nothing
+unfoldable pub in_chain : ℕ → Seen → List ℕ → Option ScopeId → LookUp
+in_chain zero s name id = Nowhere
+in_chain (suc n) s name None = Nowhere
+in_chain (suc n) s name (Some id) = chained s name (in_chain n s name) (scope_at s id.0)
 
-abbrev pub bound_row : Option ℕ → StrId → Val → List Val → List Val
-bound_row None name v row = row ++ val.Str name ∷ v ∷ []
-bound_row (Some i) name v row = slice_set row i v
+-- a body of a class reads its own names there and then in the module, and others from the scope that encloses it
+abbrev pub in_class : Seen → List ℕ → Scope → LookUp → LookUp
+in_class s name scope behind =
+    found_or (bound_in name scope.bindings) (if is_among name scope.own then in_module s name else behind)
 
-abbrev pub scopes_with : Option Scope → List Scope → ℕ → List Val → List Scope
-scopes_with None scopes i row = scopes
-scopes_with (Some scope) scopes i row = slice_set scopes i (record scope { bindings = row })
+abbrev pub looked_up : Seen → List ℕ → ℕ → Option Scope → LookUp
+looked_up s name n None = Nowhere
+looked_up s name n (Some scope) =
+    if scope.is_class then in_class s name scope (in_chain n s name scope.enclosing)
+    else in_chained name scope (in_chain n s name scope.enclosing)
+
+-- an enclosing scope was made before, so a chain has no more scopes than the number of its first one says
+abbrev pub look_up : Seen → ℕ → List ℕ → LookUp
+look_up s n name = looked_up s name n (scope_at s n)
+
+-- ---- binding
+
+abbrev pub scopes_with : Option Scope → List Scope → ℕ → List Binding → List Scope
+scopes_with None scopes i bindings = scopes
+scopes_with (Some scope) scopes i bindings = slice_set scopes i (record scope { bindings = bindings })
 
 -- a scope of this heap, by its place in it, with a name bound
-abbrev pub own_bound : Seen → ℕ → StrId → Val → Made
-own_bound s i name v =
-    record s.own { scopes = scopes_with (slice_get s.own.scopes i) s.own.scopes i (bound_row (value_place (is_named s (text_at s name.0)) 0 (bindings_of s.own.scopes i)) name v (bindings_of s.own.scopes i)) }
+abbrev pub own_bound : Made → ℕ → List ℕ → Val → Made
+own_bound m i name v =
+    record m { scopes = scopes_with (slice_get m.scopes i) m.scopes i (bound_to name v (bindings_in (slice_get m.scopes i))) }
 
 -- what was frozen is bound no more
-abbrev pub scope_bound : Seen → ℕ → StrId → Val → Result (Unit {0} × Made) ValueStop
+abbrev pub scope_bound : Seen → ℕ → List ℕ → Val → Result (Unit {0} × Made) ValueStop
 scope_bound s n name v =
     if nat_lt n (length s.frozen.scopes) then Err Raised
-    else (if nat_lt (n - length s.frozen.scopes) (length s.own.scopes) then Ok (tt, own_bound s (n - length s.frozen.scopes) name v) else Err Raised)
+    else (if nat_lt (n - length s.frozen.scopes) (length s.own.scopes) then Ok (tt, own_bound s.own (n - length s.frozen.scopes) name v) else Err Raised)

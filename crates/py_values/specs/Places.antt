@@ -37,3 +37,10 @@ placed s (fresh.Val v) = Ok (v, s.own)
 placed s (fresh.Text text) = new_text s text
 placed s (fresh.List row) = named (λ n. val.List (record { 0 = n })) (new_row s row)
 placed s (fresh.Tuple row) = named (λ n. val.Tuple (record { 0 = n })) (new_row s row)
+
+-- a new list, and a new tuple
+abbrev pub new_list : Seen → List Val → Result (Val × Made) ValueStop
+new_list s row = placed s (fresh.List row)
+
+abbrev pub new_tuple : Seen → List Val → Result (Val × Made) ValueStop
+new_tuple s row = placed s (fresh.Tuple row)

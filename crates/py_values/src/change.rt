@@ -9,8 +9,8 @@ use crate::members::is_key;
 use crate::val::{ObjId, Val, ValueStop};
 use amh_bits::Int;
 
-// The place in this heap of what a number stands for.
-fn own_number(before: usize, count: usize, n: u32) -> Option<usize>
+/// The place in this heap of what a number stands for.
+pub(crate) fn own_number(before: usize, count: usize, n: u32) -> Option<usize>
     ensures place { result ≡ own_number before count n }
     ensures within { IfSome result (λ i. i < count) }
 {
@@ -26,8 +26,8 @@ fn own_number(before: usize, count: usize, n: u32) -> Option<usize>
 }
 
 impl Heap {
-    // Whether one item more passes a count.
-    fn item_passes(&self, frozen: &Frozen, row: &[Val]) -> bool
+    /// Whether one item more passes a count.
+    pub(crate) fn item_passes(&self, frozen: &Frozen, row: &[Val]) -> bool
         ensures { result ≡ item_passes (seen frozen.now self.now) row.now }
     {
         row.len() > 65_535 || frozen.made.items as u64 + self.items as u64 + 1 > 4_194_304
@@ -59,8 +59,8 @@ impl Heap {
     }
 }
 
-// Python's place of an index in a row of so many values.
-fn index_place(len: usize, n: Int) -> Option<usize>
+/// Python's place of an index in a row of so many values.
+pub(crate) fn index_place(len: usize, n: Int) -> Option<usize>
     ensures place { result ≡ index_place len n }
     ensures within { IfSome result (λ i. i < len) }
 {
@@ -78,8 +78,8 @@ fn index_place(len: usize, n: Int) -> Option<usize>
 }
 
 impl Heap {
-    // Puts a value at a place of a row of this heap.
-    fn set_own(&mut self, i: usize, k: Option<usize>, v: Val) -> Result<(), ValueStop>
+    /// Puts a value at a place of a row of this heap.
+    pub(crate) fn set_own(&mut self, i: usize, k: Option<usize>, v: Val) -> Result<(), ValueStop>
         requires row { i < length self.old.rows }
         requires within { IfSome k (λ k. k < length (row_of self.old.rows i)) }
         ensures { Answers (paired result self.new) (row_set self.old i (row_of self.old.rows i) k v) }

@@ -1,9 +1,10 @@
 // What a machine made, and what stands before it.
 ghost use Rattle.std.specs.Prelude.{◌≡◌, ◌+◌, ◌<◌, ◌≤◌, length, [], IfOk, IfErr, Some, slice_get};
-ghost use Rattle.py_values.specs.Heaps.{Made, nothing, seen, text_of, row_of, text_at, row_at};
+ghost use Rattle.std.specs.Option.{option_copied};
+ghost use Rattle.py_values.specs.Heaps.{Made, nothing, seen, text_of, row_of, text_at, row_at, func_at};
 
 use crate::func::{Func, Scope};
-use crate::val::{ObjId, StrId, Val, ValueStop};
+use crate::val::{FuncId, ObjId, StrId, Val, ValueStop};
 use crate::vals::Vals;
 use lists::Words;
 use std::alloc::Global;
@@ -121,6 +122,19 @@ impl Heap {
             frozen.made.own_row(i)
         } else {
             self.own_row(i - before)
+        }
+    }
+
+    /// A function. `None` exactly for a number that stands for none.
+    pub fn func<'a>(&'a self, frozen: &'a Frozen, f: FuncId) -> Option<&'a Func>
+        ensures { option_copied result ≡ func_at (seen frozen.now self.now) f.0 }
+    {
+        let before = frozen.made.funcs.len();
+        let i = f.0 as usize;
+        if i < before {
+            frozen.made.funcs.get(i)
+        } else {
+            self.funcs.get(i - before)
         }
     }
 }

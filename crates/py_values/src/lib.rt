@@ -5,33 +5,56 @@
 //! gives exactly the values, the refusals and the cost of Python's operators (specs/Operators.antt, which stands on
 //! Numbers, Equality, Truths, Members, Ranges and Sums); `Spent` comes exactly where the cost reaches what is left
 //! (specs/Runs.antt), and `Limit` where a count would be passed (specs/Places.antt). Scopes bind names, and lists
-//! and dicts change in place, unless they were frozen (specs/Names.antt, specs/Changes.antt). Samples of the
-//! definitions are worked out in proofs/Samples.antt.
+//! and dicts change in place, unless they were frozen (specs/Names.antt, specs/Changes.antt). `look_up` gives what a name
+//! means where it is read (specs/Names.antt), and `inherited` what a class has by itself or from its base
+//! (specs/Objects.antt). `builtin` gives exactly what the builtins, methods, indices and slices give (specs/Builtins.antt,
+//! which stands on Elements, Spans, Sequences, Indices, Lists, Scalars and Dicts). `elements` and `element` tell what a loop
+//! or a call goes over, and a law says that they tell the same (proofs/ElementsAre.antt). Samples of the definitions are
+//! worked out in proofs/Samples.antt, SamplesSequences.antt and BuiltinSamples.antt.
 #![tactic(auto)]
 
-mod bind;
+mod bindings;
+mod builtin;
+#[cfg(test)]
+mod builtin_tests;
 mod change;
+mod dicts;
+mod elements;
 mod equality;
 mod fresh;
 mod func;
 mod heap;
+mod indices;
 mod members;
+mod methods;
 mod names;
 mod numbers;
+mod objects;
 mod op;
 mod operate;
 mod powers;
 mod range;
+mod scalars;
+mod scopes;
+#[cfg(test)]
+mod sequence_tests;
+mod sequences;
+mod slices;
+mod spans;
 mod spend;
 mod sums;
 #[cfg(test)]
 mod tests;
 mod truth;
+mod tuples;
 mod val;
 mod vals;
 
+pub use bindings::{Bindings, OwnNames};
 pub use func::{Code, Func, Scope};
 pub use heap::{Frozen, Heap};
+pub use objects::Inherited;
 pub use op::{Builtin, PyOp};
+pub use scopes::LookUp;
 pub use val::{FuncId, Hw, ObjId, ScopeId, StrId, Val, ValueStop};
 pub use vals::Vals;

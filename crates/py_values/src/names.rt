@@ -1,28 +1,15 @@
-// Names and what they are bound to, and what a machine makes by itself.
-ghost use Rattle.std.specs.Prelude.{◌≡◌, ◌<◌, length, IfSome};
+// What a machine makes by itself.
 ghost use Rattle.py_values.specs.declared.fresh.Fresh.TheVariants as fresh;
-ghost use Rattle.py_values.specs.Heaps.{seen, row_at};
+ghost use Rattle.py_values.specs.Heaps.{seen};
 ghost use Rattle.py_values.specs.Runs.{Answers, paired};
 ghost use Rattle.py_values.specs.Places.{placed};
-ghost use Rattle.py_values.specs.Members.{value_place};
-ghost use Rattle.py_values.specs.Names.{literal, new_func, new_scope, bindings_of, bindings_at, is_named, bound, attributes};
+ghost use Rattle.py_values.specs.Names.{literal, new_func};
 
-use crate::equality::same_bytes;
 use crate::fresh::{Fresh, char_count};
-use crate::func::{Func, Scope};
+use crate::func::Func;
 use crate::heap::{Frozen, Heap, next_number};
-use crate::val::{FuncId, ObjId, ScopeId, StrId, Val, ValueStop};
+use crate::val::{FuncId, StrId, Val, ValueStop};
 use crate::vals::Vals;
-
-// What stands behind the first item.
-fn attributes(row: &[Val]) -> &[Val]
-    ensures { result.now ≡ attributes row.now }
-{
-    match row {
-        [] => row,
-        [_, rest @ ..] => rest,
-    }
-}
 
 impl Heap {
     /// A string of the program's text, which counts among no strings that were made.
@@ -66,97 +53,5 @@ impl Heap {
             return Err(ValueStop::NoMemory);
         };
         Ok(Val::Func(FuncId(id)))
-    }
-
-    /// A new scope without names.
-    pub fn scope(
-        &mut self,
-        frozen: &Frozen,
-        enclosing: Option<ScopeId>,
-    ) -> Result<ScopeId, ValueStop>
-        ensures { Answers (paired result self.new) (new_scope (seen frozen.now self.old) enclosing) }
-    {
-        let Ok(id) = next_number(frozen.made.scopes.len(), self.scopes.len()) else {
-            return Err(ValueStop::NoMemory);
-        };
-        let bindings = Vals::new(self.alloc);
-        let Ok(()) = self.scopes.push(Scope {
-            enclosing,
-            bindings,
-        })
-        else {
-            return Err(ValueStop::NoMemory);
-        };
-        Ok(ScopeId(id))
-    }
-
-    // The names of a scope of this heap by its place in it.
-    pub(crate) fn own_bindings(&self, i: usize) -> &[Val]
-        ensures { result.now ≡ bindings_of self.now.scopes i }
-    {
-        match self.scopes.get(i) {
-            Some(scope) => scope.bindings.as_slice(),
-            None => &[],
-        }
-    }
-
-    /// The names of a scope, each with its value behind it. A number that stands for none reads as without names.
-    pub fn bindings<'a>(&'a self, frozen: &'a Frozen, scope: ScopeId) -> &'a [Val]
-        ensures { result.now ≡ bindings_at (seen frozen.now self.now) scope.0 }
-    {
-        let before = frozen.made.scopes.len();
-        let i = scope.0 as usize;
-        if i < before {
-            frozen.made.own_bindings(i)
-        } else {
-            self.own_bindings(i - before)
-        }
-    }
-
-    // Whether a value is the string of this name.
-    fn is_named(&self, frozen: &Frozen, name: &str, v: Val) -> bool
-        ensures { result ≡ is_named (seen frozen.now self.now) name.now v }
-    {
-        match v {
-            Val::Str(x) => same_bytes(self.text(frozen, x), name),
-            _ => false,
-        }
-    }
-
-    // The place of the value of a name.
-    pub(crate) fn name_place(&self, frozen: &Frozen, name: &str, row: &[Val]) -> Option<usize>
-        ensures place { result ≡ value_place (is_named (seen frozen.now self.now) name.now) 0 row.now }
-        ensures within { IfSome result (λ i. i < length row.now) }
-    {
-        for i in 0..row.len() / 2 {
-            if self.is_named(frozen, name, row[2 * i]) {
-                return Some(2 * i + 1);
-            }
-        }
-        None
-    }
-
-    // The value of a name in a row of names and their values.
-    fn bound_in(&self, frozen: &Frozen, name: &str, row: &[Val]) -> Option<Val>
-        ensures { result ≡ bound (seen frozen.now self.now) name.now row.now }
-    {
-        match self.name_place(frozen, name, row) {
-            Some(i) => Some(row[i]),
-            None => None,
-        }
-    }
-
-    /// The value of a name that a scope itself binds.
-    pub fn bound(&self, frozen: &Frozen, scope: ScopeId, name: &str) -> Option<Val>
-        ensures { result ≡ bound (seen frozen.now self.now) name.now (bindings_at (seen frozen.now self.now) scope.0) }
-    {
-        self.bound_in(frozen, name, self.bindings(frozen, scope))
-    }
-
-    /// The value of an attribute that an object or a class itself has.
-    pub fn attribute(&self, frozen: &Frozen, o: ObjId, name: &str) -> Option<Val>
-        ensures { result ≡ bound (seen frozen.now self.now) name.now (attributes (row_at (seen frozen.now self.now) o.0)) }
-    {
-        self.bound_in(frozen, name, attributes(self.row(frozen, o)))
     }
 }

@@ -53,6 +53,12 @@ pub enum Builtin {
     Sum,
     Abs,
     Print,
+    /// `super()`, which the machine answers by itself.
+    Super,
+    /// `super().__init__` that reaches a thing, which the machine asks for.
+    InitThing,
+    /// `super().__init__` that reaches nothing.
+    InitNothing,
     CeilLog2,
     BitsFor,
     /// `a.append(x)`, of a list.

@@ -38,8 +38,8 @@ pub(crate) fn span_of(row: &[Val]) -> Span
     }
 }
 
-// Whether one number stands before another on the way of the step.
-fn comes_before(step: Int, n: Int, m: Int) -> bool
+/// Whether one number stands before another on the way of the step.
+pub(crate) fn comes_before(step: Int, n: Int, m: Int) -> bool
     ensures { result ≡ comes_before step n m }
 {
     if step.size == 0 {

@@ -1,8 +1,8 @@
 // Expected values are CPython's, worked out by it; the units are those of the rules of cost.
 
-use crate::{Frozen, Heap, ObjId, PyOp, StrId, Val, Vals, ValueStop};
+use crate::{Frozen, Heap, LookUp, ObjId, OwnNames, PyOp, ScopeId, StrId, Val, Vals, ValueStop};
 use amh_bits::Int;
-use amh_host::Budget;
+use amh_host::{Budget, Names, NoMemory};
 use std::alloc::Global;
 
 fn int(n: i128) -> Val {
@@ -207,12 +207,26 @@ fn frozen_lists_refuse(rt: HostRuntime) {
 fn names_are_bound(rt: HostRuntime) {
     let frozen = Frozen::empty(rt.alloc());
     let mut heap = Heap::new(rt.alloc());
-    let _name = heap.literal(&frozen, "x").expect(&rt, "a string");
-    let scope = heap.scope(&frozen, None).expect(&rt, "a scope");
+    let own = own_names(rt.alloc(), &[]).expect(&rt, "no names");
+    let scope = heap.scope(&frozen, None, false, own).expect(&rt, "a scope");
     assert_eq!(rt; heap.bound(&frozen, scope, "x"), None);
-    assert_eq!(rt; heap.bind(&frozen, scope, StrId(0), int(1)), Ok(()));
-    assert_eq!(rt; heap.bind(&frozen, scope, StrId(0), int(2)), Ok(()));
+    assert_eq!(rt; heap.bind(&frozen, scope, "x", int(1)), Ok(()));
+    assert_eq!(rt; heap.bind(&frozen, scope, "y", int(3)), Ok(()));
+    assert_eq!(rt; heap.bind(&frozen, scope, "x", int(2)), Ok(()));
     assert_eq!(rt; heap.bound(&frozen, scope, "x"), Some(int(2)));
+    let frozen = heap.freeze();
+    let mut heap = Heap::new(rt.alloc());
+    assert_eq!(rt; heap.bound(&frozen, scope, "y"), Some(int(3)));
+    assert_eq!(rt;
+        heap.bind(&frozen, scope, "x", int(4)),
+        Err(ValueStop::Raised)
+    );
+}
+
+#[test]
+fn keys_are_set(rt: HostRuntime) {
+    let frozen = Frozen::empty(rt.alloc());
+    let mut heap = Heap::new(rt.alloc());
     let _dict = pair(rt.alloc(), &mut heap, &frozen, int(1), int(7)).expect(&rt, "a list");
     assert_eq!(rt;
         heap.set_key(&frozen, ObjId(0), &Val::Bool(true), int(8)),
@@ -223,4 +237,67 @@ fn names_are_bound(rt: HostRuntime) {
         heap.set_key(&frozen, ObjId(0), &Val::None, int(8)),
         Err(ValueStop::Raised)
     );
+}
+
+fn own_names(alloc: Global, words: &[&str]) -> Result<OwnNames, NoMemory> {
+    let mut names = Names::new(alloc);
+    for word in words {
+        names.push(word)?;
+    }
+    OwnNames::new(alloc, names)
+}
+
+// Scopes as of:
+//     x = 1
+//     def f(a):
+//         class C:
+//             x = 2
+//             a = a
+//             def g(self): b = 0
+//         y = 5
+fn nested(alloc: Global, heap: &mut Heap, frozen: &Frozen) -> Result<[ScopeId; 4], ValueStop> {
+    let module = names_of(alloc, &[])?;
+    let module = heap.scope(frozen, None, false, module)?;
+    let function = names_of(alloc, &["a", "C", "y"])?;
+    let function = heap.scope(frozen, Some(module), false, function)?;
+    let class = names_of(alloc, &["x", "a", "g"])?;
+    let class = heap.scope(frozen, Some(function), true, class)?;
+    let method = names_of(alloc, &["self", "b"])?;
+    let method = heap.scope(frozen, Some(class), false, method)?;
+    heap.bind(frozen, module, "x", int(1))?;
+    heap.bind(frozen, function, "a", int(3))?;
+    heap.bind(frozen, class, "x", int(2))?;
+    Ok([module, function, class, method])
+}
+
+fn names_of(alloc: Global, words: &[&str]) -> Result<OwnNames, ValueStop> {
+    match own_names(alloc, words) {
+        Ok(own) => Ok(own),
+        Err(_) => Err(ValueStop::NoMemory),
+    }
+}
+
+#[test]
+fn names_are_looked_up(rt: HostRuntime) {
+    let frozen = Frozen::empty(rt.alloc());
+    let mut heap = Heap::new(rt.alloc());
+    let scopes = nested(rt.alloc(), &mut heap, &frozen).expect(&rt, "scopes");
+    let found = [
+        (0, "x", LookUp::Found(int(1))),
+        (0, "a", LookUp::Nowhere),
+        (1, "x", LookUp::Found(int(1))),
+        (1, "a", LookUp::Found(int(3))),
+        (1, "y", LookUp::Unbound),
+        (2, "x", LookUp::Found(int(2))),
+        (2, "a", LookUp::Nowhere),
+        (2, "y", LookUp::Unbound),
+        (3, "x", LookUp::Found(int(1))),
+        (3, "a", LookUp::Found(int(3))),
+        (3, "b", LookUp::Unbound),
+        (3, "len", LookUp::Nowhere),
+    ];
+    for (i, name, wanted) in found {
+        assert_eq!(rt; heap.look_up(&frozen, scopes[i], name), wanted);
+    }
+    assert_eq!(rt; heap.enclosing(&frozen, scopes[3]), Some(scopes[2]));
 }

@@ -1,5 +1,5 @@
 // Lists of values.
-ghost use Rattle.std.specs.Prelude.{◌≡◌, ◌++◌, ◌∷◌, [], ◌<◌, ◌≤◌, length, OnOk, OnErr, Some, slice_get, slice_set, insert, remove};
+ghost use Rattle.std.specs.Prelude.{◌≡◌, ◌++◌, ◌∷◌, [], ◌<◌, ◌≤◌, length, OnOk, OnErr, Some, slice_get, slice_set, insert, remove, reverse, IfOk};
 
 use crate::val::Val;
 use lists::NoMemory;
@@ -112,5 +112,15 @@ impl Vals {
         ensures rest { self.new ≡ remove self.old i }
     {
         self.items.remove(i)
+    }
+
+    /// The same values from the last to the first.
+    pub(crate) fn reversed(alloc: Global, items: &[Val]) -> Result<Vals, NoMemory>
+        ensures { IfOk result (λ v. v ≡ reverse items.now) }
+    {
+        match items.iter().rev().copied().collect(alloc) {
+            Ok(items) => Ok(Vals { items }),
+            Err(_) => Err(NoMemory),
+        }
     }
 }

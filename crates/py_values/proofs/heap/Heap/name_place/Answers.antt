@@ -1,6 +1,6 @@
 use Rattle.std.proofs.Common.{◌≡◌, ◌*◌, false, sym, ◌∙◌, arith}
 use Rattle.py_values.specs.Heaps.{seen}
-use Rattle.py_values.specs.Names.{is_named}
+use Rattle.py_values.specs.Objects.{is_named}
 use Rattle.py_values.proofs.MemberLaws.{place_more, place_end}
 use Rattle.py_values.proofs.heap.Heap.name_place.Goals as goal
 

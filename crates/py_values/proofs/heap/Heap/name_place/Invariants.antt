@@ -1,6 +1,6 @@
 use Rattle.std.proofs.Common.{◌≡◌, ◌*◌, drop}
 use Rattle.py_values.specs.Heaps.{seen}
-use Rattle.py_values.specs.Names.{is_named}
+use Rattle.py_values.specs.Objects.{is_named}
 use Rattle.py_values.specs.Members.{value_place}
 use Rattle.py_values.proofs.heap.Heap.name_place.Given as goal
 
