@@ -42,7 +42,7 @@ impl Heap {
     }
 
     /// A new string.
-    pub(crate) fn new_text(&mut self, frozen: &Frozen, text: &str) -> Result<Val, ValueStop>
+    pub fn new_text(&mut self, frozen: &Frozen, text: &str) -> Result<Val, ValueStop>
         ensures { Answers (paired result self.new) (new_text (seen frozen.now self.old) text.now) }
     {
         let count = char_count(text);

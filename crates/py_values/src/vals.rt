@@ -76,7 +76,7 @@ impl Vals {
     }
 
     /// Adds two values at the end, or none.
-    pub(crate) fn push_pair(&mut self, first: Val, second: Val) -> Result<(), NoMemory>
+    pub fn push_pair(&mut self, first: Val, second: Val) -> Result<(), NoMemory>
         ensures ok { OnOk result (self.new ≡ self.old ++ first ∷ second ∷ []) }
     {
         match self.items.extend_from_slice(&[first, second]) {
