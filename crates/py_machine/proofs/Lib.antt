@@ -1,0 +1,13 @@
+pub mod BeginLaws
+pub mod ExprBegins
+pub mod StmtLaws
+pub mod StmtBegins
+pub mod BlockLaws
+pub mod StmtGoes
+pub mod IfLaws
+pub mod WhileLaws
+pub mod AssertLaws
+pub mod AskLaws
+pub mod AssignLaws
+pub mod PurposeLaws
+pub mod WithLaws
