@@ -15,4 +15,10 @@ pub mod Stmt_frames
 pub mod Def_frames
 pub mod Frames
 pub mod Begun
-pub mod Stmt_begun
+pub mod Calling
+pub mod Called
+pub mod Tables
+pub mod Awaiting
+pub mod Replying
+pub mod Trailing
+pub mod Arguing

@@ -1,22 +1,26 @@
 //! The evaluator of the Python subset: it evaluates a program until it must ask about hardware, and goes on with the answer.
 #![tactic(auto)]
 
-mod asks;
-mod block;
+mod attribute;
+mod attribute_leaf;
+mod attribute_store;
+mod attribute_super;
+mod call;
+mod call_arguments;
+mod call_builtin;
+mod call_frame;
+mod call_kind;
+mod call_leaf;
+mod call_part;
 mod expr;
 mod frame;
 mod functions;
 mod going;
+mod reply;
 mod request;
 mod state;
-mod stmt;
-mod stmt_assign;
-mod stmt_goes;
-mod stmt_if;
-mod stmt_plain;
-mod stmt_purpose;
-mod stmt_while;
-mod stmt_with;
-mod stubs_e4;
+mod stubs_e2;
+mod trail;
+mod trail_leaf;
 
 pub use request::{Act, Answer, Cause, NamedVal, NamedVals, Request, Stop, Turn};

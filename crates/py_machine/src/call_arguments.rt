@@ -1,0 +1,235 @@
+// The arguments of a call, one after the other.
+ghost use Rattle.std.specs.Prelude.{◌≡◌, ◌<◌, ◌≤◌, ◌∷◌, ◌++◌, [], suc, OnOk, Some};
+ghost use Rattle.py_tree.specs.Seen.{tree, trailer_of, argument_of};
+ghost use Rattle.py_tree.specs.Tree.{Positional, Starred, Keyword};
+ghost use Rattle.py_machine.specs.Parts.{place_of, trailers_from, arguments_from};
+ghost use Rattle.py_machine.specs.Expressions.{arguments_then, call_for};
+ghost use Rattle.py_machine.specs.Call_frames.{trailers_of, call_arguments, argument_came, elements_came};
+ghost use Rattle.py_machine.specs.Functions.{named_val};
+ghost use Rattle.py_machine.specs.Arguing.{arguments_in, starred_given};
+ghost use Rattle.py_machine.specs.Trailing.{first_trailer};
+ghost use Rattle.py_machine.specs.Tables.{IsTable};
+ghost use Rattle.py_machine.specs.Frames.{GoesOn};
+
+use crate::call_part::{argument_at, argument_expr, named_val};
+use crate::frame::{CallFrame, Frame, Now, Purpose};
+use crate::functions::Functions;
+use crate::going::Going;
+use crate::request::NamedVals;
+use crate::state::Halt;
+use crate::trail_leaf::{place_at, share_purpose};
+use py_tree::{Argument, Expr, Name, Trailer};
+use py_values::{Frozen, Val, Vals};
+
+impl Going {
+    /// On with the argument of this number.
+    #[tactic(auto, using(crate::proofs::ArgumentLaws::arguments_rules, crate::proofs::BeginLaws::turn_rules))]
+    pub(crate) fn arguments(
+        &mut self,
+        functions: &Functions,
+        frozen: &Frozen,
+        node: &Expr,
+        trailer: u64,
+        at: u64,
+        callee: Val,
+        vals: Vals,
+        keywords: NamedVals,
+        purpose: &Purpose,
+        budget: u64,
+    ) -> Result<Now, Halt>
+        requires room { self.old.state.used < budget }
+        requires table { IsTable functions.now }
+        ensures moves { GoesOn functions.now frozen.now result self.old self.new budget (λ k. arguments_then k (place_of (tree node.now)) vals keywords (arguments_from at (call_arguments (trailers_from trailer (trailers_of (tree node.now))))) (λ us names. call_for k purpose.now callee us names (place_of (tree node.now)))) }
+        ensures left { OnOk result (self.new.state.used < budget) }
+        ensures grows { self.old.state.used ≤ self.new.state.used }
+    {
+        let place = place_at(node);
+        let Some(argument) = argument_at(node, trailer, at) else {
+            return self.call_for(
+                functions, frozen, purpose, callee, vals, keywords, place, budget,
+            );
+        };
+        let Ok(more) = node.share() else {
+            return Err(Halt::NoMemory);
+        };
+        let Ok(purpose) = share_purpose(purpose) else {
+            return Err(Halt::NoMemory);
+        };
+        let frame = Frame::Call(CallFrame::Argument {
+            node: more,
+            trailer,
+            at,
+            callee,
+            vals,
+            keywords,
+            purpose,
+        });
+        self.wait_for(functions, frozen, argument_expr(argument), frame, budget)
+    }
+
+    // An argument in order has come.
+    #[tactic(auto, using(crate::proofs::ArgumentLaws::arguments_same, crate::proofs::BeginLaws::turn_rules))]
+    fn positional_came(
+        &mut self,
+        functions: &Functions,
+        frozen: &Frozen,
+        node: &Expr,
+        trailer: u64,
+        at: u64,
+        callee: Val,
+        vals: Vals,
+        keywords: NamedVals,
+        purpose: &Purpose,
+        v: Val,
+        budget: u64,
+    ) -> Result<Now, Halt>
+        requires room { self.old.state.used < budget }
+        requires table { IsTable functions.now }
+        ensures moves { GoesOn functions.now frozen.now result self.old self.new budget (λ k. arguments_then k (place_of (tree node.now)) (vals ++ v ∷ []) keywords (arguments_from (suc at) (call_arguments (trailers_from trailer (trailers_of (tree node.now))))) (λ us names. call_for k purpose.now callee us names (place_of (tree node.now)))) }
+        ensures left { OnOk result (self.new.state.used < budget) }
+        ensures grows { self.old.state.used ≤ self.new.state.used }
+    {
+        let Some(next) = at.checked_add(1) else {
+            return Err(Halt::NoMemory);
+        };
+        let mut vals = vals;
+        match vals.push(v) {
+            Ok(()) => self.arguments(
+                functions, frozen, node, trailer, next, callee, vals, keywords, purpose, budget,
+            ),
+            Err(_) => Err(Halt::NoMemory),
+        }
+    }
+
+    // An argument by keyword has come.
+    #[tactic(auto, using(crate::proofs::ArgumentLaws::arguments_same, crate::proofs::BeginLaws::turn_rules))]
+    fn keyword_came(
+        &mut self,
+        functions: &Functions,
+        frozen: &Frozen,
+        node: &Expr,
+        trailer: u64,
+        at: u64,
+        callee: Val,
+        vals: Vals,
+        keywords: NamedVals,
+        purpose: &Purpose,
+        name: &Name,
+        v: Val,
+        budget: u64,
+    ) -> Result<Now, Halt>
+        requires room { self.old.state.used < budget }
+        requires table { IsTable functions.now }
+        ensures moves { GoesOn functions.now frozen.now result self.old self.new budget (λ k. arguments_then k (place_of (tree node.now)) vals (keywords ++ named_val name.now v ∷ []) (arguments_from (suc at) (call_arguments (trailers_from trailer (trailers_of (tree node.now))))) (λ us names. call_for k purpose.now callee us names (place_of (tree node.now)))) }
+        ensures left { OnOk result (self.new.state.used < budget) }
+        ensures grows { self.old.state.used ≤ self.new.state.used }
+    {
+        let Some(next) = at.checked_add(1) else {
+            return Err(Halt::NoMemory);
+        };
+        let Ok(named) = named_val(self.alloc, name, v) else {
+            return Err(Halt::NoMemory);
+        };
+        let mut keywords = keywords;
+        match keywords.push(named) {
+            Ok(()) => self.arguments(
+                functions, frozen, node, trailer, next, callee, vals, keywords, purpose, budget,
+            ),
+            Err(_) => Err(Halt::NoMemory),
+        }
+    }
+
+    // A `*` argument has come. Stand-in.
+    #[tactic(auto, using(crate::proofs::BeginLaws::turn_rules))]
+    fn starred_came(
+        &mut self,
+        functions: &Functions,
+        frozen: &Frozen,
+        node: &Expr,
+        trailer: u64,
+        at: u64,
+        callee: Val,
+        vals: Vals,
+        keywords: NamedVals,
+        purpose: &Purpose,
+        v: Val,
+        budget: u64,
+    ) -> Result<Now, Halt>
+        requires room { self.old.state.used < budget }
+        requires table { IsTable functions.now }
+        ensures moves { GoesOn functions.now frozen.now result self.old self.new budget (λ k. starred_given k (place_of (tree node.now)) vals keywords (arguments_from (suc at) (call_arguments (trailers_from trailer (trailers_of (tree node.now))))) v (λ us names. call_for k purpose.now callee us names (place_of (tree node.now)))) }
+        ensures left { OnOk result (self.new.state.used < budget) }
+        ensures grows { self.old.state.used ≤ self.new.state.used }
+    {
+        Err(Halt::NoMemory)
+    }
+
+    /// The value of an argument has come.
+    #[tactic(auto, using(crate::proofs::ArgumentLaws::came_rules, crate::proofs::BeginLaws::turn_rules))]
+    pub(crate) fn argument_came(
+        &mut self,
+        functions: &Functions,
+        frozen: &Frozen,
+        node: &Expr,
+        trailer: u64,
+        at: u64,
+        callee: Val,
+        vals: Vals,
+        keywords: NamedVals,
+        purpose: &Purpose,
+        v: Val,
+        budget: u64,
+    ) -> Result<Now, Halt>
+        requires room { self.old.state.used < budget }
+        requires table { IsTable functions.now }
+        ensures moves { GoesOn functions.now frozen.now result self.old self.new budget (λ k. argument_came k (place_of (tree node.now)) vals keywords (arguments_from at (call_arguments (trailers_from trailer (trailers_of (tree node.now))))) v (λ us names. call_for k purpose.now callee us names (place_of (tree node.now)))) }
+        ensures left { OnOk result (self.new.state.used < budget) }
+        ensures grows { self.old.state.used ≤ self.new.state.used }
+    {
+        let place = place_at(node);
+        let Some(argument) = argument_at(node, trailer, at) else {
+            return self.call_for(
+                functions, frozen, purpose, callee, vals, keywords, place, budget,
+            );
+        };
+        match argument {
+            Argument::Positional(_) => self.positional_came(
+                functions, frozen, node, trailer, at, callee, vals, keywords, purpose, v, budget,
+            ),
+            Argument::Starred(_) => self.starred_came(
+                functions, frozen, node, trailer, at, callee, vals, keywords, purpose, v, budget,
+            ),
+            Argument::Keyword(name, _) => self.keyword_came(
+                functions, frozen, node, trailer, at, callee, vals, keywords, purpose, name, v,
+                budget,
+            ),
+        }
+    }
+
+    /// The arguments of a call begin.
+    #[tactic(auto, using(crate::proofs::ArgumentLaws::arguments_first))]
+    pub(crate) fn arguments_begun(
+        &mut self,
+        functions: &Functions,
+        frozen: &Frozen,
+        node: &Expr,
+        at: u64,
+        _trailer: &Trailer,
+        purpose: &Purpose,
+        v: Val,
+        budget: u64,
+    ) -> Result<Now, Halt>
+        requires room { self.old.state.used < budget }
+        requires here { Some (trailer_of _trailer.now) ≡ first_trailer (trailers_from at (trailers_of (tree node.now))) }
+        requires table { IsTable functions.now }
+        ensures moves { GoesOn functions.now frozen.now result self.old self.new budget (λ k. arguments_then k (place_of (tree node.now)) [] [] (arguments_in (trailer_of _trailer.now)) (λ us names. call_for k purpose.now v us names (place_of (tree node.now)))) }
+        ensures left { OnOk result (self.new.state.used < budget) }
+        ensures grows { self.old.state.used ≤ self.new.state.used }
+    {
+        let vals = Vals::new(self.alloc);
+        let keywords = NamedVals::new(self.alloc);
+        self.arguments(
+            functions, frozen, node, at, 0, v, vals, keywords, purpose, budget,
+        )
+    }
+}
