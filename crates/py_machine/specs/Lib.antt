@@ -15,10 +15,7 @@ pub mod Stmt_frames
 pub mod Def_frames
 pub mod Frames
 pub mod Begun
-pub mod Calling
-pub mod Called
-pub mod Tables
-pub mod Awaiting
-pub mod Replying
-pub mod Trailing
-pub mod Arguing
+pub mod Expr_parts
+pub mod Told
+pub mod Format_parts
+pub mod Time_parts

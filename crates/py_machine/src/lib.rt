@@ -1,26 +1,23 @@
 //! The evaluator of the Python subset: it evaluates a program until it must ask about hardware, and goes on with the answer.
 #![tactic(auto)]
 
-mod attribute;
-mod attribute_leaf;
-mod attribute_store;
-mod attribute_super;
-mod call;
-mod call_arguments;
-mod call_builtin;
-mod call_frame;
-mod call_kind;
-mod call_leaf;
-mod call_part;
 mod expr;
+mod expr_chain;
+mod expr_format;
+mod expr_goes;
+mod expr_items;
+mod expr_kinds;
+mod expr_names;
+mod expr_operands;
+mod expr_values;
 mod frame;
 mod functions;
 mod going;
-mod reply;
+mod leaf;
+mod operators;
 mod request;
 mod state;
-mod stubs_e2;
-mod trail;
-mod trail_leaf;
+mod stubs_e1;
+mod times;
 
 pub use request::{Act, Answer, Cause, NamedVal, NamedVals, Request, Stop, Turn};
