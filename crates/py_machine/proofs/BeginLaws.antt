@@ -116,14 +116,14 @@ pushed fns frozen r x y budget f m e h =
 pub part_begins : (fns : Functions) (frozen : Made) (x : Going) (budget : ℕ) (f : Frame) (e : Expr) (t : Tree) → tree e ≡ t → KeepsRoom f x.state.here.room → GoesOn fns frozen (Ok (Begin e Plain)) x (record x { frames = f ∷ x.frames }) budget (within f (λ k. value_of k Plain t))
 part_begins fns frozen x budget f e t q room =
     pushed fns frozen (Ok (Begin e Plain)) x (record x { frames = f ∷ x.frames }) budget f (λ k. value_of k Plain t) room
-      (let P : Tree → Type 0 = λ z. GoesOn fns frozen (Ok (Begin e Plain)) (record x { frames = f ∷ x.frames }) (record x { frames = f ∷ x.frames }) budget (λ k. value_of k Plain z) in
-        subst P q (expr_goes_on fns frozen (record x { frames = f ∷ x.frames }) budget e))
+    (let P : Tree → Type 0 = λ z. GoesOn fns frozen (Ok (Begin e Plain)) (record x { frames = f ∷ x.frames }) (record x { frames = f ∷ x.frames }) budget (λ k. value_of k Plain z) in
+    subst P q (expr_goes_on fns frozen (record x { frames = f ∷ x.frames }) budget e))
 
 pub step_begins : (fns : Functions) (frozen : Made) (x : Going) (budget : ℕ) (f : Frame) (s : Stmt) (t : Step) → step_of s ≡ t → KeepsRoom f x.state.here.room → GoesOn fns frozen (Ok (Run s)) x (record x { frames = f ∷ x.frames }) budget (within f (λ k. run k t))
 step_begins fns frozen x budget f s t q room =
     pushed fns frozen (Ok (Run s)) x (record x { frames = f ∷ x.frames }) budget f (λ k. run k t) room
-      (let P : Step → Type 0 = λ z. GoesOn fns frozen (Ok (Run s)) (record x { frames = f ∷ x.frames }) (record x { frames = f ∷ x.frames }) budget (λ k. run k z) in
-        subst P q (step_goes_on fns frozen (record x { frames = f ∷ x.frames }) budget s))
+    (let P : Step → Type 0 = λ z. GoesOn fns frozen (Ok (Run s)) (record x { frames = f ∷ x.frames }) (record x { frames = f ∷ x.frames }) budget (λ k. run k z) in
+    subst P q (step_goes_on fns frozen (record x { frames = f ∷ x.frames }) budget s))
 
 -- the rules of turns that every function may need
 pub ruleset turn_rules = (no_memory, stop_goes, give_goes, pushed, part_begins, step_begins)

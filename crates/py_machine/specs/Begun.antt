@@ -44,10 +44,10 @@ value_after k u (Trailed p t ts) = do
   x ← value_of k Plain t
   trailed k u p ts x
 value_after k u (Await p t) = choose (is_a_call t)
-  (value_of k (Awaited p) t)
-  (do
-    x ← value_of k Plain t
-    awaited k x p)
+    (value_of k (Awaited p) t)
+    (do
+      x ← value_of k Plain t
+      awaited k x p)
 value_after k u (Power p a b) = do
   x ← value_of k Plain a
   y ← value_of k Plain b

@@ -70,9 +70,9 @@ awaited k v place = choose (is_thing v) (ask k (request act.Await (v ∷ []) [] 
 abbrev pub call_awaited : Known → Place → Val → List Val → List NamedVal → Place → Doing
 call_awaited k p f args keywords place = λ w s.
     choose (is_async k (heap_seen k s) f) (k.call f args keywords place)
-      (do
-        v ← called k [] f args keywords place
-        awaited k v p) w s
+    (do
+      v ← called k [] f args keywords place
+      awaited k v p) w s
 
 abbrev pub call_for : Known → Purpose → Val → List Val → List NamedVal → Place → Doing
 call_for k Plain f args keywords place = called k [] f args keywords place
@@ -118,7 +118,7 @@ seen_from s here = seen_of (scope_at s here.0) here
 -- a new scope, in which what follows stands
 abbrev pub in_scope : Known → List (List ℕ) → Place → Doing → Doing
 in_scope k own place m = making (λ s. new_scope (heap_seen k s) (seen_from (heap_seen k s) s.here.scope) false own) place
-  (λ scope w s. m w (record s { here = record s.here { scope = scope } }))
+    (λ scope w s. m w (record s { here = record s.here { scope = scope } }))
 
 -- back in the scope of before
 abbrev pub back_in : ScopeId → Doing → Doing
@@ -149,7 +149,7 @@ unfoldable pub elements_made : ℕ → Known → Val → ℕ → Place → Makin
 elements_made zero k v i place turn done f = stop Spent place
 elements_made (suc n) k v i place turn done f = λ w s.
     on_element (element (heap_seen k s) v i) (f done)
-      (λ x. spend place (turn x done (λ more. elements_made n k v (i + 1) place turn more f))) w s
+    (λ x. spend place (turn x done (λ more. elements_made n k v (i + 1) place turn more f))) w s
 
 -- over a value, in a scope of its own
 abbrev pub made_over : Known → List (List ℕ) → Val → Place → Making → (List Val → Doing) → Doing
@@ -231,10 +231,10 @@ abbrev mutual
     x ← value_of k Plain t
     trailed k u p ts x)
   value_of k u (Await p t) = spend p (choose (is_a_call t)
-    (value_of k (Awaited p) t)
-    (do
-      x ← value_of k Plain t
-      awaited k x p))
+      (value_of k (Awaited p) t)
+      (do
+        x ← value_of k Plain t
+        awaited k x p))
   value_of k u (Power p a b) = spend p (do
     x ← value_of k Plain a
     y ← value_of k Plain b
@@ -293,10 +293,10 @@ abbrev mutual
   pub joined : Known → Place → Links → Val → Doing
   joined k q no_link x = give x
   joined k q (link o t ls) x = truth_of k x q (λ b. choose (goes_on o b)
-    (do
-      y ← value_of k Plain t
-      joined k (place_of t) ls y)
-    (give x))
+      (do
+        y ← value_of k Plain t
+        joined k (place_of t) ls y)
+      (give x))
 
   -- what trails a primary, one after the other
   pub trailed : Known → Purpose → Place → Trailers → Val → Doing
@@ -347,7 +347,7 @@ abbrev mutual
     x ← value_of k Plain source
     row ← as_row k x p
     made_over k (target_names targets) row p
-      (λ v done more. and_then (assign k targets v) (where_holds k condition (element_more done more) (more done))) f
+        (λ v done more. and_then (assign k targets v) (where_holds k condition (element_more done more) (more done))) f
 
   pub where_holds : Known → Perhaps → Doing → Doing → Doing
   where_holds k absent m n = m

@@ -98,7 +98,7 @@ Moves program frozen (Err NoMemory) frames s budget total = ⊤
 unfoldable pub GoesOn : Functions → Made → Result Now Halt → Going → Going → ℕ → (Known → Doing) → Type 0
 GoesOn functions frozen result before behind budget meant =
     Moves (steps_of functions.program) frozen result behind.frames behind.state budget
-      (λ w. finish (steps_of functions.program) frozen before.state.here.room before.frames w (meant (known (steps_of functions.program) frozen before.state.here.room) w before.state))
+    (λ w. finish (steps_of functions.program) frozen before.state.here.room before.frames w (meant (known (steps_of functions.program) frozen before.state.here.room) w before.state))
 
 -- what a part means, and then what the frame that waits for it does
 abbrev pub within : Frame → (Known → Doing) → Known → Doing

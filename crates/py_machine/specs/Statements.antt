@@ -108,11 +108,11 @@ grows_in_place o x = false
 abbrev pub augmented : Known → PyOp → Val → Val → Place → Doing
 augmented k o x y p =
     choose (is_thing x || is_thing y) (ask k (request act.Operator (x ∷ y ∷ []) (augmented_sign o ∷ []) p))
-      (choose (grows_in_place o x)
-        (do
-          _ ← built k builtins.Extend (x ∷ y ∷ []) p
-          give x)
-        (operated k o x y p))
+    (choose (grows_in_place o x)
+    (do
+      _ ← built k builtins.Extend (x ∷ y ∷ []) p
+      give x)
+    (operated k o x y p))
 
 abbrev pub augment_name : Known → Place → List ℕ → Place → PyOp → Tree → Doing
 augment_name k q n p o t = do
@@ -176,7 +176,7 @@ unfoldable pub for_turns : ℕ → Known → Val → (i size : ℕ) → Tree →
 for_turns zero k v i size targets body p = stop Spent p
 for_turns (suc n) k v i size targets body p = of_size k v size p (λ w s.
     on_element (element (heap_seen k s) v i) (came Next)
-      (λ x. spend p (and_then (assign k targets x) (then_do body (λ got. turn_on got (for_turns n k v (i + 1) size targets body p))))) w s)
+    (λ x. spend p (and_then (assign k targets x) (then_do body (λ got. turn_on got (for_turns n k v (i + 1) size targets body p))))) w s)
 
 abbrev pub for_loop : Known → Val → Tree → Doing → Place → Doing
 for_loop k v targets body p = if_row v p (λ w s. for_turns most k v 0 (row_size (heap_seen k s) v) targets body p w s)
@@ -195,10 +195,10 @@ assign_perhaps k (present t) v = assign k t v
 
 abbrev pub with_thing : Known → Val → Perhaps → Doing → Place → Doing
 with_thing k x target body p = choose (is_thing x)
-  (do
-    v ← ask k (request act.Enter (x ∷ []) [] p)
-    and_then (assign_perhaps k target v) (then_do body (left_with k x p)))
-  (stop Raised p)
+    (do
+      v ← ask k (request act.Enter (x ∷ []) [] p)
+      and_then (assign_perhaps k target v) (then_do body (left_with k x p)))
+    (stop Raised p)
 
 -- ---- functions
 
@@ -229,8 +229,8 @@ new_function p defaults scope = record { code = code.Def p; this = None; home = 
 abbrev pub defined : Known → Place → Body → Doing
 defined k p (Fun q name is_async params result body) = defaults_then k [] params (λ defaults.
     annotations_then k params (dropped k result (
-      making (λ s. new_func (heap_seen k s) (new_function q defaults (seen_from (heap_seen k s) s.here.scope))) p
-        (λ v. bind k name v p (came Next)))))
+    making (λ s. new_func (heap_seen k s) (new_function q defaults (seen_from (heap_seen k s) s.here.scope))) p
+    (λ v. bind k name v p (came Next)))))
 
 -- ---- classes
 
@@ -266,10 +266,10 @@ bound_names bs = map (λ (b : Binding). named_val b.0 b.1) bs
 -- the end of a class: its value, and the store's where it stands over a thing
 abbrev pub class_bound : Known → Bool → Val → Val → List ℕ → (keywords notes bindings : List NamedVal) → Place → Doing
 class_bound k is_over c base name keywords notes bindings p = choose is_over
-  (do
-    v ← ask k (request act.ClassMade (c ∷ base ∷ (named_vals keywords ++ (named_vals notes ++ named_vals bindings))) (name ∷ (with_mark (codes "=") keywords ++ (with_mark (codes ":") notes ++ with_mark (codes ".") bindings))) p)
-    bind k name v p (came Next))
-  (bind k name c p (came Next))
+    (do
+      v ← ask k (request act.ClassMade (c ∷ base ∷ (named_vals keywords ++ (named_vals notes ++ named_vals bindings))) (name ∷ (with_mark (codes "=") keywords ++ (with_mark (codes ":") notes ++ with_mark (codes ".") bindings))) p)
+      bind k name v p (came Next))
+    (bind k name c p (came Next))
 
 abbrev pub as_base : Val → Option Val
 as_base val.None = None
@@ -278,8 +278,8 @@ as_base v = Some v
 abbrev pub class_made : Known → Here → Val → List ℕ → List NamedVal → Place → Doing
 class_made k outer base name keywords p = λ w s.
     making (λ t. new_class (heap_seen k t) (as_base base) s.here.scope.0) p
-      (λ c. class_bound k (over_thing (heap_seen k s) base) c base name keywords s.here.notes (bound_names (bindings_at (heap_seen k s) s.here.scope.0)) p)
-      w (record s { here = outer })
+    (λ c. class_bound k (over_thing (heap_seen k s) base) c base name keywords s.here.notes (bound_names (bindings_at (heap_seen k s) s.here.scope.0)) p)
+    w (record s { here = outer })
 
 -- what a class body leaves
 abbrev pub class_ended : Known → Here → Val → List ℕ → List NamedVal → Place → Got → Doing
@@ -293,7 +293,7 @@ class_here outer scope = record { scope = scope; home = None; first = None; note
 abbrev pub class_body : Known → Val → List ℕ → List NamedVal → List (List ℕ) → Doing → Place → Doing
 class_body k base name keywords own body p = λ w s.
     making (λ t. new_scope (heap_seen k t) (seen_from (heap_seen k t) t.here.scope) true own) p
-      (λ scope w2 t. then_do body (class_ended k s.here base name keywords p) w2 (record t { here = class_here s.here scope })) w s
+    (λ scope w2 t. then_do body (class_ended k s.here base name keywords p) w2 (record t { here = class_here s.here scope })) w s
 
 abbrev pub class_begun : Known → Option Val → List ℕ → List NamedVal → List (List ℕ) → Doing → Place → Doing
 class_begun k None name keywords own body p = stop Raised p
@@ -325,10 +325,10 @@ evaluates_annotations s here = is_open (scope_at s here.0)
 
 abbrev pub annotated : Known → Tree → Tree → Doing
 annotated k target t = λ w s. choose (evaluates_annotations (heap_seen k s) s.here.scope)
-  (do
-    v ← value_of k Plain t
-    note target v)
-  (came Next) w s
+    (do
+      v ← value_of k Plain t
+      note target v)
+    (came Next) w s
 
 abbrev pub assign_annotated : Known → Tree → Perhaps → Doing
 assign_annotated k target absent = came Next
@@ -417,7 +417,7 @@ function_here room f args scope = record { scope = scope; home = f.home; first =
 abbrev pub body_run : Known → ℕ → Func → List Val → List NamedVal → Body → Place → Doing
 body_run k room f args met (Fun q name is_async params result body) p = λ w s.
     making (λ t. new_scope (heap_seen k t) f.scope false (function_names (Fun q name is_async params result body))) p
-      (λ scope w2 t. bind_all k met p (then_do (run_all k body) (call_ended s.here)) w2 (record t { here = function_here room f args scope })) w s
+    (λ scope w2 t. bind_all k met p (then_do (run_all k body) (call_ended s.here)) w2 (record t { here = function_here room f args scope })) w s
 
 -- how a call runs the body, by how many calls may still stand in one another
 pub record Runs : Type 0 where

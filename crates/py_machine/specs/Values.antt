@@ -133,13 +133,13 @@ sign_of op.IsNot = codes "is not"
 abbrev pub operated : Known → PyOp → Val → Val → Place → Doing
 operated k o a b place =
     choose (asks_operator o a b) (ask k (request Operator (a ∷ b ∷ []) (sign_of o ∷ []) place))
-      (charging (λ s. operate k.frozen s.heap o a b) place give)
+    (charging (λ s. operate k.frozen s.heap o a b) place give)
 
 -- an operator of one operand
 abbrev pub turned : Known → PyOp → Val → Place → Doing
 turned k o a place =
     choose (asks_operator o a val.None) (ask k (request Operator (a ∷ []) (sign_of o ∷ []) place))
-      (charging (λ s. operate k.frozen s.heap o a val.None) place give)
+    (charging (λ s. operate k.frozen s.heap o a val.None) place give)
 
 -- ---- builtins
 
@@ -169,10 +169,10 @@ iterated k v place = ask k (request Iterate (v ∷ []) [] place)
 abbrev pub gone_over : Known → Builtin → (n : ℕ) → List Val → List Val → Place → Doing
 gone_over k b n done [] place = built k b done place
 gone_over k b n done (v ∷ vs) place = choose (is_thing v && goes_over b n (length done))
-  (do
-    t ← iterated k v place
-    gone_over k b n (done ++ t ∷ []) vs place)
-  (gone_over k b n (done ++ v ∷ []) vs place)
+    (do
+      t ← iterated k v place
+      gone_over k b n (done ++ t ∷ []) vs place)
+    (gone_over k b n (done ++ v ∷ []) vs place)
 
 -- ---- attributes
 
@@ -345,7 +345,7 @@ on_names got f = came got
 abbrev pub init_thing : Known → ObjId → List Val → List NamedVal → Place → Doing → Doing
 init_thing k o args keywords place m =
     then_do (ask k (request InitBase (val.Object o ∷ (args ++ named_vals keywords)) (named_names keywords) place))
-      (λ got. on_names got (λ names. attributes_bound k o names place m))
+    (λ got. on_names got (λ names. attributes_bound k o names place m))
 
 abbrev pub init_this : Known → Option Val → List Val → List NamedVal → Place → Doing
 init_this k (Some (val.Object o)) args keywords place = init_thing k o args keywords place (give val.None)

@@ -103,7 +103,7 @@ targets_in t = none
 -- a value is unpacked, once its elements are there
 abbrev pub unpacked : Known → Tree → Val → Doing
 unpacked k t row = as_many k (tree_count (targets_in t)) row (place_of t)
-  (with_elements k row (place_of t) (λ vs. spend_each (tree_count (targets_in t)) (place_of t) (assign_each k (targets_in t) vs)))
+    (with_elements k row (place_of t) (λ vs. spend_each (tree_count (targets_in t)) (place_of t) (assign_each k (targets_in t) vs)))
 
 -- ---- what a frame does
 

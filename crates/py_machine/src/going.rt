@@ -16,7 +16,7 @@ use crate::request::{Cause, Request, Stop};
 use crate::state::{Got, Halt, State};
 use amh_host::{NoMemory, Place};
 use py_tree::{Expr, Stmt};
-use py_values::{Frozen, Val, ValueStop, Vals};
+use py_values::{Frozen, Val, Vals, ValueStop};
 use std::alloc::Global;
 
 /// How many turns a loop may have, and how many functions answers may begin one after the other: no budget and no list
@@ -88,7 +88,7 @@ impl Going {
         budget: u64,
     ) -> Result<Now, Halt>
         ensures moves { GoesOn functions.now frozen.now result self.old self.new budget (λ k. list_made k place vals) }
-        ensures used { self.new.state.used ≡ self.old.state.used }
+        ensures grows { self.old.state.used ≤ self.new.state.used }
     {
         let given = self.state.heap.list(frozen, vals);
         told(given, place)
@@ -142,8 +142,7 @@ impl Going {
 
     /// Puts a frame within the others; what waits for it goes on from there.
     pub(crate) fn push(&mut self, frame: Frame) -> Result<(), Halt>
-        ensures pushed { MatchResult result (λ _. self.new ≡ record self.old { frames = frame ∷ self.old.frames }) (λ e. e ≡ halt.NoMemory) }
-        ensures state { self.new.state ≡ self.old.state }
+        ensures { MatchResult result (λ _. self.new ≡ record self.old { frames = frame ∷ self.old.frames }) (λ e. e ≡ halt.NoMemory) }
     {
         match self.frames.push(frame) {
             Ok(()) => Ok(()),
