@@ -1,5 +1,6 @@
 // What is said of a design.
 ghost use Rattle.std.specs.Prelude.{◌≡◌, []};
+ghost use Rattle.comb_graph.specs.Rankings.{IsRanking};
 
 use crate::events::played;
 use crate::lines::{split_first, words_of};
@@ -22,12 +23,12 @@ pub fn answer(alloc: Global, lines: &[String]) -> Result<String, Stop> {
 }
 
 fn lines_said(alloc: Global, lines: &[String]) -> Result<String, Stop> {
-    let judged = read_design(alloc, lines)?;
-    design_said(alloc, &judged.design, lines)
+    let design = read_design(alloc, lines)?;
+    design_said(alloc, &design, lines)
 }
 
-/// The name of a design, which stands in its first line.
-pub fn name_of(alloc: Global, lines: &[String]) -> Result<String, Stop> {
+// The name of a design, which stands in its first line.
+fn name_of(alloc: Global, lines: &[String]) -> Result<String, Stop> {
     let [first, ..] = lines else {
         return Err(Stop::NoCase);
     };
@@ -69,7 +70,8 @@ fn accepted_said(
     ranks: &Ranks,
     lines: &[String],
 ) -> Result<String, Stop>
-    requires { design.now.memories ≡ [] }
+    requires flat { design.now.memories ≡ [] }
+    requires ranked { IsRanking design.now ranks.now }
 {
     let mut said = format!(in alloc; "accepted {} {}", ranks.longest(), ranks.order().len())?;
     for line in lines {

@@ -30,14 +30,24 @@ pub fn played(
     let mut sim = Sim::start(alloc, design, ranks)?;
     for line in lines {
         let words = words_of(alloc, line.as_str())?;
-        if let Some(event) = event_of(alloc, design, words.as_slice())? {
-            apply(&mut sim, design, &event)?;
-        }
+        play_line(alloc, &mut sim, design, words.as_slice())?;
         if let Some(("show", _)) = split_first(words.as_slice()) {
             said.push_str(numbers_said(alloc, design, &sim)?.as_str())?;
         }
     }
     Ok(said)
+}
+
+// What the event of a line does, where it has one.
+fn play_line(alloc: Global, sim: &mut Sim, design: &Design, words: &[&str]) -> Result<(), Stop>
+    requires flat { design.now.memories ≡ [] }
+    requires of_design { IsSimOf design.now sim.old }
+    ensures { IsSimOf design.now sim.new }
+{
+    match event_of(alloc, design, words)? {
+        Some(event) => Ok(apply(sim, design, &event)?),
+        None => Ok(()),
+    }
 }
 
 // The numbers of all signals but the clock.
