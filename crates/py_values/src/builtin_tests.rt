@@ -59,166 +59,288 @@ fn one_number(rt: HostRuntime) {
     }
 }
 
+fn yes() -> Val {
+    Val::Bool(true)
+}
+
+// Whether a builtin gives this of one value, and of two.
+fn of_one(
+    heap: &mut Heap,
+    frozen: &Frozen,
+    which: Builtin,
+    a: Val,
+    wanted: Result<Val, ValueStop>,
+) -> bool {
+    call(heap, frozen, which, &[a]) == wanted
+}
+
+fn of_two(
+    heap: &mut Heap,
+    frozen: &Frozen,
+    which: Builtin,
+    a: Val,
+    b: Val,
+    wanted: Result<Val, ValueStop>,
+) -> bool {
+    call(heap, frozen, which, &[a, b]) == wanted
+}
+
+fn refused() -> Result<Val, ValueStop> {
+    Err(ValueStop::Raised)
+}
+
+#[test]
+fn the_least_and_the_greatest(rt: HostRuntime) {
+    let frozen = Frozen::empty(rt.alloc());
+    let mut heap = Heap::new(rt.alloc());
+    assert!(rt; of_two(&mut heap, &frozen, Builtin::Min, int(3), yes(), Ok(yes())));
+    assert!(rt; of_two(&mut heap, &frozen, Builtin::Min, int(1), yes(), Ok(int(1))));
+    assert!(rt; of_two(&mut heap, &frozen, Builtin::Max, yes(), int(1), Ok(yes())));
+    assert!(rt; of_two(&mut heap, &frozen, Builtin::Max, yes(), int(2), Ok(int(2))));
+    assert!(rt;
+        of_two(
+            &mut heap,
+            &frozen,
+            Builtin::Max,
+            yes(),
+            Val::None,
+            refused()
+        )
+    );
+}
+
 #[test]
 fn other_scalars(rt: HostRuntime) {
     let frozen = Frozen::empty(rt.alloc());
     let mut heap = Heap::new(rt.alloc());
-    let yes = Val::Bool(true);
-    let cases = [
-        (Builtin::Int, yes, Val::None, Err(ValueStop::Raised)),
-        (Builtin::Min, int(3), yes, Ok(yes)),
-        (Builtin::Min, int(1), yes, Ok(int(1))),
-        (Builtin::Max, yes, int(1), Ok(yes)),
-        (Builtin::Max, yes, int(2), Ok(int(2))),
-        (Builtin::Max, yes, Val::None, Err(ValueStop::Raised)),
-        (Builtin::Print, yes, int(1), Ok(Val::None)),
-        (Builtin::CeilLog2, int(1), int(1), Err(ValueStop::Raised)),
-    ];
-    for (which, a, b, wanted) in cases {
-        assert_eq!(rt; call(&mut heap, &frozen, which, &[a, b]), wanted);
-    }
-    assert_eq!(rt;
-        call(&mut heap, &frozen, Builtin::CeilLog2, &[int(-1)]),
-        Err(ValueStop::Raised)
+    assert!(rt;
+        of_two(
+            &mut heap,
+            &frozen,
+            Builtin::Int,
+            yes(),
+            Val::None,
+            refused()
+        )
     );
-    assert_eq!(rt; call(&mut heap, &frozen, Builtin::Int, &[yes]), Ok(int(1)));
-    assert_eq!(rt;
-        call(&mut heap, &frozen, Builtin::Bool, &[]),
-        Ok(Val::Bool(false))
+    assert!(rt;
+        of_two(
+            &mut heap,
+            &frozen,
+            Builtin::Print,
+            yes(),
+            int(1),
+            Ok(Val::None)
+        )
     );
-    assert_eq!(rt;
-        call(&mut heap, &frozen, Builtin::Bool, &[Val::Time(2)]),
-        Err(ValueStop::Raised)
+    assert!(rt;
+        of_two(
+            &mut heap,
+            &frozen,
+            Builtin::CeilLog2,
+            int(1),
+            int(1),
+            refused()
+        )
     );
-    assert_eq!(rt;
-        call(&mut heap, &frozen, Builtin::Str, &[yes]),
-        Err(ValueStop::Raised)
-    );
+    assert!(rt; of_one(&mut heap, &frozen, Builtin::CeilLog2, int(-1), refused()));
+    assert!(rt; of_one(&mut heap, &frozen, Builtin::Int, yes(), Ok(int(1))));
+    assert!(rt; of_one(&mut heap, &frozen, Builtin::Bool, Val::Time(2), refused()));
+    assert!(rt; of_one(&mut heap, &frozen, Builtin::Str, yes(), refused()));
 }
 
-fn list(alloc: Global, heap: &mut Heap, frozen: &Frozen, items: &[Val]) -> Result<Val, ValueStop> {
+fn made_list(alloc: Global, heap: &mut Heap, frozen: &Frozen, items: &[Val]) -> bool {
     let mut row = Vals::new(alloc);
     match row.extend(items) {
-        Ok(()) => heap.list(frozen, row),
-        Err(_) => Err(ValueStop::NoMemory),
+        Ok(()) => heap.list(frozen, row) == Ok(Val::List(ObjId(0))),
+        Err(_) => false,
     }
 }
 
+fn first_list() -> Val {
+    Val::List(ObjId(0))
+}
+
 #[test]
-fn sums(rt: HostRuntime) {
+fn sums_of_a_list(rt: HostRuntime) {
     let frozen = Frozen::empty(rt.alloc());
     let mut heap = Heap::new(rt.alloc());
-    let row = [Val::Bool(true), int(2)];
-    let all = list(rt.alloc(), &mut heap, &frozen, &row).expect(&rt, "a list");
-    assert_eq!(rt; call(&mut heap, &frozen, Builtin::Sum, &[all]), Ok(int(3)));
-    assert_eq!(rt;
-        call(&mut heap, &frozen, Builtin::Sum, &[all, int(3)]),
-        Ok(int(6))
+    assert!(rt; made_list(rt.alloc(), &mut heap, &frozen, &[yes(), int(2)]));
+    assert!(rt; of_one(&mut heap, &frozen, Builtin::Sum, first_list(), Ok(int(3))));
+    assert!(rt;
+        of_two(
+            &mut heap,
+            &frozen,
+            Builtin::Sum,
+            first_list(),
+            int(3),
+            Ok(int(6))
+        )
     );
-    assert_eq!(rt; call(&mut heap, &frozen, Builtin::Max, &[all]), Ok(int(2)));
-    assert_eq!(rt;
-        call(&mut heap, &frozen, Builtin::Sum, &[all, Val::None]),
-        Err(ValueStop::Raised)
+    assert!(rt; of_one(&mut heap, &frozen, Builtin::Max, first_list(), Ok(int(2))));
+    assert!(rt;
+        of_two(
+            &mut heap,
+            &frozen,
+            Builtin::Sum,
+            first_list(),
+            Val::None,
+            refused()
+        )
     );
 }
 
-fn dict(alloc: Global, heap: &mut Heap, frozen: &Frozen, items: &[Val]) -> Result<Val, ValueStop> {
+// The dict of 1 with 7 and 2 with 6, whose first key came again as a boolean.
+fn made_dict(alloc: Global, heap: &mut Heap, frozen: &Frozen) -> bool {
     let mut row = Vals::new(alloc);
-    match row.extend(items) {
-        Ok(()) => heap.dict(frozen, row),
-        Err(_) => Err(ValueStop::NoMemory),
+    match row.extend(&[int(1), int(5), int(2), int(6), yes(), int(7)]) {
+        Ok(()) => heap.dict(frozen, row) == Ok(first_dict()),
+        Err(_) => false,
     }
 }
 
-#[test]
-fn dicts(rt: HostRuntime) {
-    let frozen = Frozen::empty(rt.alloc());
-    let mut heap = Heap::new(rt.alloc());
-    let items = [int(1), int(5), int(2), int(6), Val::Bool(true), int(7)];
-    let d = dict(rt.alloc(), &mut heap, &frozen, &items).expect(&rt, "a dict");
-    assert_eq!(rt; d, Val::Dict(ObjId(0)));
-    assert_eq!(rt;
-        heap.row(&frozen, ObjId(0)),
-        [int(1), int(7), int(2), int(6)].as_slice()
-    );
-    assert_eq!(rt;
-        call(&mut heap, &frozen, Builtin::Keys, &[d]),
-        Ok(Val::List(ObjId(1)))
-    );
-    assert_eq!(rt; heap.row(&frozen, ObjId(1)), [int(1), int(2)].as_slice());
-    assert_eq!(rt;
-        call(&mut heap, &frozen, Builtin::Values, &[d]),
-        Ok(Val::List(ObjId(2)))
-    );
-    assert_eq!(rt; heap.row(&frozen, ObjId(2)), [int(7), int(6)].as_slice());
-    assert_eq!(rt;
-        call(&mut heap, &frozen, Builtin::Items, &[d]),
-        Ok(Val::List(ObjId(5)))
-    );
-    assert_eq!(rt; heap.row(&frozen, ObjId(4)), [int(2), int(6)].as_slice());
-    assert_eq!(rt;
-        heap.row(&frozen, ObjId(5)),
-        [Val::Tuple(ObjId(3)), Val::Tuple(ObjId(4))].as_slice()
-    );
-    assert_eq!(rt;
-        call(&mut heap, &frozen, Builtin::Dict, &[Val::List(ObjId(5))]),
-        Ok(Val::Dict(ObjId(6)))
-    );
-    assert_eq!(rt;
-        heap.row(&frozen, ObjId(6)),
-        [int(1), int(7), int(2), int(6)].as_slice()
-    );
-    assert_eq!(rt;
-        call(&mut heap, &frozen, Builtin::Get, &[d, int(2)]),
-        Ok(int(6))
-    );
-    assert_eq!(rt;
-        call(&mut heap, &frozen, Builtin::Get, &[d, int(3)]),
-        Ok(Val::None)
-    );
-    assert_eq!(rt;
-        call(&mut heap, &frozen, Builtin::Get, &[d, int(3), int(9)]),
-        Ok(int(9))
-    );
-    assert_eq!(rt;
-        call(&mut heap, &frozen, Builtin::Get, &[d, Val::None]),
-        Err(ValueStop::Raised)
-    );
+fn first_dict() -> Val {
+    Val::Dict(ObjId(0))
+}
+
+fn has_row(heap: &Heap, frozen: &Frozen, number: u32, row: &[Val]) -> bool {
+    heap.row(frozen, ObjId(number)) == row
 }
 
 #[test]
-fn classes(rt: HostRuntime) {
+fn a_dict_is_listed(rt: HostRuntime) {
     let frozen = Frozen::empty(rt.alloc());
     let mut heap = Heap::new(rt.alloc());
-    let own = OwnNames::new(rt.alloc(), Names::new(rt.alloc())).expect(&rt, "no names");
-    let scope = heap.scope(&frozen, None, true, own).expect(&rt, "a scope");
-    heap.bind(&frozen, scope, "x", int(1)).expect(&rt, "a name");
-    heap.bind(&frozen, scope, "y", int(2)).expect(&rt, "a name");
-    let base = heap.class(&frozen, None, scope).expect(&rt, "a class");
-    assert_eq!(rt; base, Val::Class(ObjId(0)));
-    heap.bind(&frozen, scope, "x", int(3)).expect(&rt, "a name");
-    assert_eq!(rt; heap.attribute(&frozen, ObjId(0), "x"), Some(int(1)));
-    let own = OwnNames::new(rt.alloc(), Names::new(rt.alloc())).expect(&rt, "no names");
-    let scope = heap.scope(&frozen, None, true, own).expect(&rt, "a scope");
-    heap.bind(&frozen, scope, "x", int(4)).expect(&rt, "a name");
-    let class = heap
-        .class(&frozen, Some(base), scope)
-        .expect(&rt, "a class");
-    assert_eq!(rt;
-        heap.inherited(&frozen, ObjId(1), "x"),
-        Inherited::Found(int(4), class)
+    assert!(rt; made_dict(rt.alloc(), &mut heap, &frozen));
+    assert!(rt; has_row(&heap, &frozen, 0, &[int(1), int(7), int(2), int(6)]));
+    assert!(rt;
+        of_one(
+            &mut heap,
+            &frozen,
+            Builtin::Keys,
+            first_dict(),
+            Ok(Val::List(ObjId(1)))
+        )
     );
-    assert_eq!(rt;
-        heap.inherited(&frozen, ObjId(1), "y"),
-        Inherited::Found(int(2), base)
+    assert!(rt; has_row(&heap, &frozen, 1, &[int(1), int(2)]));
+    assert!(rt;
+        of_one(
+            &mut heap,
+            &frozen,
+            Builtin::Values,
+            first_dict(),
+            Ok(Val::List(ObjId(2)))
+        )
     );
-    assert_eq!(rt; heap.inherited(&frozen, ObjId(1), "z"), Inherited::Nowhere);
-    let object = heap.object(&frozen, class).expect(&rt, "an object");
-    assert_eq!(rt; object, Val::Object(ObjId(2)));
-    assert_eq!(rt; heap.set_attribute(&frozen, ObjId(2), "z", int(3)), Ok(()));
-    assert_eq!(rt; heap.set_attribute(&frozen, ObjId(2), "w", int(5)), Ok(()));
-    assert_eq!(rt; heap.set_attribute(&frozen, ObjId(2), "z", int(4)), Ok(()));
-    assert_eq!(rt; heap.row(&frozen, ObjId(2)).len(), 5);
-    assert_eq!(rt; heap.row(&frozen, ObjId(2))[2], int(4));
-    assert_eq!(rt; heap.attribute(&frozen, ObjId(2), "w"), Some(int(5)));
+    assert!(rt; has_row(&heap, &frozen, 2, &[int(7), int(6)]));
+    assert!(rt;
+        of_one(
+            &mut heap,
+            &frozen,
+            Builtin::Items,
+            first_dict(),
+            Ok(Val::List(ObjId(5)))
+        )
+    );
+    assert!(rt; has_row(&heap, &frozen, 4, &[int(2), int(6)]));
+}
+
+#[test]
+fn a_dict_is_asked(rt: HostRuntime) {
+    let frozen = Frozen::empty(rt.alloc());
+    let mut heap = Heap::new(rt.alloc());
+    assert!(rt; made_dict(rt.alloc(), &mut heap, &frozen));
+    assert!(rt;
+        of_two(
+            &mut heap,
+            &frozen,
+            Builtin::Get,
+            first_dict(),
+            int(2),
+            Ok(int(6))
+        )
+    );
+    assert!(rt;
+        of_two(
+            &mut heap,
+            &frozen,
+            Builtin::Get,
+            first_dict(),
+            int(3),
+            Ok(Val::None)
+        )
+    );
+    assert!(rt;
+        of_two(
+            &mut heap,
+            &frozen,
+            Builtin::Get,
+            first_dict(),
+            Val::None,
+            refused()
+        )
+    );
+    assert!(rt;
+        of_one(
+            &mut heap,
+            &frozen,
+            Builtin::Dict,
+            first_dict(),
+            Ok(Val::Dict(ObjId(1)))
+        )
+    );
+    assert!(rt; has_row(&heap, &frozen, 1, &[int(1), int(7), int(2), int(6)]));
+}
+
+// A class of this base that binds one name.
+fn made_class(
+    alloc: Global,
+    heap: &mut Heap,
+    frozen: &Frozen,
+    base: Option<Val>,
+    name: &str,
+    v: Val,
+) -> bool {
+    let Ok(own) = OwnNames::new(alloc, Names::new(alloc)) else {
+        return false;
+    };
+    let Ok(scope) = heap.scope(frozen, None, true, own) else {
+        return false;
+    };
+    match heap.bind(frozen, scope, name, v) {
+        Ok(()) => heap.class(frozen, base, scope).is_ok(),
+        Err(_) => false,
+    }
+}
+
+fn base() -> Val {
+    Val::Class(ObjId(0))
+}
+
+fn class() -> Val {
+    Val::Class(ObjId(1))
+}
+
+#[test]
+fn classes_inherit(rt: HostRuntime) {
+    let frozen = Frozen::empty(rt.alloc());
+    let mut heap = Heap::new(rt.alloc());
+    assert!(rt; made_class(rt.alloc(), &mut heap, &frozen, None, "y", int(2)));
+    assert!(rt; made_class(rt.alloc(), &mut heap, &frozen, Some(base()), "x", int(4)));
+    assert!(rt; heap.inherited(&frozen, ObjId(1), "x") == Inherited::Found(int(4), class()));
+    assert!(rt; heap.inherited(&frozen, ObjId(1), "y") == Inherited::Found(int(2), base()));
+    assert!(rt; heap.inherited(&frozen, ObjId(1), "z") == Inherited::Nowhere);
+}
+
+#[test]
+fn objects_keep_attributes(rt: HostRuntime) {
+    let frozen = Frozen::empty(rt.alloc());
+    let mut heap = Heap::new(rt.alloc());
+    assert!(rt; heap.object(&frozen, base()) == Ok(Val::Object(ObjId(0))));
+    assert!(rt; heap.set_attribute(&frozen, ObjId(0), "z", int(3)) == Ok(()));
+    assert!(rt; heap.set_attribute(&frozen, ObjId(0), "w", int(5)) == Ok(()));
+    assert!(rt; heap.set_attribute(&frozen, ObjId(0), "z", int(4)) == Ok(()));
+    assert!(rt; heap.attribute(&frozen, ObjId(0), "z") == Some(int(4)));
+    assert!(rt; heap.attribute(&frozen, ObjId(0), "w") == Some(int(5)));
+    assert!(rt; heap.row(&frozen, ObjId(0)).len() == 5);
 }
