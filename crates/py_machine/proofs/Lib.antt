@@ -1,2 +1,5 @@
 pub mod BeginLaws
 pub mod ExprBegins
+pub mod OwnLaws
+pub mod TableLaws
+pub mod Samples

@@ -12,6 +12,7 @@ mod expr;
 mod frame;
 mod functions;
 mod going;
+mod own;
 mod request;
 mod state;
 
