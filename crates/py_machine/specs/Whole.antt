@@ -4,6 +4,7 @@ use Rattle.amh_host.specs.declared.place.Place.{Place}
 use Rattle.py_tree.specs.Steps.{Steps}
 use Rattle.py_values.specs.declared.val.Val.{Val}
 use Rattle.py_values.specs.declared.func.Func.{Func}
+use Rattle.py_values.specs.declared.func.Scope.{Scope}
 use Rattle.py_values.specs.declared.func.Code.TheVariants as code
 use Rattle.py_values.specs.declared.op.Builtin.{Builtin}
 use Rattle.py_values.specs.declared.op.Builtin.TheVariants as builtins
@@ -31,9 +32,13 @@ builtin_func b = record { code = code.Builtin b; this = None; home = None; defau
 abbrev pub builtin_funcs : List Func
 builtin_funcs = map (λ (b : List ℕ × Builtin). builtin_func b.1) builtin_names ++ builtin_func builtins.CeilLog2 ∷ builtin_func builtins.BitsFor ∷ []
 
+-- the module's scope, of which no name is its own alone
+abbrev pub module_scope : Scope
+module_scope = record { enclosing = None; is_class = false; own = []; bindings = [] }
+
 -- the heap of a program before its body: the builtins, the module's name, and the module's scope
 abbrev pub first_heap : Made
-first_heap = record nothing { texts = codes "__main__" ∷ []; funcs = builtin_funcs; scopes = record { enclosing = None; is_class = false; own = []; bindings = [] } ∷ [] }
+first_heap = record nothing { texts = codes "__main__" ∷ []; funcs = builtin_funcs; scopes = module_scope ∷ [] }
 
 abbrev pub first_here : Here
 first_here = record { scope = record { 0 = 0 }; home = None; first = None; notes = []; room = deepest }

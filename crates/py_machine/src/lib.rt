@@ -14,6 +14,7 @@ mod functions;
 mod going;
 mod own;
 mod request;
+mod start;
 mod state;
 
 pub use request::{Act, Answer, Cause, NamedVal, NamedVals, Request, Stop, Turn};
