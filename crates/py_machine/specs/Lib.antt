@@ -16,3 +16,4 @@ pub mod Stmt_frames
 pub mod Def_frames
 pub mod Frames
 pub mod Begun
+pub mod Lives

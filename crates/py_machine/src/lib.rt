@@ -4,17 +4,23 @@
 //! below it stand specs/Expressions.antt, Statements.antt, Values.antt (operators, attributes, calls) and Asking.antt
 //! (requests and answers), in the terms of specs/Doing.antt. A machine keeps one list of frames, each a node that waits
 //! for a part of it; specs/Frames.antt says what is left to come out of them, in the words of that meaning, and what a
-//! turn owes (`GoesOn`): it leaves that as it was. Here are the turns that begin a part under a frame, spend units, make
-//! values and ask; those of each kind of node, and the machine around them, are still to come.
+//! turn owes (`GoesOn`): it leaves that as it was. specs/Lives.antt says what a machine stands for between two answers.
+//!
+//! Here are `Machine::start`, which stands for the whole program, and the turns that begin a part under a frame, spend
+//! units, make values and ask. The turns of each kind of node, and `resume`, are still to come.
 #![tactic(auto)]
 
 mod expr;
 mod frame;
 mod functions;
 mod going;
+mod machine;
 mod own;
 mod request;
 mod start;
 mod state;
+#[cfg(test)]
+mod tests;
 
+pub use machine::Machine;
 pub use request::{Act, Answer, Cause, NamedVal, NamedVals, Request, Stop, Turn};
