@@ -3,3 +3,9 @@ pub mod ExprBegins
 pub mod OwnLaws
 pub mod TableLaws
 pub mod Samples
+pub mod ExprParts
+pub mod ExprLaws
+pub mod ExprCharged
+pub mod ExprGoes
+pub mod ExprKinds
+pub mod ExprNames

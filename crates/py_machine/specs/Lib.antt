@@ -17,3 +17,5 @@ pub mod Def_frames
 pub mod Frames
 pub mod Begun
 pub mod Lives
+pub mod Expr_parts
+pub mod Told

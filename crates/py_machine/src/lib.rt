@@ -11,10 +11,15 @@
 #![tactic(auto)]
 
 mod expr;
+mod expr_items;
+mod expr_names;
+mod expr_values;
 mod frame;
 mod functions;
 mod going;
+mod leaf;
 mod machine;
+mod operators;
 mod own;
 mod request;
 mod start;
