@@ -1,2 +1,12 @@
 pub mod BeginLaws
 pub mod ExprBegins
+pub mod ExprParts
+pub mod ExprLaws
+pub mod ExprCharged
+pub mod ExprGoes
+pub mod ExprChains
+pub mod ExprKinds
+pub mod ExprNames
+pub mod ExprFormat
+pub mod ExprTimes
+pub mod ExprArms
