@@ -2,19 +2,35 @@
 ghost use Rattle.std.specs.Prelude.{◌≡◌, ◌<◌, ◌≤◌, [], ◌∷◌, List, OnOk};
 ghost use Rattle.py_tree.specs.declared.name.Piece.{Piece};
 ghost use Rattle.py_machine.specs.Expressions.{pieces_shown};
-ghost use Rattle.py_machine.specs.Format_parts.{Carries, hole_then};
+ghost use Rattle.py_values.specs.Heaps.{seen};
+ghost use Rattle.py_values.specs.Scalars.{shown_text};
+ghost use Rattle.py_machine.specs.Format_parts.{Carries, FoundText, hole_then};
 ghost use Rattle.py_machine.specs.Frames.{GoesOn};
 
 use crate::frame::Now;
 use crate::functions::Functions;
 use crate::going::{Going, stopped};
+use crate::leaf::PartAt;
 use crate::request::Cause;
 use crate::state::Halt;
 use amh_host::{Place, Text};
 use py_tree::{Name, Piece, Pieces};
-use py_values::Frozen;
+use py_values::{Frozen, Val};
 
 impl Going {
+    // The text of a value that a hole shows, where it has one.
+    fn shown_text(&self, frozen: &Frozen, v: Val) -> PartAt<Text>
+        ensures { FoundText result (shown_text (seen frozen.now self.now.state.heap) v) }
+    {
+        match self.state.heap.shown(frozen, v) {
+            Err(_) => PartAt::NoMemory,
+            Ok(shown) => match shown {
+                None => PartAt::Past,
+                Some(text) => PartAt::Part(text),
+            },
+        }
+    }
+
     // Shows what a name stands for, behind the text that is there.
     #[tactic(auto, using(crate::proofs::ExprFormat::hole_unbound, crate::proofs::ExprFormat::hole_unshown, crate::proofs::ExprFormat::hole_shown, crate::proofs::BeginLaws::no_memory))]
     fn hole_shown(
@@ -32,10 +48,10 @@ impl Going {
         let Some(v) = self.name_value(frozen, name) else {
             return Err(stopped(Cause::Raised, place));
         };
-        match self.state.heap.shown(frozen, v) {
-            Err(_) => Err(Halt::NoMemory),
-            Ok(None) => Err(stopped(Cause::Raised, place)),
-            Ok(Some(text)) => match done.push(text.as_str()) {
+        match self.shown_text(frozen, v) {
+            PartAt::NoMemory => Err(Halt::NoMemory),
+            PartAt::Past => Err(stopped(Cause::Raised, place)),
+            PartAt::Part(text) => match done.push(text.as_str()) {
                 Ok(()) => Ok(()),
                 Err(_) => Err(Halt::NoMemory),
             },

@@ -2,6 +2,7 @@
 ghost use Rattle.std.specs.Prelude.{◌≡◌, ◌<◌, ◌≤◌, suc, ◌∷◌, [], ◌++◌, OnOk};
 ghost use Rattle.py_tree.specs.Seen.{tree};
 ghost use Rattle.py_machine.specs.Parts.{place_of, pairs_from, links_from};
+ghost use Rattle.py_machine.specs.Values.{operated, turned};
 ghost use Rattle.py_machine.specs.Expressions.{pairs_then, dict_made};
 ghost use Rattle.py_machine.specs.Expr_frames.{pairs_of, links_of, exponent_of, chosen, decided, expr_goes};
 ghost use Rattle.py_machine.specs.Frames.{GoesOn};
@@ -12,6 +13,7 @@ use crate::going::{Going, stopped};
 use crate::leaf::{PartAt, choice_of, exponent_of, following, place_of};
 use crate::request::Cause;
 use crate::state::Halt;
+use amh_host::Place;
 use py_tree::Expr;
 use py_values::{Frozen, PyOp, Val, Vals};
 
@@ -107,6 +109,43 @@ impl Going {
         }
     }
 
+    // The right operand of an operator has come.
+    fn operand_came(
+        &mut self,
+        functions: &Functions,
+        frozen: &Frozen,
+        op: PyOp,
+        left: Val,
+        right: Val,
+        place: Place,
+        budget: u64,
+    ) -> Result<Now, Halt>
+        requires { self.old.state.used < budget }
+        ensures moves { GoesOn functions.now frozen.now result self.old self.new budget (λ k. operated k op left right place) }
+        ensures left { OnOk result (self.new.state.used < budget) }
+        ensures grows { self.old.state.used ≤ self.new.state.used }
+    {
+        self.operated(functions, frozen, op, &left, &right, place, budget)
+    }
+
+    // The one operand of an operator has come.
+    fn single_came(
+        &mut self,
+        functions: &Functions,
+        frozen: &Frozen,
+        op: PyOp,
+        v: Val,
+        place: Place,
+        budget: u64,
+    ) -> Result<Now, Halt>
+        requires { self.old.state.used < budget }
+        ensures moves { GoesOn functions.now frozen.now result self.old self.new budget (λ k. turned k op v place) }
+        ensures left { OnOk result (self.new.state.used < budget) }
+        ensures grows { self.old.state.used ≤ self.new.state.used }
+    {
+        self.turned(functions, frozen, op, &v, place, budget)
+    }
+
     /// A frame goes on with the value that it waits for.
     #[tactic(auto, using(crate::proofs::BeginLaws::no_memory))]
     pub(crate) fn expr_goes(
@@ -145,10 +184,10 @@ impl Going {
             },
             ExprFrame::Base { node } => self.next_exponent(functions, frozen, &node, v, budget),
             ExprFrame::Right { op, left, place } => {
-                self.operated(functions, frozen, op, &left, &v, place, budget)
+                self.operand_came(functions, frozen, op, left, v, place, budget)
             }
             ExprFrame::Single { op, place } => {
-                self.turned(functions, frozen, op, &v, place, budget)
+                self.single_came(functions, frozen, op, v, place, budget)
             }
             ExprFrame::Linked { node, at } => {
                 self.next_link(functions, frozen, node, at, v, budget)

@@ -1,7 +1,7 @@
 // Values and displays, where they begin: a literal or a name is a value, and a display begins its first item.
 ghost use Rattle.std.specs.Prelude.{◌≡◌, ◌<◌, ◌≤◌, OnOk, map};
 ghost use Rattle.py_tree.specs.Seen.{tree, pair_tree, each_of};
-ghost use Rattle.py_tree.specs.Tree.{Name, Number, Decimal_time, Quotient, Str, Format, Constant_value, Tuple, Display, Dict, ListOf, DictOf, trees, pairs};
+ghost use Rattle.py_tree.specs.Tree.{Name as Read_name, Number, Decimal_time, Quotient, Str, Format, Constant_value, Tuple, Display, Dict, ListOf, DictOf, trees, pairs};
 ghost use Rattle.py_machine.specs.declared.frame.Purpose.TheVariants.{Plain};
 ghost use Rattle.py_machine.specs.Begun.{value_after};
 ghost use Rattle.py_machine.specs.Frames.{GoesOn};
@@ -28,7 +28,7 @@ impl Going {
         name: &Name,
         budget: u64,
     ) -> Result<Now, Halt>
-        requires { tree e.now ≡ Name e.now.place name.now }
+        requires { tree e.now ≡ Read_name e.now.place name.now }
         ensures moves { GoesOn functions.now frozen.now result self.old self.new budget (λ k. value_after k Plain (tree e.now)) }
         ensures used { self.new.state.used ≡ self.old.state.used }
     {

@@ -88,7 +88,7 @@ impl Going {
         budget: u64,
     ) -> Result<Now, Halt>
         ensures moves { GoesOn functions.now frozen.now result self.old self.new budget (λ k. list_made k place vals) }
-        ensures grows { self.old.state.used ≤ self.new.state.used }
+        ensures used { self.new.state.used ≡ self.old.state.used }
     {
         let given = self.state.heap.list(frozen, vals);
         told(given, place)

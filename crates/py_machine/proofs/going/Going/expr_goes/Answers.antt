@@ -8,10 +8,10 @@ pub returns-in-Base-clause-moves : goal.returns-in-Base-clause-moves
 returns-in-Base-clause-moves c = frame_as _ _ _ _ _ _ _ _ _ c.in-Base.is c.next_exponent.ensures.moves
 
 pub returns-in-Right-clause-moves : goal.returns-in-Right-clause-moves
-returns-in-Right-clause-moves c = frame_as _ _ _ _ _ _ _ _ _ c.in-Right.is c.operated.ensures.moves
+returns-in-Right-clause-moves c = frame_as _ _ _ _ _ _ _ _ _ c.in-Right.is c.operand_came.ensures.moves
 
 pub returns-in-Single-clause-moves : goal.returns-in-Single-clause-moves
-returns-in-Single-clause-moves c = frame_as _ _ _ _ _ _ _ _ _ c.in-Single.is c.turned.ensures.moves
+returns-in-Single-clause-moves c = frame_as _ _ _ _ _ _ _ _ _ c.in-Single.is c.single_came.ensures.moves
 
 pub returns-in-Linked-clause-moves : goal.returns-in-Linked-clause-moves
 returns-in-Linked-clause-moves c = frame_as _ _ _ _ _ _ _ _ _ c.in-Linked.is c.next_link.ensures.moves

@@ -8,4 +8,4 @@ pub returns-in-Past-clause-moves : goal.returns-in-Past-clause-moves
 returns-in-Past-clause-moves c = link_none c.args.functions.now c.args.frozen.now c.args.self.now c.args.budget c.args.n c.args.left (place_of (tree c.args.node)) (links_of (tree c.args.node)) c.in-Past.ensures
 
 pub returns-in-Ok-2-clause-moves : goal.returns-in-Ok-2-clause-moves
-returns-in-Ok-2-clause-moves c = link_pushed c.args.functions.now c.args.frozen.now c.wait_for.result c.args.self.now c.wait_for.new.self c.args.budget c.push.new.self c.args.n c.in-Ok.at c.args.left c.place_of-place.result c.args.node c.in-Part.link.operator (tree c.in-Part.link.operand) c.operator_of-op.result c.in-Ok.ensures c.in-Part.ensures c.place_of-place.ensures c.operator_of-op.ensures c.in-Ok-2.ensures.pushed c.wait_for.ensures.moves
+returns-in-Ok-2-clause-moves c = link_pushed c.args.functions.now c.args.frozen.now c.wait_for.result c.args.self.now c.wait_for.new.self c.args.budget c.push.new.self c.args.n c.in-Ok.at c.args.left c.place_of-place.result c.args.node c.in-Part.link.operator (tree c.in-Part.link.operand) c.operator_of-op.result c.in-Ok.ensures c.in-Part.ensures c.place_of-place.ensures c.operator_of-op.ensures c.in-Ok-2.ensures c.wait_for.ensures.moves
