@@ -13,7 +13,7 @@ ghost use Rattle.py_machine.specs.Frames.{GoesOn};
 use crate::frame::{ExprFrame, Frame, Now};
 use crate::functions::Functions;
 use crate::going::Going;
-use crate::leaf::{PartAt, copied, following, goes_on, link_at, operand_place, operator_of, place_of};
+use crate::leaf::{PartAt, following, goes_on, link_at, operand_place, operator_of, place_of};
 use crate::state::{Got, Halt};
 use amh_host::Place;
 use py_tree::{Expr, Link};
@@ -74,38 +74,6 @@ impl Going {
                 let frame = Frame::Expr(ExprFrame::Comparing { node, at: n, left });
                 self.wait_for(functions, frozen, &link.operand, frame, budget)
             }
-        }
-    }
-
-    // The comparison of a link, which is there.
-    #[tactic(auto, using(crate::proofs::BeginLaws::no_memory))]
-    fn more_compared(
-        &mut self,
-        functions: &Functions,
-        frozen: &Frozen,
-        node: Expr,
-        n: u64,
-        link: &Link,
-        left: &Val,
-        right: &Val,
-        budget: u64,
-    ) -> Result<Now, Halt>
-        requires there { ◌≡◌ {A = Option (Operator × Tree)} (Some (link.now.operator, tree link.now.operand)) (link_at n (links_of (tree node))) }
-        requires room { self.old.state.used < budget }
-        ensures moves { GoesOn functions.now frozen.now result self.old self.new budget (λ k. comparing k (place_of (tree node)) (links_from n (links_of (tree node))) left.now right.now) }
-        ensures left { OnOk result (self.new.state.used < budget) }
-        ensures grows { self.old.state.used ≤ self.new.state.used }
-    {
-        let place = place_of(&node);
-        let op = operator_of(link.operator);
-        let kept = copied(right);
-        match self.push(Frame::Expr(ExprFrame::Decided {
-            node,
-            at: n,
-            right: kept,
-        })) {
-            Err(_) => Err(Halt::NoMemory),
-            Ok(()) => self.operated(functions, frozen, op, left, right, place, budget),
         }
     }
 

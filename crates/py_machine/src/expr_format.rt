@@ -2,62 +2,18 @@
 ghost use Rattle.std.specs.Prelude.{◌≡◌, ◌<◌, ◌≤◌, [], ◌∷◌, List, OnOk};
 ghost use Rattle.py_tree.specs.declared.name.Piece.{Piece};
 ghost use Rattle.py_machine.specs.Expressions.{pieces_shown};
-ghost use Rattle.py_values.specs.Heaps.{seen};
-ghost use Rattle.py_values.specs.Scalars.{shown_text};
-ghost use Rattle.py_machine.specs.Format_parts.{Carries, FoundText, hole_then};
+ghost use Rattle.py_machine.specs.Format_parts.{Carries};
 ghost use Rattle.py_machine.specs.Frames.{GoesOn};
 
 use crate::frame::Now;
 use crate::functions::Functions;
-use crate::going::{Going, stopped};
-use crate::leaf::PartAt;
-use crate::request::Cause;
+use crate::going::Going;
 use crate::state::Halt;
 use amh_host::{Place, Text};
-use py_tree::{Name, Piece, Pieces};
-use py_values::{Frozen, Val};
+use py_tree::{Piece, Pieces};
+use py_values::Frozen;
 
 impl Going {
-    // The text of a value that a hole shows, where it has one.
-    fn shown_text(&self, frozen: &Frozen, v: Val) -> PartAt<Text>
-        ensures { FoundText result (shown_text (seen frozen.now self.now.state.heap) v) }
-    {
-        match self.state.heap.shown(frozen, v) {
-            Err(_) => PartAt::NoMemory,
-            Ok(shown) => match shown {
-                None => PartAt::Past,
-                Some(text) => PartAt::Part(text),
-            },
-        }
-    }
-
-    // Shows what a name stands for, behind the text that is there.
-    #[tactic(auto, using(crate::proofs::ExprFormat::hole_unbound, crate::proofs::ExprFormat::hole_unshown, crate::proofs::ExprFormat::hole_shown, crate::proofs::BeginLaws::no_memory))]
-    fn hole_shown(
-        &mut self,
-        _functions: &Functions,
-        frozen: &Frozen,
-        name: &Name,
-        done: &mut Text,
-        place: Place,
-        _budget: u64,
-    ) -> Result<(), Halt>
-        ensures shown { (rest : List Piece) → Carries _functions.now frozen.now result self.old self.new _budget (λ k. hole_then k done.old name.now rest place) (λ k. pieces_shown k done.new rest place) }
-        ensures state { self.new ≡ self.old }
-    {
-        let Some(v) = self.name_value(frozen, name) else {
-            return Err(stopped(Cause::Raised, place));
-        };
-        match self.shown_text(frozen, v) {
-            PartAt::NoMemory => Err(Halt::NoMemory),
-            PartAt::Past => Err(stopped(Cause::Raised, place)),
-            PartAt::Part(text) => match done.push(text.as_str()) {
-                Ok(()) => Ok(()),
-                Err(_) => Err(Halt::NoMemory),
-            },
-        }
-    }
-
     // A piece, behind the text that is there.
     #[tactic(auto, using(crate::proofs::ExprFormat::text_shown, crate::proofs::ExprFormat::hole_spent, crate::proofs::ExprLaws::spent_stops, crate::proofs::BeginLaws::no_memory))]
     fn piece_shown(

@@ -1,7 +1,7 @@
 // Values and displays, where they begin: a literal or a name is a value, and a display begins its first item.
 ghost use Rattle.std.specs.Prelude.{◌≡◌, ◌<◌, ◌≤◌, OnOk, map};
 ghost use Rattle.py_tree.specs.Seen.{tree, pair_tree, each_of};
-ghost use Rattle.py_tree.specs.Tree.{Name as Read_name, Number, Decimal_time, Quotient, Str, Format, Constant_value, Tuple, Display, Dict, ListOf, DictOf, trees, pairs};
+ghost use Rattle.py_tree.specs.Tree.{Name as Read_name, Number, Decimal_time, Quotient, Str, Format, Constant_value, Tuple, Dict, ListOf, DictOf, trees, pairs};
 ghost use Rattle.py_machine.specs.declared.frame.Purpose.TheVariants.{Plain};
 ghost use Rattle.py_machine.specs.Begun.{value_after};
 ghost use Rattle.py_machine.specs.Frames.{GoesOn};
@@ -157,27 +157,6 @@ impl Going {
         budget: u64,
     ) -> Result<Now, Halt>
         requires { tree e.now ≡ Tuple e.now.place (trees (map tree _items.now)) }
-        ensures moves { GoesOn functions.now frozen.now result self.old self.new budget (λ k. value_after k Plain (tree e.now)) }
-        ensures used { self.new.state.used ≡ self.old.state.used }
-    {
-        let Ok(node) = e.share() else {
-            return Err(Halt::NoMemory);
-        };
-        let vals = Vals::new(self.alloc);
-        self.next_item(functions, frozen, node, 0, vals, budget)
-    }
-
-    // A list.
-    #[tactic(auto, using(crate::proofs::ExprKinds::display_begins, crate::proofs::BeginLaws::no_memory))]
-    pub(crate) fn begun_display(
-        &mut self,
-        functions: &Functions,
-        frozen: &Frozen,
-        e: &Expr,
-        _items: &[Expr],
-        budget: u64,
-    ) -> Result<Now, Halt>
-        requires { tree e.now ≡ Display e.now.place (trees (map tree _items.now)) }
         ensures moves { GoesOn functions.now frozen.now result self.old self.new budget (λ k. value_after k Plain (tree e.now)) }
         ensures used { self.new.state.used ≡ self.old.state.used }
     {
