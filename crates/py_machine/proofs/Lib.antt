@@ -1,2 +1,14 @@
 pub mod BeginLaws
 pub mod ExprBegins
+pub mod CallLaws
+pub mod AttributeLaws
+pub mod StoreLaws
+pub mod CalledLaws
+pub mod FrameLaws
+pub mod ReplyLaws
+pub mod TrailLaws
+pub mod ArgumentLaws
+pub mod GoneLaws
+pub mod SliceLaws
+pub mod AugmentLaws
+pub mod BoundLaws

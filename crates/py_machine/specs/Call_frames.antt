@@ -34,15 +34,16 @@ abbrev pub trailers_of : Tree → Trailers
 trailers_of (Trailed p t ts) = ts
 trailers_of t = no_trailer
 
--- on, from a value, along what trails
-abbrev pub augmented_along : Known → Place → Trailers → Val → Step → Doing
-augmented_along k q ts x (Augment p target o t) = augment_along k q ts x p (operator_of o) t
-augmented_along k q ts x step = stop Raised q
+-- on, from a value, along what trails the target of a statement, behind so many
+abbrev pub augmented_along : Known → ℕ → Val → Step → Place → Doing
+augmented_along k n x (Augment p target o t) q = augment_along k (place_of target) (trailers_from n (trailers_of target)) x p (operator_of o) t
+augmented_along k n x step q = stop Raised q
 
-abbrev pub goes_along : Known → Along → Place → Trailers → Val → Doing
-goes_along k (along.Value u) p ts x = trailed k u p ts x
-goes_along k (along.Store v) p ts x = stored k p ts x v
-goes_along k (along.Augment stmt) p ts x = augmented_along k p ts x (step_of stmt)
+-- on, from a value, along what trails a node, behind so many
+abbrev pub goes_along : Known → Along → ℕ → Tree → Val → Doing
+goes_along k (along.Value u) n t x = trailed k u (place_of t) (trailers_from n (trailers_of t)) x
+goes_along k (along.Store v) n t x = stored k (place_of t) (trailers_from n (trailers_of t)) x v
+goes_along k (along.Augment stmt) n t x = augmented_along k n x (step_of stmt) (place_of t)
 
 -- ---- arguments
 
@@ -90,7 +91,7 @@ parts_then k x vs (part ∷ parts) p = do
 -- ---- what a frame does
 
 abbrev pub call_value_goes : Known → CallFrame → Val → Doing
-call_value_goes k (call.Trail node n way) v = goes_along k way (place_of (tree node)) (trailers_from n (trailers_of (tree node))) v
+call_value_goes k (call.Trail node n way) v = goes_along k way n (tree node) v
 call_value_goes k (call.Argument node j n f vs keywords u) v =
     argument_came k (place_of (tree node)) vs keywords (arguments_from n (call_arguments (trailers_from j (trailers_of (tree node))))) v (λ us names. call_for k u f us names (place_of (tree node)))
 call_value_goes k (call.Spread node j n f vs keywords u) v =

@@ -15,3 +15,14 @@ pub mod Stmt_frames
 pub mod Def_frames
 pub mod Frames
 pub mod Begun
+pub mod Calling
+pub mod Called
+pub mod Tables
+pub mod Awaiting
+pub mod Replying
+pub mod Trailing
+pub mod Arguing
+pub mod Going_over
+pub mod Slicing
+pub mod Binding_all
+pub mod Meeting
