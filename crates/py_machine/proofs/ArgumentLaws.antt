@@ -45,8 +45,6 @@ pub argument_none : (n : ℕ) → None ≡ first_argument (arguments_from n no_a
 argument_none zero = refl
 argument_none (suc n) = refl
 
-pub ruleset argument_rules = (argument_get, argument_none)
-
 pub call_arguments-first : (ts : Trailers) (t : Trailer) → Some t ≡ first_trailer ts → arguments_in t ≡ call_arguments ts
 call_arguments-first no_trailer t e = cc
 call_arguments-first (trailer (Call gs) ts) t e = let q : t ≡ Call gs = cc in ap arguments_in q

@@ -12,3 +12,5 @@ pub mod GoneLaws
 pub mod SliceLaws
 pub mod AugmentLaws
 pub mod BoundLaws
+pub mod MeetLaws
+pub mod EnterLaws

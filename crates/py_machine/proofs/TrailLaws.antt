@@ -36,8 +36,6 @@ pub trailer_none : (n : ℕ) → None ≡ first_trailer (trailers_from n no_trai
 trailer_none zero = refl
 trailer_none (suc n) = refl
 
-pub ruleset trailer_rules = (trailer_get, trailer_none)
-
 -- where one trails, the others stand behind it
 pub trailers-next : (n : ℕ) (ts : Trailers) (t : Trailer) → Some t ≡ first_trailer (trailers_from n ts) → trailer t (trailers_from (suc n) ts) ≡ trailers_from n ts
 trailers-next zero no_trailer t e = cc
@@ -79,6 +77,9 @@ ended-last_is_call t (trailer u us) = ended-last_is_call u us
 pub ended_last : (ts : Trailers) → ended false ts ≡ ends_in_call ts
 ended_last no_trailer = refl
 ended_last (trailer t ts) = ended-last_is_call t ts
+
+pub ended_call : (ts : Trailers) (b : Bool) → b ≡ ended false ts → b ≡ ends_in_call ts
+ended_call ts b e = e ∙ ended_last ts
 
 begin_on : (fns : Functions) (frozen : Made) (x : Going) (budget : ℕ) (e : Expr) (u : Purpose) → GoesOn fns frozen (Ok (Begin e u)) x x budget (λ k. value_of k u (tree e))
 unfolding GoesOn

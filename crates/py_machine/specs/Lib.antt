@@ -26,3 +26,4 @@ pub mod Going_over
 pub mod Slicing
 pub mod Binding_all
 pub mod Meeting
+pub mod Entering

@@ -1,5 +1,6 @@
 // The arguments of a call, by their numbers.
-ghost use Rattle.std.specs.Prelude.{◌≡◌, IfOk};
+ghost use Rattle.std.specs.Prelude.{◌≡◌, IfOk, map};
+ghost use Rattle.py_tree.specs.Tree.{arguments};
 ghost use Rattle.std.specs.Option.{option_copied, option_map};
 ghost use Rattle.py_tree.specs.Seen.{tree, trailer_of, argument_of};
 ghost use Rattle.py_machine.specs.Parts.{trailers_from, arguments_from};
@@ -16,12 +17,20 @@ use py_values::Val;
 use std::alloc::Global;
 
 // The argument of a number.
-#[tactic(auto, using(crate::proofs::ArgumentLaws::argument_rules))]
+#[tactic(auto, using(crate::proofs::ArgumentLaws::argument_get))]
+fn argument_of_number(list: &[Argument], at: u64) -> Option<&Argument>
+    ensures { option_map argument_of (option_copied result) ≡ first_argument (arguments_from at (arguments (map argument_of list.now))) }
+{
+    list.get(at as usize)
+}
+
+// The argument of a number, of what trails.
+#[tactic(auto, using(crate::proofs::ArgumentLaws::argument_none))]
 fn argument_in(trailer: &Trailer, at: u64) -> Option<&Argument>
     ensures { option_map argument_of (option_copied result) ≡ first_argument (arguments_from at (arguments_in (trailer_of trailer.now))) }
 {
     match trailer {
-        Trailer::Call(list) => list.get(at as usize),
+        Trailer::Call(list) => argument_of_number(list.as_slice(), at),
         _ => None,
     }
 }

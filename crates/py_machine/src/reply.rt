@@ -26,6 +26,16 @@ fn takes_value(act: Act) -> bool
     }
 }
 
+// Which acts take a text.
+fn takes_text(act: Act) -> bool
+    ensures { result ≡ takes_text act }
+{
+    match act {
+        Act::Attribute => true,
+        _ => false,
+    }
+}
+
 // Which acts take a list.
 fn takes_list(act: Act) -> bool
     ensures { result ≡ takes_list act }
@@ -246,21 +256,42 @@ impl Going {
         }
     }
 
-    // A new string. Stand-in.
-    #[tactic(auto, using(crate::proofs::BeginLaws::turn_rules))]
-    fn text_given(
+    // A new string.
+    #[tactic(auto, using(crate::proofs::ReplyLaws::text_told))]
+    fn new_text(
         &mut self,
         _functions: &Functions,
-        _frozen: &Frozen,
-        _act: Act,
-        _text: Text,
-        _place: Place,
+        frozen: &Frozen,
+        text: &Text,
+        place: Place,
         _budget: u64,
     ) -> Result<Now, Halt>
-        ensures moves { GoesOn _functions.now _frozen.now result self.old self.new _budget (λ k. if_taken (takes_text _act) _place (text_given k _text _place)) }
+        ensures moves { GoesOn _functions.now frozen.now result self.old self.new _budget (λ k. text_given k text.now place) }
         ensures used { self.new.state.used ≡ self.old.state.used }
     {
-        Err(Halt::NoMemory)
+        let given = self.state.heap.new_text(frozen, text.as_str());
+        told(given, place)
+    }
+
+    // A text, as a string.
+    #[tactic(auto, using(crate::proofs::CallLaws::choose_rules))]
+    fn text_given(
+        &mut self,
+        functions: &Functions,
+        frozen: &Frozen,
+        act: Act,
+        text: &Text,
+        place: Place,
+        budget: u64,
+    ) -> Result<Now, Halt>
+        ensures moves { GoesOn functions.now frozen.now result self.old self.new budget (λ k. if_taken (takes_text act) place (text_given k text.now place)) }
+        ensures used { self.new.state.used ≡ self.old.state.used }
+    {
+        if takes_text(act) {
+            self.new_text(functions, frozen, text, place, budget)
+        } else {
+            self.raise(functions, frozen, place, budget)
+        }
     }
 
     /// An answer is taken.
@@ -284,7 +315,7 @@ impl Going {
         match answer {
             Answer::Begin => self.raise(functions, frozen, place, budget),
             Answer::Give(v) => self.value_given(functions, frozen, act, v, place, budget),
-            Answer::GiveText(text) => self.text_given(functions, frozen, act, text, place, budget),
+            Answer::GiveText(text) => self.text_given(functions, frozen, act, &text, place, budget),
             Answer::GiveList(vals) => self.row_given(functions, frozen, act, vals, place, budget),
             Answer::Bind(names) => self.names_given(functions, frozen, act, names, place, budget),
             Answer::Call { callee, args } => self.call_given(

@@ -6,16 +6,17 @@ ghost use Rattle.py_machine.specs.Parts.{place_of, trailers_from};
 ghost use Rattle.py_machine.specs.Expressions.{trailed_one};
 ghost use Rattle.py_machine.specs.Call_frames.{trailers_of};
 ghost use Rattle.py_machine.specs.Trailing.{first_trailer};
+ghost use Rattle.py_tree.specs.Programs.{steps_of};
+ghost use Rattle.py_machine.specs.Statements.{run_all};
 ghost use Rattle.py_machine.specs.Tables.{IsTable};
 ghost use Rattle.py_machine.specs.Frames.{GoesOn};
 
 use crate::frame::{Now, Purpose};
 use crate::functions::Functions;
 use crate::going::Going;
-use crate::request::NamedVals;
 use crate::state::Halt;
 use amh_host::Place;
-use py_tree::{Expr, Trailer};
+use py_tree::{Block, Expr, Trailer};
 use py_values::{Builtin, Frozen, Val, Vals};
 
 impl Going {
@@ -38,21 +39,17 @@ impl Going {
         Err(Halt::NoMemory)
     }
 
-    /// Enters a function.
+    /// Runs statements one after the other.
     #[tactic(auto, using(crate::proofs::BeginLaws::turn_rules))]
-    pub(crate) fn enter(
+    pub(crate) fn run_block(
         &mut self,
         _functions: &Functions,
         _frozen: &Frozen,
-        _callee: Val,
-        _args: Vals,
-        _keywords: NamedVals,
-        _place: Place,
+        _block: &Block,
         _budget: u64,
     ) -> Result<Now, Halt>
-        requires room { self.old.state.used < _budget }
-        requires table { IsTable _functions.now }
-        ensures moves { GoesOn _functions.now _frozen.now result self.old self.new _budget (λ k. k.call _callee _args _keywords _place) }
+        requires { self.old.state.used < _budget }
+        ensures moves { GoesOn _functions.now _frozen.now result self.old self.new _budget (λ k. run_all k (steps_of _block.now)) }
         ensures left { OnOk result (self.new.state.used < _budget) }
         ensures grows { self.old.state.used ≤ self.new.state.used }
     {

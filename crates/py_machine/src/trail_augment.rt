@@ -30,11 +30,11 @@ impl Going {
         _op: Operator,
         _right: &Expr,
         name: &Name,
-        over: Val,
+        over: &Val,
         budget: u64,
     ) -> Result<Now, Halt>
         requires here { step_of stmt.now ≡ Augment stmt.now.place (tree target.now) _op (tree _right.now) }
-        ensures moves { GoesOn functions.now frozen.now result self.old self.new budget (λ k. augment_last k (place_of (tree target.now)) (Attribute name.now) over stmt.now.place (operator_of _op) (tree _right.now)) }
+        ensures moves { GoesOn functions.now frozen.now result self.old self.new budget (λ k. augment_last k (place_of (tree target.now)) (Attribute name.now) over.now stmt.now.place (operator_of _op) (tree _right.now)) }
         ensures used { self.new.state.used ≡ self.old.state.used }
     {
         let place = place_at(target);
@@ -46,9 +46,9 @@ impl Going {
         };
         match self.frames.push(Frame::Stmt(StmtFrame::AugmentOld {
             stmt,
-            changed: Changed::Attribute(over, changed),
+            changed: Changed::Attribute(*over, changed),
         })) {
-            Ok(()) => self.attribute(functions, frozen, over, name, place, budget),
+            Ok(()) => self.attribute(functions, frozen, *over, name, place, budget),
             Err(_) => Err(Halt::NoMemory),
         }
     }
@@ -98,7 +98,7 @@ impl Going {
         let place = place_at(target);
         match trailer {
             Trailer::Attribute(name) => self.attribute_changes(
-                functions, frozen, stmt, target, op, right, name, over, budget,
+                functions, frozen, stmt, target, op, right, name, &over, budget,
             ),
             Trailer::Index(part) => self.item_changes(
                 functions, frozen, stmt, target, op, right, part, over, budget,

@@ -4,7 +4,7 @@ ghost use Rattle.std.specs.Option.{option_copied, option_map};
 ghost use Rattle.py_tree.specs.Seen.{tree, trailer_of};
 ghost use Rattle.py_tree.specs.Tree.{trailers};
 ghost use Rattle.py_machine.specs.Parts.{place_of, trailers_from};
-ghost use Rattle.py_machine.specs.Expressions.{purpose_at, is_call, is_a_call};
+ghost use Rattle.py_machine.specs.Expressions.{purpose_at, is_call, is_a_call, ends_in_call};
 ghost use Rattle.py_machine.specs.Call_frames.{trailers_of};
 ghost use Rattle.py_machine.specs.Trailing.{first_trailer, ended};
 
@@ -41,13 +41,21 @@ pub(crate) fn place_at(node: &Expr) -> Place
     }
 }
 
+// The trailer of a number.
+#[tactic(auto, using(crate::proofs::TrailLaws::trailer_get))]
+fn trailer_in(list: &[Trailer], at: u64) -> Option<&Trailer>
+    ensures { option_map trailer_of (option_copied result) ≡ first_trailer (trailers_from at (trailers (map trailer_of list.now))) }
+{
+    list.get(at as usize)
+}
+
 /// What trails at a number.
-#[tactic(auto, using(crate::proofs::TrailLaws::trailer_rules))]
+#[tactic(auto, using(crate::proofs::TrailLaws::trailer_none))]
 pub(crate) fn trailer_at(node: &Expr, at: u64) -> Option<&Trailer>
     ensures { option_map trailer_of (option_copied result) ≡ first_trailer (trailers_from at (trailers_of (tree node.now))) }
 {
     match &*node.kind {
-        ExprKind::Trailed(_, trailers) => trailers.get(at as usize),
+        ExprKind::Trailed(_, trailers) => trailer_in(trailers.as_slice(), at),
         _ => None,
     }
 }
@@ -89,7 +97,7 @@ fn is_call(trailer: &Trailer) -> bool
     }
 }
 
-// Whether the last of them is a call.
+// Whether the last of them is a call, by a walk over all.
 fn last_is_call(list: &[Trailer]) -> bool
     ensures { result ≡ ended false (trailers (map trailer_of list.now)) }
 {
@@ -100,13 +108,20 @@ fn last_is_call(list: &[Trailer]) -> bool
     is
 }
 
+// Whether the last of them is a call.
+#[tactic(auto, using(crate::proofs::TrailLaws::ended_call))]
+fn call_is_last(list: &[Trailer]) -> bool
+    ensures { result ≡ ends_in_call (trailers (map trailer_of list.now)) }
+{
+    last_is_call(list)
+}
+
 /// Whether a node is a call.
-#[tactic(auto, using(crate::proofs::TrailLaws::ended_last))]
 pub(crate) fn ends_in_call(node: &Expr) -> bool
     ensures { result ≡ is_a_call (tree node.now) }
 {
     match &*node.kind {
-        ExprKind::Trailed(_, trailers) => last_is_call(trailers.as_slice()),
+        ExprKind::Trailed(_, trailers) => call_is_last(trailers.as_slice()),
         _ => false,
     }
 }
