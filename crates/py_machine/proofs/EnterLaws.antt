@@ -78,9 +78,15 @@ pub ruleset met_rules = (met_some, met_none)
 -- ---- the body
 
 -- statements begin elsewhere, under the frame that leads back
-pub body_pushed : (fns : Functions) (frozen : Made) (r : Result Now Halt) (x y : Going) (budget : ℕ) (here : Here) (bound : ℕ) (ss : Steps) → GoesOn fns frozen r (record x { frames = frame.Call (call.CallEnd x.state.here) ∷ x.frames; state = record x.state { here = here; bound = bound } }) y budget (λ k. run_all k ss) → GoesOn fns frozen r x y budget (λ k. runs_under k here bound ss)
+body-pushed : (fns : Functions) (frozen : Made) (r : Result Now Halt) (x y : Going) (budget : ℕ) (here : Here) (bound : ℕ) (ss : Steps) → GoesOn fns frozen r (record x { frames = frame.Call (call.CallEnd x.state.here) ∷ x.frames; state = record x.state { here = here; bound = bound } }) y budget (λ k. run_all k ss) → GoesOn fns frozen r x y budget (λ k. runs_under k here bound ss)
 unfolding GoesOn
-body_pushed fns frozen r x y budget here bound ss h = h
+body-pushed fns frozen r x y budget here bound ss h = h
+
+pub body_pushed : (fns : Functions) (frozen : Made) (r : Result Now Halt) (x y : Going) (budget : ℕ) (here there outer : Here) (bound : ℕ) (ss : Steps) → outer ≡ x.state.here → there ≡ here → GoesOn fns frozen r (record x { frames = frame.Call (call.CallEnd outer) ∷ x.frames; state = record x.state { here = there; bound = bound } }) y budget (λ k. run_all k ss) → GoesOn fns frozen r x y budget (λ k. runs_under k here bound ss)
+body_pushed fns frozen r x y budget here there outer bound ss e1 e2 h =
+    let P : Here → Type 0 = λ z. GoesOn fns frozen r (record x { frames = frame.Call (call.CallEnd z) ∷ x.frames; state = record x.state { here = here; bound = bound } }) y budget (λ k. run_all k ss) in
+    let Q : Here → Type 0 = λ z. GoesOn fns frozen r (record x { frames = frame.Call (call.CallEnd outer) ∷ x.frames; state = record x.state { here = z; bound = bound } }) y budget (λ k. run_all k ss) in
+    body-pushed fns frozen r x y budget here bound ss (subst P e1 (subst Q e2 h))
 
 bind-ok : (k : Known) (xs : List NamedVal) (p : Place) (m : Doing) (w : World) (s : State) (heap : Made) → names_bound k.frozen s.here.scope.0 s.heap xs ≡ Ok heap → bind_all k xs p m w s ≡ m w (record s { heap = heap; bound = s.bound + length xs })
 bind-ok k [] p m w s heap e = let q : s.heap ≡ heap = cc in let z : s.bound ≡ s.bound + 0 = omega arith in ap (λ (h : Made). m w (record s { heap = h })) q ∙ ap (λ (n : ℕ). m w (record s { heap = heap; bound = n })) z
@@ -113,15 +119,16 @@ run-begun program frozen room f args met (Fun q name is_async params result body
     ap (λ z. made z place (λ scope w2 t. bind_all (known program frozen room) met place (then_do (run_all (known program frozen room) body) (call_ended s.here)) w2 (record t { here = function_here room f args scope })) w s) e1
     ∙ bind-ok (known program frozen room) met place (then_do (run_all (known program frozen room) body) (call_ended s.here)) w (record s { heap = heap; here = function_here room f args scope }) more e2
 
-pub body_ok : (fns : Functions) (frozen : Made) (r : Result Now Halt) (x y : Going) (budget : ℕ) (f : Func) (args : List Val) (met : List NamedVal) (b : Body) (place : Place) (room bound : ℕ) (scope : ScopeId) (heap more : Made) (own : List (List ℕ)) (here : Here) (ss : Steps) → own ≡ function_names b → ss ≡ body_steps b → x.state.here.room ≡ suc room → bound ≡ x.state.bound + length met → here ≡ function_here room f args scope → new_scope (seen frozen x.state.heap) f.scope false own ≡ Ok (scope, heap) → names_bound frozen scope.0 heap met ≡ Ok more → GoesOn fns frozen r (record x { state = record x.state { heap = more } }) y budget (λ k. runs_under k here bound ss) → GoesOn fns frozen r x y budget (λ k. (runs_at k.program k.frozen x.state.here.room).run_body f args met b place)
-body_ok fns frozen r x y budget f args met b place room bound scope heap more own here ss e1 e2 e3 e4 e5 e6 e7 h =
+pub body_ok : (fns : Functions) (frozen : Made) (r : Result Now Halt) (x y : Going) (budget : ℕ) (f : Func) (args vals : List Val) (met same : List NamedVal) (b : Body) (place : Place) (room bound : ℕ) (scope : ScopeId) (heap more : Made) (own : List (List ℕ)) (first : Option Val) (notes : List NamedVal) (ss : Steps) → own ≡ function_names b → ss ≡ body_steps b → x.state.here.room ≡ suc room → bound ≡ x.state.bound + length met → vals ≡ args → first ≡ first_of vals → notes ≡ [] → new_scope (seen frozen x.state.heap) f.scope false own ≡ Ok (scope, heap) → same ≡ met → names_bound frozen scope.0 heap same ≡ Ok more → GoesOn fns frozen r (record x { state = record x.state { heap = more } }) y budget (λ k. runs_under k (record { scope = scope; home = f.home; first = first; notes = notes; room = room }) bound ss) → GoesOn fns frozen r x y budget (λ k. (runs_at k.program k.frozen x.state.here.room).run_body f args met b place)
+body_ok fns frozen r x y budget f args vals met same b place room bound scope heap more own first notes ss e1 e2 e3 e4 i1 i2 i3 e6 i4 e7 h =
     same_goes fns frozen r x y budget (λ (z : ℕ) k. (runs_at k.program k.frozen z).run_body f args met b place) (suc room) x.state.here.room (sym e3)
-    (same_runs fns frozen r x y budget (λ k w s. runs_under k here bound ss w (record s { heap = more })) (λ k. body_run (known k.program k.frozen room) room f args met b place)
-    (λ w. run-begun (steps_of fns.program) frozen room f args met b place w x.state scope heap more (ap (λ (z : List (List ℕ)). new_scope (seen frozen x.state.heap) f.scope false z) (sym e1) ∙ e6) e7
-      ∙ ap (λ (z : Here). runs_under (known (steps_of fns.program) frozen (suc room)) z (x.state.bound + length met) (body_steps b) w (record x.state { heap = more })) (sym e5)
-      ∙ ap (λ (z : ℕ). runs_under (known (steps_of fns.program) frozen (suc room)) here z (body_steps b) w (record x.state { heap = more })) (sym e4)
-      ∙ ap (λ (z : Steps). runs_under (known (steps_of fns.program) frozen (suc room)) here bound z w (record x.state { heap = more })) (sym e2))
-    (moved-heap fns frozen r x y budget more here bound ss h))
+    (same_runs fns frozen r x y budget (λ k w s. runs_under k (record { scope = scope; home = f.home; first = first; notes = notes; room = room }) bound ss w (record s { heap = more })) (λ k. body_run (known k.program k.frozen room) room f args met b place)
+    (λ w. run-begun (steps_of fns.program) frozen room f args met b place w x.state scope heap more (ap (λ (z : List (List ℕ)). new_scope (seen frozen x.state.heap) f.scope false z) (sym e1) ∙ e6) (ap (names_bound frozen scope.0 heap) (sym i4) ∙ e7)
+      ∙ ap (λ (z : Option Val). runs_under (known (steps_of fns.program) frozen (suc room)) (record { scope = scope; home = f.home; first = z; notes = []; room = room }) (x.state.bound + length met) (body_steps b) w (record x.state { heap = more })) (sym (i2 ∙ ap first_of i1))
+      ∙ ap (λ (z : List NamedVal). runs_under (known (steps_of fns.program) frozen (suc room)) (record { scope = scope; home = f.home; first = first; notes = z; room = room }) (x.state.bound + length met) (body_steps b) w (record x.state { heap = more })) (sym i3)
+      ∙ ap (λ (z : ℕ). runs_under (known (steps_of fns.program) frozen (suc room)) (record { scope = scope; home = f.home; first = first; notes = notes; room = room }) z (body_steps b) w (record x.state { heap = more })) (sym e4)
+      ∙ ap (λ (z : Steps). runs_under (known (steps_of fns.program) frozen (suc room)) (record { scope = scope; home = f.home; first = first; notes = notes; room = room }) bound z w (record x.state { heap = more })) (sym e2))
+    (moved-heap fns frozen r x y budget more (record { scope = scope; home = f.home; first = first; notes = notes; room = room }) bound ss h))
 
 -- a new scope is never refused
 pub scope_err : (fns : Functions) (frozen : Made) (x y : Going) (budget : ℕ) (f : Func) (args : List Val) (met : List NamedVal) (b : Body) (place : Place) (e : ValueStop) (own : List (List ℕ)) → Answers {A = ScopeId × Made} (Err e) (new_scope (seen frozen x.state.heap) f.scope false own) → GoesOn fns frozen (told (Err e) place) x y budget (λ k. (runs_at k.program k.frozen x.state.here.room).run_body f args met b place)
@@ -144,9 +151,9 @@ stopped-at fns frozen x y budget f args met b place room scope heap refusal.Limi
 stopped-at fns frozen x y budget f args met b place room scope heap refusal.Spent e1 h u = absurd h
 stopped-at fns frozen x y budget f args met b place room scope heap refusal.NoMemory e1 h u = tt
 
-pub body_err : (fns : Functions) (frozen : Made) (x y : Going) (budget : ℕ) (f : Func) (args : List Val) (met : List NamedVal) (b : Body) (place : Place) (room : ℕ) (scope : ScopeId) (heap : Made) (own : List (List ℕ)) (e : ValueStop) → own ≡ function_names b → x.state.here.room ≡ suc room → new_scope (seen frozen x.state.heap) f.scope false own ≡ Ok (scope, heap) → Answers {A = Made} (Err e) (names_bound frozen scope.0 heap met) → y.state.used ≡ x.state.used → GoesOn fns frozen (told (Err e) place) x y budget (λ k. (runs_at k.program k.frozen x.state.here.room).run_body f args met b place)
-body_err fns frozen x y budget f args met b place room scope heap own e e1 e3 e6 h u =
+pub body_err : (fns : Functions) (frozen : Made) (x y : Going) (budget : ℕ) (f : Func) (args : List Val) (met same : List NamedVal) (b : Body) (place : Place) (room : ℕ) (scope : ScopeId) (heap : Made) (own : List (List ℕ)) (e : ValueStop) → own ≡ function_names b → x.state.here.room ≡ suc room → new_scope (seen frozen x.state.heap) f.scope false own ≡ Ok (scope, heap) → same ≡ met → Answers {A = Made} (Err e) (names_bound frozen scope.0 heap same) → y.state.used ≡ x.state.used → GoesOn fns frozen (told (Err e) place) x y budget (λ k. (runs_at k.program k.frozen x.state.here.room).run_body f args met b place)
+body_err fns frozen x y budget f args met same b place room scope heap own e e1 e3 e6 i4 h u =
     same_goes fns frozen (told (Err e) place) x y budget (λ (z : ℕ) k. (runs_at k.program k.frozen z).run_body f args met b place) (suc room) x.state.here.room (sym e3)
-    (stopped-at fns frozen x y budget f args met b place room scope heap e (ap (λ (z : List (List ℕ)). new_scope (seen frozen x.state.heap) f.scope false z) (sym e1) ∙ e6) h u)
+    (stopped-at fns frozen x y budget f args met b place room scope heap e (ap (λ (z : List (List ℕ)). new_scope (seen frozen x.state.heap) f.scope false z) (sym e1) ∙ e6) (let P : List NamedVal → Type 0 = λ z. Answers {A = Made} (Err e) (names_bound frozen scope.0 heap z) in subst P i4 h) u)
 
 pub ruleset body_rules = (no_room_stops, body_ok, scope_err, body_err)

@@ -45,5 +45,5 @@ gone-first : (k : Known) (b : Builtin) (n : ℕ) (done rest : List Val) (place :
 gone-first k b n done [] place = refl
 gone-first k b n done (v ∷ vs) place = gone-choice k b n done v vs place (is_thing v && goes_over b n (length done)) (gone_over k b n (done ++ v ∷ []) vs place) (first_gone b n (done ++ v ∷ []) vs) (gone-first k b n (done ++ v ∷ []) vs place)
 
-pub gone_first : (fns : Functions) (frozen : Made) (r : Result Now Halt) (x y : Going) (budget : ℕ) (b : Builtin) (n : ℕ) (done rest : List Val) (place : Place) (g : Gone) → g ≡ first_gone b n done rest → GoesOn fns frozen r x y budget (λ k. gone_by k b n g place) → GoesOn fns frozen r x y budget (λ k. gone_over k b n done rest place)
-gone_first fns frozen r x y budget b n done rest place g e h = same_runs fns frozen r x y budget (λ k. gone_by k b n g place) (λ k. gone_over k b n done rest place) (λ w. ap (λ (z : Doing). z w x.state) (gone-first (known (steps_of fns.program) frozen x.state.here.room) b n done rest place) ∙ ap (λ (z : Gone). gone_by (known (steps_of fns.program) frozen x.state.here.room) b n z place w x.state) (sym e)) h
+pub gone_first : (fns : Functions) (frozen : Made) (r : Result Now Halt) (x y : Going) (budget : ℕ) (b : Builtin) (n : ℕ) (done rest same : List Val) (place : Place) (g : Gone) → same ≡ rest → g ≡ first_gone b n done same → GoesOn fns frozen r x y budget (λ k. gone_by k b n g place) → GoesOn fns frozen r x y budget (λ k. gone_over k b n done rest place)
+gone_first fns frozen r x y budget b n done rest same place g q e h = same_runs fns frozen r x y budget (λ k. gone_by k b n g place) (λ k. gone_over k b n done rest place) (λ w. ap (λ (z : Doing). z w x.state) (gone-first (known (steps_of fns.program) frozen x.state.here.room) b n done rest place) ∙ ap (λ (z : Gone). gone_by (known (steps_of fns.program) frozen x.state.here.room) b n z place w x.state) (ap (first_gone b n done) (sym q) ∙ sym e)) h

@@ -1,8 +1,11 @@
 -- Laws of arguments that meet parameters.
-use Rattle.std.proofs.Common.{◌≡◌, ℕ, zero, suc, ◌+◌, ◌<◌, ◌≤◌, arith, refl, ap, ◌∙◌, sym, subst, append_assoc, List, [], ◌∷◌, ◌++◌, length, get_or, drop, map, Option, Some, None, option_map, Bool, true, false, if◌then◌else◌}
+use Rattle.std.proofs.Common.{◌≡◌, ℕ, zero, suc, ◌+◌, ◌<◌, ◌≤◌, arith, refl, ap, ◌∙◌, sym, subst, append_assoc, List, [], ◌∷◌, ◌++◌, length, get_or, drop, map, Option, Some, None, option_map, Result, Ok, Err, IfOk, Bool, true, false, if◌then◌else◌}
 use Rattle.std.proofs.lemmas.List.{drop_more, drop_all}
 use Rattle.lists.specs.Texts.{text_eq}
 use Rattle.amh_host.specs.declared.place.Place.{Place}
+use Rattle.lists.specs.declared.items.NoMemory.{NoMemory}
+use Rattle.py_tree.specs.declared.stmt.Param.{Param}
+use Rattle.py_tree.specs.Programs.{parameter_of}
 use Rattle.py_tree.specs.Tree.{Tree, Perhaps, absent, present}
 use Rattle.py_tree.specs.Steps.{Parameter, Named, Star}
 use Rattle.py_values.specs.declared.val.Val.{Val}
@@ -91,7 +94,16 @@ named_by_keyword m args defaults behind p n a d ps default e q b =
     ∙ ap (λ (z : List Val). behind_met m.met (by_keyword n (taken_keyword n [] m.keywords) default m.keywords (λ others. parameters_met ps [] others z))) (sym b)
     ∙ ap (λ (z : List Val). behind_met m.met (by_keyword n (taken_keyword n [] m.keywords) default m.keywords (λ others. parameters_met ps z others behind))) (sym (drop_all m.next args e))
 
-pub ruleset named_rules = (named_twice, named_next, named_by_keyword)
+-- by keyword, whatever that comes to
+pub named_on : (r : Result Bool NoMemory) (m new : Meeting) (args defaults : List Val) (n : List ℕ) (d : Perhaps) (default : Option Val) → length args ≤ m.next → default ≡ default_value d (drop m.default defaults) → drop new.default defaults ≡ defaults_behind d (drop m.default defaults) → new.next ≡ m.next → IfOk r (λ b. (rest : List NamedVal → Option (List NamedVal)) → behind_met m.met (by_keyword n (taken_keyword n [] m.keywords) default m.keywords rest) ≡ if_met b (behind_met new.met (rest new.keywords))) → IfOk r (λ b. (p : Place) (a : Perhaps) (ps : List Parameter) → meeting_on m args defaults (Named p n a d ∷ ps) ≡ if_met b (meeting_on new args defaults ps))
+named_on (Ok b) m new args defaults n d default e q f i h = λ p a ps. named_by_keyword m args defaults (drop new.default defaults) p n a d ps default e q f ∙ h (λ others. parameters_met ps (drop m.next args) others (drop new.default defaults)) ∙ ap (λ (z : ℕ). if_met b (behind_met new.met (parameters_met ps (drop z args) new.keywords (drop new.default defaults)))) (sym i)
+named_on (Err e) m new args defaults n d default e1 q f i h = tt
+
+pub named_taken : (r : Result Bool NoMemory) (m new : Meeting) (args defaults : List Val) (p : Place) (n : List ℕ) (a d : Perhaps) → IfOk r (λ b. (p : Place) (a : Perhaps) (ps : List Parameter) → meeting_on m args defaults (Named p n a d ∷ ps) ≡ if_met b (meeting_on new args defaults ps)) → IfOk r (λ b. (ps : List Parameter) → meeting_on m args defaults (Named p n a d ∷ ps) ≡ if_met b (meeting_on new args defaults ps))
+named_taken (Ok b) m new args defaults p n a d h = λ ps. h p a ps
+named_taken (Err e) m new args defaults p n a d h = tt
+
+pub ruleset named_rules = (named_twice, named_next, named_on)
 
 -- a star
 pub star_end : (m : Meeting) (args defaults : List Val) (p : Place) (ps : List Parameter) → length args ≤ m.next → meeting_on m args defaults (Star p ∷ ps) ≡ meeting_on m args defaults ps
@@ -100,7 +112,7 @@ star_end m args defaults p ps e = ap (λ (z : List Val). behind_met m.met (param
 pub star_more : (m : Meeting) (args defaults : List Val) (p : Place) (ps : List Parameter) → m.next < length args → meeting_on m args defaults (Star p ∷ ps) ≡ None
 star_more m args defaults p ps e = ap (λ (z : List Val). behind_met m.met (parameters_met (Star p ∷ ps) z m.keywords (drop m.default defaults))) (drop_more args m.next val.None e)
 
-pub ruleset star_rules = (star_end, star_more)
+pub ruleset star_rules = (star_end, star_more, named_taken)
 
 -- ---- all parameters
 
@@ -137,4 +149,13 @@ meeting_named m args defaults e q = ap (λ (z : List Val). behind_met m.met (par
     meeting-given met [] ds q = cc
     meeting-given met (x ∷ xs) ds q = refl
 
-pub ruleset meeting_rules = (meeting_begins, meeting_ends, meeting_more, meeting_named)
+met-step : (m : Meeting) (args defaults : List Val) (p : Param) (params : List Param) (i : ℕ) → i < length params → p ≡ get_or params i p → meeting_on m args defaults (map parameter_of (drop i params)) ≡ meeting_on m args defaults (parameter_of p ∷ map parameter_of (drop (i + 1) params))
+met-step m args defaults p params i e q = ap (λ z. meeting_on m args defaults (map parameter_of z)) (drop_more params i p e ∙ ap (λ z. z ∷ drop (i + 1) params) (sym q))
+
+pub meeting_goes : (m new : Meeting) (args defaults : List Val) (p : Param) (params : List Param) (i : ℕ) (b : Bool) (whole : Option (List NamedVal)) → i < length params → p ≡ get_or params i p → ((ps : List Parameter) → meeting_on m args defaults (parameter_of p ∷ ps) ≡ if_met b (meeting_on new args defaults ps)) → b ≡ true → meeting_on m args defaults (map parameter_of (drop i params)) ≡ whole → meeting_on new args defaults (map parameter_of (drop (i + 1) params)) ≡ whole
+meeting_goes m new args defaults p params i b whole e q h t w = sym (sym w ∙ met-step m args defaults p params i e q ∙ h (map parameter_of (drop (i + 1) params)) ∙ ap (λ (z : Bool). if_met z (meeting_on new args defaults (map parameter_of (drop (i + 1) params)))) t)
+
+pub meeting_stops : (m new : Meeting) (args defaults : List Val) (p : Param) (params : List Param) (i : ℕ) (b : Bool) (whole : Option (List NamedVal)) → i < length params → p ≡ get_or params i p → ((ps : List Parameter) → meeting_on m args defaults (parameter_of p ∷ ps) ≡ if_met b (meeting_on new args defaults ps)) → b ≡ false → meeting_on m args defaults (map parameter_of (drop i params)) ≡ whole → None ≡ whole
+meeting_stops m new args defaults p params i b whole e q h t w = sym (sym w ∙ met-step m args defaults p params i e q ∙ h (map parameter_of (drop (i + 1) params)) ∙ ap (λ (z : Bool). if_met z (meeting_on new args defaults (map parameter_of (drop (i + 1) params)))) t)
+
+pub ruleset meeting_rules = (meeting_begins, meeting_ends, meeting_more, meeting_named, meeting_goes, meeting_stops)

@@ -236,9 +236,11 @@ pub(crate) fn parameters_met(
             return Ok(None);
         }
     }
-    if meeting.next == args.len() && meeting.keywords.len() == 0 {
-        Ok(Some(meeting.met))
-    } else {
-        Ok(None)
+    if meeting.next < args.len() {
+        return Ok(None);
     }
+    if meeting.keywords.len() > 0 {
+        return Ok(None);
+    }
+    Ok(Some(meeting.met))
 }
