@@ -114,12 +114,13 @@ arguments_first fns frozen r x y budget node j t f us names u e1 e2 e3 h = same_
 
 -- ---- `*` arguments
 
-pub starred_spreads : (fns : Functions) (frozen : Made) (r : Result Now Halt) (x y : Going) (budget : ℕ) (node : Expr) (j n : ℕ) (f : Val) (vs : List Val) (keywords : List NamedVal) (u : Purpose) (t : Tree) (more : Expr) (w1 : Purpose) (v : Val) → Some (Starred t) ≡ first_argument (arguments_from n (call_arguments (trailers_from j (trailers_of (tree node))))) → tree more ≡ tree node → w1 ≡ u → GoesOn fns frozen r x y budget (within (frame.Call (call.Spread more j n f vs keywords w1)) (λ k. as_row k v (place_of (tree node)))) → GoesOn fns frozen r x y budget (λ k. argument_came k (place_of (tree node)) vs keywords (arguments_from n (call_arguments (trailers_from j (trailers_of (tree node))))) v (λ us names. call_for k u f us names (place_of (tree node))))
-starred_spreads fns frozen r x y budget node j n f vs keywords u t more w1 v e1 e2 e3 h =
+pub starred_spreads : (fns : Functions) (frozen : Made) (r : Result Now Halt) (x y : Going) (budget : ℕ) (node : Expr) (j n : ℕ) (f : Val) (vs : List Val) (keywords : List NamedVal) (u : Purpose) (t : Tree) (more : Expr) (w1 : Purpose) (v : Val) (q : Place) → q ≡ place_of (tree node) → Some (Starred t) ≡ first_argument (arguments_from n (call_arguments (trailers_from j (trailers_of (tree node))))) → tree more ≡ tree node → w1 ≡ u → GoesOn fns frozen r x y budget (within (frame.Call (call.Spread more j n f vs keywords w1)) (λ k. as_row k v q)) → GoesOn fns frozen r x y budget (λ k. argument_came k (place_of (tree node)) vs keywords (arguments_from n (call_arguments (trailers_from j (trailers_of (tree node))))) v (λ us names. call_for k u f us names (place_of (tree node))))
+starred_spreads fns frozen r x y budget node j n f vs keywords u t more w1 v q e0 e1 e2 e3 h =
     same_goes fns frozen r x y budget (λ z k. argument_came k (place_of (tree node)) vs keywords z v (λ us names. call_for k u f us names (place_of (tree node)))) (argument (Starred t) (arguments_from (suc n) (call_arguments (trailers_from j (trailers_of (tree node)))))) (arguments_from n (call_arguments (trailers_from j (trailers_of (tree node))))) (arguments-next n (call_arguments (trailers_from j (trailers_of (tree node)))) (Starred t) e1)
-    (same_goes fns frozen r x y budget (λ z k w s. after (as_row k v (place_of (tree node)) w s) (λ got. on_value got (λ row. elements_came k (place_of (tree node)) vs keywords z row (λ us names. call_for k u f us names (place_of (tree node)))) w)) (arguments_from n (call_arguments (trailers_from j (trailers_of (tree node))))) (argument (Starred t) (arguments_from (suc n) (call_arguments (trailers_from j (trailers_of (tree node)))))) (sym (arguments-next n (call_arguments (trailers_from j (trailers_of (tree node)))) (Starred t) e1))
-    (same_goes fns frozen r x y budget (λ z k w s. after (as_row k v (place_of (tree node)) w s) (λ got. on_value got (λ row. elements_came k (place_of (tree node)) vs keywords (arguments_from n (call_arguments (trailers_from j (trailers_of (tree node))))) row (λ us names. call_for k z f us names (place_of (tree node)))) w)) w1 u e3
-    (same_goes fns frozen r x y budget (λ z k w s. after (as_row k v (place_of (tree node)) w s) (λ got. on_value got (λ row. elements_came k (place_of z) vs keywords (arguments_from n (call_arguments (trailers_from j (trailers_of z)))) row (λ us names. call_for k w1 f us names (place_of z))) w)) (tree more) (tree node) e2 h)))
+    (same_goes fns frozen r x y budget (λ z k w s. after (as_row k v z w s) (λ got. on_value got (λ row. elements_came k (place_of (tree node)) vs keywords (argument (Starred t) (arguments_from (suc n) (call_arguments (trailers_from j (trailers_of (tree node)))))) row (λ us names. call_for k u f us names (place_of (tree node)))) w)) q (place_of (tree node)) e0
+    (same_goes fns frozen r x y budget (λ z k w s. after (as_row k v q w s) (λ got. on_value got (λ row. elements_came k (place_of (tree node)) vs keywords z row (λ us names. call_for k u f us names (place_of (tree node)))) w)) (arguments_from n (call_arguments (trailers_from j (trailers_of (tree node))))) (argument (Starred t) (arguments_from (suc n) (call_arguments (trailers_from j (trailers_of (tree node)))))) (sym (arguments-next n (call_arguments (trailers_from j (trailers_of (tree node)))) (Starred t) e1))
+    (same_goes fns frozen r x y budget (λ z k w s. after (as_row k v q w s) (λ got. on_value got (λ row. elements_came k (place_of (tree node)) vs keywords (arguments_from n (call_arguments (trailers_from j (trailers_of (tree node))))) row (λ us names. call_for k z f us names (place_of (tree node)))) w)) w1 u e3
+    (same_goes fns frozen r x y budget (λ z k w s. after (as_row k v q w s) (λ got. on_value got (λ row. elements_came k (place_of z) vs keywords (arguments_from n (call_arguments (trailers_from j (trailers_of z)))) row (λ us names. call_for k w1 f us names (place_of z))) w)) (tree more) (tree node) e2 h))))
 
 pub arguments_extended : (fns : Functions) (frozen : Made) (r : Result Now Halt) (x y : Going) (budget : ℕ) (p : Place) (vs us more : List Val) (keywords : List NamedVal) (n m : ℕ) (gs : Arguments) (f : Val) (u : Purpose) → more ≡ vs ++ us → m ≡ n + 1 → GoesOn fns frozen r x y budget (λ k. arguments_then k p more keywords (arguments_from m gs) (λ vals named. call_for k u f vals named p)) → GoesOn fns frozen r x y budget (λ k. arguments_then k p (vs ++ us) keywords (arguments_from (suc n) gs) (λ vals named. call_for k u f vals named p))
 arguments_extended fns frozen r x y budget p vs us more keywords n m gs f u e1 e2 h = arguments_same fns frozen r x y budget p (vs ++ us) more keywords keywords n m gs f u e1 refl e2 h

@@ -33,16 +33,16 @@ use Rattle.py_machine.specs.Frames.{GoesOn, within}
 use Rattle.py_machine.proofs.CallLaws.{looked, same_goes, same_runs, made_ok}
 
 -- a choice between what is made and what stands
-plain_or : (k : Known) (b : Bool) (s : State) (w : World) (m : Result (Val × Made) ValueStop) (v : Val) (place : Place) → choose b (λ w2 t. made m place give w2 t) (give v) w s ≡ made (if b then m else Ok (v, s.heap)) place give w s
-plain_or k true s w m v place = refl
-plain_or k false s w m v place = refl
+plain_or : (b : Bool) (s : State) (w : World) (m : State → Result (Val × Made) ValueStop) (v : Val) (place : Place) → choose b (making m place give) (give v) w s ≡ made (if b then m s else Ok (v, s.heap)) place give w s
+plain_or true s w m v place = refl
+plain_or false s w m v place = refl
 
 -- a value that was found in a class is made at once
 as_method-made : (k : Known) (o : Option Func) (v c : Val) (this : Option Val) (place : Place) (w : World) (s : State) → as_method k o v this c place w s ≡ made (bound_func (heap_seen k s) o v this c) place give w s
 as_method-made k None v c this place w s = refl
-as_method-made k (Some f) v c this place w s = plain_or k (is_plain_code f.code f.this) s w (new_func (heap_seen k s) (method_of f this c)) v place
+as_method-made k (Some f) v c this place w s = plain_or (is_plain_code f.code f.this) s w (λ t. new_func (heap_seen k t) (method_of f this c)) v place
 
-from_class-made : (k : Known) (v : Val) (this : Option Val) (c : Val) (place : Place) (w : World) (s : State) → from_class k v this c place w s ≡ made (bound_method (heap_seen k s) v this c) place give w s
+pub from_class-made : (k : Known) (v : Val) (this : Option Val) (c : Val) (place : Place) (w : World) (s : State) → from_class k v this c place w s ≡ made (bound_method (heap_seen k s) v this c) place give w s
 from_class-made k (val.Func f) this c place w s = as_method-made k (func_at (heap_seen k s) f.0) (val.Func f) c this place w s
 from_class-made k v this c place w s = refl
 
