@@ -1,2 +1,13 @@
 pub mod BeginLaws
 pub mod ExprBegins
+pub mod ExprParts
+pub mod ExprLaws
+pub mod StmtLaws
+pub mod StmtGoes
+pub mod WalkParts
+pub mod WalkLaws
+pub mod TargetLaws
+pub mod CompLaws
+pub mod ForLaws
+pub mod WalkGoes
+pub mod CallOfLaws

@@ -15,3 +15,7 @@ pub mod Stmt_frames
 pub mod Def_frames
 pub mod Frames
 pub mod Begun
+pub mod Expr_parts
+pub mod Told
+pub mod Stmt_begun
+pub mod Walk_parts

@@ -8,11 +8,20 @@
 //! values and ask; those of each kind of node, and the machine around them, are still to come.
 #![tactic(auto)]
 
+mod call_of;
+mod comprehensions;
 mod expr;
+mod expr_values;
 mod frame;
 mod functions;
 mod going;
+mod leaf;
+mod loops;
 mod request;
 mod state;
+mod stubs_e3;
+mod targets;
+mod walk_frames;
+mod walk_parts;
 
 pub use request::{Act, Answer, Cause, NamedVal, NamedVals, Request, Stop, Turn};

@@ -1,0 +1,549 @@
+// Comprehensions: their source, and then an element after the other in a scope of their own.
+ghost use Rattle.std.specs.Prelude.{◌≡◌, ◌<◌, ◌≤◌, ◌++◌, [], ◌∷◌, true, Some, OnOk};
+ghost use Rattle.py_tree.specs.Seen.{tree};
+ghost use Rattle.py_values.specs.Heaps.{seen};
+ghost use Rattle.py_values.specs.Elements.{element};
+ghost use Rattle.py_machine.specs.Doing.{on_next};
+ghost use Rattle.py_machine.specs.Own.{target_names};
+ghost use Rattle.py_machine.specs.Expressions.{back_in, is_row};
+ghost use Rattle.py_machine.specs.Expr_parts.{comp_begun};
+ghost use Rattle.py_machine.specs.Walk_frames.{comp_of, with_comp, comp_over, comp_turn, walks_on, all_made, element_made, tested_by, made_came, condition_of};
+ghost use Rattle.py_machine.specs.Walk_parts.{comp_seen, Entered, row_over, element_turn, where_made};
+ghost use Rattle.py_machine.specs.Frames.{GoesOn};
+
+use crate::frame::{Comprehended, Frame, Now, Walk, WalkFrame};
+use crate::functions::Functions;
+use crate::going::{Going, MOST, stopped};
+use crate::leaf::{PartAt, place_of};
+use crate::request::Cause;
+use crate::state::{Got, Halt};
+use crate::stubs_e3::{leaves, seen_from};
+use crate::walk_parts::{CompItem, CompParts, behind, comp_of, is_row, target_names};
+use py_tree::Expr;
+use py_values::{Frozen, OwnNames, ScopeId, Val, Vals};
+
+impl Going {
+    /// Begins a comprehension: its source, which stands outside its scope.
+    #[tactic(auto, using(crate::proofs::CompLaws::begin_rules))]
+    pub(crate) fn begun_comprehension(
+        &mut self,
+        functions: &Functions,
+        frozen: &Frozen,
+        comp: Comprehended,
+        budget: u64,
+    ) -> Result<Now, Halt>
+        requires { self.old.state.used < budget }
+        ensures moves { GoesOn functions.now frozen.now result self.old self.new budget (λ k. comp_begun k comp) }
+        ensures left { OnOk result (self.new.state.used < budget) }
+        ensures grows { self.old.state.used ≤ self.new.state.used }
+    {
+        match comp_of(&comp) {
+            PartAt::NoMemory => Err(Halt::NoMemory),
+            PartAt::Past => Ok(Now::Came(Got::Next)),
+            PartAt::Part(parts) => {
+                let frame = Frame::Walk(WalkFrame::Source { comp });
+                self.wait_for(functions, frozen, &parts.source, frame, budget)
+            }
+        }
+    }
+
+    /// The source of a comprehension has come: a thing gives its elements first.
+    #[tactic(auto, using(crate::proofs::CompLaws::source_rules))]
+    pub(crate) fn source_came(
+        &mut self,
+        functions: &Functions,
+        frozen: &Frozen,
+        comp: Comprehended,
+        v: Val,
+        budget: u64,
+    ) -> Result<Now, Halt>
+        requires { self.old.state.used < budget }
+        ensures moves { GoesOn functions.now frozen.now result self.old self.new budget (λ k. with_comp (comp_of comp) (row_over k v)) }
+        ensures left { OnOk result (self.new.state.used < budget) }
+        ensures grows { self.old.state.used ≤ self.new.state.used }
+    {
+        match comp_of(&comp) {
+            PartAt::NoMemory => Err(Halt::NoMemory),
+            PartAt::Past => Ok(Now::Came(Got::Next)),
+            PartAt::Part(parts) => {
+                match self.frames.push(Frame::Walk(WalkFrame::SourceRow { comp })) {
+                    Ok(()) => self.as_row(functions, frozen, v, parts.place, budget),
+                    Err(_) => Err(Halt::NoMemory),
+                }
+            }
+        }
+    }
+
+    /// What a comprehension goes over has come.
+    #[tactic(auto, using(crate::proofs::CompLaws::row_rules))]
+    pub(crate) fn source_row_came(
+        &mut self,
+        functions: &Functions,
+        frozen: &Frozen,
+        comp: Comprehended,
+        row: Val,
+        budget: u64,
+    ) -> Result<Now, Halt>
+        requires { self.old.state.used < budget }
+        ensures moves { GoesOn functions.now frozen.now result self.old self.new budget (λ k. with_comp (comp_of comp) (λ x. comp_over k x row)) }
+        ensures left { OnOk result (self.new.state.used < budget) }
+        ensures grows { self.old.state.used ≤ self.new.state.used }
+    {
+        match comp_of(&comp) {
+            PartAt::NoMemory => Err(Halt::NoMemory),
+            PartAt::Past => Ok(Now::Came(Got::Next)),
+            PartAt::Part(parts) => {
+                if is_row(&row) {
+                    return self.comp_over(functions, frozen, comp, &parts, row, budget);
+                }
+                Err(stopped(Cause::Raised, parts.place))
+            }
+        }
+    }
+
+    // The evaluation stands in a new scope, whose own names are those of these targets.
+    #[tactic(auto, using(crate::proofs::CompLaws::enter_rules))]
+    fn enter_scope(&mut self, frozen: &Frozen, targets: &Expr) -> Result<ScopeId, Halt>
+        ensures moves { Entered result frozen.now (target_names (tree targets.now)) self.old self.new }
+        ensures used { self.new.state.used ≡ self.old.state.used }
+    {
+        let Ok(names) = target_names(self.alloc, targets) else {
+            return Err(Halt::NoMemory);
+        };
+        let Ok(own) = OwnNames::new(self.alloc, names) else {
+            return Err(Halt::NoMemory);
+        };
+        let Ok(around) = seen_from(&self.state.heap, frozen, self.state.here.scope) else {
+            return Err(Halt::NoMemory);
+        };
+        match self.state.heap.scope(frozen, around, false, own) {
+            Ok(scope) => {
+                self.state.here.scope = scope;
+                Ok(scope)
+            }
+            Err(_) => Err(Halt::NoMemory),
+        }
+    }
+
+    // Over a value in a scope of its own.
+    #[tactic(auto, using(crate::proofs::CompLaws::over_rules))]
+    fn comp_over(
+        &mut self,
+        functions: &Functions,
+        frozen: &Frozen,
+        comp: Comprehended,
+        parts: &CompParts,
+        row: Val,
+        budget: u64,
+    ) -> Result<Now, Halt>
+        requires lives { self.old.state.used < budget }
+        requires kind { comp_of comp ≡ Some (comp_seen parts.now) }
+        requires row { is_row row ≡ true }
+        ensures moves { GoesOn functions.now frozen.now result self.old self.new budget (λ k. comp_over k (comp_seen parts.now) row) }
+        ensures left { OnOk result (self.new.state.used < budget) }
+        ensures grows { self.old.state.used ≤ self.new.state.used }
+    {
+        let outer = self.state.here.scope;
+        match self.enter_scope(frozen, &parts.targets) {
+            Ok(_) => {
+                let walk = Walk {
+                    over: row,
+                    next: 0,
+                    size: 0,
+                    turns: MOST,
+                };
+                let done = Vals::new(self.alloc);
+                self.walks_on(functions, frozen, comp, parts, &walk, outer, done, budget)
+            }
+            Err(halt) => Err(halt),
+        }
+    }
+
+    /// The next element of a walk.
+    pub(crate) fn element_at(&self, frozen: &Frozen, walk: &Walk) -> Option<Val>
+        ensures { result ≡ element (seen frozen.now self.now.state.heap) walk.now.over walk.now.next }
+    {
+        self.state.heap.element(frozen, walk.over, walk.next as usize)
+    }
+
+    // The elements behind those of a walk.
+    #[tactic(auto, using(crate::proofs::CompLaws::walk_rules))]
+    fn walks_on(
+        &mut self,
+        functions: &Functions,
+        frozen: &Frozen,
+        comp: Comprehended,
+        parts: &CompParts,
+        walk: &Walk,
+        outer: ScopeId,
+        done: Vals,
+        budget: u64,
+    ) -> Result<Now, Halt>
+        requires lives { self.old.state.used < budget }
+        requires kind { comp_of comp ≡ Some (comp_seen parts.now) }
+        ensures moves { GoesOn functions.now frozen.now result self.old self.new budget (λ k. walks_on k (comp_seen parts.now) walk.now outer done) }
+        ensures left { OnOk result (self.new.state.used < budget) }
+        ensures grows { self.old.state.used ≤ self.new.state.used }
+    {
+        if walk.turns > 0 {
+            return match self.element_at(frozen, walk) {
+                Some(v) => self.element_turn(
+                    functions,
+                    frozen,
+                    comp,
+                    parts,
+                    walk,
+                    outer,
+                    done,
+                    v,
+                    budget,
+                ),
+                None => self.walk_ends(functions, frozen, parts, outer, done, budget),
+            };
+        }
+        Err(stopped(Cause::Spent, parts.place))
+    }
+
+    // What the elements become, back in the scope of before.
+    #[tactic(auto, using(crate::proofs::CompLaws::end_rules))]
+    fn walk_ends(
+        &mut self,
+        functions: &Functions,
+        frozen: &Frozen,
+        parts: &CompParts,
+        outer: ScopeId,
+        done: Vals,
+        budget: u64,
+    ) -> Result<Now, Halt>
+        requires { self.old.state.used < budget }
+        ensures moves { GoesOn functions.now frozen.now result self.old self.new budget (λ k. back_in outer (all_made k (comp_seen parts.now).element parts.now.place done)) }
+        ensures left { OnOk result (self.new.state.used < budget) }
+        ensures grows { self.old.state.used ≤ self.new.state.used }
+    {
+        self.state.here.scope = outer;
+        match &parts.item {
+            CompItem::One(_) => self.new_list(functions, frozen, done, parts.place, budget),
+            CompItem::Two(_, _) => self.new_dict(functions, frozen, done, parts.place, budget),
+        }
+    }
+
+    // A turn spends its unit, and its element goes to the targets.
+    #[tactic(auto, using(crate::proofs::CompLaws::turn_rules))]
+    fn element_turn(
+        &mut self,
+        functions: &Functions,
+        frozen: &Frozen,
+        comp: Comprehended,
+        parts: &CompParts,
+        walk: &Walk,
+        outer: ScopeId,
+        done: Vals,
+        v: Val,
+        budget: u64,
+    ) -> Result<Now, Halt>
+        requires lives { self.old.state.used < budget }
+        requires kind { comp_of comp ≡ Some (comp_seen parts.now) }
+        requires turns { 0 < walk.now.turns }
+        ensures moves { GoesOn functions.now frozen.now result self.old self.new budget (λ k. element_turn k (comp_seen parts.now) walk.now outer done v) }
+        ensures left { OnOk result (self.new.state.used < budget) }
+        ensures grows { self.old.state.used ≤ self.new.state.used }
+    {
+        let Ok(walk) = behind(walk) else {
+            return Err(Halt::NoMemory);
+        };
+        match self.spend(1, parts.place, budget) {
+            Ok(()) => {
+                let frame = Frame::Walk(WalkFrame::Bound {
+                    comp,
+                    walk,
+                    done,
+                    outer,
+                });
+                self.assign_under(functions, frozen, &parts.targets, v, frame, budget)
+            }
+            Err(halt) => Err(halt),
+        }
+    }
+
+    /// An element went to the targets: it is made, where the condition holds.
+    #[tactic(auto, using(crate::proofs::WalkLaws::left_rules))]
+    pub(crate) fn bound_left(
+        &mut self,
+        functions: &Functions,
+        frozen: &Frozen,
+        comp: Comprehended,
+        walk: Walk,
+        done: Vals,
+        outer: ScopeId,
+        got: Got,
+        budget: u64,
+    ) -> Result<Now, Halt>
+        requires { self.old.state.used < budget }
+        ensures moves { GoesOn functions.now frozen.now result self.old self.new budget (λ k. on_next got (with_comp (comp_of comp) (λ x. where_made k x walk outer done))) }
+        ensures left { OnOk result (self.new.state.used < budget) }
+        ensures grows { self.old.state.used ≤ self.new.state.used }
+    {
+        if leaves(&got) {
+            return Ok(Now::Came(got));
+        }
+        self.element_bound(functions, frozen, comp, walk, done, outer, budget)
+    }
+
+    // An element's targets have it.
+    #[tactic(auto, using(crate::proofs::CompLaws::bound_rules))]
+    fn element_bound(
+        &mut self,
+        functions: &Functions,
+        frozen: &Frozen,
+        comp: Comprehended,
+        walk: Walk,
+        done: Vals,
+        outer: ScopeId,
+        budget: u64,
+    ) -> Result<Now, Halt>
+        requires { self.old.state.used < budget }
+        ensures moves { GoesOn functions.now frozen.now result self.old self.new budget (λ k. with_comp (comp_of comp) (λ x. where_made k x walk outer done)) }
+        ensures left { OnOk result (self.new.state.used < budget) }
+        ensures grows { self.old.state.used ≤ self.new.state.used }
+    {
+        match comp_of(&comp) {
+            PartAt::NoMemory => Err(Halt::NoMemory),
+            PartAt::Past => Ok(Now::Came(Got::Next)),
+            PartAt::Part(parts) => match &parts.condition {
+                None => self.element_begun(
+                    functions,
+                    frozen,
+                    comp,
+                    &parts,
+                    walk,
+                    done,
+                    outer,
+                    budget,
+                ),
+                Some(test) => {
+                    let frame = Frame::Walk(WalkFrame::Tested {
+                        comp,
+                        walk,
+                        done,
+                        outer,
+                    });
+                    self.wait_for(functions, frozen, test, frame, budget)
+                }
+            },
+        }
+    }
+
+    // The element that is made, or its key.
+    #[tactic(auto, using(crate::proofs::CompLaws::made_rules))]
+    fn element_begun(
+        &mut self,
+        functions: &Functions,
+        frozen: &Frozen,
+        comp: Comprehended,
+        parts: &CompParts,
+        walk: Walk,
+        done: Vals,
+        outer: ScopeId,
+        budget: u64,
+    ) -> Result<Now, Halt>
+        requires { comp_of comp ≡ Some (comp_seen parts.now) }
+        ensures moves { GoesOn functions.now frozen.now result self.old self.new budget (λ k. element_made k (comp_seen parts.now).element done (walks_on k (comp_seen parts.now) walk outer)) }
+        ensures state { self.new.state ≡ self.old.state }
+    {
+        let frame = Frame::Walk(WalkFrame::Made {
+            comp,
+            walk,
+            done,
+            outer,
+        });
+        self.wait_for(functions, frozen, parts.item.first(), frame, budget)
+    }
+
+    /// The condition has come.
+    #[tactic(auto, using(crate::proofs::CompLaws::tested_rules))]
+    pub(crate) fn tested_came(
+        &mut self,
+        functions: &Functions,
+        frozen: &Frozen,
+        comp: Comprehended,
+        walk: Walk,
+        done: Vals,
+        outer: ScopeId,
+        v: Val,
+        budget: u64,
+    ) -> Result<Now, Halt>
+        requires { self.old.state.used < budget }
+        ensures moves { GoesOn functions.now frozen.now result self.old self.new budget (λ k. with_comp (comp_of comp) (λ x. tested_by k x walk outer done (condition_of x.source) v)) }
+        ensures left { OnOk result (self.new.state.used < budget) }
+        ensures grows { self.old.state.used ≤ self.new.state.used }
+    {
+        match comp_of(&comp) {
+            PartAt::NoMemory => Err(Halt::NoMemory),
+            PartAt::Past => Ok(Now::Came(Got::Next)),
+            PartAt::Part(parts) => self.tested(
+                functions,
+                frozen,
+                comp,
+                &parts,
+                walk,
+                done,
+                outer,
+                v,
+                budget,
+            ),
+        }
+    }
+
+    #[tactic(auto, using(crate::proofs::CompLaws::truth_rules))]
+    fn tested(
+        &mut self,
+        functions: &Functions,
+        frozen: &Frozen,
+        comp: Comprehended,
+        parts: &CompParts,
+        walk: Walk,
+        done: Vals,
+        outer: ScopeId,
+        v: Val,
+        budget: u64,
+    ) -> Result<Now, Halt>
+        requires lives { self.old.state.used < budget }
+        requires kind { comp_of comp ≡ Some (comp_seen parts.now) }
+        ensures moves { GoesOn functions.now frozen.now result self.old self.new budget (λ k. tested_by k (comp_seen parts.now) walk outer done (condition_of (comp_seen parts.now).source) v) }
+        ensures left { OnOk result (self.new.state.used < budget) }
+        ensures grows { self.old.state.used ≤ self.new.state.used }
+    {
+        let Some(test) = &parts.condition else {
+            return self.walks_on(functions, frozen, comp, parts, &walk, outer, done, budget);
+        };
+        match self.truth(frozen, v, place_of(test)) {
+            Ok(holds) => {
+                if holds {
+                    return self.element_begun(
+                        functions,
+                        frozen,
+                        comp,
+                        parts,
+                        walk,
+                        done,
+                        outer,
+                        budget,
+                    );
+                }
+                self.walks_on(functions, frozen, comp, parts, &walk, outer, done, budget)
+            }
+            Err(halt) => Err(halt),
+        }
+    }
+
+    /// The element has come, or its key.
+    #[tactic(auto, using(crate::proofs::CompLaws::came_rules))]
+    pub(crate) fn made_came(
+        &mut self,
+        functions: &Functions,
+        frozen: &Frozen,
+        comp: Comprehended,
+        walk: Walk,
+        done: Vals,
+        outer: ScopeId,
+        v: Val,
+        budget: u64,
+    ) -> Result<Now, Halt>
+        requires { self.old.state.used < budget }
+        ensures moves { GoesOn functions.now frozen.now result self.old self.new budget (λ k. with_comp (comp_of comp) (λ x. made_came k x x.element walk outer done v)) }
+        ensures left { OnOk result (self.new.state.used < budget) }
+        ensures grows { self.old.state.used ≤ self.new.state.used }
+    {
+        match comp_of(&comp) {
+            PartAt::NoMemory => Err(Halt::NoMemory),
+            PartAt::Past => Ok(Now::Came(Got::Next)),
+            PartAt::Part(parts) => match &parts.item {
+                CompItem::One(_) => self.one_more(
+                    functions,
+                    frozen,
+                    comp,
+                    &parts,
+                    walk,
+                    done,
+                    outer,
+                    v,
+                    budget,
+                ),
+                CompItem::Two(_, value) => {
+                    let frame = Frame::Walk(WalkFrame::PairMade {
+                        comp,
+                        walk,
+                        done,
+                        outer,
+                        key: v,
+                    });
+                    self.wait_for(functions, frozen, value, frame, budget)
+                }
+            },
+        }
+    }
+
+    // One element more, and on with the walk.
+    #[tactic(auto, using(crate::proofs::CompLaws::more_rules))]
+    fn one_more(
+        &mut self,
+        functions: &Functions,
+        frozen: &Frozen,
+        comp: Comprehended,
+        parts: &CompParts,
+        walk: Walk,
+        mut done: Vals,
+        outer: ScopeId,
+        v: Val,
+        budget: u64,
+    ) -> Result<Now, Halt>
+        requires lives { self.old.state.used < budget }
+        requires kind { comp_of comp ≡ Some (comp_seen parts.now) }
+        ensures moves { GoesOn functions.now frozen.now result self.old self.new budget (λ k. walks_on k (comp_seen parts.now) walk outer (done ++ v ∷ [])) }
+        ensures left { OnOk result (self.new.state.used < budget) }
+        ensures grows { self.old.state.used ≤ self.new.state.used }
+    {
+        match done.push(v) {
+            Ok(()) => self.walks_on(functions, frozen, comp, parts, &walk, outer, done, budget),
+            Err(_) => Err(Halt::NoMemory),
+        }
+    }
+
+    /// The value of a key has come.
+    #[tactic(auto, using(crate::proofs::CompLaws::pair_rules))]
+    pub(crate) fn pair_made_came(
+        &mut self,
+        functions: &Functions,
+        frozen: &Frozen,
+        comp: Comprehended,
+        walk: Walk,
+        mut done: Vals,
+        outer: ScopeId,
+        key: Val,
+        v: Val,
+        budget: u64,
+    ) -> Result<Now, Halt>
+        requires { self.old.state.used < budget }
+        ensures moves { GoesOn functions.now frozen.now result self.old self.new budget (λ k. with_comp (comp_of comp) (λ x. walks_on k x walk outer (done ++ key ∷ v ∷ []))) }
+        ensures left { OnOk result (self.new.state.used < budget) }
+        ensures grows { self.old.state.used ≤ self.new.state.used }
+    {
+        let Ok(()) = done.push_pair(key, v) else {
+            return Err(Halt::NoMemory);
+        };
+        match comp_of(&comp) {
+            PartAt::NoMemory => Err(Halt::NoMemory),
+            PartAt::Past => Ok(Now::Came(Got::Next)),
+            PartAt::Part(parts) => self.walks_on(
+                functions,
+                frozen,
+                comp,
+                &parts,
+                &walk,
+                outer,
+                done,
+                budget,
+            ),
+        }
+    }
+}

@@ -1,0 +1,296 @@
+// Targets: a value is bound to a name, unpacked, or stored in an attribute or at an index.
+ghost use Rattle.std.specs.Prelude.{◌≡◌, ◌<◌, ◌≤◌, ◌∷◌, map, OnOk};
+ghost use Rattle.py_tree.specs.Seen.{tree, trailer_of};
+ghost use Rattle.py_tree.specs.Tree.{Name as Named, Tuple, Trailed, trees, trailers};
+ghost use Rattle.py_values.specs.Heaps.{seen};
+ghost use Rattle.py_values.specs.Elements.{elements, counts_to};
+ghost use Rattle.py_machine.specs.Doing.{on_next, spend_each};
+ghost use Rattle.py_machine.specs.Parts.{trees_from};
+ghost use Rattle.py_machine.specs.Expressions.{assign, assign_each};
+ghost use Rattle.py_machine.specs.Walk_frames.{targets_in, unpacked};
+ghost use Rattle.py_machine.specs.Walk_parts.{TellsElements};
+ghost use Rattle.py_machine.specs.Frames.{GoesOn, KeepsRoom, within};
+
+use crate::frame::{Along, CallFrame, Frame, Now, WalkFrame};
+use crate::functions::Functions;
+use crate::going::{Going, stopped};
+use crate::leaf::{PartAt, cost_of, following, place_of};
+use crate::request::Cause;
+use crate::state::{Got, Halt};
+use crate::stubs_e3::leaves;
+use crate::walk_parts::{Parted, split, target_at, target_count};
+use amh_host::Place;
+use py_tree::{Expr, ExprKind, Name, Trailer};
+use py_values::{Frozen, Val, ValueStop, Vals};
+
+impl Going {
+    /// A value goes to a target.
+    #[tactic(auto, using(crate::proofs::TargetLaws::target_rules))]
+    pub(crate) fn assign(
+        &mut self,
+        functions: &Functions,
+        frozen: &Frozen,
+        target: &Expr,
+        v: Val,
+        budget: u64,
+    ) -> Result<Now, Halt>
+        requires { self.old.state.used < budget }
+        ensures moves { GoesOn functions.now frozen.now result self.old self.new budget (λ k. assign k (tree target.now) v) }
+        ensures left { OnOk result (self.new.state.used < budget) }
+        ensures grows { self.old.state.used ≤ self.new.state.used }
+    {
+        match &*target.kind {
+            ExprKind::Name(name) => self.assign_name(functions, frozen, target, name, v, budget),
+            ExprKind::Tuple(items) => self.assign_tuple(
+                functions,
+                frozen,
+                target,
+                items,
+                v,
+                budget,
+            ),
+            ExprKind::Trailed(first, behind) => self.assign_trailed(
+                functions,
+                frozen,
+                target,
+                first,
+                behind,
+                v,
+                budget,
+            ),
+            _ => Err(stopped(Cause::Raised, target.place)),
+        }
+    }
+
+    // A name is bound.
+    #[tactic(auto, using(crate::proofs::TargetLaws::name_rules))]
+    fn assign_name(
+        &mut self,
+        functions: &Functions,
+        frozen: &Frozen,
+        target: &Expr,
+        name: &Name,
+        v: Val,
+        budget: u64,
+    ) -> Result<Now, Halt>
+        requires lives { self.old.state.used < budget }
+        requires kind { tree target.now ≡ Named target.now.place name.now }
+        ensures moves { GoesOn functions.now frozen.now result self.old self.new budget (λ k. assign k (tree target.now) v) }
+        ensures left { OnOk result (self.new.state.used < budget) }
+        ensures grows { self.old.state.used ≤ self.new.state.used }
+    {
+        match self.bind(frozen, name.as_str(), v, target.place) {
+            Ok(()) => Ok(Now::Came(Got::Next)),
+            Err(halt) => Err(halt),
+        }
+    }
+
+    // A value is unpacked: its elements first.
+    #[tactic(auto, using(crate::proofs::TargetLaws::tuple_rules))]
+    fn assign_tuple(
+        &mut self,
+        functions: &Functions,
+        frozen: &Frozen,
+        target: &Expr,
+        _items: &Vec<Expr>,
+        v: Val,
+        budget: u64,
+    ) -> Result<Now, Halt>
+        requires lives { self.old.state.used < budget }
+        requires kind { tree target.now ≡ Tuple target.now.place (trees (map tree _items.now.items)) }
+        ensures moves { GoesOn functions.now frozen.now result self.old self.new budget (λ k. assign k (tree target.now) v) }
+        ensures left { OnOk result (self.new.state.used < budget) }
+        ensures grows { self.old.state.used ≤ self.new.state.used }
+    {
+        let Ok(node) = target.share() else {
+            return Err(Halt::NoMemory);
+        };
+        match self.frames.push(Frame::Walk(WalkFrame::Unpacked { node })) {
+            Ok(()) => self.as_row(functions, frozen, v, target.place, budget),
+            Err(_) => Err(Halt::NoMemory),
+        }
+    }
+
+    // A value is stored in what trails last: what it trails first.
+    #[tactic(auto, using(crate::proofs::TargetLaws::trailed_rules))]
+    fn assign_trailed(
+        &mut self,
+        functions: &Functions,
+        frozen: &Frozen,
+        target: &Expr,
+        first: &Expr,
+        _behind: &Vec<Trailer>,
+        v: Val,
+        budget: u64,
+    ) -> Result<Now, Halt>
+        requires lives { self.old.state.used < budget }
+        requires kind { tree target.now ≡ Trailed target.now.place (tree first.now) (trailers (map trailer_of _behind.now.items)) }
+        ensures moves { GoesOn functions.now frozen.now result self.old self.new budget (λ k. assign k (tree target.now) v) }
+        ensures left { OnOk result (self.new.state.used < budget) }
+        ensures grows { self.old.state.used ≤ self.new.state.used }
+    {
+        let Ok(node) = target.share() else {
+            return Err(Halt::NoMemory);
+        };
+        match self.spend(cost_of(target), target.place, budget) {
+            Ok(()) => self.wait_for(
+                functions,
+                frozen,
+                first,
+                Frame::Call(CallFrame::Trail {
+                    node,
+                    at: 0,
+                    along: Along::Store(v),
+                }),
+                budget,
+            ),
+            Err(halt) => Err(halt),
+        }
+    }
+
+    /// A value goes to a target; a frame waits until it is there.
+    #[tactic(auto, using(crate::proofs::TargetLaws::under_rules))]
+    pub(crate) fn assign_under(
+        &mut self,
+        functions: &Functions,
+        frozen: &Frozen,
+        target: &Expr,
+        v: Val,
+        frame: Frame,
+        budget: u64,
+    ) -> Result<Now, Halt>
+        requires lives { self.old.state.used < budget }
+        requires room { KeepsRoom frame self.old.state.here.room }
+        ensures moves { GoesOn functions.now frozen.now result self.old self.new budget (within frame (λ k. assign k (tree target.now) v)) }
+        ensures left { OnOk result (self.new.state.used < budget) }
+        ensures grows { self.old.state.used ≤ self.new.state.used }
+    {
+        match self.frames.push(frame) {
+            Ok(()) => self.assign(functions, frozen, target, v, budget),
+            Err(_) => Err(Halt::NoMemory),
+        }
+    }
+
+    // Whether a value has so many elements.
+    fn counts_to(&self, frozen: &Frozen, v: &Val, n: u64) -> bool
+        ensures { result ≡ counts_to (seen frozen.now self.now.state.heap) v.now n }
+    {
+        self.state.heap.counts_to(frozen, *v, n as usize)
+    }
+
+    // The elements of a value, or a stop where it has none.
+    fn elements_of(&self, frozen: &Frozen, v: &Val, place: Place) -> Result<Vals, Halt>
+        ensures { TellsElements result (elements (seen frozen.now self.now.state.heap) v.now) place }
+    {
+        match self.state.heap.elements(frozen, *v) {
+            Ok(vals) => Ok(vals),
+            Err(ValueStop::Raised) => Err(stopped(Cause::Raised, place)),
+            Err(ValueStop::Width) => Err(stopped(Cause::Width, place)),
+            Err(ValueStop::Limit) => Err(stopped(Cause::Limit, place)),
+            Err(ValueStop::Spent) => Err(stopped(Cause::Spent, place)),
+            Err(ValueStop::NoMemory) => Err(Halt::NoMemory),
+        }
+    }
+
+    /// A value is unpacked, whose elements are there: as many as there are targets.
+    #[tactic(auto, using(crate::proofs::TargetLaws::unpack_rules))]
+    pub(crate) fn unpacked(
+        &mut self,
+        functions: &Functions,
+        frozen: &Frozen,
+        node: Expr,
+        row: Val,
+        budget: u64,
+    ) -> Result<Now, Halt>
+        requires { self.old.state.used < budget }
+        ensures moves { GoesOn functions.now frozen.now result self.old self.new budget (λ k. unpacked k (tree node) row) }
+        ensures left { OnOk result (self.new.state.used < budget) }
+        ensures grows { self.old.state.used ≤ self.new.state.used }
+    {
+        let place = place_of(&node);
+        let count = target_count(&node);
+        if !self.counts_to(frozen, &row, count) {
+            return Err(stopped(Cause::Raised, place));
+        }
+        match self.elements_of(frozen, &row, place) {
+            Ok(vals) => self.unpacked_to(functions, frozen, node, vals, place, count, budget),
+            Err(halt) => Err(halt),
+        }
+    }
+
+    // The units of so many targets, and then the elements go to them.
+    #[tactic(auto, using(crate::proofs::TargetLaws::spread_rules))]
+    fn unpacked_to(
+        &mut self,
+        functions: &Functions,
+        frozen: &Frozen,
+        node: Expr,
+        vals: Vals,
+        place: Place,
+        count: u64,
+        budget: u64,
+    ) -> Result<Now, Halt>
+        requires { self.old.state.used < budget }
+        ensures moves { GoesOn functions.now frozen.now result self.old self.new budget (λ k. spend_each count place (assign_each k (targets_in (tree node)) vals)) }
+        ensures left { OnOk result (self.new.state.used < budget) }
+        ensures grows { self.old.state.used ≤ self.new.state.used }
+    {
+        match self.spend(count, place, budget) {
+            Ok(()) => self.assign_each(functions, frozen, node, 0, vals, budget),
+            Err(halt) => Err(halt),
+        }
+    }
+
+    // Each of the targets from this number on takes a value.
+    #[tactic(auto, using(crate::proofs::TargetLaws::each_rules))]
+    fn assign_each(
+        &mut self,
+        functions: &Functions,
+        frozen: &Frozen,
+        node: Expr,
+        n: u64,
+        vals: Vals,
+        budget: u64,
+    ) -> Result<Now, Halt>
+        requires { self.old.state.used < budget }
+        ensures moves { GoesOn functions.now frozen.now result self.old self.new budget (λ k. assign_each k (trees_from n (targets_in (tree node))) vals) }
+        ensures left { OnOk result (self.new.state.used < budget) }
+        ensures grows { self.old.state.used ≤ self.new.state.used }
+    {
+        match (target_at(&node, n), split(self.alloc, &vals)) {
+            (PartAt::Part(target), Parted::First(v, vals)) => {
+                let Ok(next) = following(n) else {
+                    return Err(Halt::NoMemory);
+                };
+                let frame = Frame::Walk(WalkFrame::Unpacking { node, next, vals });
+                self.assign_under(functions, frozen, &target, v, frame, budget)
+            }
+            (PartAt::NoMemory, _) => Err(Halt::NoMemory),
+            (_, Parted::NoMemory) => Err(Halt::NoMemory),
+            _ => Ok(Now::Came(Got::Next)),
+        }
+    }
+
+    /// A value went to the target before this one.
+    #[tactic(auto, using(crate::proofs::TargetLaws::left_rules))]
+    pub(crate) fn unpacking_left(
+        &mut self,
+        functions: &Functions,
+        frozen: &Frozen,
+        node: Expr,
+        n: u64,
+        vals: Vals,
+        got: Got,
+        budget: u64,
+    ) -> Result<Now, Halt>
+        requires { self.old.state.used < budget }
+        ensures moves { GoesOn functions.now frozen.now result self.old self.new budget (λ k. on_next got (assign_each k (trees_from n (targets_in (tree node))) vals)) }
+        ensures left { OnOk result (self.new.state.used < budget) }
+        ensures grows { self.old.state.used ≤ self.new.state.used }
+    {
+        if leaves(&got) {
+            return Ok(Now::Came(got));
+        }
+        self.assign_each(functions, frozen, node, n, vals, budget)
+    }
+}
