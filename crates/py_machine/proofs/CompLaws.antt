@@ -83,22 +83,22 @@ in_goes fns frozen r x y z budget scope own p m e h =
     let Q : Result (ScopeId × Made) ValueStop → Type 0 = λ o. Moves (steps_of fns.program) frozen r z.frames z.state budget (λ w. finish (steps_of fns.program) frozen x.state.here.room x.frames w (made o p (λ (i : ScopeId) w2 (s2 : State). m (known (steps_of fns.program) frozen x.state.here.room) w2 (record s2 { here = record s2.here { scope = i } })) w x.state)) in
     subst Q (sym e.0) (subst P e.1 h)
 
-pub over_goes : (fns : Functions) (frozen : Made) (r : Result Now Halt) (x y z : Going) (budget : ℕ) (scope : ScopeId) (d : Comp) (v : Val) (w : Walk) → is_row v ≡ true → w ≡ record { over = v; next = 0; size = 0; turns = most } → Entered (Ok scope) frozen (target_names (targets_of d.source)) x y → GoesOn fns frozen r y z budget (λ k. walks_on k d w x.state.here.scope []) → GoesOn fns frozen r x z budget (λ k. comp_over k d v)
-over_goes fns frozen r x y z budget scope d v w e1 e2 e3 h =
+pub over_goes : (fns : Functions) (frozen : Made) (r : Result Now Halt) (x y z : Going) (budget : ℕ) (scope : ScopeId) (d : Comp) (v : Val) (w : Walk) (done : List Val) → is_row v ≡ true → w ≡ record { over = v; next = 0; size = 0; turns = most } → done ≡ [] → Entered (Ok scope) frozen (target_names (targets_of d.source)) x y → GoesOn fns frozen r y z budget (λ k. walks_on k d w x.state.here.scope done) → GoesOn fns frozen r x z budget (λ k. comp_over k d v)
+over_goes fns frozen r x y z budget scope d v w vs e1 e2 e4 e3 h =
+    let D : List Val → Type 0 = λ us. GoesOn fns frozen r y z budget (λ k. walks_on k d w x.state.here.scope us) in
     let W : Walk → Type 0 = λ a. GoesOn fns frozen r y z budget (λ k. walks_on k d a x.state.here.scope []) in
     let K : Known = known (steps_of fns.program) frozen x.state.here.room in
     same_total fns frozen r x z budget (λ k. in_scope k (target_names (targets_of d.source)) d.place (walks_on k d (record { over = v; next = 0; size = 0; turns = most }) x.state.here.scope [])) (λ k. comp_over k d v)
       (λ u. ap (λ (b : Bool). choose b (λ u2 (s2 : State). in_scope K (target_names (targets_of d.source)) d.place (elements_made most K v 0 d.place (comp_turn K d) [] (λ done. back_in s2.here.scope (all_made K d.element d.place done))) u2 s2) (stop cause.Raised d.place) u x.state) (sym e1))
-      (in_goes fns frozen r x y z budget scope (target_names (targets_of d.source)) d.place (λ k. walks_on k d (record { over = v; next = 0; size = 0; turns = most }) x.state.here.scope []) e3 (subst W e2 h))
+      (in_goes fns frozen r x y z budget scope (target_names (targets_of d.source)) d.place (λ k. walks_on k d (record { over = v; next = 0; size = 0; turns = most }) x.state.here.scope []) e3 (subst W e2 (subst D e4 h)))
 
-pub over_refused : (fns : Functions) (frozen : Made) (x : Going) (budget : ℕ) (c : Comprehended) (d : Comp) (v : Val) (p : Place) → comp_of c ≡ Some d → d.place ≡ p → is_row v ≡ false → GoesOn fns frozen (Err (Stopped (record { cause = cause.Raised; place = p }))) x x budget (λ k. with_comp (comp_of c) (λ a. comp_over k a v))
-over_refused fns frozen x budget c d v p e q e1 =
+pub over_refused : (fns : Functions) (frozen : Made) (x : Going) (budget : ℕ) (d : Comp) (v : Val) (p : Place) (b : Bool) → d.place ≡ p → b ≡ is_row v → b ≡ false → GoesOn fns frozen (Err (Stopped (record { cause = cause.Raised; place = p }))) x x budget (λ k. comp_over k d v)
+over_refused fns frozen x budget d v p b q e1 e2 =
     let K : Known = known (steps_of fns.program) frozen x.state.here.room in
-    let T : Place → Type 0 = λ y. GoesOn fns frozen (Err (Stopped (record { cause = cause.Raised; place = y }))) x x budget (λ k. with_comp (comp_of c) (λ a. comp_over k a v)) in
-    subst T q (comp_found fns frozen _ x x budget c d (λ k a. comp_over k a v) e
-      (same_total fns frozen _ x x budget (λ k. stop cause.Raised d.place) (λ k. comp_over k d v)
-        (λ u. ap (λ (b : Bool). choose b (λ u2 (s2 : State). in_scope K (target_names (targets_of d.source)) d.place (elements_made most K v 0 d.place (comp_turn K d) [] (λ done. back_in s2.here.scope (all_made K d.element d.place done))) u2 s2) (stop cause.Raised d.place) u x.state) (sym e1))
-        (stop_goes fns frozen x budget cause.Raised d.place)))
+    let T : Place → Type 0 = λ y. GoesOn fns frozen (Err (Stopped (record { cause = cause.Raised; place = y }))) x x budget (λ k. comp_over k d v) in
+    subst T q (same_total fns frozen _ x x budget (λ k. stop cause.Raised d.place) (λ k. comp_over k d v)
+        (λ u. ap (λ (b : Bool). choose b (λ u2 (s2 : State). in_scope K (target_names (targets_of d.source)) d.place (elements_made most K v 0 d.place (comp_turn K d) [] (λ done. back_in s2.here.scope (all_made K d.element d.place done))) u2 s2) (stop cause.Raised d.place) u x.state) (sym (sym e1 ∙ e2)))
+        (stop_goes fns frozen x budget cause.Raised d.place))
 
 pub over_found : (fns : Functions) (frozen : Made) (r : Result Now Halt) (x z : Going) (budget : ℕ) (c : Comprehended) (d : Comp) (v : Val) → comp_of c ≡ Some d → GoesOn fns frozen r x z budget (λ k. comp_over k d v) → GoesOn fns frozen r x z budget (λ k. with_comp (comp_of c) (λ a. comp_over k a v))
 over_found fns frozen r x z budget c d v e h = comp_found fns frozen r x z budget c d (λ k a. comp_over k a v) e h
@@ -135,18 +135,18 @@ at_turns fns frozen r x z budget n d w outer done e h =
     let N : ℕ → Type 0 = λ j. GoesOn fns frozen r x z budget (λ k. elements_made j k w.over w.next d.place (comp_turn k d) done (λ vs. back_in outer (all_made k d.element d.place vs))) in
     subst N e h
 
-pub walk_out : (fns : Functions) (frozen : Made) (x : Going) (budget : ℕ) (d : Comp) (w : Walk) (outer : ScopeId) (done : List Val) (p : Place) → d.place ≡ p → w.turns ≤ 0 → GoesOn fns frozen (Err (Stopped (record { cause = cause.Spent; place = p }))) x x budget (λ k. walks_on k d w outer done)
+pub walk_out : (fns : Functions) (frozen : Made) (x : Going) (budget : ℕ) (d : Comp) (w : Walk) (outer : ScopeId) (done : List Val) (p : Place) → d.place ≡ p → w.turns ≡ 0 → GoesOn fns frozen (Err (Stopped (record { cause = cause.Spent; place = p }))) x x budget (λ k. walks_on k d w outer done)
 walk_out fns frozen x budget d w outer done p q le =
-    let e : 0 ≡ w.turns = omega arith in
+    let e : 0 ≡ w.turns = sym le in
     let T : Place → Type 0 = λ y. GoesOn fns frozen (Err (Stopped (record { cause = cause.Spent; place = y }))) x x budget (λ k. walks_on k d w outer done) in
     subst T q (at_turns fns frozen _ x x budget 0 d w outer done e (no_turn fns frozen _ x x budget w.next w.over d outer done (stop_goes fns frozen x budget cause.Spent d.place)))
 
-pub walk_over : (fns : Functions) (frozen : Made) (r : Result Now Halt) (x z : Going) (budget : ℕ) (d : Comp) (w : Walk) (outer : ScopeId) (done : List Val) → 0 < w.turns → None ≡ element (seen frozen x.state.heap) w.over w.next → GoesOn fns frozen r x z budget (λ k. back_in outer (all_made k d.element d.place done)) → GoesOn fns frozen r x z budget (λ k. walks_on k d w outer done)
+pub walk_over : (fns : Functions) (frozen : Made) (r : Result Now Halt) (x z : Going) (budget : ℕ) (d : Comp) (w : Walk) (outer : ScopeId) (done : List Val) → (w.turns ≡ 0 → ⊥) → None ≡ element (seen frozen x.state.heap) w.over w.next → GoesOn fns frozen r x z budget (λ k. back_in outer (all_made k d.element d.place done)) → GoesOn fns frozen r x z budget (λ k. walks_on k d w outer done)
 walk_over fns frozen r x z budget d w outer done lt e h =
     let q : suc (w.turns - 1) ≡ w.turns = omega arith in
     at_turns fns frozen r x z budget (suc (w.turns - 1)) d w outer done q (no_more fns frozen r x z budget (w.turns - 1) w.next w.over d outer done (sym e) h)
 
-pub walk_turns : (fns : Functions) (frozen : Made) (r : Result Now Halt) (x z : Going) (budget : ℕ) (d : Comp) (w : Walk) (outer : ScopeId) (done : List Val) (v : Val) → 0 < w.turns → Some v ≡ element (seen frozen x.state.heap) w.over w.next → GoesOn fns frozen r x z budget (λ k. element_turn k d w outer done v) → GoesOn fns frozen r x z budget (λ k. walks_on k d w outer done)
+pub walk_turns : (fns : Functions) (frozen : Made) (r : Result Now Halt) (x z : Going) (budget : ℕ) (d : Comp) (w : Walk) (outer : ScopeId) (done : List Val) (v : Val) → (w.turns ≡ 0 → ⊥) → Some v ≡ element (seen frozen x.state.heap) w.over w.next → GoesOn fns frozen r x z budget (λ k. element_turn k d w outer done v) → GoesOn fns frozen r x z budget (λ k. walks_on k d w outer done)
 walk_turns fns frozen r x z budget d w outer done v lt e h =
     let q : suc (w.turns - 1) ≡ w.turns = omega arith in
     at_turns fns frozen r x z budget (suc (w.turns - 1)) d w outer done q (turn_more fns frozen r x z budget (w.turns - 1) w.next w.over d outer done v (sym e) h)
@@ -253,7 +253,9 @@ pub ruleset begin_rules = (source_waits, begin_lacks, no_memory)
 
 pub ruleset source_rules = (row_waits, comp_lacks, no_memory)
 
-pub ruleset row_rules = (over_found, over_refused, comp_lacks, no_memory)
+pub ruleset row_rules = (over_found, comp_lacks, no_memory)
+
+pub ruleset fit_rules = (over_refused, no_memory)
 
 pub ruleset over_rules = (over_goes, no_memory)
 

@@ -43,15 +43,17 @@ use Rattle.py_machine.proofs.WalkLaws.{under_frame, next_left, next_on, counts_h
 
 -- ---- names
 
-pub name_bound : (fns : Functions) (frozen : Made) (x z : Going) (budget : ℕ) (p : Place) (name : List ℕ) (t : Tree) (v : Val) (u : Unit {0}) → t ≡ Name p name → Binds (Ok u) (scope_bound (seen frozen x.state.heap) x.state.here.scope.0 name v) p x z → GoesOn fns frozen (Ok (Came Next)) x z budget (λ k. assign k t v)
-name_bound fns frozen x z budget p name t v u e b =
+pub name_bound : (fns : Functions) (frozen : Made) (x z : Going) (budget : ℕ) (p : Place) (name text : List ℕ) (t : Tree) (v : Val) (u : Unit {0}) → t ≡ Name p name → text ≡ name → Binds (Ok u) (scope_bound (seen frozen x.state.heap) x.state.here.scope.0 text v) p x z → GoesOn fns frozen (Ok (Came Next)) x z budget (λ k. assign k t v)
+name_bound fns frozen x z budget p name text t v u e q b =
+    let N : List ℕ → Type 0 = λ i. Binds (Ok u) (scope_bound (seen frozen x.state.heap) x.state.here.scope.0 i v) p x z in
     let P : Tree → Type 0 = λ a. GoesOn fns frozen (Ok (Came Next)) x z budget (λ k. assign k a v) in
-    subst P (sym e) (bind_goes fns frozen (Ok (Came Next)) x z z budget u name v p (λ k. came Next) b (came_goes fns frozen z budget Next))
+    subst P (sym e) (bind_goes fns frozen (Ok (Came Next)) x z z budget u name v p (λ k. came Next) (subst N q b) (came_goes fns frozen z budget Next))
 
-pub name_refused : (fns : Functions) (frozen : Made) (h : Halt) (x z : Going) (budget : ℕ) (p : Place) (name : List ℕ) (t : Tree) (v : Val) → t ≡ Name p name → Binds (Err h) (scope_bound (seen frozen x.state.heap) x.state.here.scope.0 name v) p x z → GoesOn fns frozen (Err h) x z budget (λ k. assign k t v)
-name_refused fns frozen h x z budget p name t v e b =
+pub name_refused : (fns : Functions) (frozen : Made) (h : Halt) (x z : Going) (budget : ℕ) (p : Place) (name text : List ℕ) (t : Tree) (v : Val) → t ≡ Name p name → text ≡ name → Binds (Err h) (scope_bound (seen frozen x.state.heap) x.state.here.scope.0 text v) p x z → GoesOn fns frozen (Err h) x z budget (λ k. assign k t v)
+name_refused fns frozen h x z budget p name text t v e q b =
+    let N : List ℕ → Type 0 = λ i. Binds (Err h) (scope_bound (seen frozen x.state.heap) x.state.here.scope.0 i v) p x z in
     let P : Tree → Type 0 = λ a. GoesOn fns frozen (Err h) x z budget (λ k. assign k a v) in
-    subst P (sym e) (bind_stops fns frozen h x z budget name v p (λ k. came Next) b)
+    subst P (sym e) (bind_stops fns frozen h x z budget name v p (λ k. came Next) (subst N q b))
 
 -- ---- what trails
 
@@ -92,20 +94,20 @@ as_unpacked fns frozen r x z budget n p t v e1 e2 h =
     let P : Place → Type 0 = λ q. GoesOn fns frozen r x z budget (λ k. unpacks k n q (targets_in t) v) in
     subst N e1 (subst P e2 h)
 
-pub unpack_differs : (fns : Functions) (frozen : Made) (x : Going) (budget n : ℕ) (p : Place) (t : Tree) (v : Val) → n ≡ tree_count (targets_in t) → p ≡ place_of t → counts_to (seen frozen x.state.heap) v n ≡ false → GoesOn fns frozen (Err (Stopped (record { cause = cause.Raised; place = p }))) x x budget (λ k. unpacked k t v)
-unpack_differs fns frozen x budget n p t v e1 e2 e =
-    as_unpacked fns frozen _ x x budget n p t v e1 e2 (counts_differ fns frozen x budget n v p (λ k. with_elements k v p (λ vs. spend_each n p (assign_each k (targets_in t) vs))) e)
+pub unpack_differs : (fns : Functions) (frozen : Made) (x : Going) (budget n : ℕ) (p : Place) (t : Tree) (v : Val) (b : Bool) → n ≡ tree_count (targets_in t) → p ≡ place_of t → b ≡ counts_to (seen frozen x.state.heap) v n → b ≡ false → GoesOn fns frozen (Err (Stopped (record { cause = cause.Raised; place = p }))) x x budget (λ k. unpacked k t v)
+unpack_differs fns frozen x budget n p t v b e1 e2 e q =
+    as_unpacked fns frozen _ x x budget n p t v e1 e2 (counts_differ fns frozen x budget n v p (λ k. with_elements k v p (λ vs. spend_each n p (assign_each k (targets_in t) vs))) (sym e ∙ q))
 
-pub unpack_goes : (fns : Functions) (frozen : Made) (r : Result Now Halt) (x z : Going) (budget n : ℕ) (p : Place) (t : Tree) (v : Val) (vs : List Val) → n ≡ tree_count (targets_in t) → p ≡ place_of t → counts_to (seen frozen x.state.heap) v n ≡ true → TellsElements (Ok vs) (elements (seen frozen x.state.heap) v) p → GoesOn fns frozen r x z budget (λ k. spend_each n p (assign_each k (targets_in t) vs)) → GoesOn fns frozen r x z budget (λ k. unpacked k t v)
-unpack_goes fns frozen r x z budget n p t v vs e1 e2 e3 e4 h =
+pub unpack_goes : (fns : Functions) (frozen : Made) (r : Result Now Halt) (x z : Going) (budget n : ℕ) (p : Place) (t : Tree) (v : Val) (vs : List Val) (b : Bool) → n ≡ tree_count (targets_in t) → p ≡ place_of t → b ≡ counts_to (seen frozen x.state.heap) v n → b ≡ true → TellsElements (Ok vs) (elements (seen frozen x.state.heap) v) p → GoesOn fns frozen r x z budget (λ k. spend_each n p (assign_each k (targets_in t) vs)) → GoesOn fns frozen r x z budget (λ k. unpacked k t v)
+unpack_goes fns frozen r x z budget n p t v vs b e1 e2 e3 q e4 h =
     as_unpacked fns frozen r x z budget n p t v e1 e2
-      (counts_hold fns frozen r x z budget n v p (λ k. with_elements k v p (λ us. spend_each n p (assign_each k (targets_in t) us))) e3
+      (counts_hold fns frozen r x z budget n v p (λ k. with_elements k v p (λ us. spend_each n p (assign_each k (targets_in t) us))) (sym e3 ∙ q)
         (elements_come fns frozen r x z budget v vs p (λ k us. spend_each n p (assign_each k (targets_in t) us)) e4 h))
 
-pub unpack_stops : (fns : Functions) (frozen : Made) (h : Halt) (x : Going) (budget n : ℕ) (p : Place) (t : Tree) (v : Val) → n ≡ tree_count (targets_in t) → p ≡ place_of t → counts_to (seen frozen x.state.heap) v n ≡ true → TellsElements (Err h) (elements (seen frozen x.state.heap) v) p → GoesOn fns frozen (Err h) x x budget (λ k. unpacked k t v)
-unpack_stops fns frozen h x budget n p t v e1 e2 e3 e4 =
+pub unpack_stops : (fns : Functions) (frozen : Made) (h : Halt) (x : Going) (budget n : ℕ) (p : Place) (t : Tree) (v : Val) (b : Bool) → n ≡ tree_count (targets_in t) → p ≡ place_of t → b ≡ counts_to (seen frozen x.state.heap) v n → b ≡ true → TellsElements (Err h) (elements (seen frozen x.state.heap) v) p → GoesOn fns frozen (Err h) x x budget (λ k. unpacked k t v)
+unpack_stops fns frozen h x budget n p t v b e1 e2 e3 q e4 =
     as_unpacked fns frozen (Err h) x x budget n p t v e1 e2
-      (counts_hold fns frozen (Err h) x x budget n v p (λ k. with_elements k v p (λ us. spend_each n p (assign_each k (targets_in t) us))) e3
+      (counts_hold fns frozen (Err h) x x budget n v p (λ k. with_elements k v p (λ us. spend_each n p (assign_each k (targets_in t) us))) (sym e3 ∙ q)
         (elements_lack fns frozen h x budget v p (λ k us. spend_each n p (assign_each k (targets_in t) us)) e4))
 
 pub spread_goes : (fns : Functions) (frozen : Made) (r : Result Now Halt) (x y z : Going) (budget n : ℕ) (u : Unit {0}) (p : Place) (ts : Trees) (vs : List Val) → Spends (Ok u) n p x y budget → y.state.used ≤ z.state.used → GoesOn fns frozen r y z budget (λ k. assign_each k (trees_from 0 ts) vs) → GoesOn fns frozen r x z budget (λ k. spend_each n p (assign_each k ts vs))

@@ -39,6 +39,17 @@ pub goes_other : (fns : Functions) (frozen : Made) (x : Going) (budget : ℕ) (f
 goes_other fns frozen x budget f got e1 e2 =
     meant_same fns frozen (Ok (Came got)) x x budget (λ k. came got) (λ k. walk_goes k f got) (λ k. value_frame k f got e1 ∙ value_lacks got (walk_value_goes k f) (sym e2)) (came_goes fns frozen x budget got)
 
+-- a frame of a known kind
+pub value_as : (fns : Functions) (frozen : Made) (r : Result Now Halt) (x z : Going) (budget : ℕ) (f g : WalkFrame) (v : Val) → f ≡ g → GoesOn fns frozen r x z budget (λ k. walk_value_goes k g v) → GoesOn fns frozen r x z budget (λ k. walk_value_goes k f v)
+value_as fns frozen r x z budget f g v e h =
+    let P : WalkFrame → Type 0 = λ a. GoesOn fns frozen r x z budget (λ k. walk_value_goes k a v) in
+    subst P (sym e) h
+
+pub frame_as : (fns : Functions) (frozen : Made) (r : Result Now Halt) (x z : Going) (budget : ℕ) (f g : WalkFrame) (got : Got) → f ≡ g → GoesOn fns frozen r x z budget (λ k. walk_goes k g got) → GoesOn fns frozen r x z budget (λ k. walk_goes k f got)
+frame_as fns frozen r x z budget f g got e h =
+    let P : WalkFrame → Type 0 = λ a. GoesOn fns frozen r x z budget (λ k. walk_goes k a got) in
+    subst P (sym e) h
+
 pub ruleset goes_rules = (goes_value, goes_other)
 
 pub ruleset left_rules = (no_memory)

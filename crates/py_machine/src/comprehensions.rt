@@ -1,6 +1,7 @@
 // Comprehensions: their source, and then an element after the other in a scope of their own.
 ghost use Rattle.std.specs.Prelude.{◌≡◌, ◌<◌, ◌≤◌, ◌++◌, [], ◌∷◌, true, Some, OnOk};
 ghost use Rattle.py_tree.specs.Seen.{tree};
+ghost use Rattle.py_tree.specs.Tree.{present};
 ghost use Rattle.py_values.specs.Heaps.{seen};
 ghost use Rattle.py_values.specs.Elements.{element};
 ghost use Rattle.py_machine.specs.Doing.{on_next};
@@ -92,17 +93,35 @@ impl Going {
         match comp_of(&comp) {
             PartAt::NoMemory => Err(Halt::NoMemory),
             PartAt::Past => Ok(Now::Came(Got::Next)),
-            PartAt::Part(parts) => {
-                if is_row(&row) {
-                    return self.comp_over(functions, frozen, comp, &parts, row, budget);
-                }
-                Err(stopped(Cause::Raised, parts.place))
-            }
+            PartAt::Part(parts) => self.comp_row(functions, frozen, comp, &parts, row, budget),
         }
     }
 
+    // Over a value, where one may go over it.
+    #[tactic(auto, using(crate::proofs::CompLaws::fit_rules))]
+    fn comp_row(
+        &mut self,
+        functions: &Functions,
+        frozen: &Frozen,
+        comp: Comprehended,
+        parts: &CompParts,
+        row: Val,
+        budget: u64,
+    ) -> Result<Now, Halt>
+        requires lives { self.old.state.used < budget }
+        requires kind { comp_of comp ≡ Some (comp_seen parts.now) }
+        ensures moves { GoesOn functions.now frozen.now result self.old self.new budget (λ k. comp_over k (comp_seen parts.now) row) }
+        ensures left { OnOk result (self.new.state.used < budget) }
+        ensures grows { self.old.state.used ≤ self.new.state.used }
+    {
+        let fits = is_row(&row);
+        if fits {
+            return self.comp_over(functions, frozen, comp, parts, row, budget);
+        }
+        Err(stopped(Cause::Raised, parts.place))
+    }
+
     // The evaluation stands in a new scope, whose own names are those of these targets.
-    #[tactic(auto, using(crate::proofs::CompLaws::enter_rules))]
     fn enter_scope(&mut self, frozen: &Frozen, targets: &Expr) -> Result<ScopeId, Halt>
         ensures moves { Entered result frozen.now (target_names (tree targets.now)) self.old self.new }
         ensures used { self.new.state.used ≡ self.old.state.used }
@@ -185,23 +204,23 @@ impl Going {
         ensures left { OnOk result (self.new.state.used < budget) }
         ensures grows { self.old.state.used ≤ self.new.state.used }
     {
-        if walk.turns > 0 {
-            return match self.element_at(frozen, walk) {
-                Some(v) => self.element_turn(
-                    functions,
-                    frozen,
-                    comp,
-                    parts,
-                    walk,
-                    outer,
-                    done,
-                    v,
-                    budget,
-                ),
-                None => self.walk_ends(functions, frozen, parts, outer, done, budget),
-            };
+        if walk.turns == 0 {
+            return Err(stopped(Cause::Spent, parts.place));
         }
-        Err(stopped(Cause::Spent, parts.place))
+        match self.element_at(frozen, walk) {
+            Some(v) => self.element_turn(
+                functions,
+                frozen,
+                comp,
+                parts,
+                walk,
+                outer,
+                done,
+                v,
+                budget,
+            ),
+            None => self.walk_ends(functions, frozen, parts, outer, done, budget),
+        }
     }
 
     // What the elements become, back in the scope of before.
@@ -413,9 +432,45 @@ impl Going {
         ensures left { OnOk result (self.new.state.used < budget) }
         ensures grows { self.old.state.used ≤ self.new.state.used }
     {
-        let Some(test) = &parts.condition else {
-            return self.walks_on(functions, frozen, comp, parts, &walk, outer, done, budget);
-        };
+        match &parts.condition {
+            None => self.walks_on(functions, frozen, comp, parts, &walk, outer, done, budget),
+            Some(test) => self.tested_truth(
+                functions,
+                frozen,
+                comp,
+                parts,
+                test,
+                walk,
+                done,
+                outer,
+                v,
+                budget,
+            ),
+        }
+    }
+
+    // The element, where this condition is true.
+    #[tactic(auto, using(crate::proofs::CompLaws::truth_rules))]
+    fn tested_truth(
+        &mut self,
+        functions: &Functions,
+        frozen: &Frozen,
+        comp: Comprehended,
+        parts: &CompParts,
+        test: &Expr,
+        walk: Walk,
+        done: Vals,
+        outer: ScopeId,
+        v: Val,
+        budget: u64,
+    ) -> Result<Now, Halt>
+        requires lives { self.old.state.used < budget }
+        requires kind { comp_of comp ≡ Some (comp_seen parts.now) }
+        requires test { condition_of (comp_seen parts.now).source ≡ present (tree test.now) }
+        ensures moves { GoesOn functions.now frozen.now result self.old self.new budget (λ k. tested_by k (comp_seen parts.now) walk outer done (condition_of (comp_seen parts.now).source) v) }
+        ensures left { OnOk result (self.new.state.used < budget) }
+        ensures grows { self.old.state.used ≤ self.new.state.used }
+    {
         match self.truth(frozen, v, place_of(test)) {
             Ok(holds) => {
                 if holds {

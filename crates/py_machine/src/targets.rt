@@ -209,13 +209,14 @@ impl Going {
     {
         let place = place_of(&node);
         let count = target_count(&node);
-        if !self.counts_to(frozen, &row, count) {
-            return Err(stopped(Cause::Raised, place));
+        let fits = self.counts_to(frozen, &row, count);
+        if fits {
+            return match self.elements_of(frozen, &row, place) {
+                Ok(vals) => self.unpacked_to(functions, frozen, node, vals, place, count, budget),
+                Err(halt) => Err(halt),
+            };
         }
-        match self.elements_of(frozen, &row, place) {
-            Ok(vals) => self.unpacked_to(functions, frozen, node, vals, place, count, budget),
-            Err(halt) => Err(halt),
-        }
+        Err(stopped(Cause::Raised, place))
     }
 
     // The units of so many targets, and then the elements go to them.

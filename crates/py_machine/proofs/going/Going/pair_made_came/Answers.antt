@@ -1,0 +1,8 @@
+-- A key and its value more.
+use Rattle.std.specs.Prelude.{◌++◌, ◌∷◌, []}
+use Rattle.py_machine.specs.Walk_frames.{walks_on}
+use Rattle.py_machine.proofs.CompLaws.{comp_lacks}
+use Rattle.py_machine.proofs.going.Going.pair_made_came.Goals as goal
+
+pub returns-in-Past-clause-moves : goal.returns-in-Past-clause-moves
+returns-in-Past-clause-moves c = comp_lacks c.args.functions.now c.args.frozen.now c.args.self.now c.args.budget c.args.comp (λ k x. walks_on k x c.args.walk c.args.outer (c.args.done ++ c.args.key ∷ c.args.v ∷ [])) c.in-Past.ensures
