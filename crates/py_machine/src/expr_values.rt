@@ -82,23 +82,6 @@ impl Going {
         told(given, place)
     }
 
-    /// A new dict of keys and values in turn.
-    #[tactic(auto, using(crate::proofs::ExprLaws::dict_told))]
-    pub(crate) fn new_dict(
-        &mut self,
-        functions: &Functions,
-        frozen: &Frozen,
-        row: Vals,
-        place: Place,
-        budget: u64,
-    ) -> Result<Now, Halt>
-        ensures moves { GoesOn functions.now frozen.now result self.old self.new budget (λ k. dict_made k place row) }
-        ensures used { self.new.state.used ≡ self.old.state.used }
-    {
-        let given = self.state.heap.dict(frozen, row);
-        told(given, place)
-    }
-
     /// A string of the program's text.
     #[tactic(auto, using(crate::proofs::ExprLaws::literal_told))]
     pub(crate) fn new_literal(

@@ -8,7 +8,6 @@
 //! values and ask; those of each kind of node, and the machine around them, are still to come.
 #![tactic(auto)]
 
-mod call_of;
 mod comprehensions;
 mod expr;
 mod expr_values;
@@ -21,7 +20,6 @@ mod request;
 mod state;
 mod stubs_e3;
 mod targets;
-mod walk_frames;
 mod walk_parts;
 
 pub use request::{Act, Answer, Cause, NamedVal, NamedVals, Request, Stop, Turn};

@@ -24,44 +24,6 @@ use py_tree::{Expr, ExprKind, Name, Trailer};
 use py_values::{Frozen, Val, ValueStop, Vals};
 
 impl Going {
-    /// A value goes to a target.
-    #[tactic(auto, using(crate::proofs::TargetLaws::target_rules))]
-    pub(crate) fn assign(
-        &mut self,
-        functions: &Functions,
-        frozen: &Frozen,
-        target: &Expr,
-        v: Val,
-        budget: u64,
-    ) -> Result<Now, Halt>
-        requires { self.old.state.used < budget }
-        ensures moves { GoesOn functions.now frozen.now result self.old self.new budget (λ k. assign k (tree target.now) v) }
-        ensures left { OnOk result (self.new.state.used < budget) }
-        ensures grows { self.old.state.used ≤ self.new.state.used }
-    {
-        match &*target.kind {
-            ExprKind::Name(name) => self.assign_name(functions, frozen, target, name, v, budget),
-            ExprKind::Tuple(items) => self.assign_tuple(
-                functions,
-                frozen,
-                target,
-                items,
-                v,
-                budget,
-            ),
-            ExprKind::Trailed(first, behind) => self.assign_trailed(
-                functions,
-                frozen,
-                target,
-                first,
-                behind,
-                v,
-                budget,
-            ),
-            _ => Err(stopped(Cause::Raised, target.place)),
-        }
-    }
-
     // A name is bound.
     #[tactic(auto, using(crate::proofs::TargetLaws::name_rules))]
     fn assign_name(
@@ -148,29 +110,6 @@ impl Going {
         }
     }
 
-    /// A value goes to a target; a frame waits until it is there.
-    #[tactic(auto, using(crate::proofs::TargetLaws::under_rules))]
-    pub(crate) fn assign_under(
-        &mut self,
-        functions: &Functions,
-        frozen: &Frozen,
-        target: &Expr,
-        v: Val,
-        frame: Frame,
-        budget: u64,
-    ) -> Result<Now, Halt>
-        requires lives { self.old.state.used < budget }
-        requires room { KeepsRoom frame self.old.state.here.room }
-        ensures moves { GoesOn functions.now frozen.now result self.old self.new budget (within frame (λ k. assign k (tree target.now) v)) }
-        ensures left { OnOk result (self.new.state.used < budget) }
-        ensures grows { self.old.state.used ≤ self.new.state.used }
-    {
-        match self.frames.push(frame) {
-            Ok(()) => self.assign(functions, frozen, target, v, budget),
-            Err(_) => Err(Halt::NoMemory),
-        }
-    }
-
     // Whether a value has so many elements.
     fn counts_to(&self, frozen: &Frozen, v: &Val, n: u64) -> bool
         ensures { result ≡ counts_to (seen frozen.now self.now.state.heap) v.now n }
@@ -190,108 +129,5 @@ impl Going {
             Err(ValueStop::Spent) => Err(stopped(Cause::Spent, place)),
             Err(ValueStop::NoMemory) => Err(Halt::NoMemory),
         }
-    }
-
-    /// A value is unpacked, whose elements are there: as many as there are targets.
-    #[tactic(auto, using(crate::proofs::TargetLaws::unpack_rules))]
-    pub(crate) fn unpacked(
-        &mut self,
-        functions: &Functions,
-        frozen: &Frozen,
-        node: Expr,
-        row: Val,
-        budget: u64,
-    ) -> Result<Now, Halt>
-        requires { self.old.state.used < budget }
-        ensures moves { GoesOn functions.now frozen.now result self.old self.new budget (λ k. unpacked k (tree node) row) }
-        ensures left { OnOk result (self.new.state.used < budget) }
-        ensures grows { self.old.state.used ≤ self.new.state.used }
-    {
-        let place = place_of(&node);
-        let count = target_count(&node);
-        let fits = self.counts_to(frozen, &row, count);
-        if fits {
-            return match self.elements_of(frozen, &row, place) {
-                Ok(vals) => self.unpacked_to(functions, frozen, node, vals, place, count, budget),
-                Err(halt) => Err(halt),
-            };
-        }
-        Err(stopped(Cause::Raised, place))
-    }
-
-    // The units of so many targets, and then the elements go to them.
-    #[tactic(auto, using(crate::proofs::TargetLaws::spread_rules))]
-    fn unpacked_to(
-        &mut self,
-        functions: &Functions,
-        frozen: &Frozen,
-        node: Expr,
-        vals: Vals,
-        place: Place,
-        count: u64,
-        budget: u64,
-    ) -> Result<Now, Halt>
-        requires { self.old.state.used < budget }
-        ensures moves { GoesOn functions.now frozen.now result self.old self.new budget (λ k. spend_each count place (assign_each k (targets_in (tree node)) vals)) }
-        ensures left { OnOk result (self.new.state.used < budget) }
-        ensures grows { self.old.state.used ≤ self.new.state.used }
-    {
-        match self.spend(count, place, budget) {
-            Ok(()) => self.assign_each(functions, frozen, node, 0, vals, budget),
-            Err(halt) => Err(halt),
-        }
-    }
-
-    // Each of the targets from this number on takes a value.
-    #[tactic(auto, using(crate::proofs::TargetLaws::each_rules))]
-    fn assign_each(
-        &mut self,
-        functions: &Functions,
-        frozen: &Frozen,
-        node: Expr,
-        n: u64,
-        vals: Vals,
-        budget: u64,
-    ) -> Result<Now, Halt>
-        requires { self.old.state.used < budget }
-        ensures moves { GoesOn functions.now frozen.now result self.old self.new budget (λ k. assign_each k (trees_from n (targets_in (tree node))) vals) }
-        ensures left { OnOk result (self.new.state.used < budget) }
-        ensures grows { self.old.state.used ≤ self.new.state.used }
-    {
-        match (target_at(&node, n), split(self.alloc, &vals)) {
-            (PartAt::Part(target), Parted::First(v, vals)) => {
-                let Ok(next) = following(n) else {
-                    return Err(Halt::NoMemory);
-                };
-                let frame = Frame::Walk(WalkFrame::Unpacking { node, next, vals });
-                self.assign_under(functions, frozen, &target, v, frame, budget)
-            }
-            (PartAt::NoMemory, _) => Err(Halt::NoMemory),
-            (_, Parted::NoMemory) => Err(Halt::NoMemory),
-            _ => Ok(Now::Came(Got::Next)),
-        }
-    }
-
-    /// A value went to the target before this one.
-    #[tactic(auto, using(crate::proofs::TargetLaws::left_rules))]
-    pub(crate) fn unpacking_left(
-        &mut self,
-        functions: &Functions,
-        frozen: &Frozen,
-        node: Expr,
-        n: u64,
-        vals: Vals,
-        got: Got,
-        budget: u64,
-    ) -> Result<Now, Halt>
-        requires { self.old.state.used < budget }
-        ensures moves { GoesOn functions.now frozen.now result self.old self.new budget (λ k. on_next got (assign_each k (trees_from n (targets_in (tree node))) vals)) }
-        ensures left { OnOk result (self.new.state.used < budget) }
-        ensures grows { self.old.state.used ≤ self.new.state.used }
-    {
-        if leaves(&got) {
-            return Ok(Now::Came(got));
-        }
-        self.assign_each(functions, frozen, node, n, vals, budget)
     }
 }
