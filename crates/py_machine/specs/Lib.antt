@@ -1,6 +1,7 @@
 pub mod Doing
 pub mod Own
 pub mod Functions
+pub mod Tables
 pub mod Times
 pub mod Parts
 pub mod Asking
@@ -15,3 +16,5 @@ pub mod Stmt_frames
 pub mod Def_frames
 pub mod Frames
 pub mod Begun
+pub mod Turns
+pub mod Ends

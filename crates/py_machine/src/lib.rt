@@ -12,7 +12,10 @@ mod expr;
 mod frame;
 mod functions;
 mod going;
+mod own;
 mod request;
 mod state;
+mod stubs_top;
+mod turn;
 
 pub use request::{Act, Answer, Cause, NamedVal, NamedVals, Request, Stop, Turn};
