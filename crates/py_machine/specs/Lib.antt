@@ -18,3 +18,4 @@ pub mod Frames
 pub mod Begun
 pub mod Turns
 pub mod Ends
+pub mod Lives

@@ -1,0 +1,89 @@
+-- The life of a machine: what it stands for after the answers that were given, and what the next answer brings.
+use Rattle.std.specs.Prelude.{◌≡◌, ℕ, zero, suc, ◌+◌, ◌<◌, Bool, true, false, List, [], ◌∷◌, ◌++◌, length, Option, Some, None, ⊤}
+use Rattle.amh_host.specs.declared.place.Place.{Place}
+use Rattle.py_tree.specs.Steps.{Steps}
+use Rattle.py_tree.specs.Programs.{steps_of}
+use Rattle.py_values.specs.Heaps.{Made}
+use Rattle.py_values.specs.declared.val.Val.{Val}
+use Rattle.py_values.specs.declared.val.Val.TheVariants as val
+use Rattle.py_machine.specs.declared.request.Act.{Act}
+use Rattle.py_machine.specs.declared.request.Answer.{Answer}
+use Rattle.py_machine.specs.declared.request.Turn.{Turn}
+use Rattle.py_machine.specs.declared.request.Turn.TheVariants as turn
+use Rattle.py_machine.specs.declared.state.State.{State}
+use Rattle.py_machine.specs.declared.state.Halt.TheVariants as halt
+use Rattle.py_machine.specs.declared.state.Got.{Got}
+use Rattle.py_machine.specs.declared.state.Got.TheVariants.{Value, Bound, Through, Next, Broke, Continued, Returned}
+use Rattle.py_machine.specs.declared.machine.Stage.{Stage}
+use Rattle.py_machine.specs.declared.machine.Stage.TheVariants as stage
+use Rattle.py_machine.specs.declared.machine.Machine.{Machine}
+use Rattle.py_machine.specs.Doing.{World, Outcome, Done, Halts, Doing, Known}
+use Rattle.py_machine.specs.Asking.{request, answered, asked}
+use Rattle.py_machine.specs.Statements.{known}
+use Rattle.py_machine.specs.Frames.{finish, stops_as}
+use Rattle.py_machine.specs.Tables.{IsTable}
+use Rattle.py_machine.specs.Whole.{ask_program, first_state}
+
+-- a machine of a program
+abbrev pub IsOf : Steps → Machine → Type 0
+IsOf program m = IsTable m.functions × (steps_of m.functions.program ≡ program)
+
+-- an answer is taken by the act that asked at a place
+abbrev pub reply : Known → ℕ → Act → Place → Answer → Doing
+reply k n act place a = answered k (asked n k act) act (request act [] [] place) a
+
+abbrev pub next_taken : State → State
+next_taken s = record s { taken = s.taken + 1 }
+
+-- what a program that ended is worth
+abbrev pub worth : Got → Val
+worth (Value v) = v
+worth (Bound names) = val.None
+worth (Through v) = val.None
+worth Next = val.None
+worth Broke = val.None
+worth Continued = val.None
+worth (Returned v) = val.None
+
+-- What a machine stands for, after these answers: before the first, the program; while it waits, what the program comes to
+-- with each next answer, in every world that begins so and has more units than were used; and at its end, that end.
+abbrev pub StandsAs : Steps → Made → List Answer → Machine → Stage → Type 0
+StandsAs program frozen given m stage.Before = (given ≡ []) × (m.going.frames ≡ []) × (m.going.state ≡ first_state)
+StandsAs program frozen given m (stage.Waiting act place n) =
+    (m.going.state.taken ≡ length given)
+    × ((w : World) (a : Answer) (more : List Answer) → m.going.state.used < w.budget → w.answers ≡ given ++ a ∷ more →
+      ask_program program w ≡ finish program frozen m.going.state.here.room m.going.frames w (reply (known program frozen m.going.state.here.room) n act place a w (next_taken m.going.state)))
+StandsAs program frozen given m (stage.Ended v) =
+    (w : World) (more : List Answer) → m.going.state.used < w.budget → w.answers ≡ given ++ more →
+      (got : Got) × (ask_program program w ≡ Done got m.going.state) × (v ≡ worth got)
+StandsAs program frozen given m (stage.Stopped stop) = ⊤
+StandsAs program frozen given m stage.NoMemory = ⊤
+
+abbrev pub Stands : Steps → Made → List Answer → Machine → Type 0
+Stands program frozen given m = StandsAs program frozen given m m.stage
+
+-- the world of a life so far, with its last answer, and so many units left
+abbrev pub life : List Answer → Answer → ℕ → World
+life given a budget = record { budget = budget; answers = given ++ a ∷ [] }
+
+-- what an answer brings
+abbrev pub Brings : Steps → Made → List Answer → Answer → Turn → Machine → ℕ → Type 0
+Brings program frozen given a (turn.Asks r) behind budget =
+    (ask_program program (life given a budget) ≡ Halts (halt.Asks r) behind.going.state) × Stands program frozen (given ++ a ∷ []) behind
+Brings program frozen given a (turn.Ended v) behind budget = (behind.stage ≡ stage.Ended v) × Stands program frozen (given ++ a ∷ []) behind
+Brings program frozen given a (turn.Stopped stop) behind budget =
+    (behind.stage ≡ stage.Stopped stop) × (stops_as (ask_program program (life given a budget)) ≡ Some (stop, behind.going.state.used))
+Brings program frozen given a turn.NoMemory behind budget = ⊤
+
+-- what is answered once it is over: the same again
+abbrev pub again : Stage → Option Turn
+again stage.Before = None
+again (stage.Waiting act place n) = None
+again (stage.Ended v) = Some (turn.Ended v)
+again (stage.Stopped stop) = Some (turn.Stopped stop)
+again stage.NoMemory = Some turn.NoMemory
+
+abbrev pub Resumed : Option Turn → Steps → Made → Answer → Turn → Machine → Machine → ℕ → Type 0
+Resumed (Some same) program frozen a result before behind left = (result ≡ same) × (behind ≡ before)
+Resumed None program frozen a result before behind left =
+    (given : List Answer) → Stands program frozen given before → Brings program frozen given a result behind (before.going.state.used + left)
