@@ -52,8 +52,8 @@ impl Heap {
 }
 
 impl Heap {
-    // The scope of a number, where there is one.
-    fn scope_at<'a>(&'a self, frozen: &'a Frozen, id: ScopeId) -> Option<&'a Scope>
+    /// The scope of a number, where there is one: its names with their values, and the scope that encloses it.
+    pub fn scope_at<'a>(&'a self, frozen: &'a Frozen, id: ScopeId) -> Option<&'a Scope>
         ensures { option_copied result ≡ scope_at (seen frozen.now self.now) id.0 }
     {
         let before = frozen.made.scopes.len();
