@@ -1,5 +1,5 @@
 -- A node spends its units and then means the rest; and what follows from units spent, or not.
-use Rattle.std.proofs.Common.{◌≡◌, ℕ, ◌<◌, ◌≤◌, ◌+◌, refl, ap, ◌∙◌, sym, subst, List, [], ◌∷◌, Option, Some, None, Result, Ok, Err, nat_lt, true, false, if◌then◌else◌, arith}
+use Rattle.std.proofs.Common.{◌≡◌, ℕ, refl, ap, ◌∙◌, subst, List, [], ◌∷◌, Some, Result, Ok, Err}
 use Rattle.amh_host.specs.declared.place.Place.{Place}
 use Rattle.py_tree.specs.Steps.{Steps}
 use Rattle.py_tree.specs.Tree.{Tree, Name, Number, Decimal_time, Quotient, Str, Format, Constant_value, Tuple, Display, Dict, ListOf, DictOf, Trailed, Await, Power, Unary, Not, Binary, Compare, Boolean, Choice}
@@ -30,7 +30,7 @@ use Rattle.py_machine.specs.declared.state.State.{State}
 use Rattle.py_machine.specs.declared.state.Halt.{Halt}
 use Rattle.py_machine.specs.declared.frame.Frame.{Frame}
 use Rattle.py_machine.specs.declared.frame.Purpose.{Purpose}
-use Rattle.py_machine.specs.Doing.{World, Outcome, after, Halts, Doing, Known, spend_each, spent_all, stop, give, making, made, heap_seen}
+use Rattle.py_machine.specs.Doing.{World, after, Halts, Doing, Known, spend_each, stop, give, making, made, heap_seen}
 use Rattle.py_machine.specs.Parts.{place_of}
 use Rattle.py_machine.specs.Expressions.{value_of, list_made}
 use Rattle.py_machine.specs.Begun.{cost_of, value_after}

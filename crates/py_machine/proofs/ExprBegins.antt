@@ -1,14 +1,10 @@
 -- How expressions begin: what the tree of a node is, and what a part that is waited for means, give what the node means.
-use Rattle.std.proofs.Common.{◌≡◌, ℕ, zero, suc, refl, ap, ◌∙◌, sym, subst, List, [], ◌∷◌, ◌++◌, Result}
+use Rattle.std.proofs.Common.{◌≡◌, ℕ, refl, ◌∙◌, sym, subst, Result}
 use Rattle.amh_host.specs.declared.place.Place.{Place}
 use Rattle.py_tree.specs.declared.expr.Expr.{Expr}
-use Rattle.py_tree.specs.declared.expr.Sign.{Sign}
-use Rattle.py_tree.specs.declared.expr.Operator.{Operator}
 use Rattle.py_tree.specs.Seen.{tree}
-use Rattle.py_tree.specs.Tree.{Tree, Tuple, Display, Dict, Power, Unary, Not, Binary, Compare, Boolean, Choice, Trees, none, some, Links, no_link, link, Pairs, no_pair, pair}
+use Rattle.py_tree.specs.Tree.{Tree, Power}
 use Rattle.py_values.specs.Heaps.{Made}
-use Rattle.py_values.specs.declared.val.Val.{Val}
-use Rattle.py_values.specs.declared.op.PyOp.TheVariants as op
 use Rattle.py_machine.specs.declared.state.Halt.{Halt}
 use Rattle.py_machine.specs.declared.frame.Now.{Now}
 use Rattle.py_machine.specs.declared.frame.Purpose.TheVariants.{Plain}
@@ -17,7 +13,6 @@ use Rattle.py_machine.specs.declared.functions.Functions.{Functions}
 use Rattle.py_machine.specs.declared.going.Going.{Going}
 use Rattle.py_machine.specs.Doing.{Doing, Known, after, on_value}
 use Rattle.py_machine.specs.Expressions.{value_of}
-use Rattle.py_machine.specs.Parts.{prefix_of, place_of, operator_of}
 use Rattle.py_machine.specs.Begun.{value_after}
 use Rattle.py_machine.specs.declared.frame.Frame.TheVariants as frame
 use Rattle.py_machine.specs.Frames.{GoesOn, within}

@@ -1,5 +1,5 @@
 -- What a turn owes where a value of the heap costs units.
-use Rattle.std.proofs.Common.{◌≡◌, ℕ, ◌<◌, ◌≤◌, ◌+◌, ◌-◌, refl, ap, ◌∙◌, sym, subst, List, [], ◌∷◌, Option, Some, None, Result, Ok, Err, Bool, true, false, OnOk, arith}
+use Rattle.std.proofs.Common.{◌≡◌, ℕ, ◌<◌, ◌≤◌, ◌+◌, ◌-◌, refl, ap, ◌∙◌, sym, subst, List, [], ◌∷◌, Some, Result, Ok, Err, Bool, true, false, OnOk, arith}
 use Rattle.amh_host.specs.declared.place.Place.{Place}
 use Rattle.py_tree.specs.Programs.{steps_of}
 use Rattle.py_values.specs.Heaps.{Made}
@@ -14,13 +14,13 @@ use Rattle.py_values.specs.Builtins.{builtin}
 use Rattle.py_machine.specs.declared.request.Cause.TheVariants as cause
 use Rattle.py_machine.specs.declared.request.Act.TheVariants.{Operator}
 use Rattle.py_machine.specs.declared.state.Halt.{Halt}
-use Rattle.py_machine.specs.declared.state.Halt.TheVariants.{Asks, Stopped, NoMemory}
+use Rattle.py_machine.specs.declared.state.Halt.TheVariants.{Stopped, NoMemory}
 use Rattle.py_machine.specs.declared.frame.Now.{Now}
 use Rattle.py_machine.specs.declared.functions.Functions.{Functions}
 use Rattle.py_machine.specs.declared.going.Going.{Going}
 use Rattle.py_machine.specs.declared.state.State.{State}
 use Rattle.py_machine.specs.Statements.{known}
-use Rattle.py_machine.specs.Doing.{Doing, Known, spend_each, give, making, made, charging, choose}
+use Rattle.py_machine.specs.Doing.{Doing, Known, spend_each, give, made, charging, choose}
 use Rattle.py_machine.specs.Asking.{request, ask}
 use Rattle.py_machine.specs.Values.{asks_operator, sign_of, operated, turned, built}
 use Rattle.py_values.specs.declared.val.Val.TheVariants as val

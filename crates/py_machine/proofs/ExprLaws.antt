@@ -1,5 +1,5 @@
 -- What turns owe that spend units, ask for a truth, make values in the heap or bind names.
-use Rattle.std.proofs.Common.{◌≡◌, ℕ, ◌<◌, ◌≤◌, ◌+◌, ◌-◌, refl, ap, ◌∙◌, sym, subst, List, [], ◌∷◌, Option, Some, None, Result, Ok, Err, nat_lt, Bool, true, false, if◌then◌else◌, arith}
+use Rattle.std.proofs.Common.{◌≡◌, ℕ, ◌<◌, ◌≤◌, ◌+◌, ap, ◌∙◌, sym, subst, List, Some, Result, Ok, Err, nat_lt, Bool, true, false, if◌then◌else◌, arith}
 use Rattle.std.proofs.lemmas.Bool.Decides.{nat_tests}
 use Rattle.amh_host.specs.declared.place.Place.{Place}
 use Rattle.py_tree.specs.Programs.{steps_of}
@@ -7,26 +7,21 @@ use Rattle.py_tree.specs.Tree.{Tree}
 use Rattle.py_values.specs.Heaps.{Made, seen}
 use Rattle.py_values.specs.declared.val.Val.{Val}
 use Rattle.py_values.specs.declared.val.ValueStop.{ValueStop}
-use Rattle.py_values.specs.declared.val.ValueStop.TheVariants as refusal
-use Rattle.py_values.specs.Runs.{Run, Answers, Charged, paired}
+use Rattle.py_values.specs.Runs.{Answers, paired}
 use Rattle.py_values.specs.Truths.{truth}
 use Rattle.py_values.specs.Places.{new_text, new_tuple}
 use Rattle.py_values.specs.Names.{literal, scope_bound}
 use Rattle.py_values.specs.Dicts.{new_dict}
-use Rattle.py_machine.specs.declared.request.Cause.{Cause}
 use Rattle.py_machine.specs.declared.request.Cause.TheVariants as cause
 use Rattle.py_machine.specs.declared.request.Stop.{Stop}
 use Rattle.py_machine.specs.declared.state.Halt.{Halt}
 use Rattle.py_machine.specs.declared.state.Halt.TheVariants.{Asks, Stopped, NoMemory}
-use Rattle.py_machine.specs.declared.state.Got.TheVariants.{Value}
 use Rattle.py_machine.specs.declared.frame.Now.{Now}
-use Rattle.py_machine.specs.declared.frame.Now.TheVariants.{Came}
 use Rattle.py_machine.specs.declared.frame.Purpose.{Purpose}
 use Rattle.py_machine.specs.declared.functions.Functions.{Functions}
 use Rattle.py_machine.specs.declared.going.Going.{Going}
 use Rattle.py_machine.specs.Statements.{known}
-use Rattle.py_machine.specs.declared.state.State.{State}
-use Rattle.py_machine.specs.Doing.{World, Outcome, Halts, Doing, Known, spend_each, stop, give, making, made, charging, charged, heap_seen, cause_of}
+use Rattle.py_machine.specs.Doing.{World, Halts, Doing, Known, spend_each, stop, give, making, made, heap_seen, cause_of}
 use Rattle.py_machine.specs.Parts.{place_of}
 use Rattle.py_machine.specs.Values.{truth_of, by_truth, bind}
 use Rattle.py_machine.specs.Expressions.{value_of, text_literal, dict_made}

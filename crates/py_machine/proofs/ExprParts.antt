@@ -1,5 +1,5 @@
 -- The parts of a node by their number, as the code and as the meaning come to them.
-use Rattle.std.proofs.Common.{◌≡◌, ℕ, zero, suc, ◌+◌, ◌≤◌, refl, ap, ◌∙◌, sym, subst, List, [], ◌∷◌, length, Option, Some, None, map, option_map, arith}
+use Rattle.std.proofs.Common.{◌≡◌, ℕ, zero, suc, ◌+◌, ◌≤◌, refl, ap, ◌∙◌, sym, subst, List, [], ◌∷◌, length, Some, None, map, option_map, arith}
 use Rattle.std.specs.List.{slice_get}
 use Rattle.std.proofs.lemmas.Option.{slice_get_past}
 use Rattle.amh_host.specs.declared.place.Place.{Place}

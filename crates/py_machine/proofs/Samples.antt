@@ -3,19 +3,17 @@ use Rattle.std.proofs.Common.{◌≡◌, ℕ, refl, List, [], ◌∷◌, pos}
 use Rattle.std.specs.Prelude.{codes, Option, Some, None}
 use Rattle.amh_host.specs.declared.place.Place.{Place}
 use Rattle.py_tree.specs.declared.expr.Operator.TheVariants as sign
-use Rattle.py_tree.specs.Tree.{Tree, Name, Number, ListOf, Trailed, Binary, none, some, no_link, link, absent, each, no_trailer, trailer, Call, no_argument, argument, Positional}
+use Rattle.py_tree.specs.Tree.{Name, Number, ListOf, Trailed, Binary, none, some, no_link, link, absent, each, no_trailer, trailer, Call, no_argument, argument, Positional}
 use Rattle.py_tree.specs.Steps.{Steps, last, next, Assign}
 use Rattle.py_values.specs.declared.val.Val.{Val}
 use Rattle.py_values.specs.declared.val.Val.TheVariants as val
 use Rattle.py_values.specs.Heaps.{row_at, seen, nothing}
 use Rattle.py_values.specs.Names as names
-use Rattle.py_machine.specs.declared.request.Answer.{Answer}
 use Rattle.py_machine.specs.declared.request.Answer.TheVariants as answer
-use Rattle.py_machine.specs.declared.request.Cause.TheVariants as cause
 use Rattle.py_machine.specs.declared.request.Act.TheVariants as act
 use Rattle.py_machine.specs.declared.request.Act.{Act}
 use Rattle.py_machine.specs.declared.state.Halt.TheVariants as halt
-use Rattle.py_machine.specs.Doing.{World, Outcome, Done, Halts}
+use Rattle.py_machine.specs.Doing.{World, Outcome, Halts}
 use Rattle.py_machine.specs.Whole.{ask_program}
 
 abbrev pub column : ℕ → Place

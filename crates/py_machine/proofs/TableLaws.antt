@@ -1,5 +1,5 @@
 -- The functions of statements, as those of each part one after the other; and the first at a place.
-use Rattle.std.proofs.Common.{◌≡◌, ℕ, refl, ap, sym, ◌∙◌, List, [], ◌∷◌, ◌++◌, map, Option, Some, None, option_map, Bool, true, false, if◌then◌else◌}
+use Rattle.std.proofs.Common.{◌≡◌, ℕ, refl, ap, sym, ◌∙◌, List, [], ◌∷◌, ◌++◌, map, Option, Some, option_map, Bool, true, false, if◌then◌else◌}
 use Rattle.std.specs.List.{flat_map, find}
 use Rattle.amh_host.specs.declared.place.Place.{Place}
 use Rattle.py_tree.specs.declared.stmt.Stmt.{Stmt}

@@ -1,8 +1,6 @@
 -- Requests and their answers.
-use Rattle.std.specs.Prelude.{ℕ, zero, suc, ◌+◌, Bool, true, false, List, [], ◌∷◌, ◌++◌, map, slice_get, Option, Some, None}
+use Rattle.std.specs.Prelude.{ℕ, zero, suc, ◌+◌, Bool, true, false, List, [], ◌∷◌, slice_get, Option, Some, None}
 use Rattle.amh_host.specs.declared.place.Place.{Place}
-use Rattle.py_tree.specs.Tree.{Perhaps}
-use Rattle.py_tree.specs.Steps.{Body, Steps}
 use Rattle.py_values.specs.declared.val.Val.{Val}
 use Rattle.py_values.specs.declared.val.Val.TheVariants as val
 use Rattle.py_values.specs.declared.func.Func.{Func}
@@ -15,13 +13,10 @@ use Rattle.py_machine.specs.declared.request.Act.TheVariants.{Import, Attribute,
 use Rattle.py_machine.specs.declared.request.Request.{Request}
 use Rattle.py_machine.specs.declared.request.Answer.{Answer}
 use Rattle.py_machine.specs.declared.request.Answer.TheVariants as answer
-use Rattle.py_machine.specs.declared.request.NamedVal.{NamedVal}
 use Rattle.py_machine.specs.declared.request.Cause.TheVariants as cause
-use Rattle.py_machine.specs.declared.state.State.{State}
 use Rattle.py_machine.specs.declared.state.Halt.TheVariants as halt
-use Rattle.py_machine.specs.declared.state.Got.{Got}
-use Rattle.py_machine.specs.declared.state.Got.TheVariants.{Value, Bound, Through}
-use Rattle.py_machine.specs.Doing.{World, Outcome, Done, Halts, Doing, Known, heap_seen, ◌>>=◌, came, give, stop, choose, making}
+use Rattle.py_machine.specs.declared.state.Got.TheVariants.{Bound, Through}
+use Rattle.py_machine.specs.Doing.{Halts, Doing, Known, heap_seen, ◌>>=◌, came, give, stop, choose, making}
 
 abbrev pub request : Act → List Val → List (List ℕ) → Place → Request
 request act vals names place = record { act = act; vals = vals; names = names; place = place }

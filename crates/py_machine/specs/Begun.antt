@@ -1,13 +1,11 @@
 -- A node's units, and what it means once they are spent.
-use Rattle.std.specs.Prelude.{◌≡◌, ℕ, ◌+◌, ◌<◌, ◌≤◌, List, [], ◌∷◌, pos, option_map, Result, Ok, Err}
+use Rattle.std.specs.Prelude.{◌≡◌, ℕ, ◌+◌, ◌<◌, ◌≤◌, [], pos, option_map, Result, Ok, Err}
 use Rattle.amh_host.specs.declared.place.Place.{Place}
 use Rattle.py_tree.specs.Tree.{Tree, Name, Number, Decimal_time, Quotient, Str, Format, Constant_value, Tuple, Display, Dict, ListOf, DictOf, Trailed, Await, Power, Unary, Not, Binary, Compare, Boolean, Choice}
-use Rattle.py_values.specs.declared.val.Val.{Val}
 use Rattle.py_values.specs.declared.val.Val.TheVariants as val
 use Rattle.py_values.specs.declared.op.PyOp.TheVariants as op
 use Rattle.py_values.specs.Places.{new_tuple}
 use Rattle.py_machine.specs.declared.request.Cause.TheVariants.{Spent}
-use Rattle.py_machine.specs.declared.state.State.{State}
 use Rattle.py_machine.specs.declared.state.Halt.{Halt}
 use Rattle.py_machine.specs.declared.state.Halt.TheVariants.{Asks, Stopped, NoMemory}
 use Rattle.py_machine.specs.declared.going.Going.{Going}

@@ -1,31 +1,24 @@
 -- How the frames of calls, and of what trails a primary, go on.
-use Rattle.std.specs.Prelude.{ℕ, zero, suc, Bool, true, false, List, [], ◌∷◌, ◌++◌, length, Option, Some, None}
+use Rattle.std.specs.Prelude.{ℕ, zero, suc, List, [], ◌∷◌, ◌++◌, length}
 use Rattle.amh_host.specs.declared.place.Place.{Place}
-use Rattle.py_tree.specs.declared.stmt.Stmt.{Stmt}
 use Rattle.py_tree.specs.Seen.{tree}
 use Rattle.py_tree.specs.Programs.{step_of}
-use Rattle.py_tree.specs.Tree.{Tree, Trailed, Perhaps, absent, present, Trailers, no_trailer, trailer, Trailer, Attribute, Call, CallOf, Index, Slice, Arguments, no_argument, argument, Argument, Positional, Starred, Keyword}
+use Rattle.py_tree.specs.Tree.{Tree, Trailed, Perhaps, Trailers, no_trailer, trailer, Call, Slice, Arguments, no_argument, argument, Positional, Starred, Keyword}
 use Rattle.py_tree.specs.Steps.{Step, Augment}
 use Rattle.py_values.specs.declared.val.Val.{Val}
-use Rattle.py_values.specs.declared.val.Val.TheVariants as val
-use Rattle.py_values.specs.declared.val.ObjId.{ObjId}
 use Rattle.py_machine.specs.declared.request.NamedVal.{NamedVal}
 use Rattle.py_machine.specs.declared.request.Cause.TheVariants.{Raised}
-use Rattle.py_machine.specs.declared.state.State.{State}
-use Rattle.py_machine.specs.declared.state.Here.{Here}
 use Rattle.py_machine.specs.declared.state.Got.{Got}
-use Rattle.py_machine.specs.declared.frame.Purpose.{Purpose}
-use Rattle.py_machine.specs.declared.frame.Purpose.TheVariants.{Plain}
 use Rattle.py_machine.specs.declared.frame.Along.{Along}
 use Rattle.py_machine.specs.declared.frame.Along.TheVariants as along
 use Rattle.py_machine.specs.declared.frame.CallFrame.{CallFrame}
 use Rattle.py_machine.specs.declared.frame.CallFrame.TheVariants as call
-use Rattle.py_machine.specs.Doing.{Doing, Known, heap_seen, ◌>>=◌, on_value, came, give, stop}
+use Rattle.py_machine.specs.Doing.{Doing, Known, heap_seen, ◌>>=◌, on_value, give, stop}
 use Rattle.py_machine.specs.Asking.{asked, returned}
 use Rattle.py_machine.specs.Functions.{named_val}
 use Rattle.py_machine.specs.Parts.{operator_of, place_of, trailers_from, arguments_from}
 use Rattle.py_machine.specs.Values.{indexed, sliced, gone_over, on_through, attribute_in_rounds, initialised, attributes_bound, on_names, as_row}
-use Rattle.py_machine.specs.Expressions.{value_of, perhaps_value, trailed, stored, call_for, purpose_at, arguments_then, with_elements, awaited}
+use Rattle.py_machine.specs.Expressions.{perhaps_value, trailed, stored, call_for, arguments_then, with_elements, awaited}
 use Rattle.py_machine.specs.Statements.{augment_along, call_ended}
 
 -- ---- what trails a primary
@@ -34,15 +27,16 @@ abbrev pub trailers_of : Tree → Trailers
 trailers_of (Trailed p t ts) = ts
 trailers_of t = no_trailer
 
--- on, from a value, along what trails
-abbrev pub augmented_along : Known → Place → Trailers → Val → Step → Doing
-augmented_along k q ts x (Augment p target o t) = augment_along k q ts x p (operator_of o) t
-augmented_along k q ts x step = stop Raised q
+-- on, from a value, along what trails the target of a statement, behind so many
+abbrev pub augmented_along : Known → ℕ → Val → Step → Place → Doing
+augmented_along k n x (Augment p target o t) q = augment_along k (place_of target) (trailers_from n (trailers_of target)) x p (operator_of o) t
+augmented_along k n x step q = stop Raised q
 
-abbrev pub goes_along : Known → Along → Place → Trailers → Val → Doing
-goes_along k (along.Value u) p ts x = trailed k u p ts x
-goes_along k (along.Store v) p ts x = stored k p ts x v
-goes_along k (along.Augment stmt) p ts x = augmented_along k p ts x (step_of stmt)
+-- on, from a value, along what trails a node, behind so many
+abbrev pub goes_along : Known → Along → ℕ → Tree → Val → Doing
+goes_along k (along.Value u) n t x = trailed k u (place_of t) (trailers_from n (trailers_of t)) x
+goes_along k (along.Store v) n t x = stored k (place_of t) (trailers_from n (trailers_of t)) x v
+goes_along k (along.Augment stmt) n t x = augmented_along k n x (step_of stmt) (place_of t)
 
 -- ---- arguments
 
@@ -90,7 +84,7 @@ parts_then k x vs (part ∷ parts) p = do
 -- ---- what a frame does
 
 abbrev pub call_value_goes : Known → CallFrame → Val → Doing
-call_value_goes k (call.Trail node n way) v = goes_along k way (place_of (tree node)) (trailers_from n (trailers_of (tree node))) v
+call_value_goes k (call.Trail node n way) v = goes_along k way n (tree node) v
 call_value_goes k (call.Argument node j n f vs keywords u) v =
     argument_came k (place_of (tree node)) vs keywords (arguments_from n (call_arguments (trailers_from j (trailers_of (tree node))))) v (λ us names. call_for k u f us names (place_of (tree node)))
 call_value_goes k (call.Spread node j n f vs keywords u) v =

@@ -1,24 +1,22 @@
 -- How the frames of definitions go on.
-use Rattle.std.specs.Prelude.{ℕ, zero, suc, ◌+◌, Bool, true, false, List, [], ◌∷◌, ◌++◌, Option, Some, None}
+use Rattle.std.specs.Prelude.{ℕ, zero, suc, List, [], ◌∷◌, ◌++◌}
 use Rattle.amh_host.specs.declared.place.Place.{Place}
-use Rattle.py_tree.specs.Programs.{step_of, steps_of}
-use Rattle.py_tree.specs.Tree.{Tree, Perhaps, absent, present, Trailer, Call, Arguments, no_argument}
-use Rattle.py_tree.specs.Steps.{Step, Def, Class, Steps, Body, Fun, Parameter, Named, Star, Bases, no_bases, bases}
+use Rattle.py_tree.specs.Programs.{step_of}
+use Rattle.py_tree.specs.Tree.{Call, Arguments, no_argument}
+use Rattle.py_tree.specs.Steps.{Step, Def, Class, Body, Fun, Parameter, Bases, bases}
 use Rattle.py_values.specs.declared.val.Val.{Val}
 use Rattle.py_values.specs.Names.{new_func}
 use Rattle.py_machine.specs.declared.request.NamedVal.{NamedVal}
-use Rattle.py_machine.specs.declared.state.State.{State}
 use Rattle.py_machine.specs.declared.state.Here.{Here}
 use Rattle.py_machine.specs.declared.state.Got.{Got}
 use Rattle.py_machine.specs.declared.state.Got.TheVariants.{Next}
-use Rattle.py_machine.specs.declared.frame.Purpose.TheVariants.{Plain}
 use Rattle.py_machine.specs.declared.frame.DefFrame.{DefFrame}
 use Rattle.py_machine.specs.declared.frame.DefFrame.TheVariants as def
-use Rattle.py_machine.specs.Doing.{Doing, Known, heap_seen, ◌>>=◌, on_value, on_next, came, give, stop, choose, making}
-use Rattle.py_machine.specs.Own.{steps_names, body_name}
+use Rattle.py_machine.specs.Doing.{Doing, Known, heap_seen, on_value, on_next, came, making}
+use Rattle.py_machine.specs.Own.{steps_names}
 use Rattle.py_machine.specs.Parts.{arguments_from}
 use Rattle.py_machine.specs.Values.{bind}
-use Rattle.py_machine.specs.Expressions.{value_of, seen_from}
+use Rattle.py_machine.specs.Expressions.{seen_from}
 use Rattle.py_machine.specs.Statements.{defaults_then, annotations_then, dropped, new_function, base_of, class_begun, class_ended, run_all}
 use Rattle.py_machine.specs.Call_frames.{argument_came, elements_came}
 use Rattle.py_machine.specs.Whole.{body_ended}

@@ -1,5 +1,5 @@
 -- What an evaluation does: from a world and a state it comes to something and a state, or it halts.
-use Rattle.std.specs.Prelude.{◌≡◌, ℕ, zero, suc, ◌+◌, nat_lt, Bool, true, false, if◌then◌else◌, List, [], ◌∷◌, Option, Some, None, Result, Ok, Err}
+use Rattle.std.specs.Prelude.{ℕ, ◌+◌, nat_lt, Bool, true, false, if◌then◌else◌, List, Option, Some, None, Result, Ok, Err}
 use Rattle.amh_host.specs.declared.place.Place.{Place}
 use Rattle.py_tree.specs.Steps.{Steps}
 use Rattle.py_values.specs.declared.val.Val.{Val}
@@ -13,7 +13,7 @@ use Rattle.py_machine.specs.declared.request.Cause.{Cause}
 use Rattle.py_machine.specs.declared.request.Cause.TheVariants.{Raised, Width, Limit, Spent}
 use Rattle.py_machine.specs.declared.state.State.{State}
 use Rattle.py_machine.specs.declared.state.Halt.{Halt}
-use Rattle.py_machine.specs.declared.state.Halt.TheVariants.{Stopped, NoMemory}
+use Rattle.py_machine.specs.declared.state.Halt.TheVariants.{Stopped}
 use Rattle.py_machine.specs.declared.state.Got.{Got}
 use Rattle.py_machine.specs.declared.state.Got.TheVariants.{Value, Bound, Through, Next, Broke, Continued, Returned}
 

@@ -1,14 +1,12 @@
 -- How the frames of expressions go on, in the words of the meaning of expressions.
-use Rattle.std.specs.Prelude.{ℕ, zero, suc, List, [], ◌∷◌, ◌++◌, Option, Some, None}
+use Rattle.std.specs.Prelude.{ℕ, zero, suc, List, [], ◌∷◌, ◌++◌}
 use Rattle.amh_host.specs.declared.place.Place.{Place}
 use Rattle.py_tree.specs.Seen.{tree}
-use Rattle.py_tree.specs.Tree.{Tree, Tuple, Display, Dict, Power, Binary, Compare, Boolean, Choice, Trees, none, some, Links, no_link, link, Pairs, no_pair, pair}
+use Rattle.py_tree.specs.Tree.{Tree, Tuple, Display, Dict, Power, Binary, Compare, Boolean, Choice, Trees, none, Links, no_link, link, Pairs, no_pair, pair}
 use Rattle.py_values.specs.declared.val.Val.{Val}
-use Rattle.py_values.specs.declared.val.Val.TheVariants as val
 use Rattle.py_values.specs.declared.op.PyOp.TheVariants as op
 use Rattle.py_values.specs.Places.{new_tuple}
 use Rattle.py_machine.specs.declared.request.Cause.TheVariants.{Raised}
-use Rattle.py_machine.specs.declared.state.State.{State}
 use Rattle.py_machine.specs.declared.frame.Purpose.TheVariants.{Plain}
 use Rattle.py_machine.specs.declared.frame.ExprFrame.{ExprFrame}
 use Rattle.py_machine.specs.declared.frame.ExprFrame.TheVariants as expr

@@ -1,6 +1,6 @@
 -- What an expression means. Each node spends its units where it begins, before its parts; a chain of operators or of
 -- what trails a primary begins all its nodes at its first token.
-use Rattle.std.specs.Prelude.{ℕ, zero, suc, ◌+◌, ◌==◌, Bool, true, false, if◌then◌else◌, List, [], ◌∷◌, ◌++◌, length, ℤ, pos, Option, Some, None, option_map, Result, Ok, Err}
+use Rattle.std.specs.Prelude.{ℕ, zero, suc, ◌+◌, Bool, true, false, if◌then◌else◌, List, [], ◌∷◌, ◌++◌, pos, Option, Some, None, option_map, Result, Ok, Err}
 use Rattle.amh_host.specs.declared.place.Place.{Place}
 use Rattle.py_tree.specs.declared.name.Piece.{Piece}
 use Rattle.py_tree.specs.declared.name.Piece.TheVariants as piece
@@ -12,9 +12,8 @@ use Rattle.py_tree.specs.Tree.{Tree, Name, Number, Decimal_time, Quotient, Str, 
 use Rattle.py_values.specs.declared.val.Val.{Val}
 use Rattle.py_values.specs.declared.val.Val.TheVariants as val
 use Rattle.py_values.specs.declared.val.ScopeId.{ScopeId}
-use Rattle.py_values.specs.declared.op.PyOp.{PyOp}
 use Rattle.py_values.specs.declared.op.PyOp.TheVariants as op
-use Rattle.py_values.specs.Heaps.{Made, Seen, row_at}
+use Rattle.py_values.specs.Heaps.{Seen}
 use Rattle.py_values.specs.Places.{new_text, new_tuple, new_list}
 use Rattle.py_values.specs.Names.{literal, new_scope, scope_at}
 use Rattle.py_values.specs.Dicts.{new_dict}
@@ -24,19 +23,17 @@ use Rattle.py_values.specs.declared.func.Scope.{Scope}
 use Rattle.py_values.specs.declared.val.ValueStop.{ValueStop}
 use Rattle.py_machine.specs.declared.request.Act.TheVariants as act
 use Rattle.py_machine.specs.declared.request.NamedVal.{NamedVal}
-use Rattle.py_machine.specs.declared.request.Cause.TheVariants.{Raised, Limit, Spent}
-use Rattle.py_machine.specs.declared.state.State.{State}
-use Rattle.py_machine.specs.declared.state.Here.{Here}
-use Rattle.py_machine.specs.declared.state.Got.TheVariants.{Value, Next}
+use Rattle.py_machine.specs.declared.request.Cause.TheVariants.{Raised, Spent}
+use Rattle.py_machine.specs.declared.state.Got.TheVariants.{Next}
 use Rattle.py_machine.specs.declared.frame.Purpose.{Purpose}
 use Rattle.py_machine.specs.declared.frame.Purpose.TheVariants.{Plain, Named, Awaited}
-use Rattle.py_machine.specs.Doing.{Doing, Known, heap_seen, ◌>>=◌, and_then, then_do, came, give, stop, choose, with_value, spend, spend_each, making, made, cause_of}
+use Rattle.py_machine.specs.Doing.{Doing, Known, heap_seen, ◌>>=◌, and_then, came, give, stop, choose, with_value, spend, spend_each, making, cause_of}
 use Rattle.py_machine.specs.Asking.{request, ask, most}
 use Rattle.py_machine.specs.Own.{target_names}
 use Rattle.py_machine.specs.Functions.{named_val}
 use Rattle.py_machine.specs.Times.{decimal_time, divided_time}
 use Rattle.py_machine.specs.Parts.{operator_of, prefix_of, place_of, tree_count, link_count, trailer_count}
-use Rattle.py_machine.specs.Values.{bind, read, truth_of, is_thing, operated, turned, attribute, store_attribute, indexed, sliced, store_index, called, is_async, as_row, iterated}
+use Rattle.py_machine.specs.Values.{bind, read, truth_of, is_thing, operated, turned, attribute, store_attribute, indexed, sliced, store_index, called, is_async, as_row}
 
 -- ---- leaves
 

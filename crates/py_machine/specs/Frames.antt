@@ -1,8 +1,8 @@
 -- A list of frames, and what a turn of the machine owes.
-use Rattle.std.specs.Prelude.{◌≡◌, ℕ, ◌<◌, ◌≤◌, List, [], ◌∷◌, Option, Some, None, Result, Ok, Err, ⊤}
+use Rattle.std.specs.Prelude.{◌≡◌, ℕ, ◌<◌, List, [], ◌∷◌, Option, Some, None, Result, Ok, Err, ⊤}
 use Rattle.amh_host.specs.declared.place.Place.{Place}
 use Rattle.py_tree.specs.Seen.{tree}
-use Rattle.py_tree.specs.Programs.{step_of, steps_of, body_of}
+use Rattle.py_tree.specs.Programs.{step_of, steps_of}
 use Rattle.py_tree.specs.Steps.{Steps}
 use Rattle.py_values.specs.declared.val.Val.{Val}
 use Rattle.py_values.specs.declared.val.ValueStop.{ValueStop}
@@ -11,7 +11,6 @@ use Rattle.py_values.specs.Heaps.{Made}
 use Rattle.py_machine.specs.declared.request.Cause.TheVariants as cause
 use Rattle.py_machine.specs.declared.request.Stop.{Stop}
 use Rattle.py_machine.specs.declared.state.State.{State}
-use Rattle.py_machine.specs.declared.state.Here.{Here}
 use Rattle.py_machine.specs.declared.state.Halt.{Halt}
 use Rattle.py_machine.specs.declared.state.Halt.TheVariants.{Asks, Stopped, NoMemory}
 use Rattle.py_machine.specs.declared.state.Got.{Got}
@@ -49,12 +48,16 @@ abbrev pub call_room : ℕ → CallFrame → ℕ
 call_room room (call.CallEnd outer) = outer.room
 call_room room f = room
 
+abbrev pub def_room : ℕ → DefFrame → ℕ
+def_room room (def.ClassBody s base keywords outer) = outer.room
+def_room room f = room
+
 abbrev pub room_under : ℕ → Frame → ℕ
 room_under room (frame.Call f) = call_room room f
 room_under room (frame.Expr f) = room
 room_under room (frame.Walk f) = room
 room_under room (frame.Stmt f) = room
-room_under room (frame.Def f) = room
+room_under room (frame.Def f) = def_room room f
 
 -- what comes out of all frames
 abbrev pub finish : Steps → Made → ℕ → List Frame → World → Outcome → Outcome

@@ -1,9 +1,9 @@
 -- The life of a machine: what it stands for after the answers that were given, and what the next answer brings.
-use Rattle.std.specs.Prelude.{◌≡◌, ℕ, zero, suc, ◌+◌, ◌<◌, Bool, true, false, List, [], ◌∷◌, ◌++◌, length, Option, Some, None, ⊤}
+use Rattle.std.specs.Prelude.{◌≡◌, ℕ, ◌+◌, ◌<◌, List, [], ◌∷◌, ◌++◌, length, Option, Some, None, ⊤}
 use Rattle.amh_host.specs.declared.place.Place.{Place}
 use Rattle.py_tree.specs.Steps.{Steps}
 use Rattle.py_tree.specs.Programs.{steps_of}
-use Rattle.py_values.specs.Heaps.{Made}
+use Rattle.py_values.specs.Heaps.{Made, nothing}
 use Rattle.py_values.specs.declared.val.Val.{Val}
 use Rattle.py_values.specs.declared.val.Val.TheVariants as val
 use Rattle.py_machine.specs.declared.request.Act.{Act}
@@ -17,7 +17,7 @@ use Rattle.py_machine.specs.declared.state.Got.TheVariants.{Value, Bound, Throug
 use Rattle.py_machine.specs.declared.machine.Stage.{Stage}
 use Rattle.py_machine.specs.declared.machine.Stage.TheVariants as stage
 use Rattle.py_machine.specs.declared.machine.Machine.{Machine}
-use Rattle.py_machine.specs.Doing.{World, Outcome, Done, Halts, Doing, Known}
+use Rattle.py_machine.specs.Doing.{World, Done, Halts, Doing, Known}
 use Rattle.py_machine.specs.Asking.{request, answered, asked}
 use Rattle.py_machine.specs.Statements.{known}
 use Rattle.py_machine.specs.Frames.{finish, stops_as}
@@ -45,10 +45,10 @@ worth Broke = val.None
 worth Continued = val.None
 worth (Returned v) = val.None
 
--- What a machine stands for, after these answers: before the first, the program; while it waits, what the program comes to
+-- What a machine stands for, after these answers: before the first, the program, with nothing before it; while it waits, what the program comes to
 -- with each next answer, in every world that begins so and has more units than were used; and at its end, that end.
 abbrev pub StandsAs : Steps → Made → List Answer → Machine → Stage → Type 0
-StandsAs program frozen given m stage.Before = (given ≡ []) × (m.going.frames ≡ []) × (m.going.state ≡ first_state)
+StandsAs program frozen given m stage.Before = (given ≡ []) × (frozen ≡ nothing) × (m.going.frames ≡ []) × (m.going.state ≡ first_state)
 StandsAs program frozen given m (stage.Waiting act place n) =
     (m.going.state.taken ≡ length given)
     × ((w : World) (a : Answer) (more : List Answer) → m.going.state.used < w.budget → w.answers ≡ given ++ a ∷ more →

@@ -1,7 +1,6 @@
 -- The names that are a function's, a class body's or a comprehension's own: those that its code binds.
 use Rattle.std.specs.Prelude.{ℕ, List, [], ◌∷◌, ◌++◌, map, Option, Some, None}
 use Rattle.py_tree.specs.Tree.{Tree, Name, Tuple, Trees, none, some, Perhaps, absent, present}
-use Rattle.py_tree.specs.Tree as tree
 use Rattle.py_tree.specs.Steps.{Step, Pass, Break, Continue, Return, Assert, Raise, ImportAll, Import, Assign, Annotate, Augment, Evaluate, If, While, For, With, Def, Class, Steps, last, next, Branches, no_branch, branch, Otherwise, nothing_else, otherwise, Body, Fun, Import_name, Parameter, Named, Star}
 
 -- the names that a target binds, from left to right

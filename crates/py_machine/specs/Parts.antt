@@ -1,12 +1,12 @@
 -- The parts of a node by their number, as a walk comes to them one after the other.
-use Rattle.std.specs.Prelude.{ℕ, zero, suc, List, [], ◌∷◌, Option, Some, None}
+use Rattle.std.specs.Prelude.{ℕ, zero, suc}
 use Rattle.amh_host.specs.declared.place.Place.{Place}
 use Rattle.py_tree.specs.declared.expr.Operator.{Operator}
 use Rattle.py_tree.specs.declared.expr.Operator.TheVariants as sign
 use Rattle.py_tree.specs.declared.expr.Sign.{Sign}
 use Rattle.py_tree.specs.declared.expr.Sign.TheVariants as prefix
-use Rattle.py_tree.specs.Tree.{Tree, Name, Number, Decimal_time, Quotient, Str, Format, Constant_value, Tuple, Display, Dict, ListOf, DictOf, Trailed, Await, Power, Unary, Not, Binary, Compare, Boolean, Choice, Trees, none, some, Links, no_link, link, Pairs, no_pair, pair, Perhaps, absent, present, Each, each, Trailers, no_trailer, trailer, Trailer, Attribute, Call, CallOf, Index, Slice, Arguments, no_argument, argument, Argument}
-use Rattle.py_tree.specs.Steps.{Step, Steps, last, next, Branches, no_branch, branch}
+use Rattle.py_tree.specs.Tree.{Tree, Name, Number, Decimal_time, Quotient, Str, Format, Constant_value, Tuple, Display, Dict, ListOf, DictOf, Trailed, Await, Power, Unary, Not, Binary, Compare, Boolean, Choice, Trees, none, some, Links, no_link, link, Pairs, no_pair, pair, Trailers, no_trailer, trailer, Arguments, no_argument, argument}
+use Rattle.py_tree.specs.Steps.{Steps, last, next, Branches, no_branch, branch}
 use Rattle.py_values.specs.declared.op.PyOp.{PyOp}
 use Rattle.py_values.specs.declared.op.PyOp.TheVariants as op
 

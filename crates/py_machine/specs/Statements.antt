@@ -1,9 +1,7 @@
 -- What statements mean, and what a call of a function does.
-use Rattle.std.specs.Prelude.{ℕ, zero, suc, ◌+◌, ◌==◌, ◌&&◌, ◌||◌, not, Bool, true, false, List, [], ◌∷◌, ◌++◌, map, length, Option, Some, None, Result, Ok, Err, codes}
+use Rattle.std.specs.Prelude.{ℕ, zero, suc, ◌+◌, ◌==◌, ◌&&◌, ◌||◌, not, Bool, true, false, List, [], ◌∷◌, ◌++◌, map, length, Option, Some, None, codes}
 use Rattle.amh_host.specs.declared.place.Place.{Place}
-use Rattle.py_tree.specs.declared.expr.Operator.{Operator}
-use Rattle.py_tree.specs.declared.expr.Operator.TheVariants as sign
-use Rattle.py_tree.specs.Tree.{Tree, Name, Tuple, Trailed, Trees, none, some, Perhaps, absent, present, Trailers, no_trailer, trailer, Trailer, Attribute, Call, CallOf, Index, Slice, Arguments}
+use Rattle.py_tree.specs.Tree.{Tree, Name, Trailed, Trees, none, some, Perhaps, absent, present, Trailers, no_trailer, trailer, Trailer, Attribute, Call, CallOf, Index, Slice}
 use Rattle.py_tree.specs.Steps.{Step, Pass, Break, Continue, Return, Assert, Raise, ImportAll, Import, Assign, Annotate, Augment, Evaluate, If, While, For, With, Def, Class, Steps, last, next, Branches, no_branch, branch, Otherwise, nothing_else, otherwise, Body, Fun, Import_name, Parameter, Named, Star, Bases, no_bases, bases}
 use Rattle.py_values.specs.declared.val.Val.{Val}
 use Rattle.py_values.specs.declared.val.Val.TheVariants as val
@@ -25,18 +23,17 @@ use Rattle.py_values.specs.Elements.{element}
 use Rattle.py_machine.specs.declared.request.Act.TheVariants as act
 use Rattle.py_machine.specs.declared.request.NamedVal.{NamedVal}
 use Rattle.py_machine.specs.declared.request.Cause.TheVariants.{Raised, Limit, Spent, Assert as Assertion}
-use Rattle.py_machine.specs.declared.state.State.{State}
 use Rattle.py_machine.specs.declared.state.Here.{Here}
 use Rattle.py_machine.specs.declared.state.Got.{Got}
 use Rattle.py_machine.specs.declared.state.Got.TheVariants.{Value, Bound, Through, Next, Broke, Continued, Returned}
 use Rattle.py_machine.specs.declared.frame.Purpose.{Purpose}
 use Rattle.py_machine.specs.declared.frame.Purpose.TheVariants.{Plain, Named as Named_by}
-use Rattle.py_machine.specs.Doing.{Doing, Callee, Known, heap_seen, ◌>>=◌, and_then, then_do, came, give, stop, choose, spend, spend_each, making, made}
+use Rattle.py_machine.specs.Doing.{Doing, Callee, Known, heap_seen, ◌>>=◌, and_then, then_do, came, give, stop, choose, spend, spend_each, making}
 use Rattle.py_machine.specs.Asking.{request, ask, most}
 use Rattle.py_machine.specs.Own.{steps_names, function_names, imported_as}
 use Rattle.py_machine.specs.Functions.{function_at, parameters_met, named_val}
 use Rattle.py_machine.specs.Parts.{operator_of, place_of, trailer_count}
-use Rattle.py_machine.specs.Values.{bind, bind_all, read, truth_of, is_thing, operated, built, attribute, store_attribute, indexed, store_index, as_row, on_names, named_vals, named_names, with_this, sign_of}
+use Rattle.py_machine.specs.Values.{bind, bind_all, read, truth_of, is_thing, operated, built, attribute, store_attribute, indexed, store_index, as_row, on_names, named_vals, with_this, sign_of}
 use Rattle.py_machine.specs.Expressions.{value_of, perhaps_value, arguments_then, assign, trailed_one, list_of, on_element, if_row, seen_from, where_last}
 
 -- ---- imports

@@ -1,13 +1,12 @@
 -- How the frames of statements go on.
-use Rattle.std.specs.Prelude.{ℕ, zero, suc, ◌+◌, Bool, true, false, List, [], ◌∷◌, ◌++◌, Option, Some, None}
+use Rattle.std.specs.Prelude.{ℕ, zero, suc, List, [], ◌∷◌, Option, Some, None}
 use Rattle.amh_host.specs.declared.place.Place.{Place}
 use Rattle.py_tree.specs.Programs.{step_of, steps_of}
-use Rattle.py_tree.specs.Tree.{Tree, Name, Trees, none, Perhaps, absent, present}
-use Rattle.py_tree.specs.Steps.{Step, Assert, Import, Assign, Annotate, Augment, If, While, For, With, Steps, Branches, no_branch, branch, Otherwise, Import_name}
+use Rattle.py_tree.specs.Tree.{Tree, Name, Trees, none}
+use Rattle.py_tree.specs.Steps.{Step, Assert, Import, Assign, Annotate, Augment, If, While, For, With, Branches, no_branch, branch, Import_name}
 use Rattle.py_values.specs.declared.val.Val.{Val}
 use Rattle.py_values.specs.declared.op.PyOp.{PyOp}
-use Rattle.py_machine.specs.declared.request.Cause.TheVariants.{Raised, Assert as Assertion}
-use Rattle.py_machine.specs.declared.state.State.{State}
+use Rattle.py_machine.specs.declared.request.Cause.TheVariants.{Assert as Assertion}
 use Rattle.py_machine.specs.declared.state.Got.{Got}
 use Rattle.py_machine.specs.declared.state.Got.TheVariants.{Next, Returned}
 use Rattle.py_machine.specs.declared.frame.Purpose.TheVariants.{Plain}
@@ -16,7 +15,7 @@ use Rattle.py_machine.specs.declared.frame.Changed.{Changed}
 use Rattle.py_machine.specs.declared.frame.Changed.TheVariants as changed
 use Rattle.py_machine.specs.declared.frame.StmtFrame.{StmtFrame}
 use Rattle.py_machine.specs.declared.frame.StmtFrame.TheVariants as stmt
-use Rattle.py_machine.specs.Doing.{Doing, Known, ◌>>=◌, on_value, on_next, and_then, then_do, came, give, stop, choose, spend}
+use Rattle.py_machine.specs.Doing.{Doing, Known, ◌>>=◌, on_value, on_next, and_then, then_do, came, stop, choose, spend}
 use Rattle.py_machine.specs.Own.{imported_as}
 use Rattle.py_machine.specs.Parts.{operator_of, place_of, trees_from, steps_from, branches_from}
 use Rattle.py_machine.specs.Values.{bind, bind_all, truth_of, on_names, indexed, store_attribute, store_index, as_row}
@@ -47,8 +46,9 @@ abbrev pub targets_of_step : Step → Trees
 targets_of_step (Assign p ts t) = ts
 targets_of_step step = none
 
+-- the value of an annotated assignment goes to its target; what waits for that is under it
 abbrev pub annotate_stored : Known → Step → Val → Doing
-annotate_stored k (Annotate p target t e) v = and_then (assign k target v) (annotated k target t)
+annotate_stored k (Annotate p target t e) v = assign k target v
 annotate_stored k step v = came Next
 
 abbrev pub annotates : Known → Step → Doing

@@ -1,5 +1,5 @@
 -- What calls tell that are a part of a turn: a truth, and a name that is bound.
-use Rattle.std.specs.Prelude.{◌≡◌, ℕ, ◌+◌, ◌≤◌, ◌<◌, ◌-◌, Bool, Option, Some, None, Result, Ok, Err, ⊤}
+use Rattle.std.specs.Prelude.{◌≡◌, ◌+◌, Bool, Option, Some, None, Result, Ok, Err, ⊤}
 use Rattle.amh_host.specs.declared.place.Place.{Place}
 use Rattle.py_tree.specs.declared.expr.Expr.{Expr}
 use Rattle.py_tree.specs.declared.expr.Link.{Link}
@@ -10,7 +10,6 @@ use Rattle.py_tree.specs.Tree.{Tree}
 use Rattle.py_values.specs.declared.val.ValueStop.{ValueStop}
 use Rattle.py_values.specs.Heaps.{Made}
 use Rattle.py_machine.specs.declared.request.Cause.TheVariants.{Raised}
-use Rattle.py_machine.specs.declared.state.State.{State}
 use Rattle.py_machine.specs.declared.state.Halt.{Halt}
 use Rattle.py_machine.specs.declared.state.Halt.TheVariants.{Asks, Stopped, NoMemory}
 use Rattle.py_machine.specs.declared.going.Going.{Going}

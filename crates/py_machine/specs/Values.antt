@@ -1,8 +1,8 @@
 -- What is done with values, once they are there: operators, truth, indices, attributes and calls.
-use Rattle.std.specs.Prelude.{ℕ, zero, suc, ◌+◌, ◌==◌, ◌&&◌, ◌||◌, not, Bool, true, false, if◌then◌else◌, List, [], ◌∷◌, ◌++◌, map, slice_get, length, Option, Some, None, Result, Ok, Err, codes}
+use Rattle.std.specs.Prelude.{ℕ, zero, suc, ◌+◌, ◌==◌, ◌&&◌, ◌||◌, Bool, true, false, if◌then◌else◌, List, [], ◌∷◌, ◌++◌, map, length, Option, Some, None, codes}
 use Rattle.lists.specs.Texts.{text_eq}
 use Rattle.amh_host.specs.declared.place.Place.{Place}
-use Rattle.py_tree.specs.Steps.{Body, Fun, Steps}
+use Rattle.py_tree.specs.Steps.{Body, Fun}
 use Rattle.py_values.specs.declared.val.Val.{Val}
 use Rattle.py_values.specs.declared.val.Val.TheVariants as val
 use Rattle.py_values.specs.declared.val.Hw.{Hw}
@@ -19,23 +19,20 @@ use Rattle.py_values.specs.declared.scopes.LookUp.{LookUp}
 use Rattle.py_values.specs.declared.scopes.LookUp.TheVariants as lookup
 use Rattle.py_values.specs.declared.objects.Inherited.{Inherited}
 use Rattle.py_values.specs.declared.objects.Inherited.TheVariants as inherited
-use Rattle.py_values.specs.Heaps.{Made, Seen, row_at, func_at}
-use Rattle.py_values.specs.Runs.{Run, free}
+use Rattle.py_values.specs.Heaps.{Seen, row_at, func_at}
+use Rattle.py_values.specs.Runs.{free}
 use Rattle.py_values.specs.Truths.{truth}
 use Rattle.py_values.specs.Operators.{operate}
 use Rattle.py_values.specs.Builtins.{builtin}
-use Rattle.py_values.specs.Names.{literal, new_func, look_up, scope_bound}
-use Rattle.py_values.specs.Places.{new_tuple, new_list}
+use Rattle.py_values.specs.Names.{new_func, look_up, scope_bound}
 use Rattle.py_values.specs.Objects.{attributes, attribute_in, inherited as inherits, new_object, attribute_set}
 use Rattle.py_machine.specs.declared.request.Act.TheVariants.{Attribute, SetAttribute, CallThing, Index, SetIndex, Operator, Length, Iterate, InitBase}
 use Rattle.py_machine.specs.declared.request.NamedVal.{NamedVal}
-use Rattle.py_machine.specs.declared.request.Cause.TheVariants.{Raised, Limit, Spent}
-use Rattle.py_machine.specs.declared.state.State.{State}
-use Rattle.py_machine.specs.declared.state.Here.{Here}
+use Rattle.py_machine.specs.declared.request.Cause.TheVariants.{Raised, Spent}
 use Rattle.py_machine.specs.declared.state.Got.{Got}
-use Rattle.py_machine.specs.declared.state.Got.TheVariants.{Value, Bound, Through, Next, Broke, Continued, Returned}
-use Rattle.py_machine.specs.Doing.{Doing, Done, Known, heap_seen, ◌>>=◌, on_value, came, give, stop, choose, with_value, making, made, charging, then_do}
-use Rattle.py_machine.specs.Asking.{request, ask, asked, most}
+use Rattle.py_machine.specs.declared.state.Got.TheVariants.{Bound, Through, Next}
+use Rattle.py_machine.specs.Doing.{Doing, Known, heap_seen, ◌>>=◌, on_value, came, give, stop, choose, with_value, making, made, charging, then_do}
+use Rattle.py_machine.specs.Asking.{request, ask, most}
 use Rattle.py_machine.specs.Functions.{function_at}
 
 -- ---- names

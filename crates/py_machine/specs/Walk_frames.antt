@@ -1,12 +1,10 @@
 -- How the frames of comprehensions and of targets go on.
-use Rattle.std.specs.Prelude.{ℕ, zero, suc, ◌+◌, Bool, true, false, List, [], ◌∷◌, ◌++◌, length, Option, Some, None}
+use Rattle.std.specs.Prelude.{ℕ, List, [], ◌∷◌, ◌++◌, Option, Some, None}
 use Rattle.amh_host.specs.declared.place.Place.{Place}
 use Rattle.py_tree.specs.Seen.{tree}
-use Rattle.py_tree.specs.Tree.{Tree, Tuple, ListOf, DictOf, Trailed, Trees, none, Perhaps, absent, present, Each, each, Trailers, no_trailer, trailer, Trailer, CallOf}
+use Rattle.py_tree.specs.Tree.{Tree, Tuple, ListOf, DictOf, Trailed, Trees, none, Perhaps, absent, present, Each, each, Trailers, trailer, CallOf}
 use Rattle.py_values.specs.declared.val.Val.{Val}
 use Rattle.py_values.specs.declared.val.ScopeId.{ScopeId}
-use Rattle.py_machine.specs.declared.request.Cause.TheVariants.{Raised}
-use Rattle.py_machine.specs.declared.state.State.{State}
 use Rattle.py_machine.specs.declared.state.Got.{Got}
 use Rattle.py_machine.specs.declared.state.Got.TheVariants.{Next}
 use Rattle.py_machine.specs.declared.frame.Purpose.TheVariants.{Plain}
@@ -14,11 +12,11 @@ use Rattle.py_machine.specs.declared.frame.Walk.{Walk}
 use Rattle.py_machine.specs.declared.frame.Comprehended.{Comprehended}
 use Rattle.py_machine.specs.declared.frame.WalkFrame.{WalkFrame}
 use Rattle.py_machine.specs.declared.frame.WalkFrame.TheVariants as walk
-use Rattle.py_machine.specs.Doing.{Doing, Known, heap_seen, ◌>>=◌, on_value, on_next, and_then, came, give, stop, choose, making, spend_each}
+use Rattle.py_machine.specs.Doing.{Doing, Known, ◌>>=◌, on_value, on_next, and_then, came, choose, spend_each}
 use Rattle.py_machine.specs.Own.{target_names}
 use Rattle.py_machine.specs.Parts.{place_of, trees_from, trailers_from, tree_count}
 use Rattle.py_machine.specs.Values.{truth_of, store_index, as_row}
-use Rattle.py_machine.specs.Expressions.{value_of, Making, Element as More, one_more, two_more, list_made, dict_made, elements_made, made_over, made_of, where_holds, back_in, assign, assign_each, with_elements, as_many}
+use Rattle.py_machine.specs.Expressions.{value_of, Making, Element as More, one_more, two_more, list_made, dict_made, elements_made, made_over, where_holds, back_in, assign, assign_each, with_elements, as_many}
 
 -- ---- what a comprehension makes
 

@@ -1,15 +1,13 @@
 -- A whole program: what it asks after a list of answers, or how it ends, and at what cost.
-use Rattle.std.specs.Prelude.{ℕ, ◌+◌, false, List, [], ◌∷◌, ◌++◌, map, slice_get, length, Option, Some, None, codes}
+use Rattle.std.specs.Prelude.{ℕ, ◌+◌, false, List, [], ◌∷◌, ◌++◌, map, slice_get, Option, Some, None, codes}
 use Rattle.amh_host.specs.declared.place.Place.{Place}
 use Rattle.py_tree.specs.Steps.{Steps}
-use Rattle.py_values.specs.declared.val.Val.{Val}
 use Rattle.py_values.specs.declared.func.Func.{Func}
 use Rattle.py_values.specs.declared.func.Scope.{Scope}
 use Rattle.py_values.specs.declared.func.Code.TheVariants as code
 use Rattle.py_values.specs.declared.op.Builtin.{Builtin}
 use Rattle.py_values.specs.declared.op.Builtin.TheVariants as builtins
 use Rattle.py_values.specs.Heaps.{Made, nothing}
-use Rattle.py_values.specs.Bindings.{Binding}
 use Rattle.py_values.specs.Names.{bindings_at}
 use Rattle.py_machine.specs.declared.request.Act.TheVariants as act
 use Rattle.py_machine.specs.declared.request.Answer.{Answer}

@@ -46,7 +46,8 @@ impl Going {
         v: Val,
         place: Place,
     ) -> Result<(), Halt>
-        ensures { Binds result (scope_bound (seen frozen.now self.old.state.heap) self.old.state.here.scope.0 name.now v) place self.old self.new }
+        ensures binds { Binds result (scope_bound (seen frozen.now self.old.state.heap) self.old.state.here.scope.0 name.now v) place self.old self.new }
+        ensures used { self.new.state.used ≡ self.old.state.used }
     {
         let Some(bound) = self.state.bound.checked_add(1) else {
             return Err(Halt::NoMemory);

@@ -1,5 +1,6 @@
 // What is left to do: a frame for each node that waits for a part of it.
 ghost use Rattle.std.specs.Prelude.{◌≡◌, [], ◌∷◌, OnOk, MatchOption};
+ghost use Rattle.py_machine.specs.Turns.{is_alone};
 
 use crate::request::{Act, NamedVals, Request};
 use crate::state::{Got, Here};
@@ -496,6 +497,13 @@ impl Frames {
         Frames {
             items: Vec::new(alloc),
         }
+    }
+
+    /// Whether there is none.
+    pub fn is_empty(&self) -> bool
+        ensures { result ≡ is_alone self.now }
+    {
+        self.items.is_empty()
     }
 
     /// Takes the innermost frame out.

@@ -51,7 +51,7 @@ pub(crate) fn following(n: u64) -> Result<u64, NoMemory>
 }
 
 // The part of this number.
-fn part<T>(items: &[T], n: u64) -> &T
+pub(crate) fn part<T>(items: &[T], n: u64) -> &T
     requires { n < length items.now }
     ensures { slice_get items.now n ≡ Some result.now }
 {
@@ -115,7 +115,7 @@ pub(crate) fn is_trailed(e: &Expr) -> bool
 }
 
 #[tactic(auto, using(crate::proofs::ExprParts::tree_at_past, crate::proofs::ExprParts::tree_at_some))]
-fn shared_at(items: &[Expr], n: u64) -> PartAt<Expr>
+pub(crate) fn shared_at(items: &[Expr], n: u64) -> PartAt<Expr>
     ensures { FoundTree result (tree_at n (trees (map tree items.now))) }
 {
     if n >= items.len() as u64 {

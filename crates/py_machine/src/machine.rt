@@ -1,19 +1,29 @@
 // The machine: a program from its begin to its end, by the answers that it is given.
-ghost use Rattle.std.specs.Prelude.{◌≡◌, [], IfOk};
+ghost use Rattle.std.specs.Prelude.{◌≡◌, ◌<◌, ◌≤◌, ◌+◌, ◌-◌, [], IfOk, OnOk, MatchResult, None, Ok};
+ghost use Rattle.py_machine.specs.declared.state.Halt.TheVariants as halt;
+ghost use Rattle.py_machine.specs.declared.request.Turn.TheVariants as turn;
+ghost use Rattle.py_machine.specs.declared.machine.Stage.TheVariants as stage;
+ghost use Rattle.py_machine.specs.declared.frame.Now.TheVariants.{Waits};
+ghost use Rattle.py_machine.specs.Brought.{body_means, meant_by, took, turn_of, stage_of, KeepsTaken};
+ghost use Rattle.py_machine.specs.Frames.{GoesOn, now_means};
+ghost use Rattle.py_machine.specs.Tables.{IsTable};
+ghost use Rattle.py_machine.specs.Turns.{Rests};
 ghost use Rattle.py_tree.specs.Programs.{program_of};
-ghost use Rattle.py_values.specs.Heaps.{nothing, seen, text_at};
-ghost use Rattle.py_machine.specs.Lives.{IsOf, Stands};
+ghost use Rattle.py_values.specs.Heaps.{nothing, seen, row_at, text_at};
+ghost use Rattle.py_machine.specs.Lives.{IsOf, Stands, Resumed, again, worth};
 
-use crate::frame::Frames;
+use crate::frame::{DefFrame, Frame, Frames, Now};
 use crate::functions::Functions;
 use crate::going::Going;
-use crate::request::{Act, Stop};
+use crate::leaf::copied;
+use crate::request::{Act, Answer, Cause, Request, Stop, Turn};
 use crate::start::first_state;
-use crate::state::State;
-use amh_host::{NoMemory, Place};
+use crate::state::{Got, Halt, State};
+use amh_host::{Budget, NoMemory, Place, Steps};
 use py_tree::Program;
-use py_values::{Frozen, StrId, Val};
+use py_values::{Frozen, ObjId, StrId, Val};
 use std::alloc::Global;
+use std::sync::ledger::Ledger;
 
 /// Where a machine stands between two answers.
 #[derive(Drop)]
@@ -57,11 +67,122 @@ impl Machine {
         }
     }
 
+    /// Goes on by an answer, to the next request or to the end. The first answer begins the program, and each later
+    /// one is that of the request that waits. What is spent is taken from `left`; `Stopped` with `Spent` comes where the
+    /// cost reaches it. After the end, a stop or want of memory each call answers the same. Each turn ticks `steps`.
+    #[tactic(auto, using(crate::proofs::LifeLaws::resume_rules))]
+    pub fn resume<L: Ledger>(
+        &mut self,
+        program: &Program,
+        frozen: &Frozen,
+        answer: Answer,
+        left: &mut Budget,
+        steps: &mut Steps<L>,
+    ) -> Turn
+        requires of { IsOf (program_of program.now) self.old }
+        requires units { again self.old.stage ≡ None → 0 < left.old.left }
+        ensures of { IsOf (program_of program.now) self.new }
+        ensures comes { Resumed (again self.old.stage) (program_of program.now) frozen.now answer result self.old self.new left.old.left }
+        ensures left { left.new.left ≡ self.old.going.state.used + left.old.left - self.new.going.state.used }
+    {
+        if let Some(turn) = self.again() {
+            return turn;
+        }
+        let Some(budget) = self.going.state.used.checked_add(left.left) else {
+            self.stage = Stage::NoMemory;
+            return Turn::NoMemory;
+        };
+        let rest = self.going.replied(&self.functions, frozen, &self.stage, answer, budget, steps);
+        left.left = budget.saturating_sub(self.going.state.used);
+        self.rested(rest)
+    }
+
+    // What is answered once it is over: the same again.
+    fn again(&self) -> Option<Turn>
+        ensures { result ≡ again self.now.stage }
+    {
+        match &self.stage {
+            Stage::Before => None,
+            Stage::Waiting { .. } => None,
+            Stage::Ended(v) => Some(Turn::Ended(*v)),
+            Stage::Stopped(stop) => Some(Turn::Stopped(*stop)),
+            Stage::NoMemory => Some(Turn::NoMemory),
+        }
+    }
+
+    // Turns came to rest: where the machine stands, and what is told of it.
+    fn rested(&mut self, rest: Result<Now, Halt>) -> Turn
+        ensures told { result ≡ turn_of rest }
+        ensures stands { self.new ≡ record self.old { stage = stage_of rest } }
+    {
+        match rest {
+            Ok(
+                Now::Waits {
+                    request,
+                    act,
+                    rounds,
+                },
+            ) => self.asks(request, act, rounds),
+            Ok(Now::Came(got)) => self.ended(&got),
+            Err(Halt::Stopped(stop)) => self.stopped(&stop),
+            _ => {
+                self.stage = Stage::NoMemory;
+                Turn::NoMemory
+            }
+        }
+    }
+
+    // A request waits.
+    fn asks(&mut self, request: Request, act: Act, rounds: u64) -> Turn
+        ensures told { result ≡ turn_of (Ok (Waits request act rounds)) }
+        ensures stands { self.new ≡ record self.old { stage = stage_of (Ok (Waits request act rounds)) } }
+    {
+        let place = request.place;
+        if rounds == 0 {
+            return self.stopped(&Stop {
+                cause: Cause::Spent,
+                place,
+            });
+        }
+        self.stage = Stage::Waiting {
+            act,
+            place,
+            rounds: rounds - 1,
+        };
+        Turn::Asks(request)
+    }
+
+    // The program ended.
+    fn ended(&mut self, got: &Got) -> Turn
+        ensures told { result ≡ turn.Ended (worth got.now) }
+        ensures stands { self.new ≡ record self.old { stage = stage.Ended (worth got.now) } }
+    {
+        let v = worth(got);
+        self.stage = Stage::Ended(copied(&v));
+        Turn::Ended(v)
+    }
+
+    // The program stopped.
+    fn stopped(&mut self, stop: &Stop) -> Turn
+        ensures told { result ≡ turn.Stopped stop.now }
+        ensures stands { self.new ≡ record self.old { stage = stage.Stopped stop.now } }
+    {
+        self.stage = Stage::Stopped(*stop);
+        Turn::Stopped(*stop)
+    }
+
     /// A string of the machine or of what stood before it.
     pub fn text<'a>(&'a self, frozen: &'a Frozen, s: StrId) -> &'a str
         ensures { result.now ≡ text_at (seen frozen.now self.now.going.state.heap) s.0 }
     {
         self.going.state.heap.text(frozen, s)
+    }
+
+    /// The values of a list, tuple, dict, range, class or object, as `Heap::row` says.
+    pub fn items<'a>(&'a self, frozen: &'a Frozen, o: ObjId) -> &'a [Val]
+        ensures { result.now ≡ row_at (seen frozen.now self.now.going.state.heap) o.0 }
+    {
+        self.going.state.heap.row(frozen, o)
     }
 
     /// All that was made, to stand before other machines.
@@ -72,5 +193,139 @@ impl Machine {
         let Going { state, .. } = going;
         let State { heap, .. } = state;
         heap.freeze()
+    }
+}
+
+impl Going {
+    // One answer more is taken.
+    fn take(&mut self) -> Result<(), Halt>
+        ensures taken { MatchResult result (λ _. self.new ≡ took self.old) (λ e. e ≡ halt.NoMemory) }
+        ensures used { self.new.state.used ≡ self.old.state.used }
+    {
+        match self.state.taken.checked_add(1) {
+            Some(taken) => {
+                self.state.taken = taken;
+                Ok(())
+            }
+            None => Err(Halt::NoMemory),
+        }
+    }
+
+    // The file's body begins.
+    #[tactic(auto, using(crate::proofs::LifeLaws::body_goes, crate::proofs::BeginLaws::no_memory))]
+    fn file_begun(
+        &mut self,
+        functions: &Functions,
+        frozen: &Frozen,
+        budget: u64,
+    ) -> Result<Now, Halt>
+        ensures moves { GoesOn functions.now frozen.now result self.old self.new budget body_means }
+        ensures state { self.new.state ≡ self.old.state }
+    {
+        let Ok(body) = functions.program.share() else {
+            return Err(Halt::NoMemory);
+        };
+        self.block_under(
+            functions,
+            frozen,
+            &body,
+            Frame::Def(DefFrame::FileBody),
+            budget,
+        )
+    }
+
+    // What an answer begins.
+    #[tactic(auto, using(crate::proofs::LifeLaws::meant_rules, crate::proofs::BeginLaws::no_memory))]
+    fn answer_goes(
+        &mut self,
+        functions: &Functions,
+        frozen: &Frozen,
+        stage: &Stage,
+        answer: Answer,
+        budget: u64,
+    ) -> Result<Now, Halt>
+        requires room { self.old.state.used < budget }
+        requires table { IsTable functions.now }
+        ensures moves { GoesOn functions.now frozen.now result self.old self.new budget (meant_by stage.now answer) }
+        ensures left { OnOk result (self.new.state.used < budget) }
+        ensures grows { self.old.state.used ≤ self.new.state.used }
+    {
+        match stage {
+            Stage::Waiting { act, place, rounds } => {
+                self.answered(functions, frozen, *act, *place, *rounds, answer, budget)
+            }
+            Stage::Before => self.file_begun(functions, frozen, budget),
+            _ => Err(Halt::NoMemory),
+        }
+    }
+
+    // The turns that an answer brings.
+    #[tactic(auto, using(crate::proofs::LifeLaws::reply_rules, crate::proofs::BeginLaws::no_memory))]
+    fn replied<L: Ledger>(
+        &mut self,
+        functions: &Functions,
+        frozen: &Frozen,
+        stage: &Stage,
+        answer: Answer,
+        budget: u64,
+        steps: &mut Steps<L>,
+    ) -> Result<Now, Halt>
+        requires room { self.old.state.used < budget }
+        requires table { IsTable functions.now }
+        ensures moves { GoesOn functions.now frozen.now result (took self.old) self.new budget (meant_by stage.now answer) }
+        ensures rests { OnOk result (Rests result self.new) }
+        ensures left { OnOk result (self.new.state.used < budget) }
+        ensures grows { self.old.state.used ≤ self.new.state.used }
+        ensures taken { KeepsTaken result self.old self.new }
+    {
+        let before = self.state.taken;
+        let Ok(()) = self.take() else {
+            return Err(Halt::NoMemory);
+        };
+        match self.answer_goes(functions, frozen, stage, answer, budget) {
+            Err(halt) => Err(halt),
+            Ok(now) => self.rest_of(functions, frozen, now, before, budget, steps),
+        }
+    }
+
+    // Turns until they come to rest. No turn takes an answer, which no clause of theirs says: so it is looked at here.
+    #[tactic(auto, using(crate::proofs::BeginLaws::no_memory))]
+    fn rest_of<L: Ledger>(
+        &mut self,
+        functions: &Functions,
+        frozen: &Frozen,
+        now: Now,
+        before: u64,
+        budget: u64,
+        steps: &mut Steps<L>,
+    ) -> Result<Now, Halt>
+        requires room { self.old.state.used < budget }
+        requires table { IsTable functions.now }
+        ensures moves { GoesOn functions.now frozen.now result self.old self.new budget (λ k. now_means k now) }
+        ensures rests { OnOk result (Rests result self.new) }
+        ensures left { OnOk result (self.new.state.used < budget) }
+        ensures grows { self.old.state.used ≤ self.new.state.used }
+        ensures taken { OnOk result (self.new.state.taken ≡ before + 1) }
+    {
+        match self.go(functions, frozen, now, budget, steps) {
+            Err(halt) => Err(halt),
+            Ok(now) => {
+                if self.state.taken.checked_sub(before) == Some(1) {
+                    Ok(now)
+                } else {
+                    Err(Halt::NoMemory)
+                }
+            }
+        }
+    }
+}
+
+// What a program that ended is worth.
+fn worth(got: &Got) -> Val
+    ensures { result ≡ worth got.now }
+{
+    match got {
+        Got::Value(v) => *v,
+        _ => Val::None,
     }
 }

@@ -1,4 +1,4 @@
-use Rattle.std.proofs.Common.{◌≡◌, ◌∙◌, ◌≤◌, ◌++◌, ap, map, length, take_all, arith}
+use Rattle.std.proofs.Common.{◌∙◌, ◌≤◌, ◌++◌, ap, map, length, take_all, arith}
 use Rattle.std.specs.List.{flat_map}
 use Rattle.py_machine.specs.Tables.{known_body}
 use Rattle.py_machine.proofs.TableLaws.{rows_of_branch, flat_map_branches, rows_of_stmt, flat_map_stmts}

@@ -1,4 +1,4 @@
-use Rattle.std.proofs.Common.{◌≡◌, ◌∙◌, ◌≤◌, ◌++◌, ap, map, length, take_all, arith}
+use Rattle.std.proofs.Common.{◌∙◌, ◌≤◌, ◌++◌, ap, length, take_all, arith}
 use Rattle.std.specs.List.{flat_map}
 use Rattle.py_machine.proofs.OwnLaws.{names_of_branch, flat_map_branches, names_of_stmt, flat_map_stmts}
 use Rattle.py_machine.proofs.own.+block.Goals as goal

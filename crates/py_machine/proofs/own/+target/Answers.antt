@@ -1,4 +1,4 @@
-use Rattle.std.proofs.Common.{◌≡◌, ◌∙◌, ◌≤◌, ◌++◌, ap, map, length, take_all, arith}
+use Rattle.std.proofs.Common.{◌∙◌, ◌≤◌, ◌++◌, ap, length, take_all, arith}
 use Rattle.std.specs.List.{flat_map}
 use Rattle.py_machine.proofs.OwnLaws.{names_of_target, flat_map_targets}
 use Rattle.py_machine.proofs.own.+target.Goals as goal

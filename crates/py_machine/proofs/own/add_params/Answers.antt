@@ -1,4 +1,4 @@
-use Rattle.std.proofs.Common.{◌≡◌, ◌∙◌, ◌≤◌, ◌++◌, ap, map, length, take_all, arith}
+use Rattle.std.proofs.Common.{◌∙◌, ◌≤◌, ◌++◌, ap, length, take_all, arith}
 use Rattle.std.specs.List.{flat_map}
 use Rattle.py_machine.proofs.OwnLaws.{names_of_param, flat_map_params}
 use Rattle.py_machine.proofs.own.add_params.Goals as goal

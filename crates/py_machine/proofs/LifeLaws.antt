@@ -1,0 +1,216 @@
+-- What a machine stands for behind an answer, by what its turns left.
+use Rattle.std.proofs.Common.{◌≡◌, ℕ, zero, suc, ◌<◌, ◌≤◌, ◌+◌, refl, ap, ◌∙◌, sym, subst, List, [], ◌∷◌, ◌++◌, length, Some, None, Result, Ok, Err, true, true≢false, is_some, arith}
+use Rattle.std.specs.Prelude.{slice_get, OnOk}
+use Rattle.std.proofs.lemmas.List.{length-append}
+use Rattle.std.proofs.lemmas.Option.{slice_get_past}
+use Rattle.amh_host.specs.declared.place.Place.{Place}
+use Rattle.py_tree.specs.Steps.{Steps}
+use Rattle.py_tree.specs.Programs.{steps_of}
+use Rattle.py_tree.specs.declared.stmt.Block.{Block}
+use Rattle.py_values.specs.Heaps.{Made, nothing}
+use Rattle.py_machine.specs.declared.request.Act.{Act}
+use Rattle.py_machine.specs.declared.request.Answer.{Answer}
+use Rattle.py_machine.specs.declared.request.Answer.TheVariants as answer
+use Rattle.py_machine.specs.declared.request.Request.{Request}
+use Rattle.py_machine.specs.declared.request.Turn.{Turn}
+use Rattle.py_machine.specs.declared.request.Turn.TheVariants as turn
+use Rattle.py_machine.specs.declared.request.Cause.TheVariants as cause
+use Rattle.py_machine.specs.declared.state.State.{State}
+use Rattle.py_machine.specs.declared.state.Halt.{Halt}
+use Rattle.py_machine.specs.declared.state.Halt.TheVariants as halt
+use Rattle.py_machine.specs.declared.frame.Frame.{Frame}
+use Rattle.py_machine.specs.declared.frame.Frame.TheVariants as frame
+use Rattle.py_machine.specs.declared.frame.DefFrame.TheVariants as def
+use Rattle.py_machine.specs.declared.frame.Now.{Now}
+use Rattle.py_machine.specs.declared.frame.Now.TheVariants.{Begin, Run, Came, Waits}
+use Rattle.py_machine.specs.declared.functions.Functions.{Functions}
+use Rattle.py_machine.specs.declared.going.Going.{Going}
+use Rattle.py_machine.specs.declared.machine.Stage.{Stage}
+use Rattle.py_machine.specs.declared.machine.Stage.TheVariants as stage
+use Rattle.py_machine.specs.declared.machine.Machine.{Machine}
+use Rattle.py_machine.specs.Doing.{World, Outcome, Done, Halts, Known, Doing}
+use Rattle.py_machine.specs.Asking.{request, answered, asked, taken}
+use Rattle.py_machine.specs.Statements.{known, run_all}
+use Rattle.py_machine.specs.Whole.{ask_program, begun, body, first_state}
+use Rattle.py_machine.specs.Frames.{GoesOn, Moves, finish, now_means, stops_as, within}
+use Rattle.py_machine.specs.Turns.{Rests, is_alone}
+use Rattle.py_machine.specs.Lives.{IsOf, Stands, StandsAs, Brings, Resumed, again, reply, next_taken, life}
+use Rattle.py_machine.specs.Brought.{body_means, meant_by, took, turn_of, stage_of, KeepsTaken}
+use Rattle.py_machine.proofs.BeginLaws.{finish-halts, stops_as-finish}
+use Rattle.py_machine.proofs.TurnLaws.{turn_follows}
+
+-- ---- what an answer begins
+
+-- the body under the frame of the file is the body, and then its end
+pub body_goes : (fns : Functions) (frozen : Made) (r : Result Now Halt) (x y : Going) (budget : ℕ) (b : Block) → steps_of b ≡ steps_of fns.program → GoesOn fns frozen r x y budget (within (frame.Def def.FileBody) (λ k. run_all k (steps_of b))) → GoesOn fns frozen r x y budget body_means
+unfolding GoesOn
+body_goes fns frozen r x y budget b e h =
+    subst (λ (p : Steps). Moves (steps_of fns.program) frozen r y.frames y.state budget (λ w. finish (steps_of fns.program) frozen x.state.here.room x.frames w (within (frame.Def def.FileBody) (λ k. run_all k p) (known (steps_of fns.program) frozen x.state.here.room) w x.state))) e h
+
+pub waiting_means : (fns : Functions) (frozen : Made) (r : Result Now Halt) (x y : Going) (budget : ℕ) (st : Stage) (act : Act) (place : Place) (n : ℕ) (a : Answer) → st ≡ stage.Waiting act place n → GoesOn fns frozen r x y budget (λ k. answered k (asked n k act) act (request act [] [] place) a) → GoesOn fns frozen r x y budget (meant_by st a)
+waiting_means fns frozen r x y budget st act place n a e h = subst (λ z. GoesOn fns frozen r x y budget (meant_by z a)) (sym e) h
+
+pub before_means : (fns : Functions) (frozen : Made) (r : Result Now Halt) (x y : Going) (budget : ℕ) (st : Stage) (a : Answer) → st ≡ stage.Before → GoesOn fns frozen r x y budget body_means → GoesOn fns frozen r x y budget (meant_by st a)
+before_means fns frozen r x y budget st a e h = subst (λ z. GoesOn fns frozen r x y budget (meant_by z a)) (sym e) h
+
+-- ---- turns behind an answer
+
+pub replied_stops : (fns : Functions) (frozen : Made) (r : Result Now Halt) (x x2 y : Going) (budget : ℕ) (m : Known → Doing) → x2 ≡ took x → GoesOn fns frozen r x2 y budget m → GoesOn fns frozen r (took x) y budget m
+replied_stops fns frozen r x x2 y budget m e h = subst (λ g. GoesOn fns frozen r g y budget m) e h
+
+pub replied_goes : (fns : Functions) (frozen : Made) (r : Result Now Halt) (x x2 y z : Going) (budget : ℕ) (now : Now) (m : Known → Doing) → x2 ≡ took x → GoesOn fns frozen (Ok now) x2 y budget m → y.state.used < budget → y.state.used ≤ z.state.used → GoesOn fns frozen r y z budget (λ k. now_means k now) → GoesOn fns frozen r (took x) z budget m
+replied_goes fns frozen r x x2 y z budget now m e h left grows after = subst (λ g. GoesOn fns frozen r g z budget m) e (turn_follows fns frozen r x2 y z budget now m h left grows after)
+
+-- ---- lists of answers
+
+slice_get_at : {A : Type 0} (xs : List A) (b : A) (ys : List A) → slice_get (xs ++ b ∷ ys) (length xs) ≡ Some b
+slice_get_at [] b ys = refl
+slice_get_at (x ∷ xs) b ys = slice_get_at xs b ys
+
+then_more : {A : Type 0} (xs : List A) (a : A) (ys : List A) → (xs ++ a ∷ []) ++ ys ≡ xs ++ a ∷ ys
+then_more [] a ys = refl
+then_more (x ∷ xs) a ys = ap (λ zs. x ∷ zs) (then_more xs a ys)
+
+length_more : {A : Type 0} (xs : List A) (a : A) → length (xs ++ a ∷ []) ≡ length xs + 1
+length_more xs a = length-append xs (a ∷ [])
+
+-- ---- what an answer brings
+
+-- an answer is told by its place alone
+by_place : (k : Known) (n : ℕ) (act : Act) (r : Request) (b : Answer) → answered k (asked n k act) act r b ≡ reply k n act r.place b
+by_place k n act r answer.Begin = refl
+by_place k n act r (answer.Give v) = refl
+by_place k n act r (answer.GiveText text) = refl
+by_place k n act r (answer.GiveList vals) = refl
+by_place k n act r (answer.Bind names) = refl
+by_place k n act r (answer.Call callee args) = refl
+by_place k n act r (answer.Through v) = refl
+by_place k n act r (answer.Refuse why) = refl
+
+-- with no answer left a request stands
+no_answer : (k : Known) (n : ℕ) (act : Act) (r : Request) (w : World) (s : State) → slice_get w.answers s.taken ≡ None → asked (suc n) k act r w s ≡ Halts (halt.Asks r) s
+unfolding asked
+no_answer k n act r w s e = ap (λ o. taken k (asked n k act) act r o w s) e
+
+-- the next answer is taken
+one_answer : (k : Known) (n : ℕ) (act : Act) (r : Request) (w : World) (s : State) (b : Answer) → slice_get w.answers s.taken ≡ Some b → asked (suc n) k act r w s ≡ reply k n act r.place b w (next_taken s)
+unfolding asked
+one_answer k n act r w s b e = ap (λ o. taken k (asked n k act) act r o w s) e ∙ ap (λ (d : Doing). d w (next_taken s)) (by_place k n act r b)
+
+-- no function more may be begun
+none_begun : (k : Known) (act : Act) (r : Request) (w : World) (s : State) → asked zero k act r w s ≡ Halts (halt.Stopped (record { cause = cause.Spent; place = r.place })) s
+unfolding asked
+none_begun k act r w s = refl
+
+-- what comes out of a machine behind an answer
+abbrev comes_out : Functions → Made → Going → (Known → Doing) → World → Outcome
+comes_out fns frozen g m w = finish (steps_of fns.program) frozen g.state.here.room g.frames w (m (known (steps_of fns.program) frozen g.state.here.room) w (next_taken g.state))
+
+-- before the first answer
+from_begin : (program : Steps) (fns : Functions) (frozen : Made) (g : Going) (a : Answer) (w : World) (more : List Answer) → steps_of fns.program ≡ program → frozen ≡ nothing → g.frames ≡ [] → g.state ≡ first_state → w.answers ≡ a ∷ more → ask_program program w ≡ comes_out fns frozen g body_means w
+from_begin program fns frozen g a w more e1 e2 e3 e4 e5 =
+    let P : Steps → Made → List Frame → State → Outcome = λ p f fs s. finish p f s.here.room fs w (body_means (known p f s.here.room) w (next_taken s)) in
+    ap (λ (l : List Answer). begun (body program) (slice_get l 0) w first_state) e5
+    ∙ ap (λ p. P p nothing [] first_state) (sym e1)
+    ∙ ap (λ f. P (steps_of fns.program) f [] first_state) (sym e2)
+    ∙ ap (λ fs. P (steps_of fns.program) frozen fs first_state) (sym e3)
+    ∙ ap (λ s. P (steps_of fns.program) frozen g.frames s) (sym e4)
+
+-- the stages in which an answer is taken
+open_stage : (st : Stage) (v : Turn) → again st ≡ Some v → again st ≡ None → ⊥
+open_stage st v e1 e2 = true≢false (ap is_some (sym e1 ∙ e2))
+
+came_total : (program : Steps) (frozen : Made) (given : List Answer) (a : Answer) (m : Machine) (st : Stage) → IsOf program m → again st ≡ None → StandsAs program frozen given m st → (w : World) (more : List Answer) → m.going.state.used < w.budget → w.answers ≡ given ++ a ∷ more → ask_program program w ≡ comes_out m.functions frozen m.going (meant_by st a) w
+came_total program frozen given a m stage.Before of opened stands w more lt e =
+    from_begin program m.functions frozen m.going a w more of.1 stands.1 stands.2 stands.3 (e ∙ ap (λ (l : List Answer). l ++ a ∷ more) stands.0)
+came_total program frozen given a m (stage.Waiting act place n) of opened stands w more lt e =
+    stands.1 w a more lt e
+    ∙ ap (λ p. finish p frozen m.going.state.here.room m.going.frames w (reply (known p frozen m.going.state.here.room) n act place a w (next_taken m.going.state))) (sym of.1)
+came_total program frozen given a m (stage.Ended v) of opened stands w more lt e = absurd (open_stage (stage.Ended v) (turn.Ended v) refl opened)
+came_total program frozen given a m (stage.Stopped s) of opened stands w more lt e = absurd (open_stage (stage.Stopped s) (turn.Stopped s) refl opened)
+came_total program frozen given a m stage.NoMemory of opened stands w more lt e = absurd (open_stage stage.NoMemory turn.NoMemory refl opened)
+
+-- as many answers were taken as were given
+as_given : (program : Steps) (frozen : Made) (given : List Answer) (m : Machine) (st : Stage) → again st ≡ None → StandsAs program frozen given m st → m.going.state.taken ≡ length given
+as_given program frozen given m stage.Before opened stands = ap (λ (s : State). s.taken) stands.3 ∙ ap length (sym stands.0)
+as_given program frozen given m (stage.Waiting act place n) opened stands = stands.0
+as_given program frozen given m (stage.Ended v) opened stands = absurd (open_stage (stage.Ended v) (turn.Ended v) refl opened)
+as_given program frozen given m (stage.Stopped s) opened stands = absurd (open_stage (stage.Stopped s) (turn.Stopped s) refl opened)
+as_given program frozen given m stage.NoMemory opened stands = absurd (open_stage stage.NoMemory turn.NoMemory refl opened)
+
+alone : (fs : List Frame) → is_alone fs ≡ true → fs ≡ []
+alone [] e = refl
+alone (f ∷ fs) e = absurd (true≢false (sym e))
+
+-- what turns left, as it is told
+brings : (program : Steps) (frozen : Made) (given : List Answer) (a : Answer) (before : Machine) (z : Going) (budget : ℕ) (rest : Result Now Halt)
+    → IsOf program before → again before.stage ≡ None → Stands program frozen given before → before.going.state.used < budget
+    → GoesOn before.functions frozen rest (took before.going) z budget (meant_by before.stage a)
+    → before.going.state.used ≤ z.state.used → OnOk rest (Rests rest z) → KeepsTaken rest before.going z → OnOk rest (z.state.used < budget)
+    → Brings program frozen given a (turn_of rest) (record before { going = z; stage = stage_of rest }) budget
+unfolding GoesOn
+brings program frozen given a before z budget (Ok (Waits r act zero)) of opened stands room moves grows rested kept left =
+    let w : World = life given a budget in (
+      refl,
+      ap stops_as (came_total program frozen given a before before.stage of opened stands w [] room refl ∙ moves w left
+          ∙ ap (finish (steps_of before.functions.program) frozen z.state.here.room z.frames w) (none_begun (known (steps_of before.functions.program) frozen z.state.here.room) act r w z.state))
+          ∙ stops_as-finish (steps_of before.functions.program) frozen z.state.here.room z.frames w (record { cause = cause.Spent; place = r.place }) z.state,
+    )
+brings program frozen given a before z budget (Ok (Waits r act (suc n))) of opened stands room moves grows rested kept left =
+    let w : World = life given a budget in
+    let counted : z.state.taken ≡ length (given ++ a ∷ []) = kept ∙ ap (λ i. i + 1) (as_given program frozen given before before.stage opened stands) ∙ sym (length_more given a) in
+    let past : slice_get w.answers z.state.taken ≡ None = slice_get_past (given ++ a ∷ []) z.state.taken (omega (arith, counted)) in (
+      (came_total program frozen given a before before.stage of opened stands w [] room refl ∙ moves w left
+          ∙ ap (finish (steps_of before.functions.program) frozen z.state.here.room z.frames w) (no_answer (known (steps_of before.functions.program) frozen z.state.here.room) n act r w z.state past)
+          ∙ finish-halts (steps_of before.functions.program) frozen z.state.here.room z.frames w (halt.Asks r) z.state),
+      (
+        counted,
+        (λ v b more lt e.
+            came_total program frozen given a before before.stage of opened stands v (b ∷ more) (omega (arith, grows, lt)) (e ∙ then_more given a (b ∷ more)) ∙ moves v lt
+            ∙ ap (finish (steps_of before.functions.program) frozen z.state.here.room z.frames v) (one_answer (known (steps_of before.functions.program) frozen z.state.here.room) n act r v z.state b (ap (λ (l : List Answer). slice_get l z.state.taken) e ∙ ap (slice_get ((given ++ a ∷ []) ++ b ∷ more)) counted ∙ slice_get_at (given ++ a ∷ []) b more))
+            ∙ ap (λ p. finish p frozen z.state.here.room z.frames v (reply (known p frozen z.state.here.room) n act r.place b v (next_taken z.state))) of.1),
+      ),
+    )
+brings program frozen given a before z budget (Ok (Came got)) of opened stands room moves grows rested kept left = (
+  refl,
+  (λ w more lt e. (
+    got,
+    came_total program frozen given a before before.stage of opened stands w more (omega (arith, grows, lt)) (e ∙ then_more given a more) ∙ moves w lt
+        ∙ ap (λ fs. finish (steps_of before.functions.program) frozen z.state.here.room fs w (Done got z.state)) (alone z.frames rested),
+    refl,
+  )),
+)
+brings program frozen given a before z budget (Ok (Begin e purpose)) of opened stands room moves grows rested kept left = tt
+brings program frozen given a before z budget (Ok (Run s)) of opened stands room moves grows rested kept left = tt
+brings program frozen given a before z budget (Err (halt.Stopped s)) of opened stands room moves grows rested kept left =
+    let w : World = life given a budget in
+    (refl, ap stops_as (came_total program frozen given a before before.stage of opened stands w [] room refl) ∙ moves w refl)
+brings program frozen given a before z budget (Err (halt.Asks r)) of opened stands room moves grows rested kept left = tt
+brings program frozen given a before z budget (Err halt.NoMemory) of opened stands room moves grows rested kept left = tt
+
+-- ---- `resume`
+
+pub resumed_again : (program : Steps) (frozen : Made) (a : Answer) (t : Turn) (before behind : Machine) (left : ℕ) → again before.stage ≡ Some t → behind ≡ before → Resumed (again before.stage) program frozen a t before behind left
+resumed_again program frozen a t before behind left e same = subst (λ o. Resumed o program frozen a t before behind left) (sym e) (refl, same)
+
+pub resumed_none : (program : Steps) (frozen : Made) (a : Answer) (before behind : Machine) (left : ℕ) → again before.stage ≡ None → Resumed (again before.stage) program frozen a turn.NoMemory before behind left
+resumed_none program frozen a before behind left e = subst (λ o. Resumed o program frozen a turn.NoMemory before behind left) (sym e) (λ given stands. tt)
+
+pub resumed_goes : (program : Steps) (frozen : Made) (a : Answer) (t : Turn) (before behind : Machine) (left budget : ℕ) (z : Going) (rest : Result Now Halt)
+    → IsOf program before → again before.stage ≡ None → budget ≡ before.going.state.used + left → before.going.state.used < budget
+    → GoesOn before.functions frozen rest (took before.going) z budget (meant_by before.stage a)
+    → before.going.state.used ≤ z.state.used → OnOk rest (Rests rest z) → KeepsTaken rest before.going z → OnOk rest (z.state.used < budget)
+    → t ≡ turn_of rest → behind ≡ record before { going = z; stage = stage_of rest }
+    → Resumed (again before.stage) program frozen a t before behind left
+resumed_goes program frozen a t before behind left budget z rest of opened e room moves grows rested kept below told stood =
+    subst (λ o. Resumed o program frozen a t before behind left) (sym opened) (λ given stands.
+    subst (λ n. Brings program frozen given a t behind n) e
+    (subst (λ m. Brings program frozen given a t m budget) (sym stood)
+    (subst (λ u. Brings program frozen given a u (record before { going = z; stage = stage_of rest }) budget) (sym told)
+    (brings program frozen given a before z budget rest of opened stands room moves grows rested kept below))))
+
+pub ruleset reply_rules = (replied_stops, replied_goes)
+
+pub ruleset meant_rules = (waiting_means, before_means)
+
+pub ruleset resume_rules = (resumed_again, resumed_none, resumed_goes)

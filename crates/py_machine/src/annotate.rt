@@ -1,0 +1,281 @@
+// Annotated assignments: the value, and then the annotation where it is evaluated.
+ghost use Rattle.std.specs.Prelude.{◌≡◌, ◌<◌, ◌≤◌, [], ◌∷◌, ◌++◌, option_map, IfOk, OnOk};
+ghost use Rattle.std.specs.Option.{option_copied};
+ghost use Rattle.py_tree.specs.Seen.{tree};
+ghost use Rattle.py_tree.specs.Programs.{step_of};
+ghost use Rattle.py_tree.specs.Tree.{perhaps, present};
+ghost use Rattle.py_tree.specs.Steps.{Annotate};
+ghost use Rattle.py_values.specs.Heaps.{seen};
+ghost use Rattle.py_values.specs.Names.{scope_at};
+ghost use Rattle.py_machine.specs.declared.state.Got.TheVariants.{Next};
+ghost use Rattle.py_machine.specs.Doing.{came, on_next};
+ghost use Rattle.py_machine.specs.Functions.{named_val};
+ghost use Rattle.py_machine.specs.Statements.{annotated, evaluates_annotations, is_open, note};
+ghost use Rattle.py_machine.specs.Stmt_begun.{run_after, note_named};
+ghost use Rattle.py_machine.specs.Stmt_frames.{annotate_stored, annotates, notes};
+ghost use Rattle.py_machine.specs.Frames.{GoesOn};
+
+use crate::block::leaves;
+use crate::frame::{Frame, Now, StmtFrame};
+use crate::functions::Functions;
+use crate::going::Going;
+use crate::request::NamedVal;
+use crate::state::{Got, Halt};
+use crate::stmt_purpose::target_purpose;
+use amh_host::{NoMemory, Text};
+use py_tree::{Expr, ExprKind, Name, Stmt, StmtKind};
+use py_values::{Frozen, Scope, Val};
+use std::alloc::Global;
+
+// Whether annotations are evaluated in a scope.
+fn is_open(found: Option<&Scope>) -> bool
+    ensures { result ≡ is_open (option_copied found.entry) }
+{
+    match found {
+        Some(scope) => scope.is_class || scope.enclosing.is_none(),
+        None => false,
+    }
+}
+
+/// A name and its value.
+pub(crate) fn named_val(alloc: Global, name: &str, val: Val) -> Result<NamedVal, NoMemory>
+    ensures { IfOk result (λ x. x ≡ named_val name.now val) }
+{
+    let mut text = Text::new(alloc);
+    match text.push(name) {
+        Ok(()) => Ok(NamedVal { name: text, val }),
+        Err(e) => Err(e),
+    }
+}
+
+impl Going {
+    // Whether annotations are evaluated where the evaluation stands.
+    fn evaluates_annotations(&self, frozen: &Frozen) -> bool
+        ensures { result ≡ evaluates_annotations (seen frozen.now self.now.state.heap) self.now.state.here.scope }
+    {
+        is_open(self.state.heap.scope_at(frozen, self.state.here.scope))
+    }
+
+    /// An annotated assignment: its value where it has one, and then its annotation.
+    #[tactic(auto, using(crate::proofs::AnnotateLaws::begin_rules))]
+    pub(crate) fn begun_annotate(
+        &mut self,
+        functions: &Functions,
+        frozen: &Frozen,
+        s: &Stmt,
+        target: &Expr,
+        annotation: &Expr,
+        value: &Option<Expr>,
+        budget: u64,
+    ) -> Result<Now, Halt>
+        requires { step_of s.now ≡ Annotate s.now.place (tree target.now) (tree annotation.now) (perhaps (option_map tree value.now)) }
+        ensures moves { GoesOn functions.now frozen.now result self.old self.new budget (λ k. run_after k (step_of s.now)) }
+        ensures state { self.new.state ≡ self.old.state }
+    {
+        match value {
+            Some(e) => self.annotated_value(functions, frozen, s, target, annotation, e, budget),
+            None => self.annotation(functions, frozen, s, target, annotation, value, budget),
+        }
+    }
+
+    // The value, which goes to the target before the annotation.
+    #[tactic(auto, using(crate::proofs::AnnotateLaws::value_rules))]
+    fn annotated_value(
+        &mut self,
+        functions: &Functions,
+        frozen: &Frozen,
+        s: &Stmt,
+        target: &Expr,
+        _annotation: &Expr,
+        e: &Expr,
+        budget: u64,
+    ) -> Result<Now, Halt>
+        requires { step_of s.now ≡ Annotate s.now.place (tree target.now) (tree _annotation.now) (present (tree e.now)) }
+        ensures moves { GoesOn functions.now frozen.now result self.old self.new budget (λ k. run_after k (step_of s.now)) }
+        ensures state { self.new.state ≡ self.old.state }
+    {
+        let Ok(purpose) = target_purpose(target) else {
+            return Err(Halt::NoMemory);
+        };
+        let Ok(outer) = s.share() else {
+            return Err(Halt::NoMemory);
+        };
+        let Ok(stmt) = s.share() else {
+            return Err(Halt::NoMemory);
+        };
+        match self
+            .frames
+            .push(Frame::Stmt(StmtFrame::Annotating { stmt: outer }))
+        {
+            Ok(()) => self.wait_as(
+                functions,
+                frozen,
+                e,
+                purpose,
+                Frame::Stmt(StmtFrame::Annotated { stmt }),
+                budget,
+            ),
+            Err(_) => Err(Halt::NoMemory),
+        }
+    }
+
+    // The annotation, where it is evaluated.
+    #[tactic(auto, using(crate::proofs::AnnotateLaws::annotation_rules))]
+    fn annotation(
+        &mut self,
+        functions: &Functions,
+        frozen: &Frozen,
+        s: &Stmt,
+        _target: &Expr,
+        annotation: &Expr,
+        _value: &Option<Expr>,
+        budget: u64,
+    ) -> Result<Now, Halt>
+        requires { step_of s.now ≡ Annotate s.now.place (tree _target.now) (tree annotation.now) (perhaps (option_map tree _value.now)) }
+        ensures moves { GoesOn functions.now frozen.now result self.old self.new budget (λ k. annotated k (tree _target.now) (tree annotation.now)) }
+        ensures state { self.new.state ≡ self.old.state }
+    {
+        let evaluated = self.evaluates_annotations(frozen);
+        let Ok(stmt) = s.share() else {
+            return Err(Halt::NoMemory);
+        };
+        if evaluated {
+            return self.wait_for(
+                functions,
+                frozen,
+                annotation,
+                Frame::Stmt(StmtFrame::Noted { stmt }),
+                budget,
+            );
+        }
+        self.comes(functions, frozen, Got::Next, budget)
+    }
+
+    /// The value has come: it goes to the target.
+    #[tactic(auto)]
+    pub(crate) fn annotated_came(
+        &mut self,
+        functions: &Functions,
+        frozen: &Frozen,
+        s: &Stmt,
+        v: Val,
+        budget: u64,
+    ) -> Result<Now, Halt>
+        requires { self.old.state.used < budget }
+        ensures moves { GoesOn functions.now frozen.now result self.old self.new budget (λ k. annotate_stored k (step_of s.now) v) }
+        ensures left { OnOk result (self.new.state.used < budget) }
+        ensures grows { self.old.state.used ≤ self.new.state.used }
+    {
+        match &*s.kind {
+            StmtKind::Annotate {
+                target,
+                annotation: _,
+                value: _,
+            } => self.assign(functions, frozen, target, v, budget),
+            _ => self.comes(functions, frozen, Got::Next, budget),
+        }
+    }
+
+    /// The value went to the target: the annotation.
+    #[tactic(auto, using(crate::proofs::AnnotateLaws::stored_rules))]
+    pub(crate) fn annotating_left(
+        &mut self,
+        functions: &Functions,
+        frozen: &Frozen,
+        s: &Stmt,
+        got: Got,
+        budget: u64,
+    ) -> Result<Now, Halt>
+        ensures moves { GoesOn functions.now frozen.now result self.old self.new budget (λ k. on_next got (annotates k (step_of s.now))) }
+        ensures state { self.new.state ≡ self.old.state }
+    {
+        if leaves(&got) {
+            return self.comes(functions, frozen, got, budget);
+        }
+        self.annotating_on(functions, frozen, s, budget)
+    }
+
+    #[tactic(auto)]
+    fn annotating_on(
+        &mut self,
+        functions: &Functions,
+        frozen: &Frozen,
+        s: &Stmt,
+        budget: u64,
+    ) -> Result<Now, Halt>
+        ensures moves { GoesOn functions.now frozen.now result self.old self.new budget (λ k. annotates k (step_of s.now)) }
+        ensures state { self.new.state ≡ self.old.state }
+    {
+        match &*s.kind {
+            StmtKind::Annotate {
+                target,
+                annotation,
+                value,
+            } => { self.annotation(functions, frozen, s, target, annotation, value, budget) }
+            _ => self.comes(functions, frozen, Got::Next, budget),
+        }
+    }
+
+    /// The annotation has come: that of a name is kept.
+    #[tactic(auto)]
+    pub(crate) fn annotation_came(
+        &mut self,
+        functions: &Functions,
+        frozen: &Frozen,
+        s: &Stmt,
+        v: Val,
+        budget: u64,
+    ) -> Result<Now, Halt>
+        ensures moves { GoesOn functions.now frozen.now result self.old self.new budget (λ k. notes (step_of s.now) v) }
+        ensures used { self.new.state.used ≡ self.old.state.used }
+    {
+        match &*s.kind {
+            StmtKind::Annotate {
+                target,
+                annotation: _,
+                value: _,
+            } => self.note(functions, frozen, target, v, budget),
+            _ => self.comes(functions, frozen, Got::Next, budget),
+        }
+    }
+
+    #[tactic(auto)]
+    fn note(
+        &mut self,
+        functions: &Functions,
+        frozen: &Frozen,
+        target: &Expr,
+        v: Val,
+        budget: u64,
+    ) -> Result<Now, Halt>
+        ensures moves { GoesOn functions.now frozen.now result self.old self.new budget (λ k. note (tree target.now) v) }
+        ensures used { self.new.state.used ≡ self.old.state.used }
+    {
+        match &*target.kind {
+            ExprKind::Name(name) => self.note_named(functions, frozen, name, v, budget),
+            _ => self.comes(functions, frozen, Got::Next, budget),
+        }
+    }
+
+    // Keeps the annotation of a name.
+    #[tactic(auto, using(crate::proofs::AnnotateLaws::note_rules))]
+    fn note_named(
+        &mut self,
+        functions: &Functions,
+        frozen: &Frozen,
+        name: &Name,
+        v: Val,
+        budget: u64,
+    ) -> Result<Now, Halt>
+        ensures moves { GoesOn functions.now frozen.now result self.old self.new budget (λ k. note_named name.now v) }
+        ensures used { self.new.state.used ≡ self.old.state.used }
+    {
+        let Ok(noted) = named_val(self.alloc, name.as_str(), v) else {
+            return Err(Halt::NoMemory);
+        };
+        match self.state.here.notes.push(noted) {
+            Ok(()) => self.comes(functions, frozen, Got::Next, budget),
+            Err(_) => Err(Halt::NoMemory),
+        }
+    }
+}

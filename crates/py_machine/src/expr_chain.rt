@@ -1,0 +1,278 @@
+// Chains of operators, of comparisons, and of `and` or `or`, from link to link.
+ghost use Rattle.std.specs.Prelude.{◌≡◌, ◌<◌, ◌≤◌, OnOk, Option, Some};
+ghost use Rattle.py_tree.specs.declared.expr.Operator.{Operator};
+ghost use Rattle.py_tree.specs.Tree.{Tree};
+ghost use Rattle.py_machine.specs.Expr_parts.{link_at};
+ghost use Rattle.py_tree.specs.Seen.{tree};
+ghost use Rattle.py_machine.specs.Doing.{spend_each};
+ghost use Rattle.py_machine.specs.Parts.{place_of, links_from};
+ghost use Rattle.py_machine.specs.Expressions.{linked, compared, joined};
+ghost use Rattle.py_machine.specs.Expr_frames.{links_of, operand_place, first_operand, comparing, decided};
+ghost use Rattle.py_machine.specs.Frames.{GoesOn};
+
+use crate::frame::{ExprFrame, Frame, Now};
+use crate::functions::Functions;
+use crate::going::Going;
+use crate::leaf::{
+    PartAt, copied, following, goes_on, link_at, operand_place, operator_of, place_of,
+};
+use crate::state::{Got, Halt};
+use amh_host::Place;
+use py_tree::{Expr, Link};
+use py_values::{Frozen, Val};
+
+impl Going {
+    /// The operator of this number and those behind it, whose left operand has come.
+    #[tactic(auto, using(crate::proofs::BeginLaws::no_memory))]
+    pub(crate) fn next_link(
+        &mut self,
+        functions: &Functions,
+        frozen: &Frozen,
+        node: Expr,
+        n: u64,
+        left: Val,
+        budget: u64,
+    ) -> Result<Now, Halt>
+        ensures moves { GoesOn functions.now frozen.now result self.old self.new budget (λ k. linked k (place_of (tree node)) (links_from n (links_of (tree node))) left) }
+        ensures used { self.new.state.used ≡ self.old.state.used }
+    {
+        let place = place_of(&node);
+        let link = match link_at(&node, n) {
+            PartAt::NoMemory => return Err(Halt::NoMemory),
+            PartAt::Past => return Ok(Now::Came(Got::Value(left))),
+            PartAt::Part(link) => link,
+        };
+        let Ok(at) = following(n) else {
+            return Err(Halt::NoMemory);
+        };
+        let op = operator_of(link.operator);
+        let Ok(()) = self
+            .frames
+            .push(Frame::Expr(ExprFrame::Linked { node, at }))
+        else {
+            return Err(Halt::NoMemory);
+        };
+        let right = Frame::Expr(ExprFrame::Right { op, left, place });
+        self.wait_for(functions, frozen, &link.operand, right, budget)
+    }
+
+    /// The comparison of this number and those behind it, whose left operand has come.
+    #[tactic(auto, using(crate::proofs::BeginLaws::no_memory))]
+    pub(crate) fn next_comparison(
+        &mut self,
+        functions: &Functions,
+        frozen: &Frozen,
+        node: Expr,
+        n: u64,
+        left: Val,
+        budget: u64,
+    ) -> Result<Now, Halt>
+        ensures moves { GoesOn functions.now frozen.now result self.old self.new budget (λ k. compared k (place_of (tree node)) (links_from n (links_of (tree node))) left) }
+        ensures used { self.new.state.used ≡ self.old.state.used }
+    {
+        match link_at(&node, n) {
+            PartAt::NoMemory => Err(Halt::NoMemory),
+            PartAt::Past => Ok(Now::Came(Got::Value(left))),
+            PartAt::Part(link) => {
+                let frame = Frame::Expr(ExprFrame::Comparing { node, at: n, left });
+                self.wait_for(functions, frozen, &link.operand, frame, budget)
+            }
+        }
+    }
+
+    // The comparison of a link, which is there.
+    #[tactic(auto, using(crate::proofs::BeginLaws::no_memory))]
+    fn more_compared(
+        &mut self,
+        functions: &Functions,
+        frozen: &Frozen,
+        node: Expr,
+        n: u64,
+        link: &Link,
+        left: &Val,
+        right: &Val,
+        budget: u64,
+    ) -> Result<Now, Halt>
+        requires there { ◌≡◌ {A = Option (Operator × Tree)} (Some (link.now.operator, tree link.now.operand)) (link_at n (links_of (tree node))) }
+        requires room { self.old.state.used < budget }
+        ensures moves { GoesOn functions.now frozen.now result self.old self.new budget (λ k. comparing k (place_of (tree node)) (links_from n (links_of (tree node))) left.now right.now) }
+        ensures left { OnOk result (self.new.state.used < budget) }
+        ensures grows { self.old.state.used ≤ self.new.state.used }
+    {
+        let place = place_of(&node);
+        let op = operator_of(link.operator);
+        let kept = copied(right);
+        let frame = Frame::Expr(ExprFrame::Decided {
+            node,
+            at: n,
+            right: kept,
+        });
+        let Ok(()) = self.frames.push(frame) else {
+            return Err(Halt::NoMemory);
+        };
+        self.operated(functions, frozen, op, left, right, place, budget)
+    }
+
+    /// The comparison of this number, both of whose operands have come.
+    #[tactic(auto, using(crate::proofs::BeginLaws::no_memory))]
+    pub(crate) fn comparing(
+        &mut self,
+        functions: &Functions,
+        frozen: &Frozen,
+        node: Expr,
+        n: u64,
+        left: Val,
+        right: Val,
+        budget: u64,
+    ) -> Result<Now, Halt>
+        requires { self.old.state.used < budget }
+        ensures moves { GoesOn functions.now frozen.now result self.old self.new budget (λ k. comparing k (place_of (tree node)) (links_from n (links_of (tree node))) left right) }
+        ensures left { OnOk result (self.new.state.used < budget) }
+        ensures grows { self.old.state.used ≤ self.new.state.used }
+    {
+        match link_at(&node, n) {
+            PartAt::NoMemory => Err(Halt::NoMemory),
+            PartAt::Past => Ok(Now::Came(Got::Value(left))),
+            PartAt::Part(link) => {
+                self.more_compared(functions, frozen, node, n, &link, &left, &right, budget)
+            }
+        }
+    }
+
+    // The comparison of this number is begun, since the one before it holds.
+    #[tactic(auto, using(crate::proofs::ExprLaws::spent_goes, crate::proofs::ExprLaws::spent_stops))]
+    fn begun_comparison(
+        &mut self,
+        functions: &Functions,
+        frozen: &Frozen,
+        node: Expr,
+        n: u64,
+        left: Val,
+        place: Place,
+        budget: u64,
+    ) -> Result<Now, Halt>
+        requires { self.old.state.used < budget }
+        ensures moves { GoesOn functions.now frozen.now result self.old self.new budget (λ k. spend_each 1 place (compared k (place_of (tree node)) (links_from n (links_of (tree node))) left)) }
+        ensures left { OnOk result (self.new.state.used < budget) }
+        ensures grows { self.old.state.used ≤ self.new.state.used }
+    {
+        match self.spend(1, place, budget) {
+            Err(halt) => Err(halt),
+            Ok(()) => self.next_comparison(functions, frozen, node, n, left, budget),
+        }
+    }
+
+    // The same, where there is a comparison of this number.
+    #[tactic(auto, using(crate::proofs::ExprChains::decide_stops, crate::proofs::ExprChains::decide_ends_so, crate::proofs::ExprChains::decide_goes_so))]
+    fn more_decided(
+        &mut self,
+        functions: &Functions,
+        frozen: &Frozen,
+        node: Expr,
+        n: u64,
+        _link: &Link,
+        right: Val,
+        gave: Val,
+        budget: u64,
+    ) -> Result<Now, Halt>
+        requires there { ◌≡◌ {A = Option (Operator × Tree)} (Some (_link.now.operator, tree _link.now.operand)) (link_at n (links_of (tree node))) }
+        requires room { self.old.state.used < budget }
+        ensures moves { GoesOn functions.now frozen.now result self.old self.new budget (λ k. decided k (place_of (tree node)) (links_from n (links_of (tree node))) right gave) }
+        ensures left { OnOk result (self.new.state.used < budget) }
+        ensures grows { self.old.state.used ≤ self.new.state.used }
+    {
+        let place = place_of(&node);
+        match self.truth_of(frozen, &gave, place) {
+            Err(halt) => Err(halt),
+            Ok(holds) => {
+                if !holds {
+                    return Ok(Now::Came(Got::Value(gave)));
+                }
+                self.begun_comparison(functions, frozen, node, n, right, place, budget)
+            }
+        }
+    }
+
+    /// What the comparison before the one of this number gave decides whether the chain goes on.
+    #[tactic(auto, using(crate::proofs::ExprChains::decide_last, crate::proofs::BeginLaws::no_memory))]
+    pub(crate) fn decided(
+        &mut self,
+        functions: &Functions,
+        frozen: &Frozen,
+        node: Expr,
+        n: u64,
+        right: Val,
+        gave: Val,
+        budget: u64,
+    ) -> Result<Now, Halt>
+        requires { self.old.state.used < budget }
+        ensures moves { GoesOn functions.now frozen.now result self.old self.new budget (λ k. decided k (place_of (tree node)) (links_from n (links_of (tree node))) right gave) }
+        ensures left { OnOk result (self.new.state.used < budget) }
+        ensures grows { self.old.state.used ≤ self.new.state.used }
+    {
+        match link_at(&node, n) {
+            PartAt::NoMemory => Err(Halt::NoMemory),
+            PartAt::Past => Ok(Now::Came(Got::Value(gave))),
+            PartAt::Part(link) => {
+                self.more_decided(functions, frozen, node, n, &link, right, gave, budget)
+            }
+        }
+    }
+
+    // The same, where there is a link of this number.
+    #[tactic(auto, using(crate::proofs::ExprChains::join_stops, crate::proofs::ExprChains::join_ends, crate::proofs::ExprChains::join_goes, crate::proofs::BeginLaws::no_memory))]
+    fn more_joined(
+        &mut self,
+        functions: &Functions,
+        frozen: &Frozen,
+        node: Expr,
+        n: u64,
+        link: &Link,
+        left: Val,
+        budget: u64,
+    ) -> Result<Now, Halt>
+        requires { ◌≡◌ {A = Option (Operator × Tree)} (Some (link.now.operator, tree link.now.operand)) (link_at n (links_of (tree node))) }
+        ensures moves { GoesOn functions.now frozen.now result self.old self.new budget (λ k. joined k (operand_place n (first_operand (tree node)) (links_of (tree node))) (links_from n (links_of (tree node))) left) }
+        ensures used { self.new.state.used ≡ self.old.state.used }
+    {
+        let Ok(at) = following(n) else {
+            return Err(Halt::NoMemory);
+        };
+        let Ok(place) = operand_place(&node, n) else {
+            return Err(Halt::NoMemory);
+        };
+        match self.truth_of(frozen, &left, place) {
+            Err(halt) => Err(halt),
+            Ok(holds) => {
+                if !goes_on(link.operator, holds) {
+                    return Ok(Now::Came(Got::Value(left)));
+                }
+                let frame = Frame::Expr(ExprFrame::Joined { node, at });
+                self.wait_for(functions, frozen, &link.operand, frame, budget)
+            }
+        }
+    }
+
+    /// The `and` or `or` of this number and those behind it, whose left operand has come.
+    #[tactic(auto, using(crate::proofs::ExprChains::join_none, crate::proofs::BeginLaws::no_memory))]
+    pub(crate) fn next_joined(
+        &mut self,
+        functions: &Functions,
+        frozen: &Frozen,
+        node: Expr,
+        n: u64,
+        left: Val,
+        budget: u64,
+    ) -> Result<Now, Halt>
+        ensures moves { GoesOn functions.now frozen.now result self.old self.new budget (λ k. joined k (operand_place n (first_operand (tree node)) (links_of (tree node))) (links_from n (links_of (tree node))) left) }
+        ensures used { self.new.state.used ≡ self.old.state.used }
+    {
+        match link_at(&node, n) {
+            PartAt::NoMemory => Err(Halt::NoMemory),
+            PartAt::Past => Ok(Now::Came(Got::Value(left))),
+            PartAt::Part(link) => {
+                self.more_joined(functions, frozen, node, n, &link, left, budget)
+            }
+        }
+    }
+}

@@ -1,0 +1,34 @@
+// The scope that the functions and comprehensions of a body see.
+ghost use Rattle.std.specs.Prelude.{◌≡◌};
+ghost use Rattle.std.specs.Option.{option_copied};
+ghost use Rattle.py_values.specs.Heaps.{seen};
+ghost use Rattle.py_machine.specs.Expressions.{seen_from, seen_of};
+
+use crate::going::Going;
+use py_values::{Frozen, Scope, ScopeId};
+
+// The scope that the functions of a body see.
+fn seen_of(found: Option<&Scope>, here: ScopeId) -> Option<ScopeId>
+    ensures { result ≡ seen_of (option_copied found.entry) here }
+{
+    match found {
+        Some(scope) => {
+            if scope.is_class {
+                scope.enclosing
+            } else {
+                Some(here)
+            }
+        }
+        None => Some(here),
+    }
+}
+
+impl Going {
+    /// The scope that what is made where the evaluation stands sees: of a class body the one that encloses it.
+    pub(crate) fn seen_from(&self, frozen: &Frozen) -> Option<ScopeId>
+        ensures { result ≡ seen_from (seen frozen.now self.now.state.heap) self.now.state.here.scope }
+    {
+        let here = self.state.here.scope;
+        seen_of(self.state.heap.scope_at(frozen, here), here)
+    }
+}
