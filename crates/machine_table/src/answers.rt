@@ -1,0 +1,80 @@
+// Answers of the table.
+ghost use Rattle.std.specs.Prelude.{◌≡◌, MatchResult};
+ghost use Rattle.py_machine.specs.declared.request.Cause.{Cause};
+ghost use Rattle.machine_table.specs.Words.{word_of};
+
+use crate::escapes::text_of;
+use crate::requests::Requests;
+use crate::stop::Stop;
+use crate::values::value_of;
+use crate::words::{split_first, words_of};
+use amh_host::Text;
+use py_machine::{Answer, Cause, NamedVal, NamedVals};
+use py_values::Vals;
+use std::alloc::Global;
+
+/// The answer that words stand for, behind these requests.
+pub fn answer_of(alloc: Global, requests: &Requests, spelled: &str) -> Result<Answer, Stop> {
+    let words = words_of(alloc, spelled)?;
+    let Some((kind, rest)) = split_first(words.as_slice()) else {
+        return Err(Stop::NoCase);
+    };
+    match (kind, rest) {
+        ("begin", []) => Ok(Answer::Begin),
+        ("give", [v]) => Ok(Answer::Give(value_of(requests, v)?)),
+        ("text", [text]) => Ok(Answer::GiveText(text_named(alloc, text)?)),
+        ("list", vals) => Ok(Answer::GiveList(values(alloc, requests, vals)?)),
+        ("bind", names) => Ok(Answer::Bind(named_values(alloc, requests, names)?)),
+        ("call", [callee, args @ ..]) => Ok(Answer::Call {
+            callee: value_of(requests, callee)?,
+            args: values(alloc, requests, args)?,
+        }),
+        ("through", [v]) => Ok(Answer::Through(value_of(requests, v)?)),
+        ("refuse", [why]) => Ok(Answer::Refuse(cause_of(why)?)),
+        _ => Err(Stop::NoCase),
+    }
+}
+
+fn text_named(alloc: Global, spelled: &str) -> Result<Text, Stop> {
+    let mut text = Text::new(alloc);
+    text.push(text_of(alloc, spelled)?.as_str())?;
+    Ok(text)
+}
+
+fn values(alloc: Global, requests: &Requests, words: &[&str]) -> Result<Vals, Stop> {
+    let mut vals = Vals::new(alloc);
+    for word in words {
+        vals.push(value_of(requests, word)?)?;
+    }
+    Ok(vals)
+}
+
+// Names, each with its value behind it.
+fn named_values(alloc: Global, requests: &Requests, words: &[&str]) -> Result<NamedVals, Stop> {
+    let mut named = NamedVals::new(alloc);
+    let mut rest = words;
+    while let [name, v, behind @ ..] = rest {
+        let name = text_named(alloc, name)?;
+        let val = value_of(requests, v)?;
+        named.push(NamedVal { name, val })?;
+        rest = behind;
+    }
+    if rest.is_empty() {
+        Ok(named)
+    } else {
+        Err(Stop::NoCase)
+    }
+}
+
+fn cause_of(word: &str) -> Result<Cause, Stop>
+    ensures { MatchResult result (λ why. word.now ≡ word_of why) (λ _. (why : Cause) → word.now ≡ word_of why → ⊥) }
+{
+    match word {
+        "raised" => Ok(Cause::Raised),
+        "width" => Ok(Cause::Width),
+        "limit" => Ok(Cause::Limit),
+        "assert" => Ok(Cause::Assert),
+        "spent" => Ok(Cause::Spent),
+        _ => Err(Stop::NoCase),
+    }
+}

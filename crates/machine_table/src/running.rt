@@ -1,0 +1,142 @@
+// A run of a program by its answers.
+ghost use Rattle.std.specs.Prelude.{◌≡◌, ◌<◌, ◌++◌, max, IfOk, codes, string_bytes};
+ghost use Rattle.py_tree.specs.Programs.{program_of};
+ghost use Rattle.py_machine.specs.Lives.{IsOf, Resumed, again};
+ghost use Rattle.machine_table.specs.Words.{place_said};
+
+use crate::answers::answer_of;
+use crate::question::Question;
+use crate::requests::Requests;
+use crate::said::{end_said, request_said, stop_said};
+use crate::stop::Stop;
+use amh_host::{Budget, Place, Steps};
+use py_lexer::{LexStop, cut_lines};
+use py_machine::{Answer, Machine, Turn};
+use py_parser::{ParseStop, parse};
+use py_tree::Program;
+use py_values::Frozen;
+use std::alloc::Global;
+use std::marker::Brand;
+use std::sync::ledger::{Blank, Ledger};
+
+/// How many bytes a program may have.
+const MOST: usize = 1_048_576;
+
+/// What came of a question.
+pub fn said_of(alloc: Global, question: &Question) -> Result<String, Stop> {
+    let text = question.program.as_str();
+    if text.len() > MOST || question.budget == 0 {
+        return Err(Stop::NoCase);
+    }
+    let lines = match cut_lines(alloc, text) {
+        Ok(lines) => lines,
+        Err(LexStop::Subset(place)) => return refused(alloc, place),
+        Err(LexStop::NoMemory) => return Err(Stop::NoMemory),
+    };
+    match parse(alloc, text, &lines) {
+        Ok(program) => counted_run::<Brand>(alloc, question, &program, Blank::new(1)),
+        Err(ParseStop::Subset(place)) => refused(alloc, place),
+        Err(ParseStop::NoMemory) => Err(Stop::NoMemory),
+    }
+}
+
+fn refused(alloc: Global, place: Place) -> Result<String, Stop>
+    ensures { IfOk result (λ said. string_bytes said ≡ codes "refused " ++ place_said place) }
+{
+    Ok(format!(in alloc; "refused {}:{}", place.line, place.col)?)
+}
+
+// The ledger of the counter is picked at the call, so the counter is made below it.
+fn counted_run<L: Ledger>(
+    alloc: Global,
+    question: &Question,
+    program: &Program,
+    blank: Blank,
+) -> Result<String, Stop>
+    requires { (blank.name ≡ L.name) × (blank.parts ≡ L.parts) × (0 < L.parts) }
+{
+    let mut run = Run {
+        alloc,
+        program,
+        frozen: Frozen::empty(alloc),
+        machine: Machine::start(alloc, program)?,
+        requests: Requests::new(alloc),
+        left: Budget {
+            left: question.budget,
+        },
+        steps: Steps::<L>::new(blank),
+    };
+    let said = run.said(question.answers)?;
+    let cost = question.budget.saturating_sub(run.left.left);
+    Ok(format!(in alloc; "{said} cost {cost}")?)
+}
+
+// A program that runs, what it asked so far, and how many units are left.
+#[derive(Drop)]
+struct Run<'a, L: Ledger> {
+    alloc: Global,
+    program: &'a Program,
+    frozen: Frozen,
+    machine: Machine,
+    requests: Requests,
+    left: Budget,
+    steps: Steps<L>,
+}
+
+impl<L: Ledger> Run<'_, L> {
+    // What comes of all answers.
+    fn said(&mut self, answers: &str) -> Result<String, Stop>
+        requires { IsOf (program_of self.old.program.now) self.old.machine }
+    {
+        let mut said = self.said_after(Answer::Begin)?;
+        if answers.is_empty() {
+            return Ok(said);
+        }
+        for spelled in answers.split(';') {
+            let answer = answer_of(self.alloc, &self.requests, spelled)?;
+            said.push_str(" / ")?;
+            said.push_str(self.said_after(answer)?.as_str())?;
+        }
+        Ok(said)
+    }
+
+    // What comes of an answer.
+    fn said_after(&mut self, answer: Answer) -> Result<String, Stop>
+        requires { IsOf (program_of self.old.program.now) self.old.machine }
+        ensures { IsOf (program_of self.new.program.now) self.new.machine }
+    {
+        match self.turn_after(answer) {
+            Turn::Asks(request) => {
+                let said = request_said(self.alloc, &self.machine, &self.frozen, &request)?;
+                self.requests.push(request)?;
+                Ok(said)
+            }
+            Turn::Ended(v) => end_said(self.alloc, &self.machine, &self.frozen, v),
+            Turn::Stopped(stop) => stop_said(self.alloc, stop),
+            Turn::NoMemory => Ok(String::from_str(self.alloc, "no memory")?),
+        }
+    }
+
+    // What an answer brings. Where no unit is left the program has stopped, and a unit is lent that it does not spend.
+    fn turn_after(&mut self, answer: Answer) -> Turn
+        requires { IsOf (program_of self.old.program.now) self.old.machine }
+        ensures of { IsOf (program_of self.new.program.now) self.new.machine }
+        ensures comes { Resumed (again self.old.machine.stage) (program_of self.old.program.now) self.old.frozen answer result self.old.machine self.new.machine (max 1 self.old.left.left) }
+    {
+        let is_lent = self.left.left == 0;
+        if is_lent {
+            self.left.left = 1;
+        }
+        let turn = self.machine.resume(
+            self.program,
+            &self.frozen,
+            answer,
+            &mut self.left,
+            &mut self.steps,
+        );
+        if is_lent {
+            self.left.left = 0;
+        }
+        turn
+    }
+}
