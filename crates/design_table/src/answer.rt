@@ -23,12 +23,12 @@ pub fn answer(alloc: Global, lines: &[String]) -> Result<String, Stop> {
 }
 
 fn lines_said(alloc: Global, lines: &[String]) -> Result<String, Stop> {
-    let design = read_design(alloc, lines)?;
-    design_said(alloc, &design, lines)
+    let judged = read_design(alloc, lines)?;
+    design_said(alloc, &judged.design, lines)
 }
 
-// The name of a design, which stands in its first line.
-fn name_of(alloc: Global, lines: &[String]) -> Result<String, Stop> {
+/// The name of a design, which stands in its first line.
+pub fn name_of(alloc: Global, lines: &[String]) -> Result<String, Stop> {
     let [first, ..] = lines else {
         return Err(Stop::NoCase);
     };

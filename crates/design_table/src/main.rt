@@ -1,8 +1,9 @@
-//! What `rank` and the simulator say of a table of small designs.
+//! What `rank`, the simulator and the lowering say of a table of small designs.
 //!
 //! Standard input is designs in a plain notation of lines, each ended by the line `done`, and for each design the program
 //! writes one line: its name and the answer. bench/design_table.py writes stdin and stdout from the tables of bench/designs,
-//! where each answer was worked out by hand.
+//! where each answer was worked out by hand. With a word behind the command the program writes the RTLIL text of each
+//! accepted design that `lower` takes, under a line with its name.
 //!
 //! The lines of a design, by their first words:
 //!
@@ -21,10 +22,9 @@
 //! 1, and the column of its first letter.
 //!
 //! The answer is `accepted`, the number of bits on the longest chain and the number of bits in the order, for each `chain`
-//! line `chained` or `apart`, for each `order` line the bits, and for each `show` line the numbers; or `loop NAME.BIT
-//! LINE:COL`; or `no case` for lines that are no design. Left out are memories, resets and more than one
-//! domain. What `rank` and `Sim` say is what they promise; that a design keeps the rules that `Design::new` asks for is
-//! tested and proved in sound.rt.
+//! line `chained` or `apart`, for each `order` line the bits, and for each `show` line the numbers; or `loop NAME.BIT LINE:COL`; or `no case` for lines
+//! that are no design. Left out are memories, resets and more than one domain. What `rank`, `Sim` and `lower` say is
+//! what they promise; that a design keeps the rules that `Design::new` asks for is tested and proved in sound.rt.
 #![tactic(auto)]
 
 mod answer;
@@ -41,14 +41,18 @@ mod signals;
 mod sound;
 mod stop;
 mod tables;
+mod texts;
 
 use answer::answer;
 use std::alloc::Global;
+use std::env::Env;
 use std::io;
 use stop::Stop;
+use texts::text;
 
 fn main(rt: HostRuntime) -> io::Result<()> {
     let alloc = rt.alloc();
+    let wants_texts = has_word(&rt)?;
     let mut lines = Vec::new(alloc);
     for line in rt.lines(alloc) {
         let line = line?;
@@ -56,16 +60,26 @@ fn main(rt: HostRuntime) -> io::Result<()> {
             lines.push(line)?;
             continue;
         }
-        let said = said_of(alloc, lines.as_slice())?;
+        let said = said_of(alloc, wants_texts, lines.as_slice())?;
         println!(rt; "{said}")?;
         lines = Vec::new(alloc);
     }
     Ok(())
 }
 
+// Whether a word stands behind the command.
+fn has_word<R: Env + Alloc>(rt: &R) -> io::Result<bool> {
+    Ok(std::env::args(rt)?.skip(1).next().is_some())
+}
+
 // What is said of a design.
-fn said_of(alloc: Global, lines: &[String]) -> io::Result<String> {
-    match answer(alloc, lines) {
+fn said_of(alloc: Global, wants_texts: bool, lines: &[String]) -> io::Result<String> {
+    let said = if wants_texts {
+        text(alloc, lines)
+    } else {
+        answer(alloc, lines)
+    };
+    match said {
         Ok(said) => Ok(said),
         Err(Stop::NoCase) => Ok(String::from_str(alloc, "no case")?),
         Err(Stop::NoMemory) => Err(io::ErrorKind::OutOfMemory.into()),
