@@ -1,7 +1,7 @@
 -- What the requests that came so far have.
 use Rattle.std.specs.Prelude.{ℕ, List, Option, None, Some, slice_get}
 use Rattle.py_values.specs.declared.val.Val.{Val}
-use Rattle.py_machine.specs.declared.request.Request.{Request}
+use Rattle.py_frames.specs.declared.request.Request.{Request}
 
 -- a value of a request, where there is one
 abbrev pub value_in : Option Request → ℕ → Option Val

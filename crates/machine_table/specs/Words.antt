@@ -2,8 +2,8 @@
 use Rattle.std.specs.Prelude.{ℕ, List, ◌++◌, codes}
 use Rattle.std.specs.Fmt.{decimal}
 use Rattle.amh_host.specs.declared.place.Place.{Place}
-use Rattle.py_machine.specs.declared.request.Cause.{Cause}
-use Rattle.py_machine.specs.declared.request.Cause.TheVariants.{Raised, Width, Limit, Assert, Spent}
+use Rattle.py_frames.specs.declared.request.Cause.{Cause}
+use Rattle.py_frames.specs.declared.request.Cause.TheVariants.{Raised, Width, Limit, Assert, Spent}
 
 abbrev pub word_of : Cause → List ℕ
 word_of Raised = codes "raised"

@@ -1,6 +1,6 @@
 // Answers of the table.
 ghost use Rattle.std.specs.Prelude.{◌≡◌, MatchResult};
-ghost use Rattle.py_machine.specs.declared.request.Cause.{Cause};
+ghost use Rattle.py_frames.specs.declared.request.Cause.{Cause};
 ghost use Rattle.machine_table.specs.Words.{word_of};
 
 use crate::escapes::text_of;

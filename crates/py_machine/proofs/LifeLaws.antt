@@ -8,35 +8,35 @@ use Rattle.py_tree.specs.Steps.{Steps}
 use Rattle.py_tree.specs.Programs.{steps_of}
 use Rattle.py_tree.specs.declared.stmt.Block.{Block}
 use Rattle.py_values.specs.Heaps.{Made, nothing}
-use Rattle.py_machine.specs.declared.request.Act.{Act}
-use Rattle.py_machine.specs.declared.request.Answer.{Answer}
-use Rattle.py_machine.specs.declared.request.Answer.TheVariants as answer
-use Rattle.py_machine.specs.declared.request.Request.{Request}
-use Rattle.py_machine.specs.declared.request.Turn.{Turn}
-use Rattle.py_machine.specs.declared.request.Turn.TheVariants as turn
-use Rattle.py_machine.specs.declared.request.Cause.TheVariants as cause
-use Rattle.py_machine.specs.declared.state.State.{State}
-use Rattle.py_machine.specs.declared.state.Halt.{Halt}
-use Rattle.py_machine.specs.declared.state.Halt.TheVariants as halt
-use Rattle.py_machine.specs.declared.frame.Frame.{Frame}
-use Rattle.py_machine.specs.declared.frame.Frame.TheVariants as frame
-use Rattle.py_machine.specs.declared.frame.DefFrame.TheVariants as def
-use Rattle.py_machine.specs.declared.frame.Now.{Now}
-use Rattle.py_machine.specs.declared.frame.Now.TheVariants.{Begin, Run, Came, Waits}
-use Rattle.py_machine.specs.declared.functions.Functions.{Functions}
-use Rattle.py_machine.specs.declared.going.Going.{Going}
+use Rattle.py_frames.specs.declared.request.Act.{Act}
+use Rattle.py_frames.specs.declared.request.Answer.{Answer}
+use Rattle.py_frames.specs.declared.request.Answer.TheVariants as answer
+use Rattle.py_frames.specs.declared.request.Request.{Request}
+use Rattle.py_frames.specs.declared.request.Turn.{Turn}
+use Rattle.py_frames.specs.declared.request.Turn.TheVariants as turn
+use Rattle.py_frames.specs.declared.request.Cause.TheVariants as cause
+use Rattle.py_frames.specs.declared.state.State.{State}
+use Rattle.py_frames.specs.declared.state.Halt.{Halt}
+use Rattle.py_frames.specs.declared.state.Halt.TheVariants as halt
+use Rattle.py_frames.specs.declared.frame.Frame.{Frame}
+use Rattle.py_frames.specs.declared.frame.Frame.TheVariants as frame
+use Rattle.py_frames.specs.declared.frame.DefFrame.TheVariants as def
+use Rattle.py_frames.specs.declared.frame.Now.{Now}
+use Rattle.py_frames.specs.declared.frame.Now.TheVariants.{Begin, Run, Came, Waits}
+use Rattle.py_frames.specs.declared.functions.Functions.{Functions}
+use Rattle.py_frames.specs.declared.going.Going.{Going}
 use Rattle.py_machine.specs.declared.machine.Stage.{Stage}
 use Rattle.py_machine.specs.declared.machine.Stage.TheVariants as stage
 use Rattle.py_machine.specs.declared.machine.Machine.{Machine}
-use Rattle.py_machine.specs.Doing.{World, Outcome, Done, Halts, Known, Doing}
-use Rattle.py_machine.specs.Asking.{request, answered, asked, taken}
-use Rattle.py_machine.specs.Statements.{known, run_all}
-use Rattle.py_machine.specs.Whole.{ask_program, begun, body, first_state}
-use Rattle.py_machine.specs.Frames.{GoesOn, Moves, finish, now_means, stops_as, within}
-use Rattle.py_machine.specs.Turns.{Rests, is_alone}
+use Rattle.py_frames.specs.Doing.{World, Outcome, Done, Halts, Known, Doing}
+use Rattle.py_frames.specs.Asking.{request, answered, asked, taken}
+use Rattle.py_frames.specs.Statements.{known, run_all}
+use Rattle.py_frames.specs.Whole.{ask_program, begun, body, first_state}
+use Rattle.py_frames.specs.Frames.{GoesOn, Moves, finish, now_means, stops_as, within}
+use Rattle.py_frames.specs.Turns.{Rests, is_alone}
 use Rattle.py_machine.specs.Lives.{IsOf, Stands, StandsAs, Brings, Resumed, again, reply, next_taken, life}
 use Rattle.py_machine.specs.Brought.{body_means, meant_by, took, turn_of, stage_of, KeepsTaken}
-use Rattle.py_machine.proofs.BeginLaws.{finish-halts, stops_as-finish}
+use Rattle.py_frames.proofs.BeginLaws.{finish-halts, stops_as-finish}
 use Rattle.py_machine.proofs.TurnLaws.{turn_follows}
 
 -- ---- what an answer begins

@@ -2,35 +2,35 @@
 use Rattle.std.proofs.Common.{◌≡◌, ℕ, ◌<◌, ◌≤◌, refl, ap, ◌∙◌, sym, subst, List, [], ◌∷◌, Result, Ok, Err, false, true≢false, arith}
 use Rattle.py_tree.specs.Programs.{steps_of}
 use Rattle.py_values.specs.Heaps.{Made}
-use Rattle.py_machine.specs.declared.state.Halt.{Halt}
-use Rattle.py_machine.specs.declared.state.Halt.TheVariants.{Asks, Stopped, NoMemory}
-use Rattle.py_machine.specs.declared.state.Here.{Here}
-use Rattle.py_machine.specs.declared.state.State.{State}
-use Rattle.py_machine.specs.declared.state.Got.{Got}
-use Rattle.py_machine.specs.declared.state.Got.TheVariants.{Value, Bound, Through, Next, Broke, Continued, Returned}
-use Rattle.py_machine.specs.declared.frame.Now.{Now}
-use Rattle.py_machine.specs.declared.frame.Now.TheVariants.{Came}
-use Rattle.py_machine.specs.declared.frame.Frame.{Frame}
-use Rattle.py_machine.specs.declared.frame.Frame.TheVariants as frame
-use Rattle.py_machine.specs.declared.frame.CallFrame.{CallFrame}
-use Rattle.py_machine.specs.declared.frame.CallFrame.TheVariants as call
-use Rattle.py_machine.specs.declared.functions.Functions.{Functions}
-use Rattle.py_machine.specs.declared.going.Going.{Going}
+use Rattle.py_frames.specs.declared.state.Halt.{Halt}
+use Rattle.py_frames.specs.declared.state.Halt.TheVariants.{Asks, Stopped, NoMemory}
+use Rattle.py_frames.specs.declared.state.Here.{Here}
+use Rattle.py_frames.specs.declared.state.State.{State}
+use Rattle.py_frames.specs.declared.state.Got.{Got}
+use Rattle.py_frames.specs.declared.state.Got.TheVariants.{Value, Bound, Through, Next, Broke, Continued, Returned}
+use Rattle.py_frames.specs.declared.frame.Now.{Now}
+use Rattle.py_frames.specs.declared.frame.Now.TheVariants.{Came}
+use Rattle.py_frames.specs.declared.frame.Frame.{Frame}
+use Rattle.py_frames.specs.declared.frame.Frame.TheVariants as frame
+use Rattle.py_frames.specs.declared.frame.CallFrame.{CallFrame}
+use Rattle.py_frames.specs.declared.frame.CallFrame.TheVariants as call
+use Rattle.py_frames.specs.declared.functions.Functions.{Functions}
+use Rattle.py_frames.specs.declared.going.Going.{Going}
 use Rattle.py_values.specs.declared.val.Val.{Val}
-use Rattle.py_machine.specs.declared.request.NamedVal.{NamedVal}
-use Rattle.py_machine.specs.declared.frame.ExprFrame.{ExprFrame}
-use Rattle.py_machine.specs.declared.frame.WalkFrame.{WalkFrame}
-use Rattle.py_machine.specs.declared.frame.StmtFrame.{StmtFrame}
-use Rattle.py_machine.specs.declared.frame.DefFrame.{DefFrame}
-use Rattle.py_machine.specs.Expr_frames.{expr_goes}
-use Rattle.py_machine.specs.Walk_frames.{walk_goes}
-use Rattle.py_machine.specs.Stmt_frames.{stmt_goes}
-use Rattle.py_machine.specs.Def_frames.{def_goes}
-use Rattle.py_machine.specs.Doing.{Known, Doing, came, on_value, Done}
-use Rattle.py_machine.specs.Statements.{known, value_left}
-use Rattle.py_machine.specs.Frames.{GoesOn, KeepsRoom, Moves, finish, goes_on, now_means, def_room, stops_as}
-use Rattle.py_machine.specs.Def_begun.{GoesUnder}
-use Rattle.py_machine.specs.Turns.{is_call_end}
+use Rattle.py_frames.specs.declared.request.NamedVal.{NamedVal}
+use Rattle.py_frames.specs.declared.frame.ExprFrame.{ExprFrame}
+use Rattle.py_frames.specs.declared.frame.WalkFrame.{WalkFrame}
+use Rattle.py_frames.specs.declared.frame.StmtFrame.{StmtFrame}
+use Rattle.py_frames.specs.declared.frame.DefFrame.{DefFrame}
+use Rattle.py_frames.specs.Expr_frames.{expr_goes}
+use Rattle.py_frames.specs.Walk_frames.{walk_goes}
+use Rattle.py_frames.specs.Stmt_frames.{stmt_goes}
+use Rattle.py_frames.specs.Def_frames.{def_goes}
+use Rattle.py_frames.specs.Doing.{Known, Doing, came, on_value, Done}
+use Rattle.py_frames.specs.Statements.{known, value_left}
+use Rattle.py_frames.specs.Frames.{GoesOn, KeepsRoom, Moves, finish, goes_on, now_means, def_room, stops_as}
+use Rattle.py_statements.specs.Def_begun.{GoesUnder}
+use Rattle.py_frames.specs.Turns.{is_call_end}
 
 pub turns_begin : (fns : Functions) (frozen : Made) (x : Going) (budget : ℕ) (now : Now) → GoesOn fns frozen (Ok now) x x budget (λ k. now_means k now)
 unfolding GoesOn

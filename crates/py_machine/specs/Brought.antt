@@ -1,19 +1,19 @@
 -- What an answer brings: what a machine does with it, and how it is told.
 use Rattle.std.specs.Prelude.{◌≡◌, zero, suc, ◌+◌, Result, Ok, Err, ⊤}
-use Rattle.py_machine.specs.declared.request.Answer.{Answer}
-use Rattle.py_machine.specs.declared.request.Cause.TheVariants as cause
-use Rattle.py_machine.specs.declared.request.Turn.{Turn}
-use Rattle.py_machine.specs.declared.request.Turn.TheVariants as turn
-use Rattle.py_machine.specs.declared.state.Halt.{Halt}
-use Rattle.py_machine.specs.declared.state.Halt.TheVariants as halt
-use Rattle.py_machine.specs.declared.frame.Now.{Now}
-use Rattle.py_machine.specs.declared.frame.Now.TheVariants.{Begin, Run, Came, Waits}
-use Rattle.py_machine.specs.declared.going.Going.{Going}
+use Rattle.py_frames.specs.declared.request.Answer.{Answer}
+use Rattle.py_frames.specs.declared.request.Cause.TheVariants as cause
+use Rattle.py_frames.specs.declared.request.Turn.{Turn}
+use Rattle.py_frames.specs.declared.request.Turn.TheVariants as turn
+use Rattle.py_frames.specs.declared.state.Halt.{Halt}
+use Rattle.py_frames.specs.declared.state.Halt.TheVariants as halt
+use Rattle.py_frames.specs.declared.frame.Now.{Now}
+use Rattle.py_frames.specs.declared.frame.Now.TheVariants.{Begin, Run, Came, Waits}
+use Rattle.py_frames.specs.declared.going.Going.{Going}
 use Rattle.py_machine.specs.declared.machine.Stage.{Stage}
 use Rattle.py_machine.specs.declared.machine.Stage.TheVariants as stage
-use Rattle.py_machine.specs.Doing.{Doing, Known, and_then}
-use Rattle.py_machine.specs.Statements.{run_all}
-use Rattle.py_machine.specs.Whole.{body_ended}
+use Rattle.py_frames.specs.Doing.{Doing, Known, and_then}
+use Rattle.py_frames.specs.Statements.{run_all}
+use Rattle.py_frames.specs.Whole.{body_ended}
 use Rattle.py_machine.specs.Lives.{reply, next_taken, worth}
 
 -- the file's body, and then its end

@@ -1,7 +1,7 @@
 -- Where a call stands that a frame is the end of.
 use Rattle.std.specs.Prelude.{◌≡◌, ⊤}
-use Rattle.py_machine.specs.declared.frame.CallFrame.{CallFrame}
-use Rattle.py_machine.specs.declared.frame.CallFrame.TheVariants as call
+use Rattle.py_frames.specs.declared.frame.CallFrame.{CallFrame}
+use Rattle.py_frames.specs.declared.frame.CallFrame.TheVariants as call
 use Rattle.py_machine.specs.declared.turn.CallCase.{CallCase}
 use Rattle.py_machine.specs.declared.turn.CallCase.TheVariants.{End, Other}
 

@@ -6,23 +6,23 @@ use Rattle.py_tree.specs.Programs.{steps_of}
 use Rattle.py_values.specs.Heaps.{Made, nothing}
 use Rattle.py_values.specs.declared.val.Val.{Val}
 use Rattle.py_values.specs.declared.val.Val.TheVariants as val
-use Rattle.py_machine.specs.declared.request.Act.{Act}
-use Rattle.py_machine.specs.declared.request.Answer.{Answer}
-use Rattle.py_machine.specs.declared.request.Turn.{Turn}
-use Rattle.py_machine.specs.declared.request.Turn.TheVariants as turn
-use Rattle.py_machine.specs.declared.state.State.{State}
-use Rattle.py_machine.specs.declared.state.Halt.TheVariants as halt
-use Rattle.py_machine.specs.declared.state.Got.{Got}
-use Rattle.py_machine.specs.declared.state.Got.TheVariants.{Value, Bound, Through, Next, Broke, Continued, Returned}
+use Rattle.py_frames.specs.declared.request.Act.{Act}
+use Rattle.py_frames.specs.declared.request.Answer.{Answer}
+use Rattle.py_frames.specs.declared.request.Turn.{Turn}
+use Rattle.py_frames.specs.declared.request.Turn.TheVariants as turn
+use Rattle.py_frames.specs.declared.state.State.{State}
+use Rattle.py_frames.specs.declared.state.Halt.TheVariants as halt
+use Rattle.py_frames.specs.declared.state.Got.{Got}
+use Rattle.py_frames.specs.declared.state.Got.TheVariants.{Value, Bound, Through, Next, Broke, Continued, Returned}
 use Rattle.py_machine.specs.declared.machine.Stage.{Stage}
 use Rattle.py_machine.specs.declared.machine.Stage.TheVariants as stage
 use Rattle.py_machine.specs.declared.machine.Machine.{Machine}
-use Rattle.py_machine.specs.Doing.{World, Done, Halts, Doing, Known}
-use Rattle.py_machine.specs.Asking.{request, answered, asked}
-use Rattle.py_machine.specs.Statements.{known}
-use Rattle.py_machine.specs.Frames.{finish, stops_as}
-use Rattle.py_machine.specs.Tables.{IsTable}
-use Rattle.py_machine.specs.Whole.{ask_program, first_state}
+use Rattle.py_frames.specs.Doing.{World, Done, Halts, Doing, Known}
+use Rattle.py_frames.specs.Asking.{request, answered, asked}
+use Rattle.py_frames.specs.Statements.{known}
+use Rattle.py_frames.specs.Frames.{finish, stops_as}
+use Rattle.py_frames.specs.Tables.{IsTable}
+use Rattle.py_frames.specs.Whole.{ask_program, first_state}
 
 -- a machine of a program
 abbrev pub IsOf : Steps → Machine → Type 0

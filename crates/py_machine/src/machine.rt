@@ -1,25 +1,28 @@
 // The machine: a program from its begin to its end, by the answers that it is given.
 ghost use Rattle.std.specs.Prelude.{◌≡◌, ◌<◌, ◌≤◌, ◌+◌, ◌-◌, [], IfOk, OnOk, MatchResult, None, Ok};
-ghost use Rattle.py_machine.specs.declared.state.Halt.TheVariants as halt;
-ghost use Rattle.py_machine.specs.declared.request.Turn.TheVariants as turn;
+ghost use Rattle.py_frames.specs.declared.state.Halt.TheVariants as halt;
+ghost use Rattle.py_frames.specs.declared.request.Turn.TheVariants as turn;
 ghost use Rattle.py_machine.specs.declared.machine.Stage.TheVariants as stage;
-ghost use Rattle.py_machine.specs.declared.frame.Now.TheVariants.{Waits};
+ghost use Rattle.py_frames.specs.declared.frame.Now.TheVariants.{Waits};
 ghost use Rattle.py_machine.specs.Brought.{body_means, meant_by, took, turn_of, stage_of, KeepsTaken};
-ghost use Rattle.py_machine.specs.Frames.{GoesOn, now_means};
-ghost use Rattle.py_machine.specs.Tables.{IsTable};
-ghost use Rattle.py_machine.specs.Turns.{Rests};
+ghost use Rattle.py_frames.specs.Frames.{GoesOn, now_means};
+ghost use Rattle.py_frames.specs.Tables.{IsTable};
+ghost use Rattle.py_frames.specs.Turns.{Rests};
 ghost use Rattle.py_tree.specs.Programs.{program_of};
 ghost use Rattle.py_values.specs.Heaps.{nothing, seen, row_at, text_at};
 ghost use Rattle.py_machine.specs.Lives.{IsOf, Stands, Resumed, again, worth};
 
-use crate::frame::{DefFrame, Frame, Frames, Now};
-use crate::functions::Functions;
-use crate::going::Going;
-use crate::leaf::copied;
-use crate::request::{Act, Answer, Cause, Request, Stop, Turn};
-use crate::start::first_state;
-use crate::state::{Got, Halt, State};
+use crate::reply::answered;
+use crate::turn::go;
 use amh_host::{Budget, NoMemory, Place, Steps};
+use py_frames::block::block_under;
+use py_frames::frame::{DefFrame, Frame, Frames, Now};
+use py_frames::functions::Functions;
+use py_frames::going::Going;
+use py_frames::leaf::copied;
+use py_frames::request::{Act, Answer, Cause, Request, Stop, Turn};
+use py_frames::start::first_state;
+use py_frames::state::{Got, Halt, State};
 use py_tree::Program;
 use py_values::{Frozen, ObjId, StrId, Val};
 use std::alloc::Global;
@@ -39,9 +42,9 @@ pub enum Stage {
 /// An evaluation of a program that goes on where it stopped.
 #[derive(Drop)]
 pub struct Machine {
-    pub(crate) functions: Functions,
-    pub(crate) going: Going,
-    pub(crate) stage: Stage,
+    pub functions: Functions,
+    pub going: Going,
+    pub stage: Stage,
 }
 
 impl Machine {
@@ -92,7 +95,15 @@ impl Machine {
             self.stage = Stage::NoMemory;
             return Turn::NoMemory;
         };
-        let rest = self.going.replied(&self.functions, frozen, &self.stage, answer, budget, steps);
+        let rest = replied(
+            &mut self.going,
+            &self.functions,
+            frozen,
+            &self.stage,
+            answer,
+            budget,
+            steps,
+        );
         left.left = budget.saturating_sub(self.going.state.used);
         self.rested(rest)
     }
@@ -196,125 +207,126 @@ impl Machine {
     }
 }
 
-impl Going {
-    // One answer more is taken.
-    fn take(&mut self) -> Result<(), Halt>
-        ensures taken { MatchResult result (λ _. self.new ≡ took self.old) (λ e. e ≡ halt.NoMemory) }
-        ensures used { self.new.state.used ≡ self.old.state.used }
-    {
-        match self.state.taken.checked_add(1) {
-            Some(taken) => {
-                self.state.taken = taken;
-                Ok(())
-            }
-            None => Err(Halt::NoMemory),
+// One answer more is taken.
+fn take(going: &mut Going) -> Result<(), Halt>
+    ensures taken { MatchResult result (λ _. going.new ≡ took going.old) (λ e. e ≡ halt.NoMemory) }
+    ensures used { going.new.state.used ≡ going.old.state.used }
+{
+    match going.state.taken.checked_add(1) {
+        Some(taken) => {
+            going.state.taken = taken;
+            Ok(())
         }
+        None => Err(Halt::NoMemory),
     }
+}
 
-    // The file's body begins.
-    #[tactic(auto, using(crate::proofs::LifeLaws::body_goes, crate::proofs::BeginLaws::no_memory))]
-    fn file_begun(
-        &mut self,
-        functions: &Functions,
-        frozen: &Frozen,
-        budget: u64,
-    ) -> Result<Now, Halt>
-        ensures moves { GoesOn functions.now frozen.now result self.old self.new budget body_means }
-        ensures state { self.new.state ≡ self.old.state }
-    {
-        let Ok(body) = functions.program.share() else {
-            return Err(Halt::NoMemory);
-        };
-        self.block_under(
-            functions,
-            frozen,
-            &body,
-            Frame::Def(DefFrame::FileBody),
-            budget,
-        )
-    }
+// The file's body begins.
+#[tactic(auto, using(crate::proofs::LifeLaws::body_goes, py_frames::proofs::BeginLaws::no_memory))]
+fn file_begun(
+    going: &mut Going,
+    functions: &Functions,
+    frozen: &Frozen,
+    budget: u64,
+) -> Result<Now, Halt>
+    ensures moves { GoesOn functions.now frozen.now result going.old going.new budget body_means }
+    ensures state { going.new.state ≡ going.old.state }
+{
+    let Ok(body) = functions.program.share() else {
+        return Err(Halt::NoMemory);
+    };
+    block_under(
+        going,
+        functions,
+        frozen,
+        &body,
+        Frame::Def(DefFrame::FileBody),
+        budget,
+    )
+}
 
-    // What an answer begins.
-    #[tactic(auto, using(crate::proofs::LifeLaws::meant_rules, crate::proofs::BeginLaws::no_memory))]
-    fn answer_goes(
-        &mut self,
-        functions: &Functions,
-        frozen: &Frozen,
-        stage: &Stage,
-        answer: Answer,
-        budget: u64,
-    ) -> Result<Now, Halt>
-        requires room { self.old.state.used < budget }
-        requires table { IsTable functions.now }
-        ensures moves { GoesOn functions.now frozen.now result self.old self.new budget (meant_by stage.now answer) }
-        ensures left { OnOk result (self.new.state.used < budget) }
-        ensures grows { self.old.state.used ≤ self.new.state.used }
-    {
-        match stage {
-            Stage::Waiting { act, place, rounds } => {
-                self.answered(functions, frozen, *act, *place, *rounds, answer, budget)
-            }
-            Stage::Before => self.file_begun(functions, frozen, budget),
-            _ => Err(Halt::NoMemory),
+// What an answer begins.
+#[tactic(auto, using(crate::proofs::LifeLaws::meant_rules, py_frames::proofs::BeginLaws::no_memory))]
+fn answer_goes(
+    going: &mut Going,
+    functions: &Functions,
+    frozen: &Frozen,
+    stage: &Stage,
+    answer: Answer,
+    budget: u64,
+) -> Result<Now, Halt>
+    requires room { going.old.state.used < budget }
+    requires table { IsTable functions.now }
+    ensures moves { GoesOn functions.now frozen.now result going.old going.new budget (meant_by stage.now answer) }
+    ensures left { OnOk result (going.new.state.used < budget) }
+    ensures grows { going.old.state.used ≤ going.new.state.used }
+{
+    match stage {
+        Stage::Waiting { act, place, rounds } => {
+            answered(
+                going, functions, frozen, *act, *place, *rounds, answer, budget,
+            )
         }
+        Stage::Before => file_begun(going, functions, frozen, budget),
+        _ => Err(Halt::NoMemory),
     }
+}
 
-    // The turns that an answer brings.
-    #[tactic(auto, using(crate::proofs::LifeLaws::reply_rules, crate::proofs::BeginLaws::no_memory))]
-    fn replied<L: Ledger>(
-        &mut self,
-        functions: &Functions,
-        frozen: &Frozen,
-        stage: &Stage,
-        answer: Answer,
-        budget: u64,
-        steps: &mut Steps<L>,
-    ) -> Result<Now, Halt>
-        requires room { self.old.state.used < budget }
-        requires table { IsTable functions.now }
-        ensures moves { GoesOn functions.now frozen.now result (took self.old) self.new budget (meant_by stage.now answer) }
-        ensures rests { OnOk result (Rests result self.new) }
-        ensures left { OnOk result (self.new.state.used < budget) }
-        ensures grows { self.old.state.used ≤ self.new.state.used }
-        ensures taken { KeepsTaken result self.old self.new }
-    {
-        let before = self.state.taken;
-        let Ok(()) = self.take() else {
-            return Err(Halt::NoMemory);
-        };
-        match self.answer_goes(functions, frozen, stage, answer, budget) {
-            Err(halt) => Err(halt),
-            Ok(now) => self.rest_of(functions, frozen, now, before, budget, steps),
-        }
+// The turns that an answer brings.
+#[tactic(auto, using(crate::proofs::LifeLaws::reply_rules, py_frames::proofs::BeginLaws::no_memory))]
+fn replied<L: Ledger>(
+    going: &mut Going,
+    functions: &Functions,
+    frozen: &Frozen,
+    stage: &Stage,
+    answer: Answer,
+    budget: u64,
+    steps: &mut Steps<L>,
+) -> Result<Now, Halt>
+    requires room { going.old.state.used < budget }
+    requires table { IsTable functions.now }
+    ensures moves { GoesOn functions.now frozen.now result (took going.old) going.new budget (meant_by stage.now answer) }
+    ensures rests { OnOk result (Rests result going.new) }
+    ensures left { OnOk result (going.new.state.used < budget) }
+    ensures grows { going.old.state.used ≤ going.new.state.used }
+    ensures taken { KeepsTaken result going.old going.new }
+{
+    let before = going.state.taken;
+    let Ok(()) = take(going) else {
+        return Err(Halt::NoMemory);
+    };
+    match answer_goes(going, functions, frozen, stage, answer, budget) {
+        Err(halt) => Err(halt),
+        Ok(now) => rest_of(going, functions, frozen, now, before, budget, steps),
     }
+}
 
-    // Turns until they come to rest. No turn takes an answer, which no clause of theirs says: so it is looked at here.
-    #[tactic(auto, using(crate::proofs::BeginLaws::no_memory))]
-    fn rest_of<L: Ledger>(
-        &mut self,
-        functions: &Functions,
-        frozen: &Frozen,
-        now: Now,
-        before: u64,
-        budget: u64,
-        steps: &mut Steps<L>,
-    ) -> Result<Now, Halt>
-        requires room { self.old.state.used < budget }
-        requires table { IsTable functions.now }
-        ensures moves { GoesOn functions.now frozen.now result self.old self.new budget (λ k. now_means k now) }
-        ensures rests { OnOk result (Rests result self.new) }
-        ensures left { OnOk result (self.new.state.used < budget) }
-        ensures grows { self.old.state.used ≤ self.new.state.used }
-        ensures taken { OnOk result (self.new.state.taken ≡ before + 1) }
-    {
-        match self.go(functions, frozen, now, budget, steps) {
-            Err(halt) => Err(halt),
-            Ok(now) => {
-                if self.state.taken.checked_sub(before) == Some(1) {
-                    Ok(now)
-                } else {
-                    Err(Halt::NoMemory)
-                }
+// Turns until they come to rest. No turn takes an answer, which no clause of theirs says: so it is looked at here.
+#[tactic(auto, using(py_frames::proofs::BeginLaws::no_memory))]
+fn rest_of<L: Ledger>(
+    going: &mut Going,
+    functions: &Functions,
+    frozen: &Frozen,
+    now: Now,
+    before: u64,
+    budget: u64,
+    steps: &mut Steps<L>,
+) -> Result<Now, Halt>
+    requires room { going.old.state.used < budget }
+    requires table { IsTable functions.now }
+    ensures moves { GoesOn functions.now frozen.now result going.old going.new budget (λ k. now_means k now) }
+    ensures rests { OnOk result (Rests result going.new) }
+    ensures left { OnOk result (going.new.state.used < budget) }
+    ensures grows { going.old.state.used ≤ going.new.state.used }
+    ensures taken { OnOk result (going.new.state.taken ≡ before + 1) }
+{
+    match go(going, functions, frozen, now, budget, steps) {
+        Err(halt) => Err(halt),
+        Ok(now) => {
+            if going.state.taken.checked_sub(before) == Some(1) {
+                Ok(now)
+            } else {
+                Err(Halt::NoMemory)
             }
         }
     }

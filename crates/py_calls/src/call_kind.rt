@@ -1,0 +1,267 @@
+// How a value is called.
+ghost use Rattle.std.specs.Prelude.{◌≡◌, ◌++◌, ◌∷◌, IfOk};
+ghost use Rattle.py_frames.specs.declared.request.Act.TheVariants.{CallThing, InitBase};
+ghost use Rattle.py_frames.specs.Asking.{request};
+ghost use Rattle.py_tree.specs.Programs.{steps_of};
+ghost use Rattle.py_frames.specs.Functions.{function_at};
+ghost use Rattle.py_frames.specs.Tables.{IsTable};
+ghost use Rattle.py_frames.specs.Values.{named_vals, named_names, with_this, super_of, is_async_body};
+ghost use Rattle.py_calls.specs.Called.{kind_of, no_arguments, no_keywords, one_thing};
+
+use amh_host::{Names, NoMemory, Place};
+use py_frames::functions::Functions;
+use py_frames::request::{Act, NamedVal, NamedVals, Request};
+use py_values::{Builtin, Code, Func, Hw, ObjId, Val, Vals};
+use std::alloc::Global;
+
+/// How a builtin is called.
+#[derive(Clone, Copy, Drop)]
+pub enum CallKind {
+    Super,
+    InitThing,
+    InitNothing,
+    Print,
+    Len,
+    Abs,
+    /// Over the elements of some arguments.
+    Plain,
+}
+
+/// What a call of a function is.
+#[derive(Clone, Copy, Drop)]
+pub enum Callable {
+    /// No function has the number.
+    Missing,
+    /// One that runs under `await` alone.
+    Async,
+    /// One with a body.
+    Body,
+    /// A builtin, with the value that it was read from.
+    Builtin(Builtin, Option<Val>),
+}
+
+/// Whether the function of a place runs under `await` alone.
+pub fn is_async_at(functions: &Functions, place: Place) -> bool
+    requires { IsTable functions.now }
+    ensures { result ≡ is_async_body (function_at place (steps_of functions.now.program)) }
+{
+    match functions.find(place) {
+        Some(known) => known.function.is_async,
+        None => false,
+    }
+}
+
+/// How a builtin is called.
+pub fn kind_of(b: Builtin) -> CallKind
+    ensures { result ≡ kind_of b }
+{
+    match b {
+        Builtin::Super => CallKind::Super,
+        Builtin::InitThing => CallKind::InitThing,
+        Builtin::InitNothing => CallKind::InitNothing,
+        Builtin::Print => CallKind::Print,
+        Builtin::Len => CallKind::Len,
+        Builtin::Abs => CallKind::Abs,
+        _ => CallKind::Plain,
+    }
+}
+
+fn is_bare(args: &[Val], keywords: &[NamedVal]) -> bool
+    ensures { result ≡ no_arguments args.now keywords.now }
+{
+    match args {
+        [] => is_unnamed(keywords),
+        [_, ..] => false,
+    }
+}
+
+fn is_unnamed(keywords: &[NamedVal]) -> bool
+    ensures { result ≡ no_keywords keywords.now }
+{
+    match keywords {
+        [] => true,
+        [_, ..] => false,
+    }
+}
+
+/// Whether there are no arguments.
+pub fn no_arguments(args: &Vals, keywords: &NamedVals) -> bool
+    ensures { result ≡ no_arguments args.now keywords.now }
+{
+    is_bare(args.as_slice(), keywords.as_slice())
+}
+
+/// Whether there are no arguments by keyword.
+pub fn no_keywords(keywords: &NamedVals) -> bool
+    ensures { result ≡ no_keywords keywords.now }
+{
+    is_unnamed(keywords.as_slice())
+}
+
+fn thing_in(args: &[Val]) -> Option<Hw>
+    ensures { result ≡ one_thing args.now }
+{
+    match args {
+        [Val::Hw(h)] => Some(*h),
+        _ => None,
+    }
+}
+
+/// The thing that is the one argument.
+pub fn one_thing(args: &Vals) -> Option<Hw>
+    ensures { result ≡ one_thing args.now }
+{
+    thing_in(args.as_slice())
+}
+
+/// What `super()` gives.
+pub fn super_of(alloc: Global, first: Option<Val>, home: Option<Val>) -> Option<Func>
+    ensures { result ≡ super_of first home }
+{
+    match (first, home) {
+        (Some(this), Some(c)) => Some(Func {
+            code: Code::Builtin(Builtin::Super),
+            this: Some(this),
+            home: Some(c),
+            defaults: Vals::new(alloc),
+            scope: None,
+        }),
+        _ => None,
+    }
+}
+
+/// The arguments of a method, with the value that it was read from.
+pub fn with_this(alloc: Global, this: Option<Val>, args: Vals) -> Result<Vals, NoMemory>
+    ensures { IfOk result (λ vals. vals ≡ with_this this args) }
+{
+    let Some(this) = this else {
+        return Ok(args);
+    };
+    let mut vals = Vals::new(alloc);
+    let Ok(()) = vals.push(this) else {
+        return Err(NoMemory);
+    };
+    match vals.extend(args.as_slice()) {
+        Ok(()) => Ok(vals),
+        Err(_) => Err(NoMemory),
+    }
+}
+
+// The values of arguments by keyword.
+fn named_vals(alloc: Global, keywords: &[NamedVal]) -> Result<Vals, NoMemory>
+    ensures { IfOk result (λ vals. vals ≡ named_vals keywords.now) }
+{
+    let mut vals = Vals::new(alloc);
+    for x in keywords {
+        match vals.push(x.val) {
+            Ok(()) => {}
+            Err(_) => return Err(NoMemory),
+        }
+    }
+    Ok(vals)
+}
+
+// Their names, behind others.
+fn named_names(alloc: Global, keywords: &[NamedVal]) -> Result<Names, NoMemory>
+    ensures { IfOk result (λ names. names ≡ named_names keywords.now) }
+{
+    let mut names = Names::new(alloc);
+    for x in keywords {
+        match names.push(x.name.as_str()) {
+            Ok(()) => {}
+            Err(_) => return Err(NoMemory),
+        }
+    }
+    Ok(names)
+}
+
+// The same behind the name of a call.
+fn names_of_call(alloc: Global, name: &str, keywords: &[NamedVal]) -> Result<Names, NoMemory>
+    ensures { IfOk result (λ names. names ≡ name.now ∷ named_names keywords.now) }
+{
+    let mut names = Names::new(alloc);
+    let Ok(()) = names.push(name) else {
+        return Err(NoMemory);
+    };
+    for x in keywords {
+        match names.push(x.name.as_str()) {
+            Ok(()) => {}
+            Err(_) => return Err(NoMemory),
+        }
+    }
+    Ok(names)
+}
+
+// A value, then arguments, then those by keyword.
+fn vals_of_call(
+    alloc: Global,
+    first: Val,
+    args: &Vals,
+    keywords: &NamedVals,
+) -> Result<Vals, NoMemory>
+    ensures { IfOk result (λ vals. vals ≡ first ∷ (args.now ++ named_vals keywords.now)) }
+{
+    let mut vals = Vals::new(alloc);
+    let Ok(()) = vals.push(first) else {
+        return Err(NoMemory);
+    };
+    let Ok(()) = vals.extend(args.as_slice()) else {
+        return Err(NoMemory);
+    };
+    let Ok(named) = named_vals(alloc, keywords.as_slice()) else {
+        return Err(NoMemory);
+    };
+    match vals.extend(named.as_slice()) {
+        Ok(()) => Ok(vals),
+        Err(_) => Err(NoMemory),
+    }
+}
+
+/// The request for the call of a thing.
+pub fn call_request(
+    alloc: Global,
+    h: Hw,
+    name: &str,
+    args: &Vals,
+    keywords: &NamedVals,
+    place: Place,
+) -> Result<Request, NoMemory>
+    ensures { IfOk result (λ r. r ≡ request CallThing (Val.Hw h ∷ (args.now ++ named_vals keywords.now)) (name.now ∷ named_names keywords.now) place) }
+{
+    let Ok(vals) = vals_of_call(alloc, Val::Hw(h), args, keywords) else {
+        return Err(NoMemory);
+    };
+    let Ok(names) = names_of_call(alloc, name, keywords.as_slice()) else {
+        return Err(NoMemory);
+    };
+    Ok(Request {
+        act: Act::CallThing,
+        vals,
+        names,
+        place,
+    })
+}
+
+/// The request for what an object has from the thing that its class stands over.
+pub fn init_request(
+    alloc: Global,
+    o: ObjId,
+    args: &Vals,
+    keywords: &NamedVals,
+    place: Place,
+) -> Result<Request, NoMemory>
+    ensures { IfOk result (λ r. r ≡ request InitBase (Val.Object o ∷ (args.now ++ named_vals keywords.now)) (named_names keywords.now) place) }
+{
+    let Ok(vals) = vals_of_call(alloc, Val::Object(o), args, keywords) else {
+        return Err(NoMemory);
+    };
+    let Ok(names) = named_names(alloc, keywords.as_slice()) else {
+        return Err(NoMemory);
+    };
+    Ok(Request {
+        act: Act::InitBase,
+        vals,
+        names,
+        place,
+    })
+}

@@ -1,0 +1,126 @@
+// What trails a target: on to the last of it, where a value is stored or changed.
+ghost use Rattle.std.specs.Prelude.{◌≡◌, ◌<◌, ◌≤◌, OnOk, Some};
+ghost use Rattle.py_tree.specs.Seen.{tree, trailer_of};
+ghost use Rattle.py_frames.specs.Parts.{place_of, trailers_from};
+ghost use Rattle.py_frames.specs.Expressions.{stored, store_last};
+ghost use Rattle.py_frames.specs.Call_frames.{trailers_of};
+ghost use Rattle.py_frames.specs.Trailing.{item_stored};
+ghost use Rattle.py_frames.specs.Tables.{IsTable};
+ghost use Rattle.py_frames.specs.Frames.{GoesOn};
+
+use crate::trail::trailed_one;
+use amh_host::Place;
+use py_frames::attribute_store::store_attribute;
+use py_frames::call_leaf::raise;
+use py_frames::frame::{Along, CallFrame, Frame, Now, Purpose, WalkFrame};
+use py_frames::functions::Functions;
+use py_frames::going::{Going, wait_for};
+use py_frames::leaf::following;
+use py_frames::state::Halt;
+use py_frames::trail_leaf::{place_at, trailer_at};
+use py_tree::{Expr, Trailer};
+use py_values::{Frozen, Val};
+
+// A value is stored under an index, which begins.
+#[tactic(auto, using(py_frames::proofs::BeginLaws::turn_rules))]
+fn item_stored(
+    going: &mut Going,
+    functions: &Functions,
+    frozen: &Frozen,
+    part: &Expr,
+    over: Val,
+    val: Val,
+    place: Place,
+    budget: u64,
+) -> Result<Now, Halt>
+    ensures moves { GoesOn functions.now frozen.now result going.old going.new budget (λ k. item_stored k (tree part.now) over val place) }
+    ensures used { going.new.state.used ≡ going.old.state.used }
+{
+    let frame = Frame::Walk(WalkFrame::StoredAt { over, val, place });
+    wait_for(going, functions, frozen, part, frame, budget)
+}
+
+// A value is stored in the last of what trails.
+fn store_last(
+    going: &mut Going,
+    functions: &Functions,
+    frozen: &Frozen,
+    trailer: &Trailer,
+    over: Val,
+    val: Val,
+    place: Place,
+    budget: u64,
+) -> Result<Now, Halt>
+    ensures moves { GoesOn functions.now frozen.now result going.old going.new budget (λ k. store_last k place (trailer_of trailer.now) over val) }
+    ensures used { going.new.state.used ≡ going.old.state.used }
+{
+    match trailer {
+        Trailer::Attribute(name) => store_attribute(
+            going,
+            functions,
+            frozen,
+            over,
+            name.as_str(),
+            val,
+            place,
+            budget,
+        ),
+        Trailer::Index(part) => item_stored(
+            going, functions, frozen, part, over, val, place, budget,
+        ),
+        Trailer::Call(_) => raise(going, functions, frozen, place, budget),
+        Trailer::CallOf(_, _) => raise(going, functions, frozen, place, budget),
+        Trailer::Slice { .. } => raise(going, functions, frozen, place, budget),
+    }
+}
+
+/// On along what trails a target, to the last of it, where a value is stored.
+#[tactic(auto, using(py_frames::proofs::StoreLaws::stored_end, py_frames::proofs::BeginLaws::no_memory))]
+pub fn store_along(
+    going: &mut Going,
+    functions: &Functions,
+    frozen: &Frozen,
+    node: &Expr,
+    at: u64,
+    over: Val,
+    val: Val,
+    budget: u64,
+) -> Result<Now, Halt>
+    requires room { going.old.state.used < budget }
+    requires table { IsTable functions.now }
+    ensures moves { GoesOn functions.now frozen.now result going.old going.new budget (λ k. stored k (place_of (tree node.now)) (trailers_from at (trailers_of (tree node.now))) over val) }
+    ensures left { OnOk result (going.new.state.used < budget) }
+    ensures grows { going.old.state.used ≤ going.new.state.used }
+{
+    let place = place_at(node);
+    let Some(trailer) = trailer_at(node, at) else {
+        return raise(going, functions, frozen, place, budget);
+    };
+    let Ok(next) = following(at) else {
+        return Err(Halt::NoMemory);
+    };
+    let Some(_) = trailer_at(node, next) else {
+        return store_last(going, functions, frozen, trailer, over, val, place, budget);
+    };
+    let Ok(more) = node.share() else {
+        return Err(Halt::NoMemory);
+    };
+    match going.frames.push(Frame::Call(CallFrame::Trail {
+        node: more,
+        at: next,
+        along: Along::Store(val),
+    })) {
+        Ok(()) => trailed_one(
+            going,
+            functions,
+            frozen,
+            node,
+            at,
+            trailer,
+            &Purpose::Plain,
+            over,
+            budget,
+        ),
+        Err(_) => Err(Halt::NoMemory),
+    }
+}

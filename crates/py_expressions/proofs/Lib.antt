@@ -1,0 +1,4 @@
+pub mod ExprChains
+pub mod ExprFormat
+pub mod ExprTimes
+pub mod ExprArms

@@ -1,0 +1,2 @@
+pub mod Format_parts
+pub mod Time_parts

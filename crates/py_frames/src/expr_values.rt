@@ -1,0 +1,136 @@
+// What a turn does with values, beside operators: names, truth, literals, tuples and dicts.
+ghost use Rattle.std.specs.Prelude.{◌≡◌, []};
+ghost use Rattle.py_values.specs.Heaps.{seen};
+ghost use Rattle.py_values.specs.Truths.{truth};
+ghost use Rattle.py_values.specs.Names.{scope_bound};
+ghost use Rattle.py_values.specs.Places.{new_text};
+ghost use Rattle.py_frames.specs.Doing.{making, give, heap_seen};
+ghost use Rattle.py_frames.specs.Expressions.{text_literal, dict_made};
+ghost use Rattle.py_frames.specs.Expr_parts.{tuple_made};
+ghost use Rattle.py_frames.specs.Told.{TellsTruth, Binds};
+ghost use Rattle.py_frames.specs.Frames.{GoesOn};
+
+use crate::frame::Now;
+use crate::functions::Functions;
+use crate::going::{Going, stopped, told};
+use crate::request::Cause;
+use crate::state::Halt;
+use amh_host::{Place, Text};
+use py_tree::Name;
+use py_values::{Frozen, Val, Vals, ValueStop};
+
+/// The truth of a value, or a stop where it has none.
+pub fn truth(going: &Going, frozen: &Frozen, v: Val, place: Place) -> Result<bool, Halt>
+    ensures { TellsTruth result (truth (seen frozen.now going.now.state.heap) v) place }
+{
+    match going.state.heap.truth(frozen, v) {
+        Some(holds) => Ok(holds),
+        None => Err(stopped(Cause::Raised, place)),
+    }
+}
+
+/// The same of a value that is used again.
+pub fn truth_of(going: &Going, frozen: &Frozen, v: &Val, place: Place) -> Result<bool, Halt>
+    ensures { TellsTruth result (truth (seen frozen.now going.now.state.heap) v.now) place }
+{
+    truth(going, frozen, *v, place)
+}
+
+/// Binds a name where the evaluation stands.
+pub fn bind(
+    going: &mut Going,
+    frozen: &Frozen,
+    name: &str,
+    v: Val,
+    place: Place,
+) -> Result<(), Halt>
+    ensures binds { Binds result (scope_bound (seen frozen.now going.old.state.heap) going.old.state.here.scope.0 name.now v) place going.old going.new }
+    ensures used { going.new.state.used ≡ going.old.state.used }
+{
+    let Some(bound) = going.state.bound.checked_add(1) else {
+        return Err(Halt::NoMemory);
+    };
+    match going
+        .state
+        .heap
+        .bind(frozen, going.state.here.scope, name, v)
+    {
+        Ok(()) => {
+            going.state.bound = bound;
+            Ok(())
+        }
+        Err(ValueStop::Raised) => Err(stopped(Cause::Raised, place)),
+        Err(ValueStop::Width) => Err(stopped(Cause::Width, place)),
+        Err(ValueStop::Limit) => Err(stopped(Cause::Limit, place)),
+        Err(ValueStop::Spent) => Err(stopped(Cause::Spent, place)),
+        Err(ValueStop::NoMemory) => Err(Halt::NoMemory),
+    }
+}
+
+/// A new tuple.
+#[tactic(auto, using(crate::proofs::ExprLaws::tuple_told))]
+pub fn new_tuple(
+    going: &mut Going,
+    functions: &Functions,
+    frozen: &Frozen,
+    vals: Vals,
+    place: Place,
+    budget: u64,
+) -> Result<Now, Halt>
+    ensures moves { GoesOn functions.now frozen.now result going.old going.new budget (λ k. tuple_made k place vals) }
+    ensures used { going.new.state.used ≡ going.old.state.used }
+{
+    let given = going.state.heap.tuple(frozen, vals);
+    told(given, place)
+}
+
+/// A new dict of keys and values in turn.
+#[tactic(auto, using(crate::proofs::ExprLaws::dict_told))]
+pub fn new_dict(
+    going: &mut Going,
+    functions: &Functions,
+    frozen: &Frozen,
+    row: Vals,
+    place: Place,
+    budget: u64,
+) -> Result<Now, Halt>
+    ensures moves { GoesOn functions.now frozen.now result going.old going.new budget (λ k. dict_made k place row) }
+    ensures used { going.new.state.used ≡ going.old.state.used }
+{
+    let given = going.state.heap.dict(frozen, row);
+    told(given, place)
+}
+
+/// A string of the program's text.
+#[tactic(auto, using(crate::proofs::ExprLaws::literal_told))]
+pub fn new_literal(
+    going: &mut Going,
+    functions: &Functions,
+    frozen: &Frozen,
+    text: &Name,
+    place: Place,
+    budget: u64,
+) -> Result<Now, Halt>
+    ensures moves { GoesOn functions.now frozen.now result going.old going.new budget (λ k. text_literal k text.now place) }
+    ensures used { going.new.state.used ≡ going.old.state.used }
+{
+    let given = going.state.heap.literal(frozen, text.as_str());
+    told(given, place)
+}
+
+/// A new string.
+#[tactic(auto, using(crate::proofs::ExprLaws::text_told))]
+pub fn new_text(
+    going: &mut Going,
+    functions: &Functions,
+    frozen: &Frozen,
+    text: &Text,
+    place: Place,
+    budget: u64,
+) -> Result<Now, Halt>
+    ensures moves { GoesOn functions.now frozen.now result going.old going.new budget (λ k. making (λ s. new_text (heap_seen k s) text.now) place give) }
+    ensures used { going.new.state.used ≡ going.old.state.used }
+{
+    let given = going.state.heap.new_text(frozen, text.as_str());
+    told(given, place)
+}

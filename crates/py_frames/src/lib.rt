@@ -1,0 +1,32 @@
+//! What a program of the Python subset means, the frames of the nodes that wait, and what all turns of the evaluator share.
+//!
+//! `ask_program` of specs/Whole.antt says what a program asks after a list of answers, or how it ends, and at what cost; below it
+//! stand specs/Statements.antt, Expressions.antt, Values.antt (operators, attributes, calls) and Asking.antt (requests and answers),
+//! in the terms of specs/Doing.antt. specs/Frames.antt says what is left to come out of a list of frames, in the words of that
+//! meaning, and what a turn owes (`GoesOn`): it leaves that as it was, at its cost.
+//!
+//! A turn is a function over `Going`, which has the frames and the state. Those here spend units, put a frame, ask, make values, read
+//! and bind names, and carry out operators; each promises `GoesOn` of what it is called for. The crates above have the turns of
+//! targets and rows (py_walks), of expressions, calls and statements, and py_machine has the loop of them all.
+#![tactic(auto)]
+
+pub mod asks;
+pub mod attribute_store;
+pub mod binds;
+pub mod block;
+pub mod call_leaf;
+pub mod expr_names;
+pub mod expr_values;
+pub mod frame;
+pub mod functions;
+pub mod going;
+pub mod leaf;
+pub mod operators;
+pub mod own;
+pub mod request;
+pub mod scopes;
+pub mod start;
+pub mod state;
+pub mod stmt_plain;
+pub mod stmt_purpose;
+pub mod trail_leaf;

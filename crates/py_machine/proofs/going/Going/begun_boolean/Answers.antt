@@ -1,8 +1,0 @@
-use Rattle.std.proofs.Common.{map}
-use Rattle.py_tree.specs.Seen.{tree, link_tree}
-use Rattle.py_tree.specs.Tree.{links}
-use Rattle.py_machine.proofs.ExprKinds.{boolean_begins}
-use Rattle.py_machine.proofs.going.Going.begun_boolean.Goals as goal
-
-pub returns-clause-moves : goal.returns-clause-moves
-returns-clause-moves c = boolean_begins _ _ _ _ _ _ c.args.e.now.place (tree c.args.first.now) (links (map link_tree c.args._links.now)) (tree c.args.e.now) c.in-Ok.node c.requires c.in-Ok.ensures c.wait_for.ensures.moves

@@ -1,6 +1,0 @@
-use Rattle.py_tree.specs.Seen.{tree, pair_tree, each_of}
-use Rattle.py_machine.proofs.ExprKinds.{dict_of_begins}
-use Rattle.py_machine.proofs.going.Going.begun_dict_of.Goals as goal
-
-pub returns-clause-moves : goal.returns-clause-moves
-returns-clause-moves c = dict_of_begins _ _ _ _ _ _ c.args.e.now.place (pair_tree c.args._pair.now).0 (pair_tree c.args._pair.now).1 (each_of c.args._each.now) (tree c.args.e.now) c.in-Ok.node c.requires.seen c.in-Ok.ensures c.begun_comprehension.ensures.moves

@@ -1,9 +1,0 @@
-use Rattle.py_tree.specs.Seen.{tree}
-use Rattle.py_machine.proofs.ExprKinds.{quotient_some, quotient_none}
-use Rattle.py_machine.proofs.going.Going.begun_quotient.Goals as goal
-
-pub returns-in-Some-clause-moves : goal.returns-in-Some-clause-moves
-returns-in-Some-clause-moves c = quotient_some _ _ _ _ c.args.e.now.place c.args.n c.args.by (tree c.args.e.now) c.in-Some.time c.requires c.in-Some.ensures
-
-pub returns-in-None-clause-moves : goal.returns-in-None-clause-moves
-returns-in-None-clause-moves c = rw c.stopped.ensures (quotient_none _ _ _ _ c.args.e.now.place c.args.n c.args.by (tree c.args.e.now) c.requires c.in-None.ensures)

@@ -1,8 +1,0 @@
--- A statement that is no `for` goes over nothing.
-use Rattle.std.proofs.Common.{sym, ◌∙◌}
-use Rattle.py_tree.specs.Programs.{step_of}
-use Rattle.py_machine.proofs.ForLaws.{walks_other}
-use Rattle.py_machine.proofs.going.Going.for_again.Goals as goal
-
-pub returns-clause-moves : goal.returns-clause-moves
-returns-clause-moves c = walks_other c.args.functions.now c.args.frozen.now c.args.self.now c.args.budget (step_of c.args.stmt.now) c.args.walk (sym c.is_for-turns.ensures ∙ c.if-turns.false)

@@ -1,6 +1,0 @@
--- The source of a `for` is waited for.
-use Rattle.py_machine.proofs.ForLaws.{for_waits}
-use Rattle.py_machine.proofs.going.Going.for_begun.Goals as goal
-
-pub returns-clause-moves : goal.returns-clause-moves
-returns-clause-moves c = for_waits c.args.functions.now c.args.frozen.now c.wait_for.result c.args.self.now c.wait_for.new.self c.args.budget _ _ _ _ _ c.in-Ok.stmt c.requires c.in-Ok.ensures c.wait_for.ensures.moves

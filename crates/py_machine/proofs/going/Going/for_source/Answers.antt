@@ -1,6 +1,0 @@
--- What a `for` goes over is waited for.
-use Rattle.py_machine.proofs.ForLaws.{for_takes}
-use Rattle.py_machine.proofs.going.Going.for_source.Goals as goal
-
-pub returns-in-Ok-push-clause-moves : goal.returns-in-Ok-push-clause-moves
-returns-in-Ok-push-clause-moves c = for_takes c.args.functions.now c.args.frozen.now c.as_row.result c.args.self.now c.as_row.new.self c.args.budget _ _ _ _ _ c.in-Ok.stmt c.args.v _ c.requires.kind c.in-Ok.ensures c.in-Ok-push.ensures c.as_row.ensures.moves

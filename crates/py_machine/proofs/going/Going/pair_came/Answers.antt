@@ -1,5 +1,0 @@
-use Rattle.py_machine.proofs.ExprChains.{pairs_as}
-use Rattle.py_machine.proofs.going.Going.pair_came.Goals as goal
-
-pub returns-in-Ok-clause-moves : goal.returns-in-Ok-clause-moves
-returns-in-Ok-clause-moves c = pairs_as _ _ _ _ _ _ c.args.n c.in-Ok.next _ _ _ c.in-Ok.ensures c.next_pair.ensures.moves

@@ -1,8 +1,0 @@
-use Rattle.py_tree.specs.Seen.{tree}
-use Rattle.py_machine.specs.Parts.{place_of, trailers_from}
-use Rattle.py_machine.specs.Call_frames.{trailers_of}
-use Rattle.py_machine.proofs.SliceLaws.{slice_goes}
-use Rattle.py_machine.proofs.going.Going.part_came.Goals as goal
-
-pub returns-clause-moves : goal.returns-clause-moves
-returns-clause-moves c = slice_goes c.args.functions.now c.args.frozen.now c.part_behind.result c.args.self.now c.part_behind.new.self c.args.budget c.args.over c.args.parts c.as_slice.result.now c.args.v (trailers_from c.args.trailer (trailers_of (tree c.args.node.now))) (place_of (tree c.args.node.now)) c.as_slice.ensures c.part_behind.ensures.moves

@@ -1,5 +1,0 @@
-use Rattle.py_machine.proofs.ExprKinds.{read_found}
-use Rattle.py_machine.proofs.going.Going.read_name.Goals as goal
-
-pub returns-in-Some-clause-moves : goal.returns-in-Some-clause-moves
-returns-in-Some-clause-moves c = read_found _ _ _ _ c.args.name.now c.args.place c.in-Some.v c.in-Some.ensures

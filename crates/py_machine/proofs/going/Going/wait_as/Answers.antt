@@ -1,6 +1,0 @@
--- A part begins under its frame.
-use Rattle.py_machine.proofs.AssignLaws.{part_waits}
-use Rattle.py_machine.proofs.going.Going.wait_as.Goals as goal
-
-pub returns-in-Ok-push-clause-moves : goal.returns-in-Ok-push-clause-moves
-returns-in-Ok-push-clause-moves c = part_waits c.args.functions.now c.args.frozen.now c.args.self.now c.args.budget c.args.frame c.push.new.self c.in-Ok.part c.args.purpose _ c.in-Ok.ensures c.in-Ok-push.ensures c.requires

@@ -1,6 +1,0 @@
--- The test of a turn is waited for.
-use Rattle.py_machine.proofs.WhileLaws.{turn_tests}
-use Rattle.py_machine.proofs.going.Going.while_turn.Goals as goal
-
-pub returns-then-n-gt0-clause-moves : goal.returns-then-n-gt0-clause-moves
-returns-then-n-gt0-clause-moves c = turn_tests c.args.functions.now c.args.frozen.now c.wait_for.result c.args.self.now c.wait_for.new.self c.args.budget c.args.n _ _ _ _ c.in-Ok.stmt c.if-n-gt0.true c.requires c.in-Ok.ensures c.wait_for.ensures.moves

@@ -1,0 +1,20 @@
+use Rattle.std.proofs.Common.{Ok, Err, arith}
+use Rattle.py_frames.specs.Frames.{now_means}
+use Rattle.py_machine.proofs.TurnLaws.{turn_follows}
+use Rattle.py_machine.proofs.turn.go.Goals as goal
+
+pub loop-turns-preserved : goal.loop-turns-preserved
+loop-turns-preserved g c =
+    let before = c.loop-turns.invariant in
+    let turn = c.in-Ok.ensures in
+    record {
+      moves = turn_follows c.args.functions.now c.args.frozen.now (Ok c.in-Ok.next) c.args.going.now c.loop-turns.going c.turn.new.going c.args.budget c.loop-turns.now (λ k. now_means k c.args.first) before.moves before.left turn.grows turn.moves;
+      left = turn.left;
+      grows = omega (arith, before.grows, turn.grows);
+    }
+
+pub returns-in-Err-clause-moves : goal.returns-in-Err-clause-moves
+returns-in-Err-clause-moves g c =
+    let before = c.loop-turns.invariant in
+    let turn = c.in-Err.ensures in
+    turn_follows c.args.functions.now c.args.frozen.now (Err c.in-Err.halt) c.args.going.now c.loop-turns.going c.turn.new.going c.args.budget c.loop-turns.now (λ k. now_means k c.args.first) before.moves before.left turn.grows turn.moves

@@ -1,0 +1,2 @@
+pub mod Def_begun
+pub mod Augmented

@@ -1,0 +1,290 @@
+// Annotated assignments: the value, and then the annotation where it is evaluated.
+ghost use Rattle.std.specs.Prelude.{◌≡◌, ◌<◌, ◌≤◌, [], option_map, IfOk, OnOk};
+ghost use Rattle.std.specs.Option.{option_copied};
+ghost use Rattle.py_tree.specs.Seen.{tree};
+ghost use Rattle.py_tree.specs.Programs.{step_of};
+ghost use Rattle.py_tree.specs.Tree.{perhaps, present};
+ghost use Rattle.py_tree.specs.Steps.{Annotate};
+ghost use Rattle.py_values.specs.Heaps.{seen};
+ghost use Rattle.py_values.specs.Names.{scope_at};
+ghost use Rattle.py_frames.specs.declared.state.Got.TheVariants.{Next};
+ghost use Rattle.py_frames.specs.Doing.{on_next};
+ghost use Rattle.py_frames.specs.Functions.{named_val};
+ghost use Rattle.py_frames.specs.Statements.{annotated, evaluates_annotations, is_open, note};
+ghost use Rattle.py_frames.specs.Stmt_begun.{run_after, note_named};
+ghost use Rattle.py_frames.specs.Stmt_frames.{annotate_stored, annotates, notes};
+ghost use Rattle.py_frames.specs.Frames.{GoesOn};
+
+use crate::stmt_assign::wait_as;
+use amh_host::{NoMemory, Text};
+use py_frames::block::leaves;
+use py_frames::frame::{Frame, Now, StmtFrame};
+use py_frames::functions::Functions;
+use py_frames::going::{Going, wait_for};
+use py_frames::request::NamedVal;
+use py_frames::state::{Got, Halt};
+use py_frames::stmt_plain::comes;
+use py_frames::stmt_purpose::target_purpose;
+use py_tree::{Expr, ExprKind, Name, Stmt, StmtKind};
+use py_values::{Frozen, Scope, Val};
+use py_walks::target_turns::assign;
+use std::alloc::Global;
+
+// Whether annotations are evaluated in a scope.
+fn is_open(found: Option<&Scope>) -> bool
+    ensures { result ≡ is_open (option_copied found.entry) }
+{
+    match found {
+        Some(scope) => scope.is_class || scope.enclosing.is_none(),
+        None => false,
+    }
+}
+
+/// A name and its value.
+pub fn named_val(alloc: Global, name: &str, val: Val) -> Result<NamedVal, NoMemory>
+    ensures { IfOk result (λ x. x ≡ named_val name.now val) }
+{
+    let mut text = Text::new(alloc);
+    match text.push(name) {
+        Ok(()) => Ok(NamedVal { name: text, val }),
+        Err(e) => Err(e),
+    }
+}
+
+// Whether annotations are evaluated where the evaluation stands.
+fn evaluates_annotations(going: &Going, frozen: &Frozen) -> bool
+    ensures { result ≡ evaluates_annotations (seen frozen.now going.now.state.heap) going.now.state.here.scope }
+{
+    is_open(going.state.heap.scope_at(frozen, going.state.here.scope))
+}
+
+/// An annotated assignment: its value where it has one, and then its annotation.
+#[tactic(auto, using(crate::proofs::AnnotateLaws::begin_rules))]
+pub fn begun_annotate(
+    going: &mut Going,
+    functions: &Functions,
+    frozen: &Frozen,
+    s: &Stmt,
+    target: &Expr,
+    annotation: &Expr,
+    value: &Option<Expr>,
+    budget: u64,
+) -> Result<Now, Halt>
+    requires { step_of s.now ≡ Annotate s.now.place (tree target.now) (tree annotation.now) (perhaps (option_map tree value.now)) }
+    ensures moves { GoesOn functions.now frozen.now result going.old going.new budget (λ k. run_after k (step_of s.now)) }
+    ensures state { going.new.state ≡ going.old.state }
+{
+    match value {
+        Some(e) => annotated_value(going, functions, frozen, s, target, annotation, e, budget),
+        None => begin_annotation(
+            going, functions, frozen, s, target, annotation, value, budget,
+        ),
+    }
+}
+
+// The value, which goes to the target before the annotation.
+#[tactic(auto, using(crate::proofs::AnnotateLaws::value_rules))]
+fn annotated_value(
+    going: &mut Going,
+    functions: &Functions,
+    frozen: &Frozen,
+    s: &Stmt,
+    target: &Expr,
+    _annotation: &Expr,
+    e: &Expr,
+    budget: u64,
+) -> Result<Now, Halt>
+    requires { step_of s.now ≡ Annotate s.now.place (tree target.now) (tree _annotation.now) (present (tree e.now)) }
+    ensures moves { GoesOn functions.now frozen.now result going.old going.new budget (λ k. run_after k (step_of s.now)) }
+    ensures state { going.new.state ≡ going.old.state }
+{
+    let Ok(purpose) = target_purpose(target) else {
+        return Err(Halt::NoMemory);
+    };
+    let Ok(outer) = s.share() else {
+        return Err(Halt::NoMemory);
+    };
+    let Ok(stmt) = s.share() else {
+        return Err(Halt::NoMemory);
+    };
+    match going
+        .frames
+        .push(Frame::Stmt(StmtFrame::Annotating { stmt: outer }))
+    {
+        Ok(()) => wait_as(
+            going,
+            functions,
+            frozen,
+            e,
+            purpose,
+            Frame::Stmt(StmtFrame::Annotated { stmt }),
+            budget,
+        ),
+        Err(_) => Err(Halt::NoMemory),
+    }
+}
+
+// The annotation, where it is evaluated.
+#[tactic(auto, using(crate::proofs::AnnotateLaws::annotation_rules))]
+fn begin_annotation(
+    going: &mut Going,
+    functions: &Functions,
+    frozen: &Frozen,
+    s: &Stmt,
+    _target: &Expr,
+    annotation: &Expr,
+    _value: &Option<Expr>,
+    budget: u64,
+) -> Result<Now, Halt>
+    requires { step_of s.now ≡ Annotate s.now.place (tree _target.now) (tree annotation.now) (perhaps (option_map tree _value.now)) }
+    ensures moves { GoesOn functions.now frozen.now result going.old going.new budget (λ k. annotated k (tree _target.now) (tree annotation.now)) }
+    ensures state { going.new.state ≡ going.old.state }
+{
+    let evaluated = evaluates_annotations(going, frozen);
+    let Ok(stmt) = s.share() else {
+        return Err(Halt::NoMemory);
+    };
+    if evaluated {
+        return wait_for(
+            going,
+            functions,
+            frozen,
+            annotation,
+            Frame::Stmt(StmtFrame::Noted { stmt }),
+            budget,
+        );
+    }
+    comes(going, functions, frozen, Got::Next, budget)
+}
+
+/// The value has come: it goes to the target.
+#[tactic(auto)]
+pub fn annotated_came(
+    going: &mut Going,
+    functions: &Functions,
+    frozen: &Frozen,
+    s: &Stmt,
+    v: Val,
+    budget: u64,
+) -> Result<Now, Halt>
+    requires { going.old.state.used < budget }
+    ensures moves { GoesOn functions.now frozen.now result going.old going.new budget (λ k. annotate_stored k (step_of s.now) v) }
+    ensures left { OnOk result (going.new.state.used < budget) }
+    ensures grows { going.old.state.used ≤ going.new.state.used }
+{
+    match &*s.kind {
+        StmtKind::Annotate {
+            target,
+            annotation: _,
+            value: _,
+        } => assign(going, functions, frozen, target, v, budget),
+        _ => comes(going, functions, frozen, Got::Next, budget),
+    }
+}
+
+/// The value went to the target: the annotation.
+#[tactic(auto, using(crate::proofs::AnnotateLaws::stored_rules))]
+pub fn annotating_left(
+    going: &mut Going,
+    functions: &Functions,
+    frozen: &Frozen,
+    s: &Stmt,
+    got: Got,
+    budget: u64,
+) -> Result<Now, Halt>
+    ensures moves { GoesOn functions.now frozen.now result going.old going.new budget (λ k. on_next got (annotates k (step_of s.now))) }
+    ensures state { going.new.state ≡ going.old.state }
+{
+    if leaves(&got) {
+        return comes(going, functions, frozen, got, budget);
+    }
+    annotating_on(going, functions, frozen, s, budget)
+}
+
+#[tactic(auto)]
+fn annotating_on(
+    going: &mut Going,
+    functions: &Functions,
+    frozen: &Frozen,
+    s: &Stmt,
+    budget: u64,
+) -> Result<Now, Halt>
+    ensures moves { GoesOn functions.now frozen.now result going.old going.new budget (λ k. annotates k (step_of s.now)) }
+    ensures state { going.new.state ≡ going.old.state }
+{
+    match &*s.kind {
+        StmtKind::Annotate {
+            target,
+            annotation,
+            value,
+        } => {
+            begin_annotation(
+                going, functions, frozen, s, target, annotation, value, budget,
+            )
+        }
+        _ => comes(going, functions, frozen, Got::Next, budget),
+    }
+}
+
+/// The annotation has come: that of a name is kept.
+#[tactic(auto)]
+pub fn annotation_came(
+    going: &mut Going,
+    functions: &Functions,
+    frozen: &Frozen,
+    s: &Stmt,
+    v: Val,
+    budget: u64,
+) -> Result<Now, Halt>
+    ensures moves { GoesOn functions.now frozen.now result going.old going.new budget (λ k. notes (step_of s.now) v) }
+    ensures used { going.new.state.used ≡ going.old.state.used }
+{
+    match &*s.kind {
+        StmtKind::Annotate {
+            target,
+            annotation: _,
+            value: _,
+        } => note(going, functions, frozen, target, v, budget),
+        _ => comes(going, functions, frozen, Got::Next, budget),
+    }
+}
+
+#[tactic(auto)]
+fn note(
+    going: &mut Going,
+    functions: &Functions,
+    frozen: &Frozen,
+    target: &Expr,
+    v: Val,
+    budget: u64,
+) -> Result<Now, Halt>
+    ensures moves { GoesOn functions.now frozen.now result going.old going.new budget (λ k. note (tree target.now) v) }
+    ensures used { going.new.state.used ≡ going.old.state.used }
+{
+    match &*target.kind {
+        ExprKind::Name(name) => note_named(going, functions, frozen, name, v, budget),
+        _ => comes(going, functions, frozen, Got::Next, budget),
+    }
+}
+
+// Keeps the annotation of a name.
+#[tactic(auto, using(crate::proofs::AnnotateLaws::note_rules))]
+fn note_named(
+    going: &mut Going,
+    functions: &Functions,
+    frozen: &Frozen,
+    name: &Name,
+    v: Val,
+    budget: u64,
+) -> Result<Now, Halt>
+    ensures moves { GoesOn functions.now frozen.now result going.old going.new budget (λ k. note_named name.now v) }
+    ensures used { going.new.state.used ≡ going.old.state.used }
+{
+    let Ok(noted) = named_val(going.alloc, name.as_str(), v) else {
+        return Err(Halt::NoMemory);
+    };
+    match going.state.here.notes.push(noted) {
+        Ok(()) => comes(going, functions, frozen, Got::Next, budget),
+        Err(_) => Err(Halt::NoMemory),
+    }
+}

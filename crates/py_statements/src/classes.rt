@@ -1,0 +1,236 @@
+// A class whose arguments are there: its base, its scope and its body.
+ghost use Rattle.std.specs.Prelude.{◌≡◌, ◌∷◌, [], option_map, Some};
+ghost use Rattle.py_tree.specs.Seen.{trailer_of};
+ghost use Rattle.py_tree.specs.Programs.{step_of, steps_of};
+ghost use Rattle.py_tree.specs.Steps.{Class, bases_of};
+ghost use Rattle.py_values.specs.Heaps.{seen};
+ghost use Rattle.py_frames.specs.Own.{steps_names};
+ghost use Rattle.py_frames.specs.Statements.{run_all, base_of, over_thing, ends_at_thing, are_keywords, class_begun, class_body};
+ghost use Rattle.py_frames.specs.Def_frames.{class_given};
+ghost use Rattle.py_statements.specs.Def_begun.{class_inside};
+ghost use Rattle.py_frames.specs.Frames.{GoesOn};
+
+use py_frames::block::block_under;
+use py_frames::frame::{DefFrame, Frame, Now};
+use py_frames::functions::Functions;
+use py_frames::going::Going;
+use py_frames::own::own_names;
+use py_frames::request::{Cause, NamedVals};
+use py_frames::scopes::seen_from;
+use py_frames::state::{Got, Halt, Here};
+use py_frames::stmt_plain::{comes, stops};
+use py_tree::{Block, Name, Stmt, StmtKind, Trailer};
+use py_values::{Frozen, Heap, Inherited, OwnNames, ScopeId, Val, Vals};
+use std::mem;
+
+// The base of a class, where it may have these arguments.
+#[tactic(auto, using(crate::proofs::ClassLaws::base_rules))]
+fn base_of(vals: &[Val]) -> Option<Val>
+    ensures { result ≡ base_of vals.now }
+{
+    if vals.len() == 0 {
+        return Some(Val::None);
+    }
+    if vals.len() == 1 {
+        return one_base(vals[0]);
+    }
+    None
+}
+
+// The one argument of a class, where it may be its base.
+fn one_base(v: Val) -> Option<Val>
+    ensures { result ≡ base_of (v ∷ []) }
+{
+    match v {
+        Val::Class(o) => Some(Val::Class(o)),
+        Val::Hw(h) => Some(Val::Hw(h)),
+        _ => None,
+    }
+}
+
+// Whether a chain of bases ends at a thing.
+fn ends_at_thing(found: Inherited) -> bool
+    ensures { result ≡ ends_at_thing found }
+{
+    match found {
+        Inherited::Thing(_) => true,
+        _ => false,
+    }
+}
+
+/// Whether a base is a thing or a class over one.
+pub fn over_thing(heap: &Heap, frozen: &Frozen, base: &Val) -> bool
+    ensures { result ≡ over_thing (seen frozen.now heap.now) base.now }
+{
+    match *base {
+        Val::Hw(_) => true,
+        Val::Class(o) => ends_at_thing(heap.inherited(frozen, o, "")),
+        _ => false,
+    }
+}
+
+// Whether there are keywords.
+fn are_keywords(keywords: &NamedVals) -> bool
+    ensures { result ≡ are_keywords keywords.now }
+{
+    match keywords.as_slice() {
+        [] => false,
+        _ => true,
+    }
+}
+
+/// The arguments of a class are there.
+#[tactic(auto)]
+pub fn class_given(
+    going: &mut Going,
+    functions: &Functions,
+    frozen: &Frozen,
+    s: &Stmt,
+    vals: Vals,
+    keywords: NamedVals,
+    budget: u64,
+) -> Result<Now, Halt>
+    ensures moves { GoesOn functions.now frozen.now result going.old going.new budget (λ k. class_given k (step_of s.now) vals keywords) }
+    ensures used { going.new.state.used ≡ going.old.state.used }
+{
+    match &*s.kind {
+        StmtKind::Class {
+            name,
+            arguments,
+            body,
+        } => class_based(
+            going, functions, frozen, s, name, arguments, body, vals, keywords, budget,
+        ),
+        _ => comes(going, functions, frozen, Got::Next, budget),
+    }
+}
+
+// Its base is there, or it raises.
+#[tactic(auto, using(crate::proofs::ClassLaws::based_rules))]
+fn class_based(
+    going: &mut Going,
+    functions: &Functions,
+    frozen: &Frozen,
+    s: &Stmt,
+    name: &Name,
+    arguments: &Option<Trailer>,
+    body: &Block,
+    vals: Vals,
+    keywords: NamedVals,
+    budget: u64,
+) -> Result<Now, Halt>
+    requires { step_of s.now ≡ Class s.now.place name.now (bases_of (option_map trailer_of arguments.now)) (steps_of body.now) }
+    ensures moves { GoesOn functions.now frozen.now result going.old going.new budget (λ k. class_given k (step_of s.now) vals keywords) }
+    ensures used { going.new.state.used ≡ going.old.state.used }
+{
+    match base_of(vals.as_slice()) {
+        Some(base) => class_begun(
+            going, functions, frozen, s, name, arguments, body, base, keywords, budget,
+        ),
+        None => stops(going, functions, frozen, Cause::Raised, s.place, budget),
+    }
+}
+
+// A class over this base: keywords are for a thing alone.
+#[tactic(auto, using(crate::proofs::ClassLaws::begun_rules))]
+fn class_begun(
+    going: &mut Going,
+    functions: &Functions,
+    frozen: &Frozen,
+    s: &Stmt,
+    name: &Name,
+    arguments: &Option<Trailer>,
+    body: &Block,
+    base: Val,
+    keywords: NamedVals,
+    budget: u64,
+) -> Result<Now, Halt>
+    requires { step_of s.now ≡ Class s.now.place name.now (bases_of (option_map trailer_of arguments.now)) (steps_of body.now) }
+    ensures moves { GoesOn functions.now frozen.now result going.old going.new budget (λ k. class_begun k (Some base) name.now keywords (steps_names (steps_of body.now)) (run_all k (steps_of body.now)) s.now.place) }
+    ensures used { going.new.state.used ≡ going.old.state.used }
+{
+    if are_keywords(&keywords) && !over_thing(&going.state.heap, frozen, &base) {
+        return stops(going, functions, frozen, Cause::Raised, s.place, budget);
+    }
+    class_body(
+        going, functions, frozen, s, name, arguments, body, base, keywords, budget,
+    )
+}
+
+// Its scope is made.
+#[tactic(auto, using(crate::proofs::ClassLaws::body_rules))]
+fn class_body(
+    going: &mut Going,
+    functions: &Functions,
+    frozen: &Frozen,
+    s: &Stmt,
+    name: &Name,
+    arguments: &Option<Trailer>,
+    body: &Block,
+    base: Val,
+    keywords: NamedVals,
+    budget: u64,
+) -> Result<Now, Halt>
+    requires { step_of s.now ≡ Class s.now.place name.now (bases_of (option_map trailer_of arguments.now)) (steps_of body.now) }
+    ensures moves { GoesOn functions.now frozen.now result going.old going.new budget (λ k. class_body k base name.now keywords (steps_names (steps_of body.now)) (run_all k (steps_of body.now)) s.now.place) }
+    ensures used { going.new.state.used ≡ going.old.state.used }
+{
+    let Ok(names) = own_names(going.alloc, body) else {
+        return Err(Halt::NoMemory);
+    };
+    let Ok(own) = OwnNames::new(going.alloc, names) else {
+        return Err(Halt::NoMemory);
+    };
+    let enclosing = seen_from(going, frozen);
+    match going.state.heap.scope(frozen, enclosing, true, own) {
+        Ok(scope) => class_inside(
+            going, functions, frozen, s, name, arguments, body, scope, base, keywords, budget,
+        ),
+        Err(_) => Err(Halt::NoMemory),
+    }
+}
+
+// Its body runs in that scope, and a frame waits for what it leaves.
+#[tactic(auto, using(crate::proofs::ClassLaws::inside_rules))]
+fn class_inside(
+    going: &mut Going,
+    functions: &Functions,
+    frozen: &Frozen,
+    s: &Stmt,
+    _name: &Name,
+    _arguments: &Option<Trailer>,
+    body: &Block,
+    scope: ScopeId,
+    base: Val,
+    keywords: NamedVals,
+    budget: u64,
+) -> Result<Now, Halt>
+    requires { step_of s.now ≡ Class s.now.place _name.now (bases_of (option_map trailer_of _arguments.now)) (steps_of body.now) }
+    ensures moves { GoesOn functions.now frozen.now result going.old going.new budget (λ k. class_inside k scope base _name.now keywords (run_all k (steps_of body.now)) s.now.place) }
+    ensures used { going.new.state.used ≡ going.old.state.used }
+{
+    let Ok(stmt) = s.share() else {
+        return Err(Halt::NoMemory);
+    };
+    let here = Here {
+        scope,
+        home: None,
+        first: None,
+        notes: NamedVals::new(going.alloc),
+        room: going.state.here.room,
+    };
+    let outer = mem::replace(&mut going.state.here, here);
+    block_under(
+        going,
+        functions,
+        frozen,
+        body,
+        Frame::Def(DefFrame::ClassBody {
+            stmt,
+            base,
+            keywords,
+            outer,
+        }),
+        budget,
+    )
+}

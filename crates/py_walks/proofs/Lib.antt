@@ -1,0 +1,6 @@
+pub mod WalkParts
+pub mod WalkLaws
+pub mod TargetLaws
+pub mod CompLaws
+pub mod ForLaws
+pub mod WalkGoes
