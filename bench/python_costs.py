@@ -314,6 +314,8 @@ class Run:
     def do_AnnAssign(self, stmt, place):
         if stmt.value is not None:
             self.assign(stmt.target, self.value(stmt.value, self.call_name(stmt.target)))
+        elif not isinstance(stmt.target, ast.Name):
+            self.reach(stmt.target)
         scope = self.here.scope
         if scope.is_class or scope.parent is None:
             note = self.value(stmt.annotation)
@@ -479,6 +481,14 @@ class Run:
             self.spend(1, place)
             of = self.value(target.value)
             self.set_index(of, self.value(target.slice), value, place)
+
+    def reach(self, target):
+        """The parts of a target to which nothing goes."""
+        self.value(target.value)
+        if isinstance(target, ast.Subscript):
+            if isinstance(target.slice, ast.Slice):
+                raise Stop("raised", self.place(target))
+            self.value(target.slice)
 
     def few(self, value, target):
         return list(value) if python_builtins.size(value) == len(target.elts) else []

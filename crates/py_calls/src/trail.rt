@@ -15,7 +15,7 @@ use crate::call_arguments::arguments_begun;
 use crate::call_of::call_of_begun;
 use crate::trail_augment::augmented_along;
 use crate::trail_slice::slice_begun;
-use crate::trail_store::store_along;
+use crate::trail_store::{reach_along, store_along};
 use amh_host::Place;
 use py_frames::call_leaf::give;
 use py_frames::frame::{Along, CallFrame, Frame, Now, Purpose};
@@ -143,6 +143,7 @@ pub fn goes_along(
     match along {
         Along::Value(purpose) => trail(going, functions, frozen, node, at, purpose, v, budget),
         Along::Store(stored) => store_along(going, functions, frozen, node, at, v, stored, budget),
+        Along::Reach => reach_along(going, functions, frozen, node, at, v, budget),
         Along::Augment(stmt) => augmented_along(
             going, functions, frozen, &stmt, at, node, v, budget,
         ),

@@ -39,7 +39,7 @@ pub seen_as : (fns : Functions) (frozen : Made) (r : Result Now Halt) (x y : Goi
 seen_as fns frozen r x y budget t c e h = let Q : Tree → Type 0 = λ z. GoesOn fns frozen r x y budget (λ k. value_after k Plain z) in subst Q (sym e) h
 
 -- what a value is for matters to what trails a primary alone
-true_not_false : true ≡ false → ⊥
+pub true_not_false : true ≡ false → ⊥
 true_not_false e = cc
 
 purpose_free : (k : Known) (u : Purpose) (t : Tree) → is_trailed t ≡ false → value_after k Plain t ≡ value_after k u t

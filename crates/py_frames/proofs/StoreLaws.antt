@@ -30,7 +30,7 @@ use Rattle.py_frames.specs.declared.functions.Functions.{Functions}
 use Rattle.py_frames.specs.declared.going.Going.{Going}
 use Rattle.py_frames.specs.Doing.{Known, came, making, heap_seen, then_do, after, on_value, stop}
 use Rattle.py_frames.specs.Parts.{place_of, trailers_from}
-use Rattle.py_frames.specs.Expressions.{stored, store_last, trailed_one}
+use Rattle.py_frames.specs.Expressions.{stored, store_last, reached, reach_last, trailed_one}
 use Rattle.py_frames.specs.Call_frames.{trailers_of}
 use Rattle.py_frames.specs.Trailing.{first_trailer}
 use Rattle.py_frames.specs.Asking.{request, ask}
@@ -83,3 +83,22 @@ stored_more fns frozen r x y budget n m node more t u v i e1 e2 e3 e4 h =
     (same_goes fns frozen r x y budget (λ z k w s. after (trailed_one k Plain (place_of (tree node)) t v w s) (λ got. on_value got (λ y. stored k (place_of z) (trailers_from m (trailers_of z)) y i) w)) (tree more) (tree node) e4 h)))
 
 pub ruleset stored_rules = (stored_end, stored_last, stored_more)
+
+-- ---- along what trails a target to which nothing goes
+
+pub reached_end : (fns : Functions) (frozen : Made) (r : Result Now Halt) (x y : Going) (budget : ℕ) (n : ℕ) (node : Expr) (v : Val) → None ≡ first_trailer (trailers_from n (trailers_of (tree node))) → GoesOn fns frozen r x y budget (λ k. stop Raised (place_of (tree node))) → GoesOn fns frozen r x y budget (λ k. reached k (place_of (tree node)) (trailers_from n (trailers_of (tree node))) v)
+reached_end fns frozen r x y budget n node v e1 h = same_goes fns frozen r x y budget (λ z k. reached k (place_of (tree node)) z v) no_trailer (trailers_from n (trailers_of (tree node))) (trailers-end (trailers_from n (trailers_of (tree node))) e1) h
+
+pub reached_last : (fns : Functions) (frozen : Made) (r : Result Now Halt) (x y : Going) (budget : ℕ) (n m : ℕ) (node : Expr) (t : Trailer) (v : Val) → Some t ≡ first_trailer (trailers_from n (trailers_of (tree node))) → m ≡ n + 1 → None ≡ first_trailer (trailers_from m (trailers_of (tree node))) → GoesOn fns frozen r x y budget (λ k. reach_last k (place_of (tree node)) t) → GoesOn fns frozen r x y budget (λ k. reached k (place_of (tree node)) (trailers_from n (trailers_of (tree node))) v)
+reached_last fns frozen r x y budget n m node t v e1 e2 e3 h =
+    let q : m ≡ suc n = omega arith in
+    same_goes fns frozen r x y budget (λ z k. reached k (place_of (tree node)) z v) (trailer t (trailers_from (suc n) (trailers_of (tree node)))) (trailers_from n (trailers_of (tree node))) (trailers-next n (trailers_of (tree node)) t e1)
+    (same_goes fns frozen r x y budget (λ z k. reached k (place_of (tree node)) (trailer t z) v) no_trailer (trailers_from (suc n) (trailers_of (tree node))) (trailers-end (trailers_from m (trailers_of (tree node))) e3 ∙ ap (λ (z : ℕ). trailers_from z (trailers_of (tree node))) q) h)
+
+pub reached_more : (fns : Functions) (frozen : Made) (r : Result Now Halt) (x y : Going) (budget : ℕ) (n m : ℕ) (node more : Expr) (t u : Trailer) (v : Val) → Some t ≡ first_trailer (trailers_from n (trailers_of (tree node))) → m ≡ n + 1 → Some u ≡ first_trailer (trailers_from m (trailers_of (tree node))) → tree more ≡ tree node → GoesOn fns frozen r x y budget (within (frame.Call (call.Trail more m along.Reach)) (λ k. trailed_one k Plain (place_of (tree node)) t v)) → GoesOn fns frozen r x y budget (λ k. reached k (place_of (tree node)) (trailers_from n (trailers_of (tree node))) v)
+reached_more fns frozen r x y budget n m node more t u v e1 e2 e3 e4 h =
+    let q : m ≡ suc n = omega arith in
+    same_goes fns frozen r x y budget (λ z k. reached k (place_of (tree node)) z v) (trailer t (trailers_from (suc n) (trailers_of (tree node)))) (trailers_from n (trailers_of (tree node))) (trailers-next n (trailers_of (tree node)) t e1)
+    (same_goes fns frozen r x y budget (λ z k. reached k (place_of (tree node)) (trailer t z) v) (trailer u (trailers_from (suc m) (trailers_of (tree node)))) (trailers_from (suc n) (trailers_of (tree node))) (trailers-next m (trailers_of (tree node)) u e3 ∙ ap (λ (z : ℕ). trailers_from z (trailers_of (tree node))) q)
+    (same_goes fns frozen r x y budget (λ z k w s. after (trailed_one k Plain (place_of (tree node)) t v w s) (λ got. on_value got (λ y. reached k (place_of (tree node)) z y) w)) (trailers_from m (trailers_of (tree node))) (trailer u (trailers_from (suc m) (trailers_of (tree node)))) (sym (trailers-next m (trailers_of (tree node)) u e3))
+    (same_goes fns frozen r x y budget (λ z k w s. after (trailed_one k Plain (place_of (tree node)) t v w s) (λ got. on_value got (λ y. reached k (place_of z) (trailers_from m (trailers_of z)) y) w)) (tree more) (tree node) e4 h)))

@@ -18,7 +18,7 @@ use Rattle.py_frames.specs.Asking.{asked, returned}
 use Rattle.py_frames.specs.Functions.{named_val}
 use Rattle.py_frames.specs.Parts.{operator_of, place_of, trailers_from, arguments_from}
 use Rattle.py_frames.specs.Values.{indexed, sliced, gone_over, on_through, attribute_in_rounds, initialised, attributes_bound, on_names, as_row}
-use Rattle.py_frames.specs.Expressions.{perhaps_value, trailed, stored, call_for, arguments_then, with_elements, awaited}
+use Rattle.py_frames.specs.Expressions.{perhaps_value, trailed, stored, reached, call_for, arguments_then, with_elements, awaited}
 use Rattle.py_frames.specs.Statements.{augment_along, call_ended}
 
 -- ---- what trails a primary
@@ -36,6 +36,7 @@ augmented_along k n x step q = stop Raised q
 abbrev pub goes_along : Known → Along → ℕ → Tree → Val → Doing
 goes_along k (along.Value u) n t x = trailed k u (place_of t) (trailers_from n (trailers_of t)) x
 goes_along k (along.Store v) n t x = stored k (place_of t) (trailers_from n (trailers_of t)) x v
+goes_along k along.Reach n t x = reached k (place_of t) (trailers_from n (trailers_of t)) x
 goes_along k (along.Augment stmt) n t x = augmented_along k n x (step_of stmt) (place_of t)
 
 -- ---- arguments

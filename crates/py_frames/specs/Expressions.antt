@@ -1,6 +1,6 @@
 -- What an expression means. Each node spends its units where it begins, before its parts; a chain of operators or of
 -- what trails a primary begins all its nodes at its first token.
-use Rattle.std.specs.Prelude.{ℕ, zero, suc, ◌+◌, Bool, true, false, if◌then◌else◌, List, [], ◌∷◌, ◌++◌, pos, Option, Some, None, option_map, Result, Ok, Err}
+use Rattle.std.specs.Prelude.{ℕ, zero, suc, ◌+◌, ◌-◌, Bool, true, false, if◌then◌else◌, List, [], ◌∷◌, ◌++◌, pos, Option, Some, None, option_map, Result, Ok, Err}
 use Rattle.amh_host.specs.declared.place.Place.{Place}
 use Rattle.py_tree.specs.declared.name.Piece.{Piece}
 use Rattle.py_tree.specs.declared.name.Piece.TheVariants as piece
@@ -383,6 +383,32 @@ abbrev mutual
   store_last k p (Call gs) x v = stop Raised p
   store_last k p (CallOf t c) x v = stop Raised p
   store_last k p (Slice a b c) x v = stop Raised p
+
+-- ---- targets to which nothing goes
+
+-- the last of what trails: it is neither read nor stored, but the parts of it are evaluated
+abbrev pub reach_last : Known → Place → Trailer → Doing
+reach_last k p (Attribute n) = came Next
+reach_last k p (Index t) = do
+  _ ← value_of k Plain t
+  came Next
+reach_last k p (Call gs) = stop Raised p
+reach_last k p (CallOf t c) = stop Raised p
+reach_last k p (Slice a b c) = stop Raised p
+
+-- along what trails a target's primary to its last, where nothing is stored
+abbrev pub reached : Known → Place → Trailers → Val → Doing
+reached k p no_trailer x = stop Raised p
+reached k p (trailer t ts) x = where_last ts (reach_last k p t) (do
+  y ← trailed_one k Plain p t x
+  reached k p ts y)
+
+-- a target: what the last trailer stands behind, and its parts; that one itself costs nothing
+abbrev pub reach : Known → Tree → Doing
+reach k (Trailed p t ts) = spend_each (trailer_count ts - 1) p (do
+  x ← value_of k Plain t
+  reached k p ts x)
+reach k t = came Next
 
 -- the list of a comprehension that is the one argument of a call
 abbrev pub list_of : Known → Tree → Each → Doing

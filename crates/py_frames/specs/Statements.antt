@@ -34,7 +34,7 @@ use Rattle.py_frames.specs.Own.{steps_names, function_names, imported_as}
 use Rattle.py_frames.specs.Functions.{function_at, parameters_met, named_val}
 use Rattle.py_frames.specs.Parts.{operator_of, place_of, trailer_count}
 use Rattle.py_frames.specs.Values.{bind, bind_all, read, truth_of, is_thing, operated, built, attribute, store_attribute, indexed, store_index, as_row, on_names, named_vals, with_this, sign_of}
-use Rattle.py_frames.specs.Expressions.{value_of, perhaps_value, arguments_then, assign, trailed_one, list_of, on_element, if_row, seen_from, where_last}
+use Rattle.py_frames.specs.Expressions.{value_of, perhaps_value, arguments_then, assign, trailed_one, list_of, on_element, if_row, seen_from, where_last, reach}
 
 -- ---- imports
 
@@ -328,7 +328,7 @@ annotated k target t = λ w s. choose (evaluates_annotations (heap_seen k s) s.h
     (came Next) w s
 
 abbrev pub assign_annotated : Known → Tree → Perhaps → Doing
-assign_annotated k target absent = came Next
+assign_annotated k target absent = reach k target
 assign_annotated k target (present t) = do
   v ← value_of k (target_purpose target) t
   assign k target v

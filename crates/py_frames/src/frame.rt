@@ -27,6 +27,8 @@ pub enum Along {
     Value(Purpose),
     /// To the last of it, where this value is stored.
     Store(Val),
+    /// To the last of it, whose parts are evaluated and where nothing is stored.
+    Reach,
     /// To the last of it, which this augmented assignment changes.
     Augment(Stmt),
 }

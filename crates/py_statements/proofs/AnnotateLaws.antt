@@ -24,7 +24,7 @@ use Rattle.py_frames.specs.declared.functions.Functions.{Functions}
 use Rattle.py_frames.specs.declared.going.Going.{Going}
 use Rattle.py_frames.specs.Doing.{Doing, Known, after, on_value, on_next, came, choose, ◌>>=◌}
 use Rattle.py_frames.specs.Functions.{named_val}
-use Rattle.py_frames.specs.Expressions.{value_of}
+use Rattle.py_frames.specs.Expressions.{value_of, reach}
 use Rattle.py_frames.specs.Statements.{known, annotated, evaluates_annotations, note, target_purpose}
 use Rattle.py_frames.specs.Stmt_begun.{run_after, leaves, note_named}
 use Rattle.py_frames.specs.Stmt_frames.{annotate_stored, annotates, notes}
@@ -34,12 +34,14 @@ use Rattle.py_frames.proofs.StmtLaws.{meant_same}
 use Rattle.py_frames.proofs.StmtGoes.{next_leaves, next_stays}
 use Rattle.py_frames.proofs.IfLaws.{here_same}
 
--- an annotation without a value
-pub annotate_plain : (fns : Functions) (frozen : Made) (r : Result Now Halt) (x y : Going) (budget : ℕ) (p : Place) (a b : Tree) (o : Option Expr) (t : Step) → t ≡ Annotate p a b (perhaps (option_map tree o)) → o ≡ None → GoesOn fns frozen r x y budget (λ k. annotated k a b) → GoesOn fns frozen r x y budget (λ k. run_after k t)
-annotate_plain fns frozen r x y budget p a b o t e1 e2 h =
-    let q : t ≡ Annotate p a b absent = e1 ∙ ap (λ z. Annotate p a b (perhaps (option_map tree z))) e2 in
-    let N : Step → Type 0 = λ z. GoesOn fns frozen r x y budget (λ k. run_after k z) in
-    subst N (sym q) h
+-- an annotation without a value: its target is reached, and then comes the annotation
+pub annotate_reaches : (fns : Functions) (frozen : Made) (r : Result Now Halt) (x z : Going) (budget : ℕ) (p : Place) (a b : Tree) (t : Step) (outer : Stmt) (fs : List Frame) → t ≡ Annotate p a b absent → step_of outer ≡ t → fs ≡ frame.Stmt (stmt.Annotating outer) ∷ x.frames → GoesOn fns frozen r (record x { frames = fs }) z budget (λ k. reach k a) → GoesOn fns frozen r x z budget (λ k. run_after k t)
+annotate_reaches fns frozen r x z budget p a b t outer fs e1 e2 e3 h =
+    let F : List Frame → Type 0 = λ g. GoesOn fns frozen r (record x { frames = g }) z budget (λ k. reach k a) in
+    let O : Step → Type 0 = λ j. GoesOn fns frozen r x z budget (λ k w s. after (reach k a w s) (λ got. on_next got (annotates k j) w)) in
+    let N : Step → Type 0 = λ j. GoesOn fns frozen r x z budget (λ k. run_after k j) in
+    let g = pushed fns frozen r x z budget (frame.Stmt (stmt.Annotating outer)) (λ k. reach k a) refl (subst F e3 h) in
+    subst N (sym e1) (subst O (e2 ∙ e1) g)
 
 -- a value goes to its target, and then comes the annotation
 pub annotate_begins : (fns : Functions) (frozen : Made) (r : Result Now Halt) (x z : Going) (budget : ℕ) (p : Place) (a b c : Tree) (t : Step) (u : Purpose) (outer node : Stmt) (fs : List Frame) → t ≡ Annotate p a b (present c) → step_of outer ≡ t → step_of node ≡ t → u ≡ target_purpose a → fs ≡ frame.Stmt (stmt.Annotating outer) ∷ x.frames → GoesOn fns frozen r (record x { frames = fs }) z budget (within (frame.Stmt (stmt.Annotated node)) (λ k. value_of k u c)) → GoesOn fns frozen r x z budget (λ k. run_after k t)
@@ -83,8 +85,6 @@ pub note_kept : (fns : Functions) (frozen : Made) (r : Result Now Halt) (x z : G
 note_kept fns frozen r x z budget name v n ns e1 e2 h =
     let P : List NamedVal → Type 0 = λ l. GoesOn fns frozen r (record x { state = record x.state { here = record x.state.here { notes = l } } }) z budget (λ k. came Next) in
     note_goes fns frozen r x z budget name v (subst P (e2 ∙ ap (λ i. x.state.here.notes ++ i ∷ []) e1) h)
-
-pub ruleset begin_rules = (annotate_plain, no_memory)
 
 pub ruleset value_rules = (annotate_begins, no_memory)
 

@@ -37,6 +37,7 @@ use Rattle.py_frames.specs.Call_frames.{trailers_of, augmented_along}
 use Rattle.py_frames.specs.Stmt_frames.{Change, change_of, with_change, index_came, old_came, right_came}
 use Rattle.py_statements.specs.Augmented.{augment_after, augmented_last, can_change, can_change_last}
 use Rattle.py_frames.specs.Frames.{GoesOn, within}
+use Rattle.py_frames.proofs.ExprGoes.{true_not_false}
 use Rattle.py_frames.proofs.BeginLaws.{stop_goes, pushed}
 use Rattle.py_frames.proofs.ExprLaws.{same_total, spent_goes, spent_stops}
 use Rattle.py_frames.proofs.ExprKinds.{read_by}
@@ -163,9 +164,6 @@ last_known fns frozen r x y budget q u v s o e h =
 
 pub last_none : (fns : Functions) (frozen : Made) (x : Going) (budget : ℕ) (q : Place) (u : Trailer) (v : Val) (s : Step) → None ≡ change_of s → GoesOn fns frozen (Err (Stopped (record { cause = cause.Raised; place = q }))) x x budget (λ k. augmented_last k q u v s)
 last_none fns frozen x budget q u v s e = last_known fns frozen (Err (Stopped (record { cause = cause.Raised; place = q }))) x x budget q u v s None e (stop_goes fns frozen x budget cause.Raised q)
-
-true_not_false : true ≡ false → ⊥
-true_not_false e = cc
 
 other_stops : (k : Known) (q : Place) (u : Trailer) (v : Val) (c : Change) → can_change_last u ≡ false → last_or (Some c) k q u v ≡ stop cause.Raised q
 other_stops k q (Attribute n) v c e = absurd (true_not_false e)

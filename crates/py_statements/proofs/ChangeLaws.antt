@@ -38,12 +38,10 @@ use Rattle.py_frames.specs.Stmt_frames.{Change, change_of, with_change, index_ca
 use Rattle.py_frames.specs.Told.{Binds}
 use Rattle.py_statements.specs.Augmented.{grown, instead, is_a_name}
 use Rattle.py_frames.specs.Frames.{told, GoesOn, within}
+use Rattle.py_frames.proofs.ExprGoes.{true_not_false}
 use Rattle.py_frames.proofs.BeginLaws.{pushed}
 use Rattle.py_frames.proofs.ExprLaws.{same_total, bind_goes}
 use Rattle.py_frames.proofs.ExprCharged.{charged_told}
-
-true_not_false : true ≡ false → ⊥
-true_not_false e = cc
 
 -- what comes beside a value
 pub came_goes : (fns : Functions) (frozen : Made) (x : Going) (budget : ℕ) (g : Got) → GoesOn fns frozen (Ok (Came g)) x x budget (λ k. came g)

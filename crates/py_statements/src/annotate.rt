@@ -3,7 +3,7 @@ ghost use Rattle.std.specs.Prelude.{◌≡◌, ◌<◌, ◌≤◌, [], option_ma
 ghost use Rattle.std.specs.Option.{option_copied};
 ghost use Rattle.py_tree.specs.Seen.{tree};
 ghost use Rattle.py_tree.specs.Programs.{step_of};
-ghost use Rattle.py_tree.specs.Tree.{perhaps, present};
+ghost use Rattle.py_tree.specs.Tree.{perhaps, present, absent};
 ghost use Rattle.py_tree.specs.Steps.{Annotate};
 ghost use Rattle.py_values.specs.Heaps.{seen};
 ghost use Rattle.py_values.specs.Names.{scope_at};
@@ -28,6 +28,7 @@ use py_frames::stmt_purpose::target_purpose;
 use py_tree::{Expr, ExprKind, Name, Stmt, StmtKind};
 use py_values::{Frozen, Scope, Val};
 use py_walks::target_turns::assign;
+use py_walks::targets::reach;
 use std::alloc::Global;
 
 // Whether annotations are evaluated in a scope.
@@ -58,8 +59,8 @@ fn evaluates_annotations(going: &Going, frozen: &Frozen) -> bool
     is_open(going.state.heap.scope_at(frozen, going.state.here.scope))
 }
 
-/// An annotated assignment: its value where it has one, and then its annotation.
-#[tactic(auto, using(crate::proofs::AnnotateLaws::begin_rules))]
+/// An annotated assignment: its value where it has one, else its target, and then its annotation.
+#[tactic(auto, using(py_frames::proofs::BeginLaws::no_memory))]
 pub fn begun_annotate(
     going: &mut Going,
     functions: &Functions,
@@ -70,15 +71,44 @@ pub fn begun_annotate(
     value: &Option<Expr>,
     budget: u64,
 ) -> Result<Now, Halt>
-    requires { step_of s.now ≡ Annotate s.now.place (tree target.now) (tree annotation.now) (perhaps (option_map tree value.now)) }
+    requires room { going.old.state.used < budget }
+    requires kind { step_of s.now ≡ Annotate s.now.place (tree target.now) (tree annotation.now) (perhaps (option_map tree value.now)) }
     ensures moves { GoesOn functions.now frozen.now result going.old going.new budget (λ k. run_after k (step_of s.now)) }
-    ensures state { going.new.state ≡ going.old.state }
+    ensures left { OnOk result (going.new.state.used < budget) }
+    ensures grows { going.old.state.used ≤ going.new.state.used }
 {
     match value {
         Some(e) => annotated_value(going, functions, frozen, s, target, annotation, e, budget),
-        None => begin_annotation(
-            going, functions, frozen, s, target, annotation, value, budget,
-        ),
+        None => annotated_alone(going, functions, frozen, s, target, annotation, budget),
+    }
+}
+
+// No value: the target is reached before the annotation.
+#[tactic(auto, using(py_frames::proofs::BeginLaws::no_memory))]
+fn annotated_alone(
+    going: &mut Going,
+    functions: &Functions,
+    frozen: &Frozen,
+    s: &Stmt,
+    target: &Expr,
+    _annotation: &Expr,
+    budget: u64,
+) -> Result<Now, Halt>
+    requires room { going.old.state.used < budget }
+    requires kind { step_of s.now ≡ Annotate s.now.place (tree target.now) (tree _annotation.now) absent }
+    ensures moves { GoesOn functions.now frozen.now result going.old going.new budget (λ k. run_after k (step_of s.now)) }
+    ensures left { OnOk result (going.new.state.used < budget) }
+    ensures grows { going.old.state.used ≤ going.new.state.used }
+{
+    let Ok(outer) = s.share() else {
+        return Err(Halt::NoMemory);
+    };
+    match going
+        .frames
+        .push(Frame::Stmt(StmtFrame::Annotating { stmt: outer }))
+    {
+        Ok(()) => reach(going, functions, frozen, target, budget),
+        Err(_) => Err(Halt::NoMemory),
     }
 }
 

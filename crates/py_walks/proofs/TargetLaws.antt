@@ -1,5 +1,5 @@
 -- What a value that goes to a target owes.
-use Rattle.std.proofs.Common.{◌≡◌, ℕ, suc, ◌+◌, ◌≤◌, refl, ap, ◌∙◌, sym, subst, List, [], ◌∷◌, Some, None, Result, Ok, Err, Bool, true, false, add-one}
+use Rattle.std.proofs.Common.{◌≡◌, ℕ, suc, ◌+◌, ◌-◌, ◌≤◌, refl, ap, ◌∙◌, sym, subst, List, [], ◌∷◌, Some, None, Result, Ok, Err, Bool, true, false, add-one}
 use Rattle.amh_host.specs.declared.place.Place.{Place}
 use Rattle.py_tree.specs.declared.expr.Expr.{Expr}
 use Rattle.py_tree.specs.Seen.{tree}
@@ -25,8 +25,8 @@ use Rattle.py_frames.specs.declared.going.Going.{Going}
 use Rattle.py_frames.specs.Doing.{Doing, Known, after, on_value, on_next, came, stop, spend_each}
 use Rattle.py_frames.specs.Parts.{place_of, tree_count, trees_from}
 use Rattle.py_frames.specs.Values.{as_row}
-use Rattle.py_frames.specs.Expressions.{value_of, assign, assign_each, stored, as_many, with_elements}
-use Rattle.py_frames.specs.Expr_parts.{tree_at}
+use Rattle.py_frames.specs.Expressions.{value_of, assign, assign_each, stored, reach, reached, as_many, with_elements}
+use Rattle.py_frames.specs.Expr_parts.{tree_at, is_trailed}
 use Rattle.py_frames.specs.Call_frames.{trailers_of}
 use Rattle.py_frames.specs.Begun.{cost_of, Spends}
 use Rattle.py_frames.specs.Told.{Binds}
@@ -35,6 +35,7 @@ use Rattle.py_walks.specs.Walk_parts.{TellsElements, is_target}
 use Rattle.py_frames.specs.Frames.{GoesOn, KeepsRoom, within}
 use Rattle.py_frames.proofs.BeginLaws.{no_memory, stop_goes}
 use Rattle.py_frames.proofs.ExprLaws.{bind_goes, bind_stops, spent_goes, spent_stops}
+use Rattle.py_frames.proofs.ExprGoes.{true_not_false}
 use Rattle.py_frames.proofs.ExprParts.{trees_from_some, trees_from_none}
 use Rattle.py_frames.proofs.StmtLaws.{meant_same, came_goes}
 use Rattle.py_walks.proofs.WalkLaws.{under_frame, next_left, next_on, counts_hold, counts_differ, elements_come, elements_lack}
@@ -69,6 +70,49 @@ trailed_stops fns frozen h x z budget n p a t ts v e1 e3 s =
     let N : ℕ → Type 0 = λ j. GoesOn fns frozen (Err h) x z budget (λ k. spend_each j p (λ w st. after (value_of k Plain a w st) (λ got. on_value got (λ i. stored k p ts i v) w))) in
     subst A (sym e1) (subst N (e3 ∙ ap cost_of e1)
     (spent_stops fns frozen h x z budget n p (λ k w st. after (value_of k Plain a w st) (λ got. on_value got (λ i. stored k p ts i v) w)) s))
+
+-- ---- a target to which nothing goes
+
+pub reach_waits : (fns : Functions) (frozen : Made) (r : Result Now Halt) (x y z : Going) (budget n m : ℕ) (u : Unit {0}) (p : Place) (a t : Tree) (ts : Trailers) (node : Expr) → t ≡ Trailed p a ts → tree node ≡ t → m ≡ cost_of t → n ≡ m - 1 → Spends (Ok u) n p x y budget → y.state.used ≤ z.state.used → GoesOn fns frozen r y z budget (within (frame.Call (call.Trail node 0 along.Reach)) (λ k. value_of k Plain a)) → GoesOn fns frozen r x z budget (λ k. reach k t)
+reach_waits fns frozen r x y z budget n m u p a t ts node e1 e2 e3 e4 s g h =
+    let A : Tree → Type 0 = λ b. GoesOn fns frozen r x z budget (λ k. reach k b) in
+    let B : Tree → Type 0 = λ b. GoesOn fns frozen r y z budget (λ k w st. after (value_of k Plain a w st) (λ got. on_value got (λ i. reached k (place_of b) (trailers_of b) i) w)) in
+    let N : ℕ → Type 0 = λ j. GoesOn fns frozen r x z budget (λ k. spend_each j p (λ w st. after (value_of k Plain a w st) (λ got. on_value got (λ i. reached k p ts i) w))) in
+    subst A (sym e1) (subst N (e4 ∙ ap (λ (j : ℕ). j - 1) (e3 ∙ ap cost_of e1))
+    (spent_goes fns frozen r x y z budget n u p (λ k w st. after (value_of k Plain a w st) (λ got. on_value got (λ i. reached k p ts i) w)) s g (subst B (e2 ∙ e1) h)))
+
+pub reach_stops : (fns : Functions) (frozen : Made) (h : Halt) (x z : Going) (budget n m : ℕ) (p : Place) (a t : Tree) (ts : Trailers) → t ≡ Trailed p a ts → m ≡ cost_of t → n ≡ m - 1 → Spends (Err h) n p x z budget → GoesOn fns frozen (Err h) x z budget (λ k. reach k t)
+reach_stops fns frozen h x z budget n m p a t ts e1 e3 e4 s =
+    let A : Tree → Type 0 = λ b. GoesOn fns frozen (Err h) x z budget (λ k. reach k b) in
+    let N : ℕ → Type 0 = λ j. GoesOn fns frozen (Err h) x z budget (λ k. spend_each j p (λ w st. after (value_of k Plain a w st) (λ got. on_value got (λ i. reached k p ts i) w))) in
+    subst A (sym e1) (subst N (e4 ∙ ap (λ (j : ℕ). j - 1) (e3 ∙ ap cost_of e1))
+    (spent_stops fns frozen h x z budget n p (λ k w st. after (value_of k Plain a w st) (λ got. on_value got (λ i. reached k p ts i) w)) s))
+
+reach_free : (k : Known) (t : Tree) → is_trailed t ≡ false → reach k t ≡ came Next
+reach_free k (Name p n) e = refl
+reach_free k (Number p n) e = refl
+reach_free k (Decimal_time p d) e = refl
+reach_free k (Quotient p n a) e = refl
+reach_free k (Str p s) e = refl
+reach_free k (Format p s) e = refl
+reach_free k (Constant_value p c) e = refl
+reach_free k (Tuple p ts) e = refl
+reach_free k (Display p ts) e = refl
+reach_free k (Dict p ps) e = refl
+reach_free k (ListOf p a c) e = refl
+reach_free k (DictOf p a b c) e = refl
+reach_free k (Trailed p a ts) e = absurd (true_not_false e)
+reach_free k (Await p a) e = refl
+reach_free k (Power p a b) e = refl
+reach_free k (Unary p o a) e = refl
+reach_free k (Not p a) e = refl
+reach_free k (Binary p a ls) e = refl
+reach_free k (Compare p a ls) e = refl
+reach_free k (Boolean p a ls) e = refl
+reach_free k (Choice p a b c) e = refl
+
+pub reach_plain : (fns : Functions) (frozen : Made) (x : Going) (budget : ℕ) (t : Tree) (b : Bool) → b ≡ is_trailed t → b ≡ false → GoesOn fns frozen (Ok (Came Next)) x x budget (λ k. reach k t)
+reach_plain fns frozen x budget t b e1 e2 = meant_same fns frozen (Ok (Came Next)) x x budget (λ k. came Next) (λ k. reach k t) (λ k. reach_free k t (sym e1 ∙ e2)) (came_goes fns frozen x budget Next)
 
 -- ---- unpacking
 
@@ -139,9 +183,6 @@ each_empty fns frozen x budget ts vs e =
 
 -- ---- other kinds
 
-true_not_false : true ≡ false → ⊥
-true_not_false e = cc
-
 -- nothing else is a target
 other_kinds : (k : Known) (t : Tree) (v : Val) → is_target t ≡ false → assign k t v ≡ stop cause.Raised (place_of t)
 other_kinds k (Name p n) v e = absurd (true_not_false e)
@@ -176,6 +217,8 @@ pub ruleset target_rules = (other_target, no_memory)
 pub ruleset name_rules = (name_bound, name_refused)
 
 pub ruleset trailed_rules = (trailed_waits, trailed_stops, no_memory)
+
+pub ruleset reach_rules = (reach_plain, no_memory)
 
 pub ruleset tuple_rules = (tuple_row, no_memory)
 

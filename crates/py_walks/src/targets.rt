@@ -1,10 +1,10 @@
-// Targets: a value is bound to a name, unpacked, or stored in an attribute or at an index.
+// Targets: a value is bound to a name, unpacked, or stored in an attribute or at an index; or nothing goes there.
 ghost use Rattle.std.specs.Prelude.{◌≡◌, ◌<◌, ◌≤◌, map, OnOk};
 ghost use Rattle.py_tree.specs.Seen.{tree, trailer_of};
 ghost use Rattle.py_tree.specs.Tree.{Name as Named, Tuple, Trailed, trees, trailers};
 ghost use Rattle.py_values.specs.Heaps.{seen};
 ghost use Rattle.py_values.specs.Elements.{elements, counts_to};
-ghost use Rattle.py_frames.specs.Expressions.{assign};
+ghost use Rattle.py_frames.specs.Expressions.{assign, reach};
 ghost use Rattle.py_walks.specs.Walk_parts.{TellsElements};
 ghost use Rattle.py_frames.specs.Frames.{GoesOn};
 
@@ -14,10 +14,10 @@ use py_frames::expr_values::bind;
 use py_frames::frame::{Along, CallFrame, Frame, Now, WalkFrame};
 use py_frames::functions::Functions;
 use py_frames::going::{Going, spend, stopped, wait_for};
-use py_frames::leaf::cost_of;
+use py_frames::leaf::{cost_of, is_trailed};
 use py_frames::request::Cause;
 use py_frames::state::{Got, Halt};
-use py_tree::{Expr, Name, Trailer};
+use py_tree::{Expr, ExprKind, Name, Trailer};
 use py_values::{Frozen, Val, Vals, ValueStop};
 
 // A name is bound.
@@ -105,6 +105,71 @@ pub fn assign_trailed(
         ),
         Err(halt) => Err(halt),
     }
+}
+
+// What the last trailer of a target stands behind comes first, where nothing is stored.
+#[tactic(auto, using(py_frames::proofs::BeginLaws::no_memory))]
+fn reach_trailed(
+    going: &mut Going,
+    functions: &Functions,
+    frozen: &Frozen,
+    target: &Expr,
+    first: &Expr,
+    _behind: &Vec<Trailer>,
+    budget: u64,
+) -> Result<Now, Halt>
+    requires lives { going.old.state.used < budget }
+    requires kind { tree target.now ≡ Trailed target.now.place (tree first.now) (trailers (map trailer_of _behind.now.items)) }
+    ensures moves { GoesOn functions.now frozen.now result going.old going.new budget (λ k. reach k (tree target.now)) }
+    ensures left { OnOk result (going.new.state.used < budget) }
+    ensures grows { going.old.state.used ≤ going.new.state.used }
+{
+    let Ok(node) = target.share() else {
+        return Err(Halt::NoMemory);
+    };
+    let all = cost_of(target);
+    let units = all.saturating_sub(1);
+    match spend(going, units, target.place, budget) {
+        Ok(()) => wait_for(
+            going,
+            functions,
+            frozen,
+            first,
+            Frame::Call(CallFrame::Trail {
+                node,
+                at: 0,
+                along: Along::Reach,
+            }),
+            budget,
+        ),
+        Err(halt) => Err(halt),
+    }
+}
+
+/// A target to which nothing goes, as that of an annotation without a value: its primary and its index are evaluated.
+#[tactic(auto, using(crate::proofs::TargetLaws::reach_rules))]
+pub fn reach(
+    going: &mut Going,
+    functions: &Functions,
+    frozen: &Frozen,
+    target: &Expr,
+    budget: u64,
+) -> Result<Now, Halt>
+    requires { going.old.state.used < budget }
+    ensures moves { GoesOn functions.now frozen.now result going.old going.new budget (λ k. reach k (tree target.now)) }
+    ensures left { OnOk result (going.new.state.used < budget) }
+    ensures grows { going.old.state.used ≤ going.new.state.used }
+{
+    let trails = is_trailed(target);
+    if trails {
+        return match &*target.kind {
+            ExprKind::Trailed(first, behind) => reach_trailed(
+                going, functions, frozen, target, first, behind, budget,
+            ),
+            _ => Err(Halt::NoMemory),
+        };
+    }
+    Ok(Now::Came(Got::Next))
 }
 
 // Whether a value has so many elements.
