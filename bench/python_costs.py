@@ -437,7 +437,7 @@ class Run:
 
     def do_ClassDef(self, stmt, place):
         bases = self.positional(stmt.bases, place)
-        keywords = [(k.arg, self.value(k.value)) for k in stmt.keywords]
+        keywords = self.by_keyword(stmt.keywords, place)
         base = bases[0] if bases else None
         if len(bases) > 1 or not (not bases or isinstance(base, (Class, Thing))):
             raise Stop("raised", place)
@@ -665,8 +665,17 @@ class Run:
             self.spend(1, at)
             return callee, [self.fresh(List(self.comprehended(each, at, lambda: [self.value(each.elt)])), at)], {}
         args = self.positional(node.args, place)
-        keywords = [(k.arg, self.value(k.value)) for k in node.keywords]
-        return callee, args, keywords
+        return callee, args, self.by_keyword(node.keywords, place)
+
+    def by_keyword(self, nodes, place):
+        """The arguments by keyword, none of which stands twice."""
+        given = []
+        for node in nodes:
+            value = self.value(node.value)
+            if any(name == node.arg for name, _ in given):
+                raise Stop("raised", place)
+            given.append((node.arg, value))
+        return given
 
     def positional(self, nodes, place):
         args = []
@@ -811,7 +820,7 @@ class Run:
         if not isinstance(function, Function):
             raise Stop("raised", place)
         args = ([function.this] if function.bound else []) + list(args)
-        met = self.met(function, args, dict_once(self, keywords, place), place)
+        met = self.met(function, args, dict(keywords), place)
         if self.calls == CALLS:
             raise Stop("limit", place)
         outer = self.here
@@ -846,14 +855,6 @@ class Run:
                     raise Stop("raised", place)
                 met[name] = function.defaults[name]
         return {name: met[name] for name in every}
-
-
-def dict_once(run, keywords, place):
-    """Keywords, none of which stands twice."""
-    pairs = list(keywords.items()) if isinstance(keywords, dict) else keywords
-    if len({name for name, _ in pairs}) < len(pairs):
-        raise Stop("raised", place)
-    return dict(pairs)
 
 
 def ast_number(run, node):

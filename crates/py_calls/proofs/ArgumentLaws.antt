@@ -1,5 +1,5 @@
 -- Laws of the arguments of a call.
-use Rattle.std.proofs.Common.{◌≡◌, ℕ, zero, suc, ◌+◌, refl, ap, ◌∙◌, sym, subst, List, [], ◌∷◌, ◌++◌, map, slice_get, Option, Some, None, option_map, Result, Ok, Err, arith}
+use Rattle.std.proofs.Common.{◌≡◌, ℕ, zero, suc, ◌+◌, refl, ap, ◌∙◌, sym, subst, List, [], ◌∷◌, ◌++◌, map, slice_get, Option, Some, None, option_map, Result, Ok, Err, Bool, true, false, arith}
 use Rattle.amh_host.specs.declared.place.Place.{Place}
 use Rattle.py_tree.specs.declared.expr.Expr.{Expr}
 use Rattle.py_tree.specs.declared.expr.Argument.{Argument as Given}
@@ -21,10 +21,10 @@ use Rattle.py_frames.specs.declared.frame.Frame.TheVariants as frame
 use Rattle.py_frames.specs.declared.frame.CallFrame.TheVariants as call
 use Rattle.py_frames.specs.declared.functions.Functions.{Functions}
 use Rattle.py_frames.specs.declared.going.Going.{Going}
-use Rattle.py_frames.specs.Doing.{Doing, Known, after, on_value}
+use Rattle.py_frames.specs.Doing.{Doing, Known, after, on_value, stop}
 use Rattle.py_frames.specs.declared.request.Cause.TheVariants as cause
 use Rattle.py_frames.specs.Statements.{known}
-use Rattle.py_frames.specs.Functions.{named_val}
+use Rattle.py_frames.specs.Functions.{named_val, is_given}
 use Rattle.py_frames.specs.Parts.{place_of, trailers_from, arguments_from}
 use Rattle.py_frames.specs.Expressions.{value_of, arguments_then, call_for, on_elements}
 use Rattle.py_frames.specs.Values.{as_row}
@@ -32,6 +32,7 @@ use Rattle.py_frames.specs.Call_frames.{trailers_of, call_arguments, argument_ca
 use Rattle.py_frames.specs.Trailing.{first_trailer, first_argument, argument_tree}
 use Rattle.py_calls.specs.Arguing.{arguments_in, elements_then}
 use Rattle.py_frames.specs.Frames.{GoesOn, within, told}
+use Rattle.py_frames.proofs.KeywordLaws.{once_free, once_taken}
 use Rattle.py_frames.proofs.CallLaws.{looked, same_goes, same_runs}
 use Rattle.py_frames.proofs.BeginLaws.{stop_goes, no_memory}
 
@@ -102,8 +103,11 @@ came_end fns frozen r x y budget p vs keywords n gs v f u e1 h = same_goes fns f
 pub came_positional : (fns : Functions) (frozen : Made) (r : Result Now Halt) (x y : Going) (budget : ℕ) (p : Place) (vs : List Val) (keywords : List NamedVal) (n : ℕ) (gs : Arguments) (v f : Val) (u : Purpose) (t : Tree) → Some (Positional t) ≡ first_argument (arguments_from n gs) → GoesOn fns frozen r x y budget (λ k. arguments_then k p (vs ++ v ∷ []) keywords (arguments_from (suc n) gs) (λ us names. call_for k u f us names p)) → GoesOn fns frozen r x y budget (λ k. argument_came k p vs keywords (arguments_from n gs) v (λ us names. call_for k u f us names p))
 came_positional fns frozen r x y budget p vs keywords n gs v f u t e1 h = same_goes fns frozen r x y budget (λ z k. argument_came k p vs keywords z v (λ us names. call_for k u f us names p)) (argument (Positional t) (arguments_from (suc n) gs)) (arguments_from n gs) (arguments-next n gs (Positional t) e1) h
 
-pub came_keyword : (fns : Functions) (frozen : Made) (r : Result Now Halt) (x y : Going) (budget : ℕ) (p : Place) (vs : List Val) (keywords : List NamedVal) (n : ℕ) (gs : Arguments) (v f : Val) (u : Purpose) (t : Tree) (name : List ℕ) → Some (Keyword name t) ≡ first_argument (arguments_from n gs) → GoesOn fns frozen r x y budget (λ k. arguments_then k p vs (keywords ++ named_val name v ∷ []) (arguments_from (suc n) gs) (λ us names. call_for k u f us names p)) → GoesOn fns frozen r x y budget (λ k. argument_came k p vs keywords (arguments_from n gs) v (λ us names. call_for k u f us names p))
-came_keyword fns frozen r x y budget p vs keywords n gs v f u t name e1 h = same_goes fns frozen r x y budget (λ z k. argument_came k p vs keywords z v (λ us names. call_for k u f us names p)) (argument (Keyword name t) (arguments_from (suc n) gs)) (arguments_from n gs) (arguments-next n gs (Keyword name t) e1) h
+pub came_keyword : (fns : Functions) (frozen : Made) (r : Result Now Halt) (x y : Going) (budget : ℕ) (p : Place) (vs : List Val) (keywords : List NamedVal) (n : ℕ) (gs : Arguments) (v f : Val) (u : Purpose) (t : Tree) (name : List ℕ) (b : Bool) → Some (Keyword name t) ≡ first_argument (arguments_from n gs) → b ≡ is_given name keywords → b ≡ false → GoesOn fns frozen r x y budget (λ k. arguments_then k p vs (keywords ++ named_val name v ∷ []) (arguments_from (suc n) gs) (λ us names. call_for k u f us names p)) → GoesOn fns frozen r x y budget (λ k. argument_came k p vs keywords (arguments_from n gs) v (λ us names. call_for k u f us names p))
+came_keyword fns frozen r x y budget p vs keywords n gs v f u t name b e1 e2 e3 h = same_goes fns frozen r x y budget (λ z k. argument_came k p vs keywords z v (λ us names. call_for k u f us names p)) (argument (Keyword name t) (arguments_from (suc n) gs)) (arguments_from n gs) (arguments-next n gs (Keyword name t) e1) (once_free fns frozen r x y budget name keywords p (λ k. arguments_then k p vs (keywords ++ named_val name v ∷ []) (arguments_from (suc n) gs) (λ us names. call_for k u f us names p)) b e2 e3 h)
+
+pub came_twice : (fns : Functions) (frozen : Made) (r : Result Now Halt) (x y : Going) (budget : ℕ) (p q : Place) (vs : List Val) (keywords : List NamedVal) (n : ℕ) (gs : Arguments) (v f : Val) (u : Purpose) (t : Tree) (name : List ℕ) (b : Bool) → Some (Keyword name t) ≡ first_argument (arguments_from n gs) → q ≡ p → b ≡ is_given name keywords → b ≡ true → GoesOn fns frozen r x y budget (λ k. stop cause.Raised q) → GoesOn fns frozen r x y budget (λ k. argument_came k p vs keywords (arguments_from n gs) v (λ us names. call_for k u f us names p))
+came_twice fns frozen r x y budget p q vs keywords n gs v f u t name b e1 e2 e3 e4 h = same_goes fns frozen r x y budget (λ z k. argument_came k p vs keywords z v (λ us names. call_for k u f us names p)) (argument (Keyword name t) (arguments_from (suc n) gs)) (arguments_from n gs) (arguments-next n gs (Keyword name t) e1) (once_taken fns frozen r x y budget name keywords p (λ k. arguments_then k p vs (keywords ++ named_val name v ∷ []) (arguments_from (suc n) gs) (λ us names. call_for k u f us names p)) b e3 e4 (same_goes fns frozen r x y budget (λ z k. stop cause.Raised z) q p e2 h))
 
 pub arguments_first : (fns : Functions) (frozen : Made) (r : Result Now Halt) (x y : Going) (budget : ℕ) (node : Expr) (j : ℕ) (t : Trailer) (f : Val) (us : List Val) (names : List NamedVal) (u : Purpose) → Some t ≡ first_trailer (trailers_from j (trailers_of (tree node))) → us ≡ [] → names ≡ [] → GoesOn fns frozen r x y budget (λ k. arguments_then k (place_of (tree node)) us names (call_arguments (trailers_from j (trailers_of (tree node)))) (λ us names. call_for k u f us names (place_of (tree node)))) → GoesOn fns frozen r x y budget (λ k. arguments_then k (place_of (tree node)) [] [] (arguments_in t) (λ us names. call_for k u f us names (place_of (tree node))))
 arguments_first fns frozen r x y budget node j t f us names u e1 e2 e3 h = same_goes fns frozen r x y budget (λ z k. arguments_then k (place_of (tree node)) [] [] z (λ us names. call_for k u f us names (place_of (tree node)))) (call_arguments (trailers_from j (trailers_of (tree node)))) (arguments_in t) (sym (call_arguments-first (trailers_from j (trailers_of (tree node))) t e1)) (same_goes fns frozen r x y budget (λ z k. arguments_then k (place_of (tree node)) z [] (call_arguments (trailers_from j (trailers_of (tree node)))) (λ us names. call_for k u f us names (place_of (tree node)))) us [] e2 (same_goes fns frozen r x y budget (λ z k. arguments_then k (place_of (tree node)) us z (call_arguments (trailers_from j (trailers_of (tree node)))) (λ us names. call_for k u f us names (place_of (tree node)))) names [] e3 h))

@@ -17,17 +17,6 @@ use Rattle.py_calls.specs.Meeting.{behind_met, meeting_on, if_met, taken_on}
 
 -- ---- keywords
 
-pub given_found : (name : List ℕ) (keywords : List NamedVal) (i : ℕ) (x : NamedVal) → i < length keywords → x ≡ get_or keywords i x → text_eq x.name name ≡ true → is_given name (drop i keywords) ≡ true
-given_found name keywords i x e q h = ap (is_given name) (drop_more keywords i x e ∙ ap (λ z. z ∷ drop (i + 1) keywords) (sym q)) ∙ ap (λ (z : Bool). if z then true else is_given name (drop (i + 1) keywords)) h
-
-pub given_more : (name : List ℕ) (keywords : List NamedVal) (i : ℕ) (x : NamedVal) → i < length keywords → x ≡ get_or keywords i x → text_eq x.name name ≡ false → is_given name (drop i keywords) ≡ is_given name (drop (i + 1) keywords)
-given_more name keywords i x e q h = ap (is_given name) (drop_more keywords i x e ∙ ap (λ z. z ∷ drop (i + 1) keywords) (sym q)) ∙ ap (λ (z : Bool). if z then true else is_given name (drop (i + 1) keywords)) h
-
-pub given_end : (name : List ℕ) (keywords : List NamedVal) (i : ℕ) → length keywords ≤ i → is_given name (drop i keywords) ≡ false
-given_end name keywords i e = ap (is_given name) (drop_all i keywords e)
-
-pub ruleset given_rules = (given_found, given_more, given_end)
-
 taken-step : (found : Option Val) (name : List ℕ) (before keywords : List NamedVal) (i : ℕ) (x : NamedVal) → i < length keywords → x ≡ get_or keywords i x → taken_on found name before (drop i keywords) ≡ taken_on found name before (x ∷ drop (i + 1) keywords)
 taken-step found name before keywords i x e q = ap (taken_on found name before) (drop_more keywords i x e ∙ ap (λ z. z ∷ drop (i + 1) keywords) (sym q))
 

@@ -1,5 +1,5 @@
 // The arguments of a call, one after the other.
-ghost use Rattle.std.specs.Prelude.{◌≡◌, ◌<◌, ◌≤◌, ◌++◌, [], suc, OnOk, Some};
+ghost use Rattle.std.specs.Prelude.{◌≡◌, ◌<◌, ◌≤◌, ◌++◌, ◌∷◌, [], suc, OnOk, Some};
 ghost use Rattle.py_tree.specs.Seen.{tree, trailer_of};
 ghost use Rattle.py_tree.specs.Tree.{Positional, Starred, Keyword};
 ghost use Rattle.py_frames.specs.Parts.{place_of, trailers_from, arguments_from};
@@ -14,9 +14,11 @@ ghost use Rattle.py_frames.specs.Frames.{GoesOn};
 use crate::call_frame::call_for;
 use crate::call_part::{argument_at, argument_expr, named_val};
 use py_frames::attribute_store::as_row;
+use py_frames::call_leaf::raise;
 use py_frames::frame::{CallFrame, Frame, Now, Purpose};
 use py_frames::functions::Functions;
 use py_frames::going::{Going, told, wait_for};
+use py_frames::keyword::is_given;
 use py_frames::leaf::following;
 use py_frames::request::NamedVals;
 use py_frames::state::Halt;
@@ -112,8 +114,8 @@ fn positional_came(
     }
 }
 
-// An argument by keyword has come.
-#[tactic(auto, using(py_frames::proofs::BeginLaws::no_memory))]
+// An argument by keyword has come: the call has no other of its name.
+#[tactic(auto, using(crate::proofs::ArgumentLaws::came_twice))]
 fn keyword_came(
     going: &mut Going,
     functions: &Functions,
@@ -134,6 +136,40 @@ fn keyword_came(
     requires here { Some (Keyword name.now (tree _part.now)) ≡ first_argument (arguments_from at (call_arguments (trailers_from trailer (trailers_of (tree node.now))))) }
     requires table { IsTable functions.now }
     ensures moves { GoesOn functions.now frozen.now result going.old going.new budget (λ k. argument_came k (place_of (tree node.now)) vals keywords (arguments_from at (call_arguments (trailers_from trailer (trailers_of (tree node.now))))) v (λ us names. call_for k purpose.now callee us names (place_of (tree node.now)))) }
+    ensures left { OnOk result (going.new.state.used < budget) }
+    ensures grows { going.old.state.used ≤ going.new.state.used }
+{
+    let place = place_at(node);
+    let given = is_given(name.as_str(), keywords.as_slice());
+    if given {
+        return raise(going, functions, frozen, place, budget);
+    }
+    keyword_next(
+        going, functions, frozen, node, trailer, at, callee, vals, keywords, purpose, name, v,
+        budget,
+    )
+}
+
+// The arguments behind one by keyword.
+#[tactic(auto, using(py_frames::proofs::BeginLaws::no_memory))]
+fn keyword_next(
+    going: &mut Going,
+    functions: &Functions,
+    frozen: &Frozen,
+    node: &Expr,
+    trailer: u64,
+    at: u64,
+    callee: Val,
+    vals: Vals,
+    keywords: NamedVals,
+    purpose: &Purpose,
+    name: &Name,
+    v: Val,
+    budget: u64,
+) -> Result<Now, Halt>
+    requires room { going.old.state.used < budget }
+    requires table { IsTable functions.now }
+    ensures moves { GoesOn functions.now frozen.now result going.old going.new budget (λ k. arguments_then k (place_of (tree node.now)) vals (keywords ++ named_val name.now v ∷ []) (arguments_from (suc at) (call_arguments (trailers_from trailer (trailers_of (tree node.now))))) (λ us names. call_for k purpose.now callee us names (place_of (tree node.now)))) }
     ensures left { OnOk result (going.new.state.used < budget) }
     ensures grows { going.old.state.used ≤ going.new.state.used }
 {

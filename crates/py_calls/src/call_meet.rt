@@ -11,6 +11,7 @@ ghost use Rattle.py_frames.specs.declared.request.NamedVal.{NamedVal};
 ghost use Rattle.py_calls.specs.Meeting.{meeting_on, if_met, behind_met};
 
 use amh_host::{NoMemory, Text};
+use py_frames::keyword::is_given;
 use py_frames::request::{NamedVal, NamedVals};
 use py_tree::{Expr, Name, Param};
 use py_values::Val;
@@ -27,19 +28,6 @@ pub struct Meeting {
     pub keywords: NamedVals,
     /// The parameters so far, with their values.
     pub met: NamedVals,
-}
-
-// Whether an argument is given by this keyword.
-#[tactic(auto, using(crate::proofs::MeetLaws::given_rules))]
-fn is_given(name: &str, keywords: &[NamedVal]) -> bool
-    ensures { result ≡ is_given name.now keywords.now }
-{
-    for x in keywords {
-        if x.name.is(name) {
-            return true;
-        }
-    }
-    false
 }
 
 // A value under a name.

@@ -10,6 +10,7 @@ pub mod ExprGoes
 pub mod ExprKinds
 pub mod ExprNames
 pub mod CallLaws
+pub mod KeywordLaws
 pub mod StoreLaws
 pub mod TrailLaws
 pub mod StmtLaws

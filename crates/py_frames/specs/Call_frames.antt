@@ -18,7 +18,7 @@ use Rattle.py_frames.specs.Asking.{asked, returned}
 use Rattle.py_frames.specs.Functions.{named_val}
 use Rattle.py_frames.specs.Parts.{operator_of, place_of, trailers_from, arguments_from}
 use Rattle.py_frames.specs.Values.{indexed, sliced, gone_over, on_through, attribute_in_rounds, initialised, attributes_bound, on_names, as_row}
-use Rattle.py_frames.specs.Expressions.{perhaps_value, trailed, stored, reached, call_for, arguments_then, with_elements, awaited}
+use Rattle.py_frames.specs.Expressions.{perhaps_value, trailed, stored, reached, call_for, once_named, arguments_then, with_elements, awaited}
 use Rattle.py_frames.specs.Statements.{augment_along, call_ended}
 
 -- ---- what trails a primary
@@ -53,7 +53,7 @@ argument_came k p vs keywords (argument (Positional t) gs) v f = arguments_then 
 argument_came k p vs keywords (argument (Starred t) gs) v f = do
   row ← as_row k v p
   with_elements k row p (λ us. arguments_then k p (vs ++ us) keywords gs f)
-argument_came k p vs keywords (argument (Keyword n t) gs) v f = arguments_then k p vs (keywords ++ named_val n v ∷ []) gs f
+argument_came k p vs keywords (argument (Keyword n t) gs) v f = once_named n keywords p (arguments_then k p vs (keywords ++ named_val n v ∷ []) gs f)
 
 -- the elements of a `*` argument have come
 abbrev pub elements_came : Known → Place → List Val → List NamedVal → Arguments → Val → (List Val → List NamedVal → Doing) → Doing

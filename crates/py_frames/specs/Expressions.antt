@@ -30,7 +30,7 @@ use Rattle.py_frames.specs.declared.frame.Purpose.TheVariants.{Plain, Named, Awa
 use Rattle.py_frames.specs.Doing.{Doing, Known, heap_seen, ◌>>=◌, and_then, came, give, stop, choose, with_value, spend, spend_each, making, cause_of}
 use Rattle.py_frames.specs.Asking.{request, ask, most}
 use Rattle.py_frames.specs.Own.{target_names}
-use Rattle.py_frames.specs.Functions.{named_val}
+use Rattle.py_frames.specs.Functions.{named_val, is_given}
 use Rattle.py_frames.specs.Times.{decimal_time, divided_time}
 use Rattle.py_frames.specs.Parts.{operator_of, prefix_of, place_of, tree_count, link_count, trailer_count}
 use Rattle.py_frames.specs.Values.{bind, read, truth_of, is_thing, operated, turned, attribute, store_attribute, indexed, sliced, store_index, called, is_async, as_row}
@@ -70,6 +70,10 @@ call_awaited k p f args keywords place = λ w s.
     (do
       v ← called k [] f args keywords place
       awaited k v p) w s
+
+-- an argument by keyword has come: where the call at p has one of its name already, it raises
+abbrev pub once_named : List ℕ → List NamedVal → Place → Doing → Doing
+once_named name keywords p m = choose (is_given name keywords) (stop Raised p) m
 
 abbrev pub call_for : Known → Purpose → Val → List Val → List NamedVal → Place → Doing
 call_for k Plain f args keywords place = called k [] f args keywords place
@@ -336,7 +340,7 @@ abbrev mutual
     with_elements k row p (λ us. f (vs ++ us) keywords)
   argument_then k p vs keywords (Keyword n t) f = do
     v ← value_of k Plain t
-    f vs (keywords ++ named_val n v ∷ [])
+    once_named n keywords p (f vs (keywords ++ named_val n v ∷ []))
 
   -- a comprehension at p; its source stands outside its scope
   pub made_of : Known → Place → Each → Element → (List Val → Doing) → Doing

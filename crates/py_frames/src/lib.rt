@@ -20,6 +20,7 @@ pub mod expr_values;
 pub mod frame;
 pub mod functions;
 pub mod going;
+pub mod keyword;
 pub mod leaf;
 pub mod operators;
 pub mod own;

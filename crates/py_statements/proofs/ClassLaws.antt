@@ -37,7 +37,7 @@ use Rattle.py_frames.specs.Functions.{named_val}
 use Rattle.py_frames.specs.Own.{steps_names}
 use Rattle.py_frames.specs.Parts.{arguments_from, place_of}
 use Rattle.py_frames.specs.Values.{as_row}
-use Rattle.py_frames.specs.Expressions.{value_of, arguments_then, on_elements, seen_from}
+use Rattle.py_frames.specs.Expressions.{value_of, arguments_then, on_elements, seen_from, once_named}
 use Rattle.py_frames.specs.Binding.{refused}
 use Rattle.py_frames.specs.Statements.{known, run_all, base_of, over_thing, are_keywords, class_begun, class_body, class_ended, class_here}
 use Rattle.py_frames.specs.Stmt_begun.{run_after}
@@ -159,7 +159,7 @@ pub came_positional : (fns : Functions) (frozen : Made) (r : Result Now Halt) (x
 came_positional fns frozen r x y budget n g gs a t vs kw v e1 e2 h =
     came_as fns frozen r x y budget n (argument (Positional a) gs) t vs kw v (e1 ∙ ap (λ z. argument z gs) e2) h
 
-pub came_keyword : (fns : Functions) (frozen : Made) (r : Result Now Halt) (x y : Going) (budget n : ℕ) (g : Argument) (gs : Arguments) (a : Tree) (name : List ℕ) (t : Step) (vs : List Val) (kw : List NamedVal) (v : Val) → arguments_from n (class_arguments t) ≡ argument g gs → g ≡ Keyword name a → GoesOn fns frozen r x y budget (λ k. arguments_then k (class_place t) vs (kw ++ named_val name v ∷ []) gs (class_given k t)) → GoesOn fns frozen r x y budget (λ k. argument_came k (class_place t) vs kw (arguments_from n (class_arguments t)) v (class_given k t))
+pub came_keyword : (fns : Functions) (frozen : Made) (r : Result Now Halt) (x y : Going) (budget n : ℕ) (g : Argument) (gs : Arguments) (a : Tree) (name : List ℕ) (t : Step) (vs : List Val) (kw : List NamedVal) (v : Val) → arguments_from n (class_arguments t) ≡ argument g gs → g ≡ Keyword name a → GoesOn fns frozen r x y budget (λ k. once_named name kw (class_place t) (arguments_then k (class_place t) vs (kw ++ named_val name v ∷ []) gs (class_given k t))) → GoesOn fns frozen r x y budget (λ k. argument_came k (class_place t) vs kw (arguments_from n (class_arguments t)) v (class_given k t))
 came_keyword fns frozen r x y budget n g gs a name t vs kw v e1 e2 h =
     came_as fns frozen r x y budget n (argument (Keyword name a) gs) t vs kw v (e1 ∙ ap (λ z. argument z gs) e2) h
 

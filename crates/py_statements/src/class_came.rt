@@ -4,7 +4,7 @@ ghost use Rattle.py_tree.specs.Programs.{step_of};
 ghost use Rattle.py_frames.specs.Parts.{arguments_from};
 ghost use Rattle.py_frames.specs.Functions.{named_val};
 ghost use Rattle.py_frames.specs.Values.{as_row};
-ghost use Rattle.py_frames.specs.Expressions.{arguments_then};
+ghost use Rattle.py_frames.specs.Expressions.{arguments_then, once_named};
 ghost use Rattle.py_frames.specs.Call_frames.{argument_came, elements_came};
 ghost use Rattle.py_frames.specs.Def_frames.{class_arguments, class_place, class_given};
 ghost use Rattle.py_statements.specs.Def_begun.{class_starred};
@@ -16,9 +16,11 @@ use crate::classes::class_given;
 use amh_host::Place;
 use py_frames::attribute_store::as_row;
 use py_frames::binds::refused;
+use py_frames::call_leaf::raise;
 use py_frames::frame::{DefFrame, Frame, Now};
 use py_frames::functions::Functions;
 use py_frames::going::Going;
+use py_frames::keyword::is_given;
 use py_frames::request::NamedVals;
 use py_frames::state::Halt;
 use py_tree::{Argument, Name, Stmt, StmtKind};
@@ -116,9 +118,36 @@ fn class_positional(
     }
 }
 
-// One by its keyword, before those from this number on.
-#[tactic(auto, using(crate::proofs::ClassLaws::next_rules))]
+// One by its keyword, which the class has once, before those from this number on.
+#[tactic(auto, using(py_frames::proofs::KeywordLaws::once_rules, py_frames::proofs::BeginLaws::no_memory))]
 fn class_keyword(
+    going: &mut Going,
+    functions: &Functions,
+    frozen: &Frozen,
+    s: &Stmt,
+    n: u64,
+    vals: Vals,
+    keywords: NamedVals,
+    name: &Name,
+    v: Val,
+    budget: u64,
+) -> Result<Now, Halt>
+    ensures moves { GoesOn functions.now frozen.now result going.old going.new budget (λ k. once_named name.now keywords (class_place (step_of s.now)) (arguments_then k (class_place (step_of s.now)) vals (keywords ++ named_val name.now v ∷ []) (arguments_from n (class_arguments (step_of s.now))) (class_given k (step_of s.now)))) }
+    ensures used { going.new.state.used ≡ going.old.state.used }
+{
+    let place = class_place(s);
+    let given = is_given(name.as_str(), keywords.as_slice());
+    if given {
+        return raise(going, functions, frozen, place, budget);
+    }
+    class_named(
+        going, functions, frozen, s, n, vals, keywords, name, v, budget,
+    )
+}
+
+// The arguments behind one by its keyword.
+#[tactic(auto, using(crate::proofs::ClassLaws::next_rules))]
+fn class_named(
     going: &mut Going,
     functions: &Functions,
     frozen: &Frozen,
