@@ -15,8 +15,6 @@
 
 mod bindings;
 mod builtin;
-#[cfg(test)]
-mod builtin_tests;
 mod change;
 mod dicts;
 mod elements;
@@ -36,15 +34,11 @@ mod powers;
 mod range;
 mod scalars;
 mod scopes;
-#[cfg(test)]
-mod sequence_tests;
 mod sequences;
 mod slices;
 mod spans;
 mod spend;
 mod sums;
-#[cfg(test)]
-mod tests;
 mod truth;
 mod tuples;
 mod val;
