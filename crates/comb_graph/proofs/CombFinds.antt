@@ -28,8 +28,8 @@ use Rattle.design_ir.proofs.Equations.{standing, answer_at}
 use Rattle.comb_graph.specs.Orders.{is_comb}
 use Rattle.comb_graph.specs.CombTargets.{is_marked, IsMarked, statement_targets, choices_targets, block_targets, comb_targets, own_signals, target_parts, numbers, IsAimedAt, IsFound, FindsSame, comb_word, comb_words}
 use Rattle.comb_graph.specs.CombNodes.{AreCombSignals}
-use Rattle.comb_graph.proofs.WalkPaths.{contains-cons, contains-head, contains-cases}
-use Rattle.comb_graph.proofs.GraphAimLaws.{map_of, flat_of}
+use Rattle.comb_graph.proofs.WalkPaths.{contains-head, contains-cases}
+use Rattle.design_ir.proofs.Elements.{map_of, flat_of, any_of, any_has}
 use Rattle.comb_graph.proofs.GraphNeeds.{map_has, flat_has}
 use Rattle.comb_graph.proofs.CombMarks.{marked_inside, fresh_marks}
 
@@ -39,27 +39,11 @@ or_parts : (a b : Bool) → (a || b) ≡ true → (a ≡ true) ⊎ (b ≡ true)
 or_parts true b h = inl refl
 or_parts false b h = inr h
 
-any_of : {X : Type 0} (p : X → Bool) (xs : List X) → list_any p xs ≡ true → (x : X) × Contains xs x × (p x ≡ true)
-any_of p [] h = absurd (false≢true h)
-any_of p (y ∷ xs) h =
-    elim (or_parts (p y) (list_any p xs) h) [
-      | inl is ↦ (y, contains-head y xs, is)
-      | inr more ↦ let rest = any_of p xs more in (rest.0, contains-cons y rest.0 xs rest.1, rest.2)
-    ]
-
-any_has : {X : Type 0} (p : X → Bool) (xs : List X) (x : X) → Contains xs x → p x ≡ true → list_any p xs ≡ true
-any_has p [] x in' is = absurd (omega (arith, in'.1))
-any_has p (y ∷ xs) x in' is =
-    elim (contains-cases y x xs in') [
-      | inl same ↦ or_left (p y) (list_any p xs) (ap p same ∙ is)
-      | inr more ↦ or_right (p y) (list_any p xs) (any_has p xs x more is)
-    ]
-
 -- a number of a list is among it
 among_of : (ss : List ℕ) (s : ℕ) → is_among ss s ≡ true → Contains ss s
 among_of ss s h = let found = any_of (λ x. x == s) ss h in subst (λ x. Contains ss x) (eqb-true found.0 s found.2) found.1
 
-among_has : (ss : List ℕ) (s : ℕ) → Contains ss s → is_among ss s ≡ true
+pub among_has : (ss : List ℕ) (s : ℕ) → Contains ss s → is_among ss s ≡ true
 among_has ss s in' = any_has (λ x. x == s) ss s in' (eq-eqb s s refl)
 
 -- ---- the signals of a target

@@ -19,7 +19,8 @@ use Rattle.comb_graph.specs.Rules.{Rule, ObeysRules, Adds, AddsBlock, AddsStatem
 use Rattle.comb_graph.proofs.GraphLists.{some-same}
 use Rattle.comb_graph.proofs.GraphMeanings.{mean-one, mean-cons, means_more, extends_same, extends_then, joined_means, two_inside}
 use Rattle.comb_graph.proofs.GraphPlaces.{whole}
-use Rattle.comb_graph.proofs.GraphAims.{adds_joined, take_at, take_all}
+use Rattle.comb_graph.proofs.GraphAims.{adds_joined, take_all}
+use Rattle.comb_graph.proofs.GraphRows.{take_at}
 
 -- ---- rules that were added
 

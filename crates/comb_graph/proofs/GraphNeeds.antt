@@ -13,7 +13,7 @@ use Rattle.design_ir.specs.Values.{signal_form}
 use Rattle.design_ir.specs.Loops.{ProcessNeeds, ReadNeeds, Needs}
 use Rattle.comb_graph.specs.Rules.{Rule, IsAsked, rule_of, rules_of, all_rules, comb_part, comb_assignments, word_rule, word_rules, read_rules, memory_rules, needs_rules}
 use Rattle.comb_graph.proofs.WalkPaths.{contains-cons, contains-head, contains-cases}
-use Rattle.comb_graph.proofs.GraphAimLaws.{map_of, flat_of, range_of}
+use Rattle.design_ir.proofs.Elements.{map_of, flat_of, range_of}
 
 pub flat_has : {X Y : Type 0} (f : X → List Y) (xs : List X) (x : X) (y : Y) → Contains xs x → Contains (f x) y → Contains (flat_map f xs) y
 flat_has f [] x y among in' = absurd (omega (arith, among.1))
@@ -120,7 +120,7 @@ read_needed c b x h =
     let bit : record { sig = r.word.0; index = place.0 } ≡ b = ap (λ (y : Rule). y.bit) place.2 ∙ h.bit in
     let word : b.sig ≡ r.word.0 = sym (ap (λ (y : Bit). y.sig) bit) in
     let index : b.index ≡ place.0 = sym (ap (λ (y : Bit). y.index) bit) in
-    let below = range_of 0 width place.0 place.1 in
+    let below = (range_of 0 width place.0 place.1).1 in
     record {
       memory = memory.0;
       among = memory.1;

@@ -1,19 +1,18 @@
 -- One element more of the rows of the table of aims.
-use Rattle.std.proofs.Common.{◌≡◌, ◌∙◌, ℕ, zero, suc, ◌+◌, ◌<◌, ◌≤◌, List, [], ◌∷◌, ◌++◌, map, sym, ap, arith, append_assoc, take, drop, Option, Some, None, slice_get}
-use Rattle.std.specs.Prelude.{IfSome}
+use Rattle.std.proofs.Common.{◌≡◌, ◌∙◌, ℕ, zero, suc, ◌+◌, List, [], ◌∷◌, ◌++◌, ap, arith, take, drop, Option, Some, slice_get}
 use Rattle.std.specs.List.{flat_map, filter_map, cons_option}
 use Rattle.std.proofs.lemmas.List.{append-nil}
 use Rattle.std.proofs.lemmas.Grind.{flat_map-append}
 use Rattle.std.proofs.lemmas.List.Elements.{filter_map-append}
-use Rattle.std.proofs.lemmas.List.FromFn.{map-range_with_len_more}
 use Rattle.shape_rules.specs.Forms.{Form}
 use Rattle.design_ir.specs.declared.ids.ExprId.{ExprId}
-use Rattle.design_ir.specs.Targets.{aim_at}
 use Rattle.design_ir.specs.Values.{total_width}
-use Rattle.comb_graph.specs.declared.rules.Aimed.{Aimed}
-use Rattle.comb_graph.specs.Rules.{aimed, lifted, signal_row, joined_rows}
 use Rattle.comb_graph.proofs.GraphLists.{some-same}
-use Rattle.comb_graph.proofs.GraphAims.{take_at}
+
+pub take_at : {X : Type 0} (xs : List X) (i : ℕ) (x : X) → slice_get xs i ≡ Some x → take (suc i) xs ≡ take i xs ++ x ∷ []
+take_at [] i x at = absurd cc
+take_at (y ∷ xs) zero x at = ap (λ z. z ∷ []) (some-same y x at)
+take_at (y ∷ xs) (suc i) x at = ap (λ zs. y ∷ zs) (take_at xs i x at)
 
 pub take-push : {X : Type 0} (xs : List X) (i : ℕ) (x : X) → slice_get xs i ≡ Some x → take (i + 1) xs ≡ take i xs ++ x ∷ []
 take-push xs i x at = let next : i + 1 ≡ suc i = omega arith in ap (λ n. take n xs) next ∙ take_at xs i x at
@@ -23,11 +22,8 @@ drop_at [] i x at = absurd cc
 drop_at (y ∷ xs) zero x at = ap (λ z. z ∷ xs) (some-same y x at)
 drop_at (y ∷ xs) (suc i) x at = drop_at xs i x at
 
-drop-next : {X : Type 0} (xs : List X) (i : ℕ) (x : X) → slice_get xs i ≡ Some x → drop i xs ≡ x ∷ drop (i + 1) xs
+pub drop-next : {X : Type 0} (xs : List X) (i : ℕ) (x : X) → slice_get xs i ≡ Some x → drop i xs ≡ x ∷ drop (i + 1) xs
 drop-next xs i x at = let next : suc i ≡ i + 1 = omega arith in drop_at xs i x at ∙ ap (λ n. x ∷ drop n xs) next
-
-pub signal_more : (s i : ℕ) → signal_row s (i + 1) ≡ signal_row s i ++ aimed (aim_at s i) ∷ []
-signal_more s i = map-range_with_len_more (λ k. aimed (aim_at s k)) 0 i i (omega arith)
 
 pub filter_more : {X Y : Type 0} (f : X → Option Y) (xs : List X) (i : ℕ) (x : X) → slice_get xs i ≡ Some x → filter_map f (take (i + 1) xs) ≡ filter_map f (take i xs) ++ cons_option (f x) []
 filter_more f xs i x at = ap (filter_map f) (take-push xs i x at) ∙ filter_map-append f (take i xs) (x ∷ [])
@@ -35,18 +31,8 @@ filter_more f xs i x at = ap (filter_map f) (take-push xs i x at) ∙ filter_map
 pub flat_more : {X Y : Type 0} (f : X → List Y) (xs : List X) (i : ℕ) (x : X) → slice_get xs i ≡ Some x → flat_map f (take (i + 1) xs) ≡ flat_map f (take i xs) ++ f x
 flat_more f xs i x at = ap (flat_map f) (take-push xs i x at) ∙ flat_map-append f (take i xs) (x ∷ []) ∙ ap (λ ys. flat_map f (take i xs) ++ ys) (append-nil (f x))
 
-pub joined_more : (form : ℕ → Form) (rows : ℕ → List Aimed) (row all : List Aimed) (by : ℕ) (es : List ExprId) (i : ℕ) (e : ExprId) → slice_get es i ≡ Some e
-    → row ++ joined_rows form rows by (drop i es) ≡ all → (row ++ map (lifted by) (rows e.0)) ++ joined_rows form rows (by + (form e.0).width) (drop (i + 1) es) ≡ all
-joined_more form rows row all by es i e at is =
-    append_assoc row (map (lifted by) (rows e.0)) (joined_rows form rows (by + (form e.0).width) (drop (i + 1) es))
-    ∙ sym (ap (λ xs. row ++ joined_rows form rows by xs) (drop-next es i e at)) ∙ is
-
 pub widths_more : (form : ℕ → Form) (by : ℕ) (es : List ExprId) (i : ℕ) (e : ExprId) (all : ℕ) → slice_get es i ≡ Some e → by + total_width form (drop i es) ≡ all
     → by + (form e.0).width + total_width form (drop (i + 1) es) ≡ all
 widths_more form by es i e all at is =
     let split : total_width form (drop i es) ≡ (form e.0).width + total_width form (drop (i + 1) es) = ap (total_width form) (drop-next es i e at) in
     omega (arith, is, split)
-
-pub some_weaker : (w by : ℕ) (source : Option ℕ) → IfSome source (λ k. k < w) → by + w ≤ 128 → IfSome source (λ k. by + k < 256)
-some_weaker w by None h le = tt
-some_weaker w by (Some k) h le = omega (arith, h, le)

@@ -4,8 +4,6 @@ pub mod ExpressionBits
 pub mod NeededBits
 pub mod PoolBits
 pub mod SharedPlaces
-pub mod TargetAims
-pub mod AimedPlaces
 pub mod BitWrites
 pub mod PlaceWrites
 pub mod AssignmentBits
@@ -45,9 +43,11 @@ pub mod GraphTables
 pub mod GraphRules
 pub mod GraphAims
 pub mod GraphBlocks
-pub mod GraphAimLaws
+pub mod SetLaws
+pub mod SeenLaws
+pub mod AimBits
+pub mod AimTables
 pub mod GraphRows
-pub mod GraphAimTables
 pub mod GraphDesigns
 pub mod GraphNeeds
 pub mod DepthLaws

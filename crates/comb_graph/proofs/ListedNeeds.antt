@@ -6,7 +6,7 @@ use Rattle.std.proofs.lemmas.Bool.{eq-eqb, and_from}
 use Rattle.std.proofs.lemmas.List.Elements.{Contains-append_left, Contains-append_right}
 use Rattle.design_ir.specs.declared.process.DesignProcess.{DesignProcess}
 use Rattle.design_ir.specs.Pools.{Pooled}
-use Rattle.design_ir.specs.Targets.{Bit, Aim, aims}
+use Rattle.design_ir.specs.Targets.{Bit, Aim, fixed_place, aims}
 use Rattle.design_ir.specs.Needed.{needed_whole, needed_indices}
 use Rattle.design_ir.specs.Guards.{Guard, Guarded, guarded}
 use Rattle.design_ir.specs.Loops.{ProcessNeeds, needed_value}
@@ -15,7 +15,7 @@ use Rattle.comb_graph.specs.Orders.{same_bit}
 
 -- what an assignment reads where this aim of it is written
 abbrev reads_of : Pooled → Guarded → Aim → List Bit
-reads_of pool g a = flat_map (λ (x : Guard). needed_whole pool x.condition) g.guards ++ needed_indices pool g.target.0 ++ needed_value pool g.value a.source
+reads_of pool g a = flat_map (λ (x : Guard). needed_whole pool x.condition) g.guards ++ needed_indices pool g.target.0 ++ needed_value pool g.value (fixed_place a.spot)
 
 -- all that the bit needs
 unfoldable pub needs_of : Circuit → Bit → List Bit

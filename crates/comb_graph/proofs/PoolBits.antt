@@ -3,19 +3,17 @@ use Rattle.std.specs.Prelude.{◌≡◌, ℕ, zero, suc, ◌<◌, ◌≤◌, Lis
 use Rattle.std.specs.List.{AllByRecursion}
 use Rattle.std.proofs.Common.{sym, ◌∙◌, ap, arith, ⊎_elim}
 use Rattle.std.proofs.lemmas.Bool.{cases_lt}
-use Rattle.std.proofs.lemmas.List.{get_or_past}
 use Rattle.amh_bits.specs.Patterns.{int_bit}
 use Rattle.shape_rules.specs.Forms.{unsigned}
 use Rattle.design_ir.specs.declared.ids.ExprId.{ExprId}
-use Rattle.design_ir.specs.declared.expr.Expr.{Expr}
 use Rattle.design_ir.specs.Named.{named, AllBelow}
-use Rattle.design_ir.specs.Pools.{Pooled, answers, answer}
+use Rattle.design_ir.specs.Pools.{Pooled}
 use Rattle.design_ir.specs.PoolRules.{IsPool}
 use Rattle.design_ir.specs.Targets.{Bit}
 use Rattle.design_ir.specs.Values.{form, form_step, num, value_step, signal_form}
 use Rattle.design_ir.specs.Needed.{extended, needed, needed_whole}
 use Rattle.design_ir.specs.Circuits.{at}
-use Rattle.design_ir.proofs.Answers.{answers_begin}
+pub use Rattle.design_ir.proofs.Answers.{answer_past}
 use Rattle.design_ir.proofs.Equations.{standing, form_is, num_is}
 use Rattle.design_ir.proofs.NumbersFit.{FitsSignals, element, num_fits}
 use Rattle.comb_graph.proofs.Decided.{IsDecided, whole_same, extended_same}
@@ -23,11 +21,6 @@ use Rattle.comb_graph.proofs.ExpressionBits.{step_same}
 use Rattle.comb_graph.proofs.NeededBits.{needed_is}
 
 -- ---- what is not of the pool
-
-pub answer_past : {A : Type 0} (d : A) (step : (ℕ → A) → Expr → A) (es : List Expr) (k : ℕ) → length es ≤ k → answer d step es k ≡ d
-answer_past d step es k h =
-    let r = answers_begin d step [] es in
-    get_or_past (answers d step [] es) k d (omega (arith, h, r.2, ap length r.1))
 
 pub form_past : (p : Pooled) (k : ℕ) → length p.exprs ≤ k → form p k ≡ unsigned 0
 unfolding form

@@ -3,20 +3,20 @@ use Rattle.std.specs.Prelude.{◌≡◌, ℕ, zero, suc, ◌<◌, ◌==◌, ◌&
 use Rattle.std.specs.List.{flat_map, list_any}
 use Rattle.std.proofs.Common.{sym, ◌∙◌, ap, arith, ⊎_elim, subst}
 use Rattle.std.proofs.lemmas.Bool.{and_from, or_left, or_right, eq-eqb}
-use Rattle.std.proofs.lemmas.List.Elements.{All-contains, All-from_recursion}
 use Rattle.std.proofs.lemmas.List.Folds.{list_any-append, list_any_at}
 use Rattle.std.proofs.lemmas.Option.{slice_get-get_or}
 use Rattle.design_ir.specs.declared.memory.Memory.{Memory}
 use Rattle.design_ir.specs.declared.memory.MemRead.{MemRead}
 use Rattle.design_ir.specs.declared.process.DesignProcess.{DesignProcess}
 use Rattle.design_ir.specs.Values.{signal_form}
-use Rattle.design_ir.specs.Targets.{Bit, aims, target_signals}
+use Rattle.design_ir.specs.Targets.{Bit, target_signals}
 use Rattle.design_ir.specs.Guards.{Guarded, guarded, driven}
 use Rattle.design_ir.specs.Loops.{ProcessNeeds, ReadNeeds, Needs, Chain}
 use Rattle.design_ir.specs.Circuits.{Circuit, is_among}
 use Rattle.design_ir.proofs.Equations.{split_at}
 use Rattle.comb_graph.specs.Orders.{IsCombBit, IsOrder}
-use Rattle.comb_graph.proofs.TargetAims.{IsAimAt, aims_at}
+use Rattle.comb_graph.proofs.AimBits.{IsAimOf, aims_of_signals}
+use Rattle.comb_graph.proofs.CombFinds.{among_has}
 
 -- ---- what needs a bit is a bit of a comb signal
 
@@ -35,14 +35,13 @@ module _ (c : Circuit) where
   process_needs_comb b x n =
       let g : Guarded = n.assignment in
       let ss : List ℕ = target_signals c.pool g.target.0 in
-      let P = IsAimAt (signal_form c.pool.signals) ss in
-      let found : IsAimAt (signal_form c.pool.signals) ss n.needs.aim = All-contains P (aims c.pool g.target.0) n.needs.aim (All-from_recursion P (aims c.pool g.target.0) (aims_at c.pool g.target.0)) n.needs.may in
-      let among : is_among ss b.sig ≡ true = subst (λ (y : Bit). is_among ss y.sig ≡ true) n.needs.writes found.of in
+      let found : IsAimOf (signal_form c.pool.signals) ss n.needs.aim = aims_of_signals c.pool g.target.0 n.needs.aim n.needs.may in
+      let among : is_among ss b.sig ≡ true = subst (λ (y : Bit). is_among ss y.sig ≡ true) n.needs.writes (among_has ss n.needs.aim.bit.sig found.of) in
       let drives : is_among (driven c.pool n.process.body) b.sig ≡ true =
       among_parts (λ (h : Guarded). target_signals c.pool h.target.0) b.sig g (guarded [] n.process.body) n.stands.0 n.stands.1 n.stands.2 among in
       record {
         comb = or_left _ _ (any_contains (λ (q : DesignProcess). is_none q.domain && is_among (driven c.pool q.body) b.sig) c.processes n.process n.among (and_from _ _ (ap is_none n.comb) drives));
-        inside = subst (λ (y : Bit). y.index < (signal_form c.pool.signals y.sig).width) n.needs.writes found.inside;
+        inside = subst (λ (y : Bit). y.index < (signal_form c.pool.signals y.sig).width) n.needs.writes found.index;
       }
 
   read_needs_comb : (b x : Bit) → ReadNeeds c b x → IsCombBit c b

@@ -60,7 +60,7 @@ module _ (p : Pooled) where
     guarded_fits g cur target fit =
         let places : List (Option Bit) = target_bits p env g.target.0 in
         cond_both (list_all (holds p env) g.guards) (put_number p places (num p env g.value.0) cur) cur (FitsSignals p)
-        (λ t. put_bits_fits places (pattern (length places) (num p env g.value.0)) 0 cur (places_inside p env g.target rules target) fit) (λ t. fit)
+        (λ t. put_bits_fits places (pattern (length places) (num p env g.value.0)) 0 cur (places_inside p env g.target.0) fit) (λ t. fit)
 
     assignments_fit : (gs : List Guarded) (cur : List ℤ) → AreTargets p gs → FitsSignals p cur → FitsSignals p (fold (put_guarded p env) cur gs)
     assignments_fit [] cur targets fit = fit

@@ -8,18 +8,19 @@ use Rattle.design_ir.specs.Circuits.{Circuit}
 use Rattle.design_ir.specs.Guards.{Guarded}
 use Rattle.design_ir.specs.Pools.{Pooled}
 use Rattle.design_ir.specs.PoolRules.{IsPool}
-use Rattle.design_ir.specs.Targets.{Bit, Aim, aims, aim_step}
-use Rattle.design_ir.specs.Values.{form, signal_form}
+use Rattle.design_ir.specs.Targets.{Bit, Aim, aims}
+use Rattle.design_ir.specs.Values.{signal_form}
 use Rattle.shape_rules.specs.Forms.{IsForm}
-use Rattle.comb_graph.specs.declared.rules.Aimed.{Aimed}
+use Rattle.comb_graph.specs.declared.aimed.Aimed.{Aimed}
+use Rattle.comb_graph.specs.CombNodes.{bit_at}
 use Rattle.comb_graph.specs.Meanings.{node_of}
 use Rattle.comb_graph.specs.Orders.{same_bit}
 use Rattle.comb_graph.specs.Refusals.{assignments, may_assign, loop_place}
-use Rattle.comb_graph.specs.Rules.{HasAims, aimed, row_at}
+use Rattle.comb_graph.specs.Seen.{HasAims, row_at, seen}
 use Rattle.comb_graph.specs.Told.{aims_at, first_place}
-use Rattle.comb_graph.proofs.GraphAimLaws.{aims_are}
+use Rattle.comb_graph.proofs.AimBits.{aims_are, aims_past}
+use Rattle.comb_graph.proofs.AimTables.{node_back}
 use Rattle.comb_graph.proofs.GraphSteps.{narrow}
-use Rattle.comb_graph.proofs.PoolBits.{answer_past}
 use Rattle.comb_graph.proofs.WalkPaths.{contains-cons, contains-head}
 
 -- ---- bits and their nodes
@@ -38,11 +39,12 @@ node_same a b small low =
 abbrev AreLow : List Aim → Type 0
 AreLow xs = (x : Aim) → Contains xs x → x.bit.index < 128
 
-any_node : (xs : List Aim) (b : Bit) → AreLow xs → b.index < 128 → list_any (λ (a : Aimed). a.node == node_of b) (map aimed xs) ≡ list_any (λ (a : Aim). same_bit a.bit b) xs
-any_node [] b all low = refl
-any_node (x ∷ xs) b all low =
-    ap (λ t. t || list_any (λ (a : Aimed). a.node == node_of b) (map aimed xs)) (node_same x.bit b (all x (contains-head x xs)) low)
-    ∙ ap (λ t. same_bit x.bit b || t) (any_node xs b (λ y among. all y (contains-cons x y xs among)) low)
+any_node : (row : List Aimed) (b : Bit) → b.index < 128 → list_any (λ (a : Aimed). a.node == node_of b) row ≡ list_any (λ (a : Aim). same_bit a.bit b) (map seen row)
+any_node [] b low = refl
+any_node (a ∷ row) b low =
+    let small : (bit_at a.node).index < 128 = omega arith in
+    ap (λ t. t || list_any (λ (x : Aimed). x.node == node_of b) row) (ap (λ n. n == node_of b) (sym (node_back a.node)) ∙ node_same (bit_at a.node) b small low)
+    ∙ ap (λ t. same_bit (bit_at a.node) b || t) (any_node row b low)
 
 any_high : (xs : List Aim) (b : Bit) → AreLow xs → 128 ≤ b.index → list_any (λ (a : Aim). same_bit a.bit b) xs ≡ false
 any_high [] b all high = refl
@@ -52,25 +54,21 @@ any_high (x ∷ xs) b all high =
     (and_right (x.bit.sig == b.sig) (x.bit.index == b.index) (ne_eqb x.bit.index b.index (λ e. omega (arith, e, small, high))))
     (any_high xs b (λ y among. all y (contains-cons x y xs among)) high)
 
-aims_same : (xs : List Aim) (b : Bit) → AreLow xs → aims_at (map aimed xs) b ≡ list_any (λ (a : Aim). same_bit a.bit b) xs
-aims_same xs b all =
-    let any = list_any (λ (a : Aimed). a.node == node_of b) (map aimed xs) in
+aims_same : (row : List Aimed) (b : Bit) → AreLow (map seen row) → aims_at row b ≡ list_any (λ (a : Aim). same_bit a.bit b) (map seen row)
+aims_same row b all =
+    let any = list_any (λ (a : Aimed). a.node == node_of b) row in
     elim (cases_lt b.index 128) [
-      | inl low ↦ ap (λ t. t && any) (lt-ltb b.index 128 low) ∙ any_node xs b all low
-      | inr high ↦ ap (λ t. t && any) (le-ltb b.index 128 high) ∙ sym (any_high xs b all high)
+      | inl low ↦ ap (λ t. t && any) (lt-ltb b.index 128 low) ∙ any_node row b low
+      | inr high ↦ ap (λ t. t && any) (le-ltb b.index 128 high) ∙ sym (any_high (map seen row) b all high)
     ]
 
 -- ---- the rows of the table
 
-aims_past : (pool : Pooled) (e : ℕ) → length pool.exprs ≤ e → aims pool e ≡ []
-unfolding aims
-aims_past pool e past = answer_past [] (aim_step (signal_form pool.signals) (form pool)) pool.exprs e past
-
-rows_of : (pool : Pooled) (table : List (List Aimed)) (e : ℕ) → HasAims pool table → row_at table e ≡ map aimed (aims pool e)
+rows_of : (pool : Pooled) (table : List (List Aimed)) (e : ℕ) → HasAims pool table → map seen (row_at table e) ≡ aims pool e
 rows_of pool table e h =
     elim (cases_lt e (length pool.exprs)) [
       | inl there ↦ h.rows e there
-      | inr past ↦ get_or_past table e [] (omega (arith, past, h.count)) ∙ sym (ap (map aimed) (aims_past pool e past))
+      | inr past ↦ ap (map seen) (get_or_past table e [] (omega (arith, past, h.count))) ∙ sym (aims_past pool e past)
     ]
 
 signal_narrow : (sigs : List Sig) (s : ℕ) → AllByRecursion (λ (x : Sig). IsForm x.shape.width x.shape.signed) sigs → s < length sigs → (signal_form sigs s).width ≤ 128
@@ -80,19 +78,17 @@ signal_narrow (x ∷ sigs) (suc s) h there = signal_narrow sigs s h.1 (omega (ar
 
 aims_low : (pool : Pooled) (e : ℕ) → IsPool pool → AreLow (aims pool e)
 aims_low pool e rules x among =
-    elim (cases_lt e (length pool.exprs)) [
-      | inl there ↦
-          let is = aims_are pool e rules there x among in
-          let wide = signal_narrow pool.signals x.bit.sig rules.shapes is.there in
-          let below = is.index in
-          omega (arith, wide, below)
-      | inr past ↦ let none : Contains [] x = subst (λ xs. Contains xs x) (aims_past pool e past) among in absurd (omega (arith, none.1))
-    ]
+    let is = aims_are pool rules e x among in
+    let wide = signal_narrow pool.signals x.bit.sig rules.shapes is.there in
+    let below = is.index in
+    omega (arith, wide, below)
 
 -- ---- assignments
 
 test_same : (c : Circuit) (table : List (List Aimed)) (b : Bit) (g : Guarded) → IsPool c.pool → HasAims c.pool table → aims_at (row_at table g.target.0) b ≡ may_assign c b g
-test_same c table b g rules h = ap (λ row. aims_at row b) (rows_of c.pool table g.target.0 h) ∙ aims_same (aims c.pool g.target.0) b (aims_low c.pool g.target.0 rules)
+test_same c table b g rules h =
+    let is : map seen (row_at table g.target.0) ≡ aims c.pool g.target.0 = rows_of c.pool table g.target.0 h in
+    aims_same (row_at table g.target.0) b (subst AreLow (sym is) (aims_low c.pool g.target.0 rules)) ∙ ap (list_any (λ (a : Aim). same_bit a.bit b)) is
 
 find_same : {X : Type 0} (p q : X → Bool) (xs : List X) → ((x : X) → p x ≡ q x) → find p xs ≡ find q xs
 find_same p q [] h = refl

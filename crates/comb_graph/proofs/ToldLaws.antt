@@ -9,8 +9,8 @@ use Rattle.design_ir.specs.declared.stmt.Arm.{Arm}
 use Rattle.design_ir.specs.Guards.{Guard, Guarded, guarded, guarded_in, guarded_arms}
 use Rattle.design_ir.specs.Statements.{statement_of, block_of, choices_of}
 use Rattle.design_ir.specs.Targets.{Bit}
-use Rattle.comb_graph.specs.declared.rules.Aimed.{Aimed}
-use Rattle.comb_graph.specs.Rules.{row_at}
+use Rattle.comb_graph.specs.declared.aimed.Aimed.{Aimed}
+use Rattle.comb_graph.specs.Seen.{row_at}
 use Rattle.comb_graph.specs.Told.{aims_at, first_place}
 use Rattle.comb_graph.proofs.GraphLists.{some-same}
 use Rattle.comb_graph.proofs.GraphRows.{take-push, flat_more}

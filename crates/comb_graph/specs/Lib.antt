@@ -9,6 +9,8 @@ pub mod Searches
 pub mod Cuts
 pub mod Meanings
 pub mod Places
+pub mod Sets
+pub mod Seen
 pub mod Rules
 pub mod CombTargets
 pub mod Depths

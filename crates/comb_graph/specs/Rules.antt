@@ -1,23 +1,21 @@
 -- What bits of signals need, rule by rule, and the edges that say so.
-use Rattle.std.specs.Prelude.{is_none, ◌<◌, ◌≤◌, ◌+◌, ◌-◌, nat_lt, nat_le, ◌&&◌, if◌then◌else◌, option_map, IfSome, false, All, take, ◌≡◌, ℕ, List, ◌∷◌, [], ◌++◌, map, Contains, Option, Some, None, length, slice_index_or}
-use Rattle.std.specs.List.{flat_map, filter_map, range_with_len}
+use Rattle.std.specs.Prelude.{is_none, ◌<◌, ◌≤◌, if◌then◌else◌, false, take, ◌≡◌, ℕ, List, ◌∷◌, [], ◌++◌, map, Contains, Option, Some, None, length}
+use Rattle.std.specs.List.{flat_map, range_with_len}
 use Rattle.design_ir.specs.declared.memory.MemRead.{MemRead}
 use Rattle.design_ir.specs.declared.memory.Memory.{Memory}
 use Rattle.design_ir.specs.declared.process.DesignProcess.{DesignProcess}
 use Rattle.design_ir.specs.Circuits.{Circuit}
 use Rattle.design_ir.specs.Pools.{Pooled}
-use Rattle.design_ir.specs.Targets.{Bit, Aim, aims, aim_at}
+use Rattle.design_ir.specs.Targets.{Bit, Aim, fixed_place, aims, target_signals}
 use Rattle.design_ir.specs.Guards.{Guard, Guarded, guarded, guarded_in, guarded_arms}
 use Rattle.design_ir.specs.Trees.{Statement, Choices, none, arm, Block}
-use Rattle.design_ir.specs.Values.{signal_form}
+use Rattle.design_ir.specs.Values.{form, signal_form}
 use Rattle.design_ir.specs.Needed.{needed_whole, needed_indices}
 use Rattle.design_ir.specs.Loops.{needed_value}
 use Rattle.shape_rules.specs.Forms.{Form}
 use Rattle.design_ir.specs.declared.ids.ExprId.{ExprId}
-use Rattle.design_ir.specs.declared.expr.Expr as expr
-use Rattle.design_ir.specs.declared.expr.Expr.{Expr}
-use Rattle.design_ir.specs.declared.expr.Expr.TheVariants.{Const, Unary, Binary, Mux, Slice, Cat, Part, Pick, Cast, Matches, Reset}
-use Rattle.comb_graph.specs.declared.rules.Aimed.{Aimed}
+use Rattle.comb_graph.specs.declared.aimed.Aimed.{Aimed}
+use Rattle.comb_graph.specs.Seen.{StandsBelow, seen}
 use Rattle.comb_graph.specs.Places.{bit_nodes, whole_at, extended_at}
 use Rattle.comb_graph.specs.Graphs.{Digraph, Leads}
 use Rattle.comb_graph.specs.Meanings.{node_of, Comes, Means, Extends, IsDown}
@@ -50,7 +48,7 @@ guard_reads pool gs = flat_map (λ (x : Guard). needed_whole pool x.condition) g
 
 -- what an assignment asks for each bit that it may write
 abbrev pub rule_of : Pooled → Guarded → Aim → Rule
-rule_of pool g x = record { bit = x.bit; reads = guard_reads pool g.guards ++ needed_indices pool g.target.0 ++ needed_value pool g.value x.source }
+rule_of pool g x = record { bit = x.bit; reads = guard_reads pool g.guards ++ needed_indices pool g.target.0 ++ needed_value pool g.value (fixed_place x.spot) }
 
 abbrev pub rules_of : Pooled → Guarded → List Rule
 rules_of pool g = map (rule_of pool g) (aims pool g.target.0)
@@ -58,16 +56,7 @@ rules_of pool g = map (rule_of pool g) (aims pool g.target.0)
 abbrev pub all_rules : Pooled → List Guarded → List Rule
 all_rules pool gs = flat_map (rules_of pool) gs
 
--- ---- what is kept of the aims of targets
-
-abbrev pub aimed : Aim → Aimed
-aimed x = record { node = node_of x.bit; source = x.source }
-
--- the aims of each expression as a target
-pub record HasAims (pool : Pooled) (table : List (List Aimed)) : Type 0 where
-  pub count : length table ≡ length pool.exprs
-  pub rows : (e : ℕ) → e < length pool.exprs → slice_index_or table e [] ≡ map aimed (aims pool e)
-  pub inside : (e : ℕ) → e < length pool.exprs → All (λ a. a.node < bit_nodes pool) (slice_index_or table e [])
+-- ---- the edges of what is asked
 
 -- where the node of a bit that is written leads
 abbrev pub value_targets : (ℕ → Form) → (ℕ → ℕ) → ℕ → ExprId → Option ℕ → List ℕ
@@ -81,12 +70,12 @@ pub record Adds (g h : Digraph) (pool : Pooled) (new : List Rule) : Type 0 where
 
 -- what is asked for a bit that may be written, where all such bits of an assignment need these
 abbrev pub reading : Pooled → ExprId → List Bit → Aim → Rule
-reading pool v reads x = record { bit = x.bit; reads = reads ++ needed_value pool v x.source }
+reading pool v reads x = record { bit = x.bit; reads = reads ++ needed_value pool v (fixed_place x.spot) }
 
 -- the rules of the first so many aims of an assignment, where the shared node stands for what all of its bits need
 abbrev pub AddsAims : Digraph → Digraph → Pooled → ℕ → ExprId → List Aimed → ℕ → Type 0
 AddsAims g h pool shared v nodes count =
-    (reads : List Bit) (xs : List Aim) → nodes ≡ map aimed xs → Means g (bit_nodes pool) shared reads → Adds g h pool (map (reading pool v reads) (take count xs))
+    (reads : List Bit) → Means g (bit_nodes pool) shared reads → Adds g h pool (map (reading pool v reads) (take count (map seen nodes)))
 
 -- the rules of an assignment under the conditions for which the guard's node stands
 abbrev pub AddsAssignment : Digraph → Digraph → Pooled → ℕ → ExprId → ExprId → Type 0
@@ -112,62 +101,12 @@ passed gs (arm c body others) = passed (gs ++ record { condition = c; taken = fa
 abbrev pub MeansPassed : Digraph → Digraph → Pooled → ℕ → ℕ → Choices → Type 0
 MeansPassed g h pool guard inner arms = (gs : List Guard) → Means g (bit_nodes pool) guard (guard_reads pool gs) → Means h (bit_nodes pool) inner (guard_reads pool (passed gs arms))
 
--- a bit of a signal, and a bit of a shape of this width from which it is written
-pub record IsAim (pool : Pooled) (width : ℕ) (x : Aim) : Type 0 where
+-- a bit of one of a target's signals, which stands at places of its shape
+pub record IsAim (pool : Pooled) (target : ℕ) (x : Aim) : Type 0 where
   pub there : x.bit.sig < length pool.signals
   pub index : x.bit.index < (signal_form pool.signals x.bit.sig).width
-  pub source : IfSome x.source (λ k. k < width)
-
--- ---- the rows of the table of aims
-
--- the source that many bits higher
-abbrev pub lifted : ℕ → Aimed → Aimed
-lifted by a = record { node = a.node; source = option_map (λ k. by + k) a.source }
-
-abbrev pub loosened : Aimed → Aimed
-loosened a = record { node = a.node; source = None }
-
-abbrev pub cut_source : ℕ → ℕ → Aimed → Option ℕ → Option Aimed
-cut_source low width a None = Some a
-cut_source low width a (Some k) = if nat_le low k && nat_lt k (low + width) then Some (record { node = a.node; source = Some (k - low) }) else None
-
--- what a slice leaves
-abbrev pub cut_aim : ℕ → ℕ → Aimed → Option Aimed
-cut_aim low width a = cut_source low width a a.source
-
-abbrev pub signal_row : ℕ → ℕ → List Aimed
-signal_row sig width = map (λ i. aimed (aim_at sig i)) (range_with_len 0 width)
-
-abbrev pub joined_rows : (ℕ → Form) → (ℕ → List Aimed) → ℕ → List ExprId → List Aimed
-joined_rows form rows low [] = []
-joined_rows form rows low (e ∷ es) = map (lifted low) (rows e.0) ++ joined_rows form rows (low + (form e.0).width) es
-
--- the sources are below this
-abbrev pub HasSources : ℕ → List Aimed → Type 0
-HasSources width row = All (λ a. IfSome a.source (λ k. k < width)) row
-
--- the aims of the first expressions
-pub record HasRows (pool : Pooled) (table : List (List Aimed)) : Type 0 where
-  pub few : length table ≤ length pool.exprs
-  pub rows : (e : ℕ) → e < length table → slice_index_or table e [] ≡ map aimed (aims pool e)
-
-abbrev pub row_at : List (List Aimed) → ℕ → List Aimed
-row_at table e = slice_index_or table e []
-
--- the row of an expression, by those of the expressions that it names
-abbrev pub row_step : (ℕ → Form) → (ℕ → Form) → (ℕ → List Aimed) → Expr → List Aimed
-row_step sig_form form rows (expr.TheVariants.Sig s) = signal_row s.0 (sig_form s.0).width
-row_step sig_form form rows (Slice a low width) = filter_map (cut_aim low width) (rows a.0)
-row_step sig_form form rows (Cat es) = joined_rows form rows 0 es
-row_step sig_form form rows (Part a offset width stride) = map loosened (rows a.0)
-row_step sig_form form rows (Pick index es) = flat_map (λ (e : ExprId). map loosened (rows e.0)) es
-row_step sig_form form rows (Cast a signed) = rows a.0
-row_step sig_form form rows (Const n s) = []
-row_step sig_form form rows (Unary op a) = []
-row_step sig_form form rows (Binary op a b) = []
-row_step sig_form form rows (Mux s a b) = []
-row_step sig_form form rows (Matches a patterns) = []
-row_step sig_form form rows (Reset domain place) = []
+  pub of : Contains (target_signals pool target) x.bit.sig
+  pub below : StandsBelow (form pool target).width x.spot
 
 -- ---- the graph of a design
 

@@ -4,9 +4,9 @@ use Rattle.std.specs.List.{find, list_any}
 use Rattle.amh_host.specs.declared.place.Place.{Place}
 use Rattle.design_ir.specs.Guards.{Guarded}
 use Rattle.design_ir.specs.Targets.{Bit}
-use Rattle.comb_graph.specs.declared.rules.Aimed.{Aimed}
+use Rattle.comb_graph.specs.declared.aimed.Aimed.{Aimed}
 use Rattle.comb_graph.specs.Meanings.{node_of}
-use Rattle.comb_graph.specs.Rules.{row_at}
+use Rattle.comb_graph.specs.Seen.{row_at}
 
 -- one of these aims is at the bit
 abbrev pub aims_at : List Aimed → Bit → Bool

@@ -8,11 +8,13 @@ ghost use Rattle.design_ir.specs.Values.{form};
 ghost use Rattle.comb_graph.specs.Graphs.{joined};
 ghost use Rattle.comb_graph.specs.Meanings.{Extends};
 ghost use Rattle.comb_graph.specs.Places.{HasPlaces, bit_nodes, first_of, whole_at};
-ghost use Rattle.comb_graph.specs.Rules.{HasAims, AddsBlock, AddsStatement, AddsArms};
+ghost use Rattle.comb_graph.specs.Rules.{AddsBlock, AddsStatement, AddsArms};
+ghost use Rattle.comb_graph.specs.Seen.{HasAims};
 
+use crate::aims::AimTable;
 use crate::graph::Graph;
 use crate::places::{Nodes, whole};
-use crate::rules::{AimTable, add_assignment};
+use crate::rules::add_assignment;
 use amh_host::NoMemory;
 use design_ir::{Arms, Design, ExprId, Stmt, Stmts};
 use std::alloc::Global;

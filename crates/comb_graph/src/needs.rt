@@ -7,15 +7,15 @@ ghost use Rattle.design_ir.specs.PoolRules.{IsPool};
 ghost use Rattle.design_ir.specs.Needed.{every, needed, needed_indices};
 ghost use Rattle.design_ir.specs.Values.{form};
 ghost use Rattle.comb_graph.specs.Meanings.{Extends, KeepsSignals, Means};
-ghost use Rattle.comb_graph.specs.Rules.{HasAims, Adds, all_rules, comb_part, comb_assignments, IsNeedsGraph};
+ghost use Rattle.comb_graph.specs.Rules.{Adds, all_rules, comb_part, comb_assignments, IsNeedsGraph};
+ghost use Rattle.comb_graph.specs.Seen.{HasAims};
 ghost use Rattle.comb_graph.specs.Places.{HasPlaces, HasBits, HasNode, AreBits, bit_nodes};
 
-use crate::aims::all_aims;
+use crate::aims::{AimTable, all_aims};
 use crate::blocks::add_block;
 use crate::graph::Graph;
 use crate::places::{Nodes, bit_targets, index_targets};
 use crate::reads::add_memories;
-use crate::rules::AimTable;
 use amh_host::{Items, NoMemory};
 use design_ir::{Design, DesignProcess, ExprId, Exprs};
 use std::alloc::Global;

@@ -5,23 +5,16 @@ ghost use Rattle.design_ir.specs.Values.{form};
 ghost use Rattle.comb_graph.specs.Graphs.{joined};
 ghost use Rattle.comb_graph.specs.Meanings.{Extends};
 ghost use Rattle.comb_graph.specs.Places.{HasPlaces, IsTable, bit_nodes, first_of, indices_at};
-ghost use Rattle.comb_graph.specs.Rules.{HasAims, AddsAims, AddsAssignment, value_targets};
+ghost use Rattle.comb_graph.specs.Rules.{AddsAims, AddsAssignment, value_targets};
+ghost use Rattle.comb_graph.specs.Seen.{HasAims};
 
+use crate::aimed::{Aimed, fixed_place};
+use crate::aims::AimTable;
 use crate::graph::Graph;
 use crate::places::{Nodes, indices, one, push_extended, two, whole};
-use amh_host::{Items, NoMemory};
+use amh_host::NoMemory;
 use design_ir::{Design, ExprId, Exprs};
 use std::alloc::Global;
-
-/// The node of a bit that may be written, and the bit of the value that is then written to it, where that is fixed.
-#[derive(Clone, Copy, Drop)]
-pub struct Aimed {
-    pub node: usize,
-    pub source: Option<u8>,
-}
-
-/// The aims of each expression as a target.
-pub type AimTable = Items<Items<Aimed>>;
 
 // Where the node of a bit that is written leads.
 fn value_targets(
@@ -85,7 +78,8 @@ fn add_aims(
     graph.known();
     for aim in aims {
         graph.known();
-        let targets = value_targets(alloc, design, firsts, shared, value, aim.source)?;
+        let source = fixed_place(aim.at);
+        let targets = value_targets(alloc, design, firsts, shared, value, source)?;
         graph.lead(aim.node, targets.as_slice())?;
     }
     Ok(())

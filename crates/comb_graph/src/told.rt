@@ -8,9 +8,9 @@ ghost use Rattle.comb_graph.specs.Rankings.{bit_of};
 ghost use Rattle.comb_graph.specs.Refusals.{assignments, loop_place};
 ghost use Rattle.comb_graph.specs.Told.{aims_at, first_place};
 
-use crate::aims::all_aims;
+use crate::aimed::Aimed;
+use crate::aims::{AimTable, all_aims};
 use crate::ranks::RankedBit;
-use crate::rules::{AimTable, Aimed};
 use amh_host::{NoMemory, Place};
 use design_ir::{Arms, Design, Exprs, Stmt, Stmts};
 use std::alloc::Global;

@@ -52,7 +52,7 @@ below_more : (k n : ℕ) (es : List ExprId) → k ≤ n → AllBelow k es → Al
 below_more k n [] le h = tt
 below_more k n (e ∷ es) le h = (omega (arith, h.0, le), below_more k n es le h.1)
 
-place_below : {A : Type 0} (xs : List A) (k : ℕ) (x : A) → slice_get xs k ≡ Some x → k < length xs
+pub place_below : {A : Type 0} (xs : List A) (k : ℕ) (x : A) → slice_get xs k ≡ Some x → k < length xs
 place_below [] k x e = cc
 place_below (y ∷ xs) zero x e = omega arith
 place_below (y ∷ xs) (suc k) x e = omega (arith, place_below xs k x e)

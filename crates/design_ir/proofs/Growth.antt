@@ -1,5 +1,5 @@
 -- A pool that grows keeps what it has.
-use Rattle.std.specs.Prelude.{◌≡◌, refl, ℕ, zero, suc, ◌+◌, ◌<◌, ◌≤◌, List, [], ◌∷◌, ◌++◌, length, slice_get, slice_index_or, option_map, unwrap_or, None}
+use Rattle.std.specs.Prelude.{◌^◌, ◌≡◌, refl, ℕ, zero, suc, ◌+◌, ◌<◌, ◌≤◌, List, [], ◌∷◌, ◌++◌, length, slice_get, slice_index_or, option_map, unwrap_or, None}
 use Rattle.std.specs.List.{AllByRecursion}
 use Rattle.std.proofs.Common.{sym, ◌∙◌, ap, arith}
 use Rattle.shape_rules.specs.Forms.{Form, IsForm, unsigned}
@@ -114,7 +114,7 @@ expr_more : (sigs : List Sig) (known : List Form) (es : List Expr) (e : Expr) �
 expr_more sigs known [] e h ask = (ask, tt)
 expr_more sigs known (d ∷ es) e h ask = (h.0, expr_more sigs (known ++ form_step sigs (λ k. slice_index_or known k (unsigned 0)) d ∷ []) es e h.1 ask)
 
-pub cached_expr : (p : Pooled) (shapes : List Form) (bits : ℕ) (e : Expr) (s : Form) → IsCached p shapes bits → IsFormed e → IsAskable p e → shape_stop (bad_operand (form p) e) (greatest_width p.signals (form p) e) ≡ None → s ≡ form_step p.signals (form p) e → length p.exprs < 262144 → IsCached (expr_added p e) (shapes ++ s ∷ []) bits
+pub cached_expr : (p : Pooled) (shapes : List Form) (bits : ℕ) (e : Expr) (s : Form) → IsCached p shapes bits → IsFormed e → IsAskable p e → shape_stop (bad_operand (form p) e) (greatest_width p.signals (form p) e) ≡ None → s ≡ form_step p.signals (form p) e → length p.exprs < 2 ^ 30 → IsCached (expr_added p e) (shapes ++ s ∷ []) bits
 unfolding form
 cached_expr p shapes bits e s h formed ask fine is few = record {
   rules = record {

@@ -9,12 +9,7 @@ use Rattle.design_ir.specs.Values.{num}
 use Rattle.design_ir.specs.Put.{put, put_statement, put_choices, put_number}
 use Rattle.design_ir.specs.Targets.{target_bits}
 use Rattle.design_ir.specs.Guards.{Guard, Guarded, guarded, guarded_in, guarded_arms}
-
-abbrev pub holds : Pooled → List ℤ → Guard → Bool
-holds pool env g = if g.taken then not (is_zero (num pool env g.condition.0)) else is_zero (num pool env g.condition.0)
-
-abbrev pub put_guarded : Pooled → List ℤ → List ℤ → Guarded → List ℤ
-put_guarded pool env cur g = if list_all (holds pool env) g.guards then put_number pool (target_bits pool env g.target.0) (num pool env g.value.0) cur else cur
+pub use Rattle.design_ir.specs.GuardedPut.{holds, put_guarded}
 
 pub fold_append : {A B : Type 0} (f : B → A → B) (b : B) (xs ys : List A) → fold f b (xs ++ ys) ≡ fold f (fold f b xs) ys
 fold_append f b [] ys = refl

@@ -5,6 +5,7 @@ pub mod SanityValues
 pub mod SanityRuns
 pub mod SanityMemories
 pub mod SanityNeeds
+pub mod SanityAims
 pub mod SanityDesigns
 pub mod Answers
 pub mod Looks
@@ -21,6 +22,11 @@ pub mod Congruence
 pub mod Equations
 pub mod NumbersFit
 pub mod SettlingLaws
+pub mod Elements
+pub mod AimSteps
+pub mod ChoiceLaws
+pub mod AimLaws
+pub mod SpotLaws
 pub mod TargetLaws
 pub mod GuardLaws
 pub mod Whole

@@ -26,7 +26,7 @@ use Rattle.design_ir.specs.Named.{named, AllBelow}
 use Rattle.design_ir.specs.Pools.{Pooled}
 use Rattle.design_ir.specs.PoolRules.{IsPool, shape_stop}
 use Rattle.design_ir.specs.Values.{form, form_step, num, value_step, signal_form, total_width, joined, common_with, common_of_all, matches}
-use Rattle.design_ir.specs.Circuits.{at}
+pub use Rattle.design_ir.specs.Circuits.{FitsSignals}
 use Rattle.design_ir.proofs.Equations.{IsStanding, standing, form_is, num_is}
 
 -- ---- shapes
@@ -84,7 +84,7 @@ op_form Shl a b p q t = formed a.signed (form_of Shl a b).width t (λ e. omega (
 op_form Shr a b p q t = p
 
 -- what was accepted is not too wide, and has no signed operand where that is refused
-accepted_is : (bad : Bool) (w : ℕ) → shape_stop bad w ≡ None → (bad ≡ false) × (w ≤ 128)
+pub accepted_is : (bad : Bool) (w : ℕ) → shape_stop bad w ≡ None → (bad ≡ false) × (w ≤ 128)
 accepted_is true w e = cc
 accepted_is false w e =
     (refl, ⊎_elim (λ lt. let none : Some Width ≡ None = cond_below 128 w (Some Width) None lt ∙ e in cc) (λ ge. ge) (cases_lt 128 w))
@@ -159,10 +159,6 @@ sig_form : (sigs : List Sig) (s : ℕ) → AllByRecursion (λ (x : Sig). IsForm 
 sig_form [] s h = omega arith
 sig_form (x ∷ sigs) zero h = h.0
 sig_form (x ∷ sigs) (suc s) h = sig_form sigs s h.1
-
--- the numbers of the signals are of their shapes
-abbrev pub FitsSignals : Pooled → List ℤ → Type 0
-FitsSignals p env = (s : ℕ) → s < length p.signals → IsOf (signal_form p.signals s).signed (signal_form p.signals s).width (at env s)
 
 -- ---- each expression
 

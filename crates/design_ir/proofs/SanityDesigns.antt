@@ -1,8 +1,8 @@
 -- A small design keeps to the rules of designs: a register that turns at each rise.
-use Rattle.std.specs.Prelude.{◌≡◌, refl, ℕ, false, true, List, [], ◌∷◌, All, ℤ, pos, Option, Some, None, codes, IsTrue}
+use Rattle.std.specs.Prelude.{refl, ℕ, List, [], ◌∷◌, All, pos, codes, IsTrue}
 use Rattle.std.specs.List.{IsDistinct}
-use Rattle.std.proofs.Common.{arith, inl, inr}
-use Rattle.lists.specs.Names.{IsName, IsPublicName, continues_name, dotted}
+use Rattle.std.proofs.Common.{arith, inl}
+use Rattle.lists.specs.Names.{IsName, IsPublicName, continues_name}
 use Rattle.shape_rules.specs.Forms.{unsigned}
 use Rattle.shape_rules.specs.declared.op.Op.TheVariants.{Not}
 use Rattle.design_ir.specs.declared.expr.Expr.TheVariants.{Unary}

@@ -9,7 +9,7 @@ use Rattle.design_ir.specs.declared.memory.MemWrite.{MemWrite}
 use Rattle.design_ir.specs.declared.memory.MemRead.{MemRead}
 use Rattle.design_ir.specs.Trees.{Block, done, next}
 use Rattle.design_ir.specs.Values.{form, num}
-use Rattle.design_ir.specs.Targets.{target_bits, target_signals, aims}
+use Rattle.design_ir.specs.Targets.{fixed, target_bits, target_signals, aims}
 use Rattle.design_ir.specs.Needed.{needed, needed_indices}
 use Rattle.design_ir.specs.Loops.{Loop}
 use Rattle.design_ir.specs.Circuits.{Circuit, State}
@@ -121,7 +121,7 @@ unfolding round chain form needed needed_indices aims
 round_loops = (
   bit 1 0 ∷ [],
   (
-    inl record { process = _; among = (0, omega arith, refl); comb = refl; assignment = _; stands = (0, omega arith, refl); needs = record { aim = record { bit = bit 1 1; source = Some 0 }; may = (0, omega arith, refl); writes = refl; reads = (0, omega arith, refl) } },
-    inl record { process = _; among = (0, omega arith, refl); comb = refl; assignment = _; stands = (1, omega arith, refl); needs = record { aim = record { bit = bit 1 0; source = Some 0 }; may = (0, omega arith, refl); writes = refl; reads = (0, omega arith, refl) } },
+    inl record { process = _; among = (0, omega arith, refl); comb = refl; assignment = _; stands = (0, omega arith, refl); needs = record { aim = record { bit = bit 1 1; spot = fixed 0 }; may = (0, omega arith, refl); writes = refl; reads = (0, omega arith, refl) } },
+    inl record { process = _; among = (0, omega arith, refl); comb = refl; assignment = _; stands = (1, omega arith, refl); needs = record { aim = record { bit = bit 1 0; spot = fixed 0 }; may = (0, omega arith, refl); writes = refl; reads = (0, omega arith, refl) } },
   ),
 )

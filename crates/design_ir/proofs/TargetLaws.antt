@@ -74,21 +74,21 @@ is_target_is p k e h is =
 
 -- ---- lengths
 
-map_length : {A B : Type 0} (f : A → B) (xs : List A) → length (map f xs) ≡ length xs
+pub map_length : {A B : Type 0} (f : A → B) (xs : List A) → length (map f xs) ≡ length xs
 map_length f [] = refl
 map_length f (x ∷ xs) = ap suc (map_length f xs)
 
-range_length : (a n : ℕ) → length (range_with_len a n) ≡ n
+pub range_length : (a n : ℕ) → length (range_with_len a n) ≡ n
 range_length a zero = refl
 range_length a (suc n) = ap suc (range_length (a + 1) n)
 
-take_length : {A : Type 0} (n : ℕ) (xs : List A) → n ≤ length xs → length (take n xs) ≡ n
+pub take_length : {A : Type 0} (n : ℕ) (xs : List A) → n ≤ length xs → length (take n xs) ≡ n
 take_length zero [] h = refl
 take_length zero (x ∷ xs) h = refl
 take_length (suc n) [] h = absurd (omega (arith, h))
 take_length (suc n) (x ∷ xs) h = ap suc (take_length n xs (omega (arith, h)))
 
-drop_length : {A : Type 0} (n : ℕ) (xs : List A) → length (drop n xs) ≡ length xs - n
+pub drop_length : {A : Type 0} (n : ℕ) (xs : List A) → length (drop n xs) ≡ length xs - n
 drop_length zero [] = refl
 drop_length zero (x ∷ xs) = omega arith
 drop_length (suc n) [] = omega arith
@@ -98,13 +98,13 @@ places_length : (n : ℕ) (x : Option Bit) → length (replicate n x) ≡ n
 places_length zero x = refl
 places_length (suc n) x = ap suc (places_length n x)
 
-padded_length : (n : ℕ) (places : List (Option Bit)) → length (padded n places) ≡ n
+pub padded_length : (n : ℕ) (places : List (Option Bit)) → length (padded n places) ≡ n
 padded_length n places =
     take_length n (places ++ replicate n None) (omega (arith, length-append places (replicate n None), places_length n None))
 
 -- ---- each target
 
-and_true : (a b : Bool) → (a && b) ≡ true → (a ≡ true) × (b ≡ true)
+pub and_true : (a b : Bool) → (a && b) ≡ true → (a ≡ true) × (b ≡ true)
 and_true true b e = (refl, e)
 and_true false b e = absurd (false≢true e)
 

@@ -1,7 +1,8 @@
 -- A design as its meaning sees it, and what it holds between events.
-use Rattle.std.specs.Prelude.{ℕ, ◌==◌, ◌&&◌, ◌||◌, Bool, List, slice_index_or, position, ℤ, pos, Option, Some, None, is_some, false}
+use Rattle.std.specs.Prelude.{ℕ, ◌<◌, ◌==◌, ◌&&◌, ◌||◌, Bool, List, length, slice_index_or, position, ℤ, pos, Option, Some, None, is_some, false}
 use Rattle.std.specs.List.{list_any}
 use Rattle.lists.specs.Texts.{text_eq}
+use Rattle.amh_bits.specs.Patterns.{IsOf}
 use Rattle.design_ir.specs.declared.domain.Domain.{Domain}
 use Rattle.design_ir.specs.declared.memory.MemRead.{MemRead}
 use Rattle.design_ir.specs.declared.memory.Memory.{Memory}
@@ -9,6 +10,7 @@ use Rattle.design_ir.specs.declared.port.Port.{Port}
 use Rattle.design_ir.specs.declared.port.Column.{Column}
 use Rattle.design_ir.specs.declared.process.DesignProcess.{DesignProcess}
 use Rattle.design_ir.specs.Pools.{Pooled}
+use Rattle.design_ir.specs.Values.{signal_form}
 use Rattle.design_ir.specs.Guards.{driven}
 
 pub record Circuit : Type 0 where
@@ -32,6 +34,10 @@ option_test p (Some x) = p x
 -- the number of a signal in an environment, which is the list of all signals' numbers
 abbrev pub at : List ℤ → ℕ → ℤ
 at env s = slice_index_or env s (pos 0)
+
+-- the numbers of the signals are of their shapes
+abbrev pub FitsSignals : Pooled → List ℤ → Type 0
+FitsSignals p env = (s : ℕ) → s < length p.signals → IsOf (signal_form p.signals s).signed (signal_form p.signals s).width (at env s)
 
 -- a signal is among these
 abbrev pub is_among : List ℕ → ℕ → Bool

@@ -13,6 +13,8 @@ pub mod Settling
 pub mod Targets
 pub mod Put
 pub mod Guards
+pub mod GuardedPut
+pub mod Fixed
 pub mod Circuits
 pub mod Rows
 pub mod Settled
@@ -22,4 +24,5 @@ pub mod Legal
 pub mod Tests
 pub mod Needed
 pub mod Loops
+pub mod Choices
 pub mod Designs

@@ -7,7 +7,7 @@ use Rattle.design_ir.specs.declared.memory.MemRead.{MemRead}
 use Rattle.design_ir.specs.declared.process.DesignProcess.{DesignProcess}
 use Rattle.design_ir.specs.Pools.{Pooled}
 use Rattle.design_ir.specs.Values.{form, signal_form}
-use Rattle.design_ir.specs.Targets.{Bit, Aim, aims}
+use Rattle.design_ir.specs.Targets.{Bit, Aim, fixed_place, aims}
 use Rattle.design_ir.specs.Guards.{Guard, Guarded, guarded}
 use Rattle.design_ir.specs.Needed.{extended, needed, needed_whole, needed_indices}
 use Rattle.design_ir.specs.Circuits.{Circuit}
@@ -22,7 +22,7 @@ pub record AssignmentNeeds (pool : Pooled) (g : Guarded) (b c : Bit) : Type 0 wh
   pub aim : Aim
   pub may : Contains (aims pool g.target.0) aim
   pub writes : aim.bit ≡ b
-  pub reads : Contains (flat_map (λ (x : Guard). needed_whole pool x.condition) g.guards ++ needed_indices pool g.target.0 ++ needed_value pool g.value aim.source) c
+  pub reads : Contains (flat_map (λ (x : Guard). needed_whole pool x.condition) g.guards ++ needed_indices pool g.target.0 ++ needed_value pool g.value (fixed_place aim.spot)) c
 
 -- a statement of a comb process may write b, and then reads c
 pub record ProcessNeeds (circuit : Circuit) (b c : Bit) : Type 0 where

@@ -1,5 +1,5 @@
 -- What a pool keeps to, and what it refuses.
-use Rattle.std.specs.Prelude.{◌≡◌, ◌≢◌, ℕ, ◌+◌, ◌≤◌, ◌<◌, nat_lt, nat_le, ◌||◌, Bool, false, IsTrue, ⊤, bit_and, if◌then◌else◌, List, [], ◌∷◌, ◌++◌, length, slice_index_or, Option, Some, None, Result, MatchResult}
+use Rattle.std.specs.Prelude.{◌≡◌, ◌≢◌, ℕ, ◌+◌, ◌≤◌, ◌<◌, nat_lt, nat_le, ◌||◌, Bool, false, IsTrue, ⊤, bit_and, if◌then◌else◌, List, [], ◌∷◌, ◌++◌, ◌^◌, length, slice_index_or, Option, Some, None, Result, MatchResult}
 use Rattle.std.specs.List.{AllByRecursion}
 use Rattle.amh_bits.specs.Patterns.{IsOf}
 use Rattle.shape_rules.specs.Forms.{Form, IsForm, unsigned}
@@ -121,10 +121,14 @@ AreExprs sigs known (e ∷ es) =
 
 -- ---- pools
 
+-- how many expressions a pool has room for: a file may ask for fewer, and passes over a design may add to them
+abbrev pub most_exprs : ℕ
+most_exprs = 2 ^ 30
+
 pub record IsPool (p : Pooled) : Type 0 where
   pub few_signals : length p.signals ≤ 16384
   pub few_bits : signal_bits p.signals ≤ 262144
-  pub few_exprs : length p.exprs ≤ 262144
+  pub few_exprs : length p.exprs ≤ most_exprs
   pub shapes : AllByRecursion (λ (x : Sig). IsForm x.shape.width x.shape.signed) p.signals
   pub inits : AllByRecursion HasInit p.signals
   pub exprs : AreExprs p.signals [] p.exprs

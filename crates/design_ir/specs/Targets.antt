@@ -1,6 +1,6 @@
 -- What a target stands for: bits of signals.
-use Rattle.std.specs.Prelude.{ℕ, ◌+◌, ◌-◌, ◌*◌, nat_lt, nat_le, ◌&&◌, Bool, true, false, if◌then◌else◌, List, [], ◌∷◌, ◌++◌, map, take, drop, replicate, ℤ, unsigned_abs, Option, Some, None, option_map}
-use Rattle.std.specs.List.{flat_map, filter_map, list_all, range_with_len}
+use Rattle.std.specs.Prelude.{ℕ, ◌+◌, ◌-◌, ◌*◌, ◌^◌, ◌==◌, min, nat_lt, nat_le, ◌&&◌, Bool, true, false, if◌then◌else◌, List, [], ◌∷◌, ◌++◌, map, length, take, drop, replicate, slice_get, ℤ, unsigned_abs, Option, Some, None, option_and_then}
+use Rattle.std.specs.List.{flat_map, filter_map, list_all, list_any, range_with_len}
 use Rattle.shape_rules.specs.Forms.{Form}
 use Rattle.design_ir.specs.declared.ids.ExprId.{ExprId}
 use Rattle.design_ir.specs.declared.expr.Expr as expr
@@ -79,26 +79,83 @@ target_step sig_form form num places (Reset domain place) = []
 unfoldable pub target_bits : Pooled → List ℤ → ℕ → List (Option Bit)
 target_bits pool env k = answer [] (target_step (signal_form pool.signals) (form pool) (num pool env)) pool.exprs k
 
+-- ---- the numbers that an offset or an index may have
+
+-- all numbers from the least to the greatest
+pub record Numbers : Type 0 where
+  pub least : ℕ
+  pub greatest : ℕ
+
+-- the one number that an expression has whatever the signals are: that of a constant
+abbrev pub own_number : Expr → Option ℕ
+own_number (Const n s) = Some (unsigned_abs n)
+own_number e = None
+
+abbrev pub numbers_of : ℕ → Option ℕ → Numbers
+numbers_of width (Some n) = record { least = n; greatest = n }
+numbers_of width None = record { least = 0; greatest = 2 ^ width - 1 }
+
+-- of a constant its own number alone, of any other expression without a sign each number of its shape
+unfoldable pub numbers : Pooled → ℕ → Numbers
+numbers pool k = numbers_of (form pool k).width (option_and_then own_number (slice_get pool.exprs k))
+
+-- whether some of the numbers will do, where those that are no more than so far above the least are enough
+abbrev pub some_number : Numbers → ℕ → (ℕ → Bool) → Bool
+some_number n far will_do = list_any will_do (range_with_len n.least (min (n.greatest - n.least) far + 1))
+
+-- the items that an index with these numbers picks: past the end, the last
+abbrev pub chosen_items : Numbers → List ExprId → List ExprId
+chosen_items n es = drop (min n.least (length es - 1)) (take (n.greatest + 1) es)
+
 -- ---- the bits that a target may stand for, whatever offsets and indices are
 
--- a bit that may be written, and the bit of the value that is then written to it, where that is fixed
+-- where in a target a bit stands: at this place whatever offsets and indices are, or at one of a set of places as they
+-- choose
+pub data Spot : Type 0 where
+  fixed : ℕ → Spot
+  chosen : (ℕ → Bool) → Spot
+
+-- a bit that may be written, and the bits of the value that may then be written to it
 pub record Aim : Type 0 where
   pub bit : Bit
-  pub source : Option ℕ
+  pub spot : Spot
 
-abbrev pub unfixed : Aim → Aim
-unfixed x = record x { source = None }
+abbrev pub stands_at : Spot → ℕ → Bool
+stands_at (fixed i) k = i == k
+stands_at (chosen set) k = set k
+
+abbrev pub fixed_place : Spot → Option ℕ
+fixed_place (fixed i) = Some i
+fixed_place (chosen set) = None
+
+-- a bit at the places of a set that are below a width: none where there is no such place
+abbrev pub chosen_below : ℕ → Bit → (ℕ → Bool) → Option Aim
+chosen_below width b set = if list_any set (range_with_len 0 width) then Some (record { bit = b; spot = chosen (λ k. nat_lt k width && set k) }) else None
+
+-- so many places higher
+abbrev pub raised_spot : ℕ → Spot → Spot
+raised_spot by (fixed i) = fixed (by + i)
+raised_spot by (chosen set) = chosen (λ k. nat_le by k && set (k - by))
 
 abbrev pub raised : ℕ → Aim → Aim
-raised by x = record x { source = option_map (λ k. by + k) x.source }
+raised by x = record x { spot = raised_spot by x.spot }
 
-abbrev pub within_at : ℕ → ℕ → Aim → Option ℕ → Option Aim
-within_at low width x None = Some x
-within_at low width x (Some k) = if nat_le low k && nat_lt k (low + width) then Some (record x { source = Some (k - low) }) else None
+abbrev pub within_at : ℕ → ℕ → Bit → Spot → Option Aim
+within_at low width b (fixed i) = if nat_le low i && nat_lt i (low + width) then Some (record { bit = b; spot = fixed (i - low) }) else None
+within_at low width b (chosen set) = chosen_below width b (λ k. set (low + k))
 
 -- what an aim is in a slice of the target: none where the slice leaves its bit off
 abbrev pub within : ℕ → ℕ → Aim → Option Aim
-within low width x = within_at low width x x.source
+within low width x = within_at low width x.bit x.spot
+
+-- what an aim is in a part of a target of so many bits: at place k, where for some number o of the offset it stands at
+-- place o * stride + k of the target
+abbrev pub shifted : Numbers → ℕ → ℕ → ℕ → Aim → Option Aim
+shifted offset wide width stride x = chosen_below width x.bit (λ k. some_number offset wide (λ o. stands_at x.spot (o * stride + k)))
+
+-- what an aim of an item is where the item is picked
+abbrev pub loose : ℕ → Aim → Option Aim
+loose width x = chosen_below width x.bit (stands_at x.spot)
 
 abbrev pub aims_of_all : (ℕ → Form) → (ℕ → List Aim) → ℕ → List ExprId → List Aim
 aims_of_all form aims low [] = []
@@ -106,21 +163,21 @@ aims_of_all form aims low (e ∷ es) = map (raised low) (aims e.0) ++ aims_of_al
 
 -- an aim at bit i of a signal, from bit i of the value
 abbrev pub aim_at : ℕ → ℕ → Aim
-aim_at sig i = record { bit = record { sig = sig; index = i }; source = Some i }
+aim_at sig i = record { bit = record { sig = sig; index = i }; spot = fixed i }
 
-abbrev pub aim_step : (ℕ → Form) → (ℕ → Form) → (ℕ → List Aim) → Expr → List Aim
-aim_step sig_form form aims (expr.TheVariants.Sig s) = map (aim_at s.0) (range_with_len 0 (sig_form s.0).width)
-aim_step sig_form form aims (Slice a low width) = filter_map (within low width) (aims a.0)
-aim_step sig_form form aims (Cat es) = aims_of_all form aims 0 es
-aim_step sig_form form aims (Part a offset width stride) = map unfixed (aims a.0)
-aim_step sig_form form aims (Pick index es) = map unfixed (flat_map (λ (e : ExprId). aims e.0) es)
-aim_step sig_form form aims (Cast a signed) = aims a.0
-aim_step sig_form form aims (Const n s) = []
-aim_step sig_form form aims (Unary op a) = []
-aim_step sig_form form aims (Binary op a b) = []
-aim_step sig_form form aims (Mux s a b) = []
-aim_step sig_form form aims (Matches a patterns) = []
-aim_step sig_form form aims (Reset domain place) = []
+abbrev pub aim_step : (ℕ → Form) → (ℕ → Form) → (ℕ → Numbers) → (ℕ → List Aim) → Expr → List Aim
+aim_step sig_form form numbers aims (expr.TheVariants.Sig s) = map (aim_at s.0) (range_with_len 0 (sig_form s.0).width)
+aim_step sig_form form numbers aims (Slice a low width) = filter_map (within low width) (aims a.0)
+aim_step sig_form form numbers aims (Cat es) = aims_of_all form aims 0 es
+aim_step sig_form form numbers aims (Part a offset width stride) = filter_map (shifted (numbers offset.0) (form a.0).width width stride) (aims a.0)
+aim_step sig_form form numbers aims (Pick index es) = filter_map (loose (common_of_all form es).width) (flat_map (λ (e : ExprId). aims e.0) (chosen_items (numbers index.0) es))
+aim_step sig_form form numbers aims (Cast a signed) = aims a.0
+aim_step sig_form form numbers aims (Const n s) = []
+aim_step sig_form form numbers aims (Unary op a) = []
+aim_step sig_form form numbers aims (Binary op a b) = []
+aim_step sig_form form numbers aims (Mux s a b) = []
+aim_step sig_form form numbers aims (Matches a patterns) = []
+aim_step sig_form form numbers aims (Reset domain place) = []
 
 unfoldable pub aims : Pooled → ℕ → List Aim
-aims pool k = answer [] (aim_step (signal_form pool.signals) (form pool)) pool.exprs k
+aims pool k = answer [] (aim_step (signal_form pool.signals) (form pool) (numbers pool)) pool.exprs k

@@ -1,5 +1,5 @@
 // Designs.
-ghost use Rattle.std.specs.Prelude.{◌≡◌, ◌<◌, ◌↔◌, length, IsTrue, Some, None, slice_get, option_map, position};
+ghost use Rattle.std.specs.Prelude.{◌≡◌, ◌<◌, ◌↔◌, length, IfOk, IsTrue, Some, None, slice_get, option_map, position};
 ghost use Rattle.lists.specs.Texts.{text_eq};
 ghost use Rattle.design_ir.specs.Circuits.{Circuit, is_input, is_clock, domain_named};
 ghost use Rattle.design_ir.specs.Designs.{IsDesign};
@@ -8,6 +8,7 @@ ghost use Rattle.design_ir.specs.Legal.{IsLegal};
 ghost use Rattle.design_ir.specs.Tests.{is_settable, ascends};
 ghost use Rattle.design_ir.specs.Values.{signal_form};
 
+use crate::copies::Copied;
 use crate::domain::{Domain, Domains};
 use crate::event::Event;
 use crate::expr::Expr;
@@ -20,7 +21,9 @@ use crate::process::DesignProcesses;
 use crate::refusal::PoolStop;
 use crate::signal::Sig;
 use amh_bits::Int;
+use amh_host::NoMemory;
 use shape_rules::Shape;
+use std::alloc::Global;
 use std::marker::Model;
 
 /// A whole design: its pool, its processes, memories and domains, its ports, and the columns of its trace.
@@ -76,6 +79,30 @@ impl Design {
             ports,
             columns,
         }
+    }
+
+    /// The same signals and expressions once more.
+    pub fn copied_pool(&self, alloc: Global) -> Result<Pool, NoMemory>
+        ensures { IfOk result (λ p. p ≡ self.now.pool) }
+    {
+        self.pool.copied(alloc)
+    }
+
+    /// The design with another pool and other statements, and with the same memories, domains, ports and columns.
+    pub fn with_processes(
+        &self,
+        alloc: Global,
+        pool: Pool,
+        processes: DesignProcesses,
+    ) -> Result<Design, NoMemory>
+        requires { IsDesign record self.now { pool = pool; processes = processes } }
+        ensures { IfOk result (λ d. d ≡ record self.now { pool = pool; processes = processes }) }
+    {
+        let memories = self.memories.copied(alloc)?;
+        let domains = self.domains.copied(alloc)?;
+        let ports = self.ports.copied(alloc)?;
+        let columns = self.columns.copied(alloc)?;
+        Ok(Design::new(pool, processes, memories, domains, ports, columns))
     }
 
     /// A signal of the design.

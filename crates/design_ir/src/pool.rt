@@ -1,5 +1,5 @@
 // The pool: signals and expressions by number.
-ghost use Rattle.std.specs.Prelude.{◌≡◌, ◌≢◌, ◌++◌, ◌∷◌, [], ◌<◌, ◌≤◌, length, false, IfOk, IfErr, None, Some, slice_get};
+ghost use Rattle.std.specs.Prelude.{◌≡◌, ◌≢◌, ◌++◌, ◌∷◌, [], ◌<◌, ◌≤◌, ◌^◌, length, false, IfOk, IfErr, OnErr, None, Some, slice_get};
 ghost use Rattle.shape_rules.specs.Forms.{IsForm, unsigned, common};
 ghost use Rattle.shape_rules.specs.Operators.{form_of};
 ghost use Rattle.shape_rules.specs.Stops.{is_bad_operand, widest};
@@ -10,19 +10,21 @@ ghost use Rattle.amh_bits.specs.Patterns.{IsOf};
 ghost use Rattle.design_ir.specs.Settling.{IsUnsettled, is_signal, reshaped, settle_refusal, signal_settled};
 ghost use Rattle.design_ir.specs.Values.{form, form_step, total_width, common_of_all};
 
+use crate::copies::copies;
 use crate::expr::Expr;
 use crate::exprs::Exprs;
 use crate::ids::{ExprId, Ids, SigId};
 use crate::refusal::PoolStop;
 use crate::signal::Sig;
 use amh_bits::Int;
+use amh_host::NoMemory;
 use shape_rules::{Op, Shape, ShapeStop, shape_of, work_of};
 use std::alloc::Global;
 use std::marker::Model;
 
 /// Signals and expressions, by number. Each expression names earlier ones alone, and contracts see the two lists.
 ///
-/// There are at most 16,384 signals with at most 262,144 bits, and at most 262,144 expressions.
+/// There are at most 16,384 signals with at most 262,144 bits, and `expr` gives at most 262,144 expressions.
 #[derive(Drop)]
 pub struct Pool {
     sigs: Vec<Sig>,
@@ -104,11 +106,40 @@ impl Pool {
         Ok(())
     }
 
-    // Opens the pool, so that a caller knows its rules.
-    pub(crate) fn known(&self)
+    /// Puts an expression at the end that nothing stops, past what a file may ask for: so passes over a design add to
+    /// a copy of its pool. There is room for 2^30 of them.
+    pub fn more(&mut self, e: Expr) -> Result<ExprId, NoMemory>
+        requires askable { IsAskable self.old e }
+        requires accepted { shape_stop (bad_operand (form self.old) e) (greatest_width self.old.signals (form self.old) e) ≡ None }
+        ensures added { IfOk result (λ id. (id ≡ record { 0 = length self.old.exprs }) × (self.new ≡ expr_added self.old e)) }
+        ensures err { OnErr result (self.new ≡ self.old) }
+    {
+        let Ok(shape) = self.shape_of_new(&e) else {
+            unreachable!()
+        };
+        if self.exprs.len() >= 1 << 30 {
+            return Err(NoMemory);
+        }
+        self.put(e, shape)
+    }
+
+    /// Opens the pool, so that a caller knows its rules.
+    pub fn known(&self)
         ensures { IsPool self.now }
     {
         let _ = &self.bits;
+    }
+
+    // The same pool once more.
+    pub(crate) fn copied(&self, alloc: Global) -> Result<Pool, NoMemory>
+        ensures { IfOk result (λ p. p ≡ self.now) }
+    {
+        Ok(Pool {
+            sigs: copies(alloc, self.sigs.as_slice())?,
+            exprs: copies(alloc, self.exprs.as_slice())?,
+            shapes: copies(alloc, self.shapes.as_slice())?,
+            bits: self.bits,
+        })
     }
 
     // How many signals there are.
@@ -132,7 +163,10 @@ impl Exprs for Pool {
         }
         let answer = self.put(e, shape);
         self.known();
-        answer
+        match answer {
+            Ok(id) => Ok(id),
+            Err(_) => Err(PoolStop::NoMemory),
+        }
     }
 
     fn count(&self) -> u32 {
@@ -150,24 +184,22 @@ impl Exprs for Pool {
 
 impl Pool {
     // Puts an expression of a shape at the end.
-    fn put(&mut self, e: Expr, shape: Shape) -> Result<ExprId, PoolStop>
+    fn put(&mut self, e: Expr, shape: Shape) -> Result<ExprId, NoMemory>
         requires formed { IsFormed e }
         requires askable { IsAskable self.old e }
         requires accepted { shape_stop (bad_operand (form self.old) e) (greatest_width self.old.signals (form self.old) e) ≡ None }
         requires shape { shape ≡ form_step self.old.signals (form self.old) e }
-        requires room { length self.old.exprs < 262144 }
+        requires room { length self.old.exprs < 2 ^ 30 }
         ensures added { IfOk result (λ id. (id ≡ record { 0 = length self.old.exprs }) × (self.new ≡ expr_added self.old e)) }
-        ensures refused { IfErr result (λ stop. (stop ≡ PoolStop.NoMemory) × (self.new ≡ self.old)) }
+        ensures err { OnErr result (self.new ≡ self.old) }
     {
         let id = ExprId(self.exprs.len() as u32);
-        let Ok(()) = self.shapes.push(shape) else {
-            return Err(PoolStop::NoMemory);
-        };
+        self.shapes.push(shape)?;
         match self.exprs.push(e) {
             Ok(()) => Ok(id),
             Err(_) => {
                 self.shapes.pop();
-                Err(PoolStop::NoMemory)
+                Err(NoMemory)
             }
         }
     }

@@ -1,6 +1,6 @@
 // Each public call once, with ample memory.
 
-use crate::{Expr, Exprs, Pool, PoolStop, Sig};
+use crate::{Expr, Exprs, Ids, Pool, PoolStop, Sig};
 use amh_bits::Int;
 use amh_host::Text;
 use shape_rules::{Op, Shape};
@@ -50,4 +50,28 @@ fn shift_widths(rt: HostRuntime) {
         assert!(rt; pool.count() >= 2);
         assert!(rt; pool.sig_at(value).init == Int::of_u128(0));
     }
+}
+
+#[test]
+fn copied_pools(rt: HostRuntime) {
+    let mut pool = Pool::new(rt.alloc());
+    let narrow = Sig {
+        name: Text::new(rt.alloc()),
+        shape: Shape {
+            width: 3,
+            signed: false,
+        },
+        init: Int::of_u128(5),
+        reset_less: true,
+    };
+    let narrow = pool.sig(narrow).expect(&rt, "a signal");
+    let a = pool.expr(Expr::Sig(narrow)).expect(&rt, "an expression");
+    let mut twice = Ids::new(rt.alloc());
+    twice.push(a).expect(&rt, "an item");
+    twice.push(a).expect(&rt, "an item");
+    let joined = pool.expr(Expr::Cat(twice)).expect(&rt, "an expression");
+    let copy = pool.copied(rt.alloc()).expect(&rt, "a copy");
+    assert_eq!(rt; copy.count(), 2);
+    assert_eq!(rt; copy.shape(joined).width, 6);
+    assert!(rt; copy.sig_at(narrow).init == Int::of_u128(5));
 }

@@ -1,4 +1,4 @@
--- Parts that pass the tests make a design, and one that can be lowered where its statements are plain.
+-- Parts that pass the tests make a design.
 use Rattle.std.specs.Prelude.{◌≡◌, refl, ℕ, ◌<◌, ◌≤◌, ◌==◌, ◌&&◌, nat_eq, Bool, true, false, IsTrue, List, [], ◌∷◌, ◌++◌, length, map, None, Some}
 use Rattle.std.specs.List.{AllByRecursion, IsDistinct, list_any, filter_map}
 use Rattle.std.proofs.Common.{sym, ◌∙◌, ap, arith, append-nil}
@@ -18,9 +18,7 @@ use Rattle.design_ir.specs.Targets.{is_target}
 use Rattle.design_ir.specs.Circuits.{Circuit, is_among}
 use Rattle.design_ir.specs.Designs.{IsUsable, IsDomain, IsProcess, IsClockDomain, AreColumns, IsDesign, share, drivers, reset_number}
 use Rattle.design_ir.specs.Values.{signal_form}
-use Rattle.netlist.specs.Latest.{fixed_step, is_fixed, is_plain}
-use Rattle.netlist.specs.Plain.{IsPlain}
-use Rattle.design_table.specs.Tests.{no_resets, AreSignals, IsSide, is_at, is_own, side_step, block_plain, column_of, sync_domain, processes_of, circuit_of}
+use Rattle.design_table.specs.Tests.{no_resets, AreSignals, IsSide, is_at, is_own, side_step, column_of, sync_domain, processes_of, circuit_of}
 use Rattle.design_table.proofs.NoResets.{none_held}
 use Rattle.design_table.proofs.TargetSides.{AreOwn, side_target, side_signals}
 use Rattle.design_table.proofs.Statements.{all_imp, exprs_of, targets_of, driven_own}
@@ -142,16 +140,3 @@ module _ (pool : Pooled) (ports : List Port) (clocked : List Bool) (comb sync : 
       one_driver = one_driver;
       no_driven_input = no_driven_input;
     }
-
--- ---- plain statements
-
-pub plain_is : (pool : Pooled) (b : Block) → block_plain (is_at (answers false fixed_step [] pool.exprs)) b ≡ true → is_plain pool b ≡ true
-unfolding is_fixed
-plain_is pool done e = refl
-plain_is pool (next (assign t v p) rest) e =
-    let r = and_parts (is_at (answers false fixed_step [] pool.exprs) t.0) (block_plain (is_at (answers false fixed_step [] pool.exprs)) rest) e in
-    rw (r.0) (plain_is pool rest r.1)
-plain_is pool (next (choose arms) rest) e = e
-
-pub design_plain : (pool : Pooled) (ports : List Port) (comb sync : Block) → is_plain pool comb ≡ true → is_plain pool sync ≡ true → IsPlain (circuit_of pool ports comb sync)
-design_plain pool ports comb sync e f = record { flat = refl; plain = (e, (f, tt)) }

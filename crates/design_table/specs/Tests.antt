@@ -95,12 +95,6 @@ abbrev mutual
   block_fits is n done = true
   block_fits is n (next s rest) = statement_fits is n s && block_fits is n rest
 
--- assignments to targets that are marked
-abbrev pub block_plain : (ℕ → Bool) → Block → Bool
-block_plain is done = true
-block_plain is (next (assign t v p) rest) = is t.0 && block_plain is rest
-block_plain is (next (choose arms) rest) = false
-
 -- statements that drive signals of one side alone
 abbrev pub IsSide : Pooled → List Port → List Bool → Bool → Block → Type 0
 IsSide pool ports clocked side body =

@@ -23,8 +23,8 @@ pub fn answer(alloc: Global, lines: &[String]) -> Result<String, Stop> {
 }
 
 fn lines_said(alloc: Global, lines: &[String]) -> Result<String, Stop> {
-    let judged = read_design(alloc, lines)?;
-    design_said(alloc, &judged.design, lines)
+    let design = read_design(alloc, lines)?;
+    design_said(alloc, &design, lines)
 }
 
 /// The name of a design, which stands in its first line.

@@ -1,7 +1,7 @@
 // Whether statements stand over expressions that are there, with targets that are marked.
 ghost use Rattle.std.specs.Prelude.{◌≡◌, map};
 ghost use Rattle.design_ir.specs.Statements.{statement_of, block_of, choices_of};
-ghost use Rattle.design_table.specs.Tests.{is_at, statement_fits, block_fits, choices_fit, block_plain};
+ghost use Rattle.design_table.specs.Tests.{is_at, statement_fits, block_fits, choices_fit};
 
 use design_ir::{Arm, ExprId, Stmt};
 
@@ -47,17 +47,4 @@ fn is_marked(marks: &[bool], e: ExprId) -> bool
 {
     let k = e.0 as usize;
     k < marks.len() && marks[k]
-}
-
-/// Whether statements are assignments to targets that are marked.
-pub fn block_plain(marks: &[bool], body: &[Stmt]) -> bool
-    ensures { result ≡ block_plain (is_at marks.now) (block_of body.now) }
-{
-    match body {
-        [] => true,
-        [Stmt::Assign { target, .. }, rest @ ..] => {
-            is_marked(marks, *target) && block_plain(marks, rest)
-        }
-        [Stmt::Choose(_), ..] => false,
-    }
 }

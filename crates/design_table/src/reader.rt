@@ -1,14 +1,13 @@
 // A design of the table from its lines.
-ghost use Rattle.std.specs.Prelude.{◌≡◌, [], IsTrue, IfOk};
-ghost use Rattle.netlist.specs.Plain.{IsPlain};
+ghost use Rattle.std.specs.Prelude.{◌≡◌, [], IfOk};
 
 use crate::expressions::{expression, expressions};
 use crate::lines::{place_of, split_first, words_of};
 use crate::signals::Signals;
-use crate::sound::{Judged, design_of};
+use crate::sound::design_of;
 use crate::stop::Stop;
 use amh_host::Place;
-use design_ir::{Arm, Arms, ExprId, Stmt, Stmts};
+use design_ir::{Arm, Arms, Design, ExprId, Stmt, Stmts};
 use std::alloc::Global;
 
 // A choice that is open: the arms that are whole, and the one that is read.
@@ -29,9 +28,8 @@ struct Reader {
 }
 
 /// The design that lines stand for.
-pub fn read_design(alloc: Global, lines: &[String]) -> Result<Judged, Stop>
-    ensures flat { IfOk result (λ j. j.design.memories ≡ []) }
-    ensures plain { IfOk result (λ j. IsTrue j.is_plain → IsPlain j.design) }
+pub fn read_design(alloc: Global, lines: &[String]) -> Result<Design, Stop>
+    ensures { IfOk result (λ d. d.memories ≡ []) }
 {
     let mut reader = Reader {
         signals: Signals::new(alloc)?,
@@ -137,9 +135,8 @@ impl Reader {
     }
 
     // The design, once all lines are read.
-    fn end(self, alloc: Global) -> Result<Judged, Stop>
-        ensures flat { IfOk result (λ j. j.design.memories ≡ []) }
-        ensures plain { IfOk result (λ j. IsTrue j.is_plain → IsPlain j.design) }
+    fn end(self, alloc: Global) -> Result<Design, Stop>
+        ensures { IfOk result (λ d. d.memories ≡ []) }
     {
         let Reader {
             signals,

@@ -1,27 +1,18 @@
 // Whether parts keep the rules of designs.
 ghost use Rattle.std.specs.Prelude.{◌≡◌, [], ◌∷◌, true, false, map, IsTrue, IfOk};
-ghost use Rattle.netlist.specs.Latest.{is_plain};
-ghost use Rattle.netlist.specs.Plain.{IsPlain};
 ghost use Rattle.design_table.specs.Tests.{AreSignals, IsSide, circuit_of, column_of, sync_domain, processes_of};
 
-use crate::blocks::{block_fits, block_plain};
+use crate::blocks::block_fits;
 use crate::shown::{are_apart, are_shown};
 use crate::signals::{Signals, copied};
 use crate::stop::Stop;
-use crate::tables::{fixed_targets, is_input, side_targets};
+use crate::tables::{is_input, side_targets};
 use amh_host::{Items, NoMemory};
 use design_ir::{
     Column, Columns, Design, DesignProcess, DesignProcesses, Domain, DomainId, Domains, Exprs,
     Port, SigId, Stmts,
 };
 use std::alloc::Global;
-
-/// A design, and whether its statements are plain.
-#[derive(Drop)]
-pub struct Judged {
-    pub design: Design,
-    pub is_plain: bool,
-}
 
 // Whether the signals keep the rules: ports apart and shown, the first of them the clock.
 fn are_signals(signals: &Signals) -> bool
@@ -42,15 +33,6 @@ fn is_side(alloc: Global, signals: &Signals, side: bool, body: &Stmts) -> Result
     let pool = &signals.sheet.pool;
     let marks = side_targets(alloc, pool, ports, signals.clocked.as_slice(), side)?;
     Ok(block_fits(marks.as_slice(), pool.count(), body.as_slice()))
-}
-
-// Whether statements are assignments to fixed targets.
-#[tactic(auto, using(crate::proofs::DesignSound::plain_is))]
-fn is_plain(alloc: Global, signals: &Signals, body: &Stmts) -> Result<bool, NoMemory>
-    ensures { IfOk result (λ b. IsTrue b → is_plain signals.now.sheet.pool body.now ≡ true) }
-{
-    let marks = fixed_targets(alloc, &signals.sheet.pool)?;
-    Ok(block_plain(marks.as_slice(), body.as_slice()))
 }
 
 // A column for each port.
@@ -112,10 +94,8 @@ fn made(alloc: Global, signals: Signals, comb: Stmts, sync: Stmts) -> Result<Des
 }
 
 /// The design of these signals and statements, where they keep its rules.
-#[tactic(auto, using(crate::proofs::DesignSound::design_plain))]
-pub fn design_of(alloc: Global, signals: Signals, comb: Stmts, sync: Stmts) -> Result<Judged, Stop>
-    ensures flat { IfOk result (λ j. j.design.memories ≡ []) }
-    ensures plain { IfOk result (λ j. IsTrue j.is_plain → IsPlain j.design) }
+pub fn design_of(alloc: Global, signals: Signals, comb: Stmts, sync: Stmts) -> Result<Design, Stop>
+    ensures { IfOk result (λ d. d.memories ≡ []) }
 {
     if !are_signals(&signals) {
         return Err(Stop::NoCase);
@@ -126,9 +106,5 @@ pub fn design_of(alloc: Global, signals: Signals, comb: Stmts, sync: Stmts) -> R
     if !is_side(alloc, &signals, true, &sync)? {
         return Err(Stop::NoCase);
     }
-    let comb_plain = is_plain(alloc, &signals, &comb)?;
-    let sync_plain = is_plain(alloc, &signals, &sync)?;
-    let is_plain = comb_plain && sync_plain;
-    let design = made(alloc, signals, comb, sync)?;
-    Ok(Judged { design, is_plain })
+    Ok(made(alloc, signals, comb, sync)?)
 }

@@ -2,7 +2,6 @@
 ghost use Rattle.std.specs.Prelude.{◌≡◌, ◌==◌, ◌&&◌, [], false, IfOk};
 ghost use Rattle.std.specs.List.{list_all, list_any};
 ghost use Rattle.design_ir.specs.Pools.{answers};
-ghost use Rattle.netlist.specs.Latest.{fixed_step};
 ghost use Rattle.design_table.specs.Tests.{is_own, is_at, side_step};
 
 use amh_host::NoMemory;
@@ -56,25 +55,6 @@ fn is_side_target(ports: &[Port], clocked: &[bool], side: bool, marks: &[bool], 
     }
 }
 
-// Whether an expression is a fixed target, by the marks of those before it.
-fn is_fixed_target(marks: &[bool], e: &Expr) -> bool
-    ensures { result ≡ fixed_step (is_at marks.now) e.now }
-{
-    match e {
-        Expr::Sig(_) => true,
-        Expr::Slice { a, .. } | Expr::Cast { a, .. } => is_at(marks, a.0),
-        Expr::Cat(items) => all_at(marks, items.as_slice()),
-        Expr::Const { .. }
-        | Expr::Unary { .. }
-        | Expr::Binary { .. }
-        | Expr::Mux { .. }
-        | Expr::Part { .. }
-        | Expr::Pick { .. }
-        | Expr::Matches { .. }
-        | Expr::Reset { .. } => false,
-    }
-}
-
 /// For each expression whether it is a target of signals of this side.
 pub fn side_targets(
     alloc: Global,
@@ -89,19 +69,6 @@ pub fn side_targets(
     for k in 0..pool.count() {
         let e = pool.at(ExprId(k));
         let is_target = is_side_target(ports, clocked, side, marks.as_slice(), e);
-        marks.push(is_target)?;
-    }
-    Ok(marks)
-}
-
-/// For each expression whether it is a fixed target.
-pub fn fixed_targets(alloc: Global, pool: &Pool) -> Result<Vec<bool>, NoMemory>
-    ensures { IfOk result (λ v. v.items ≡ answers false fixed_step [] pool.now.exprs) }
-{
-    let mut marks = Vec::new(alloc);
-    for k in 0..pool.count() {
-        let e = pool.at(ExprId(k));
-        let is_target = is_fixed_target(marks.as_slice(), e);
         marks.push(is_target)?;
     }
     Ok(marks)

@@ -1,6 +1,6 @@
-// The RTLIL texts of the designs that are lowered.
+// The RTLIL texts of the designs that are accepted.
+ghost use Rattle.std.specs.Prelude.{◌≡◌, []};
 ghost use Rattle.comb_graph.specs.Rankings.{IsRanking};
-ghost use Rattle.netlist.specs.Plain.{IsPlain};
 
 use crate::answer::name_of;
 use crate::reader::read_design;
@@ -13,7 +13,7 @@ use rtlil_text::write;
 use std::alloc::Global;
 use std::str;
 
-/// The name of a design, and its RTLIL text where it is accepted and lowered.
+/// The name of a design, and its RTLIL text where it is accepted.
 pub fn text(alloc: Global, lines: &[String]) -> Result<String, Stop> {
     let name = name_of(alloc, lines)?;
     match design_text(alloc, lines) {
@@ -24,17 +24,17 @@ pub fn text(alloc: Global, lines: &[String]) -> Result<String, Stop> {
 }
 
 fn design_text(alloc: Global, lines: &[String]) -> Result<String, Stop> {
-    let judged = read_design(alloc, lines)?;
-    match rank(alloc, &judged.design) {
-        Ok(ranks) if judged.is_plain => lowered(alloc, &judged.design, &ranks),
-        Ok(_) | Err(GraphStop::Loop { .. }) => Err(Stop::NoCase),
+    let design = read_design(alloc, lines)?;
+    match rank(alloc, &design) {
+        Ok(ranks) => lowered(alloc, &design, &ranks),
+        Err(GraphStop::Loop { .. }) => Err(Stop::NoCase),
         Err(GraphStop::NoMemory) => Err(Stop::NoMemory),
     }
 }
 
 // The RTLIL text of a design.
 fn lowered(alloc: Global, design: &Design, ranks: &Ranks) -> Result<String, Stop>
-    requires plain { IsPlain design.now }
+    requires flat { design.now.memories ≡ [] }
     requires ranked { IsRanking design.now ranks.now }
 {
     let module = lower(alloc, design, ranks)?;

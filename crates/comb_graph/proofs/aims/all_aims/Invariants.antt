@@ -1,5 +1,5 @@
 use Rattle.std.proofs.Common.{◌≡◌, length}
-use Rattle.comb_graph.specs.Rules.{HasRows}
+use Rattle.comb_graph.specs.Seen.{HasRows}
 use Rattle.comb_graph.proofs.aims.all_aims.Given as goal
 
 abbrev pub invariant-loop-e : goal.invariant-loop-e

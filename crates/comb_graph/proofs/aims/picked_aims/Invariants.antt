@@ -1,8 +1,9 @@
 use Rattle.std.proofs.Common.{◌≡◌, map, take}
-use Rattle.std.specs.List.{flat_map}
+use Rattle.std.specs.List.{flat_map, filter_map}
 use Rattle.design_ir.specs.declared.ids.ExprId.{ExprId}
-use Rattle.comb_graph.specs.Rules.{loosened, row_at}
+use Rattle.design_ir.specs.Targets.{aims, loose}
+use Rattle.comb_graph.specs.Seen.{seen}
 use Rattle.comb_graph.proofs.aims.picked_aims.Given as goal
 
 abbrev pub invariant-loop-item : goal.invariant-loop-item
-invariant-loop-item l = l.row ≡ flat_map (λ (e : ExprId). map loosened (row_at l.table e.0)) (take l.item-index l.items)
+invariant-loop-item l = map seen l.row ≡ filter_map (loose l.width) (flat_map (λ (e : ExprId). aims l.design.pool e.0) (take l.item-index l.items))

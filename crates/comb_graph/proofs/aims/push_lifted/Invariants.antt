@@ -1,6 +1,7 @@
 use Rattle.std.proofs.Common.{◌≡◌, ◌++◌, map, take}
-use Rattle.comb_graph.specs.Rules.{lifted}
+use Rattle.design_ir.specs.Targets.{raised}
+use Rattle.comb_graph.specs.Seen.{seen}
 use Rattle.comb_graph.proofs.aims.push_lifted.Given as goal
 
 abbrev pub invariant-loop-aim : goal.invariant-loop-aim
-invariant-loop-aim l = l.row ≡ l.fn.row ++ map (lifted l.by) (take l.aim-index l.aims)
+invariant-loop-aim l = map seen l.row ≡ map seen l.fn.row ++ map (raised l.by) (map seen (take l.aim-index l.aims))

@@ -1,7 +1,10 @@
-use Rattle.std.proofs.Common.{◌≡◌, ◌∙◌, ◌+◌, ◌<◌, sym, subst, ap, arith, length, slice_index_or, Some, None, slice_get}
+use Rattle.std.proofs.Common.{◌≡◌, ◌∙◌, ◌+◌, ◌<◌, sym, subst, ap, arith, length, slice_index_or, Some, slice_get}
 use Rattle.std.proofs.lemmas.Option.{slice_get-get_or}
 use Rattle.design_ir.specs.Values.{form}
-use Rattle.comb_graph.specs.declared.rules.Aimed.{Aimed}
+use Rattle.design_ir.specs.Targets.{fixed_place}
+use Rattle.comb_graph.specs.declared.aimed.Aimed.{Aimed}
+use Rattle.comb_graph.specs.declared.aimed.At.TheVariants.{Fixed}
+use Rattle.comb_graph.specs.Seen.{spot_of}
 use Rattle.comb_graph.specs.Graphs.{leading}
 use Rattle.comb_graph.specs.Meanings.{Extends}
 use Rattle.comb_graph.specs.Places.{bit_nodes, first_of}
@@ -19,12 +22,12 @@ loop-aim-preserved c =
     let pool = c.args.design.now.pool in
     let firsts = c.args.firsts.now in
     let i = c.loop-aim.aim-index in
-    let a : Aimed = slice_index_or c.args.aims.now i (record { node = 0; source = None }) in
-    let at : slice_get c.args.aims.now i ≡ Some a = slice_get-get_or c.args.aims.now i (record { node = 0; source = None }) c.loop-aim-test.true in
-    let below : a.node < bit_nodes pool = c.requires.aims i (record { node = 0; source = None }) c.loop-aim-test.true in
+    let a : Aimed = slice_index_or c.args.aims.now i (record { node = 0; at = Fixed 0 }) in
+    let at : slice_get c.args.aims.now i ≡ Some a = slice_get-get_or c.args.aims.now i (record { node = 0; at = Fixed 0 }) c.loop-aim-test.true in
+    let below : a.node < bit_nodes pool = c.requires.aims i (record { node = 0; at = Fixed 0 }) c.loop-aim-test.true in
     let p = places_more g h pool firsts c.known.ensures c.loop-aim.invariant.extends c.requires.places in
-    let ts = value_targets (form pool) (first_of firsts) c.args.shared c.args.value a.source in
-    let targets : c.as_slice.result.now ≡ ts = c.as_slice.ensures ∙ c.in_ok-targets.ensures in
+    let ts = value_targets (form pool) (first_of firsts) c.args.shared c.args.value (fixed_place (spot_of a.at)) in
+    let targets : c.as_slice.result.now ≡ ts = c.as_slice.ensures ∙ c.in_ok-targets.ensures ∙ ap (value_targets (form pool) (first_of firsts) c.args.shared c.args.value) c.fixed_place-source.ensures in
     let after : c.lead.new.self ≡ leading h a.node ts = c.in_ok-lead.ensures ∙ ap (leading h a.node) targets in
     record {
       extends = subst (λ j. Extends g j (bit_nodes pool)) (sym after) (extends_then g h (leading h a.node ts) (bit_nodes pool) c.loop-aim.invariant.extends (extends_leading h (bit_nodes pool) a.node ts below));

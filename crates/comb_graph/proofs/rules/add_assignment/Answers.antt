@@ -1,11 +1,12 @@
-use Rattle.std.proofs.Common.{◌≡◌, ◌∙◌, ◌<◌, [], ◌∷◌, map, sym, subst, arith, length}
+use Rattle.std.proofs.Common.{ap, ◌≡◌, ◌∙◌, ◌<◌, [], ◌∷◌, map, sym, subst, arith, length}
 use Rattle.std.proofs.lemmas.Option.{get_or_from_slice_get}
 use Rattle.design_ir.specs.Targets.{aims}
 use Rattle.design_ir.specs.Values.{form}
 use Rattle.comb_graph.specs.Graphs.{joined}
 use Rattle.comb_graph.specs.Meanings.{Extends}
 use Rattle.comb_graph.specs.Places.{HasPlaces, bit_nodes, first_of, indices_at}
-use Rattle.comb_graph.specs.Rules.{AddsAims, aimed}
+use Rattle.comb_graph.specs.Rules.{AddsAims}
+use Rattle.comb_graph.specs.Seen.{seen}
 use Rattle.comb_graph.proofs.GraphMeanings.{extends_then, extends_joined, two_inside}
 use Rattle.comb_graph.proofs.GraphTables.{places_more}
 use Rattle.comb_graph.proofs.GraphAims.{assignment}
@@ -41,8 +42,8 @@ returns-clause-rules c =
     let row = c.as_slice.result.now in
     let ts = c.args.guard ∷ indices_at (form pool) (first_of firsts) target ∷ [] in
     let there : target.0 < length firsts = omega (arith, c.requires.target, c.requires.count) in
-    let is : row ≡ map aimed (aims pool target.0) =
-    c.as_slice.ensures ∙ sym (get_or_from_slice_get c.args.tables.1.now target.0 c.get-aims.result.now [] c.get-aims.ensures.lookup) ∙ c.requires.aims.rows target.0 c.requires.target in
+    let is : map seen row ≡ aims pool target.0 =
+    ap (map seen) (c.as_slice.ensures ∙ sym (get_or_from_slice_get c.args.tables.1.now target.0 c.get-aims.result.now [] c.get-aims.ensures.lookup)) ∙ c.requires.aims.rows target.0 c.requires.target in
     let a = c.in_ok-add_aims.ensures.aims in
     let a' = subst (λ h. AddsAims h c.add_aims.new.graph pool c.in_ok-shared.shared c.args.value row (length row)) c.in_ok-shared.ensures.graph a in
     let a'' = subst (λ n. AddsAims (joined g ts) c.add_aims.new.graph pool n c.args.value row (length row)) c.in_ok-shared.ensures.node a' in

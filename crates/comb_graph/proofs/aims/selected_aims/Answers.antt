@@ -1,0 +1,24 @@
+use Rattle.std.proofs.Common.{◌∙◌, sym, ap, map, take, slice_index_or}
+use Rattle.std.specs.List.{filter_map}
+use Rattle.std.proofs.lemmas.Option.{slice_get-get_or}
+use Rattle.design_ir.specs.Targets.{shifted}
+use Rattle.comb_graph.specs.declared.aimed.At.TheVariants.{Fixed}
+use Rattle.comb_graph.specs.declared.aimed.Aimed.{Aimed}
+use Rattle.comb_graph.specs.Seen.{seen}
+use Rattle.comb_graph.specs.Sets.{numbers_in}
+use Rattle.comb_graph.proofs.AimTables.{filtered_more, seen_push_some}
+use Rattle.comb_graph.proofs.aims.selected_aims.Goals as goal
+
+pub select-requires-clause-below : goal.select-requires-clause-below
+select-requires-clause-below c = c.requires.below c.loop-aim.aim-index (record { node = 0; at = Fixed 0 }) c.loop-aim-test.true
+
+pub loop-aim-preserved : goal.loop-aim-preserved
+loop-aim-preserved c =
+    let i = c.loop-aim.aim-index in
+    let by = c.args.by in
+    let f = shifted (numbers_in by.offset) by.wide by.width by.stride in
+    let d : Aimed = record { node = 0; at = Fixed 0 } in
+    let a : Aimed = slice_index_or c.args.aims.now i d in
+    ap (map seen) c.in_ok-push_some.ensures
+    ∙ seen_push_some c.loop-aim.row c.select.result (filter_map f (map seen (take i c.args.aims.now))) (f (seen a)) c.loop-aim.invariant c.select.ensures
+    ∙ sym (filtered_more f c.args.aims.now i a (slice_get-get_or c.args.aims.now i d c.loop-aim-test.true))

@@ -1,0 +1,19 @@
+// The laws of targets. The functions do nothing: their clauses are the laws.
+ghost use Rattle.design_ir.specs.Choices.{SignalsChoose, PlacesAreAims, AimsArePlaces, AimsStand, FixedAimsStay};
+ghost use Rattle.design_ir.specs.PoolRules.{IsPool};
+ghost use Rattle.design_ir.specs.Pools.{Pooled};
+
+/// Where the numbers of signals are of their shapes, a target stands for the places that some numbers of its offsets and
+/// indices choose; and whatever these numbers are, each bit among the places is one of the target's aims.
+pub fn places_are_aims()
+    ensures chosen { (p : Pooled) → IsPool p → SignalsChoose p }
+    ensures aims { (p : Pooled) → IsPool p → PlacesAreAims p }
+{}
+
+/// Each aim of a target stands somewhere; wherever it does, its bit is the one at that place for some numbers of the
+/// offsets and indices, and for all of them where the place is fixed.
+pub fn aims_are_places()
+    ensures places { (p : Pooled) → IsPool p → AimsArePlaces p }
+    ensures stand { (p : Pooled) → AimsStand p }
+    ensures fixed { (p : Pooled) → IsPool p → FixedAimsStay p }
+{}
