@@ -1,0 +1,12 @@
+pub mod Lists
+pub mod TargetWalks
+pub mod GivenLaws
+pub mod BlockLaws
+pub mod ProgressLaws
+pub mod ProgressSteps
+pub mod ProgressMoves
+pub mod Writes
+pub mod PartingLaws
+pub mod Results
+pub mod BuilderLaws
+pub mod Samples
