@@ -1,0 +1,150 @@
+-- The ports that are chosen by marks are those of the definition.
+use Rattle.std.proofs.Common.{◌≡◌, inl, inr, ℕ, zero, suc, ◌+◌, ◌-◌, ◌<◌, ◌≤◌, Bool, true, false, ◌&&◌, if◌then◌else◌, not, List, [], ◌∷◌, ◌++◌, map, length, Option, Some, None, refl, sym, ap, ◌∙◌, subst, arith, append-nil}
+use Rattle.std.specs.List.{AllByRecursion, filter, filter_map, range_with_len}
+use Rattle.std.specs.Option.{option_map_or}
+use Rattle.std.proofs.lemmas.Bool.{false≢true, cases_lt}
+use Rattle.std.proofs.lemmas.List.{get_or_past}
+use Rattle.std.proofs.lemmas.List.Elements.{filter_map-append}
+use Rattle.design_ir.specs.declared.ids.SigId.{SigId}
+use Rattle.design_ir.specs.declared.port.Port.{Port}
+use Rattle.design_ir.specs.declared.domain.Domain.{Domain}
+use Rattle.design_ir.specs.declared.process.Process.{Process}
+use Rattle.design_ir.specs.Pools.{Pooled}
+use Rattle.design_ir.specs.PoolRules.{IsPool}
+use Rattle.design_ir.specs.Circuits.{is_among}
+use Rattle.clock_domains.specs.declared.top.TopPorts.{TopPorts}
+use Rattle.clock_domains.specs.declared.top.TopPorts.TheVariants.{Members, Held, Loose}
+use Rattle.clock_domains.specs.Marks.{Flag, is_marked}
+use Rattle.clock_domains.specs.Reads.{is_driven, is_read, read_exprs}
+use Rattle.clock_domains.specs.Resolvable.{AreTopPorts}
+use Rattle.clock_domains.specs.Resolved.{has_width, loose_port, port_of, top_ports, signals_of, domain_ports, ports_of_domain, ports_of}
+use Rattle.clock_domains.specs.Chosen.{is_new, held_port, known_port, known_ports, IsKnown, IsSignal, IsResetThere}
+use Rattle.clock_domains.proofs.Lists.{all_imp, all_joined, all_mapped}
+use Rattle.clock_domains.proofs.DriverLaws.{is_driven_none, read_none}
+
+-- ---- what is marked is a signal of the pool
+
+pub flag_there : (marks : List Bool) (test : ℕ → Bool) (n : ℕ) → Flag marks test → ((s : ℕ) → n ≤ s → test s ≡ false) → (s : ℕ) → is_marked marks s ≡ true → s < n
+flag_there marks test n f none s is =
+    elim (cases_lt s n) [
+      | inl below ↦ below
+      | inr past ↦ elim (cases_lt s 16384) [
+        | inl small ↦ absurd (false≢true (sym (none s (omega (arith, past))) ∙ sym (f.each s small) ∙ is))
+        | inr large ↦ absurd (false≢true (sym (get_or_past marks s false (omega (arith, large, f.size))) ∙ is))
+      ]
+    ]
+
+pub flags_known : (q : Pooled) (ps : List Process) (driven read : List Bool) → IsPool q → Flag driven (is_driven q ps) → Flag read (is_read q ps) → IsKnown q driven read
+flags_known q ps driven read rules d r = record {
+  driven_size = d.size;
+  read_size = r.size;
+  driven_there = flag_there driven (is_driven q ps) (length q.signals) d (λ s le. is_driven_none q ps s rules le);
+  read_there = flag_there read (is_read q ps) (length q.signals) r (λ s le. read_none q (read_exprs q ps) s rules le);
+}
+
+-- ---- lists
+
+filter_agree : {A : Type 0} (p q : A → Bool) (xs : List A) → AllByRecursion (λ x. p x ≡ q x) xs → filter p xs ≡ filter q xs
+filter_agree p q [] h = refl
+filter_agree p q (x ∷ xs) h = let a = h.0 in let b = filter_agree p q xs h.1 in cc
+
+filter_map_agree : {A B : Type 0} (f g : A → Option B) (xs : List A) → AllByRecursion (λ x. f x ≡ g x) xs → filter_map f xs ≡ filter_map g xs
+filter_map_agree f g [] h = refl
+filter_map_agree f g (x ∷ xs) h = let a = h.0 in let b = filter_map_agree f g xs h.1 in cc
+
+filter_map_none : {A B : Type 0} (f : A → Option B) (xs : List A) → AllByRecursion (λ x. f x ≡ None) xs → filter_map f xs ≡ []
+filter_map_none f [] h = refl
+filter_map_none f (x ∷ xs) h = let a = h.0 in let b = filter_map_none f xs h.1 in cc
+
+map_on : {A B : Type 0} (f g : A → B) (xs : List A) → AllByRecursion (λ x. f x ≡ g x) xs → map f xs ≡ map g xs
+map_on f g [] h = refl
+map_on f g (x ∷ xs) h = let a = h.0 in let b = map_on f g xs h.1 in cc
+
+pub range_all : (P : ℕ → Type 0) (a n : ℕ) → ((s : ℕ) → a ≤ s → s < a + n → P s) → AllByRecursion P (range_with_len a n)
+range_all P a zero h = tt
+range_all P a (suc n) h = (h a (omega arith) (omega arith), range_all P (a + 1) n (λ s low high. h s (omega (arith, low)) (omega (arith, high))))
+
+pub range_split : (a n m : ℕ) → range_with_len a (n + m) ≡ range_with_len a n ++ range_with_len (a + n) m
+range_split a zero m = ap (range_with_len a) (let e : 0 + m ≡ m = omega arith in e) ∙ ap (λ k. range_with_len k m) (let e : a ≡ a + 0 = omega arith in e)
+range_split a (suc n) m =
+    ap (range_with_len a) (let e : suc n + m ≡ suc (n + m) = omega arith in e)
+    ∙ ap (λ xs. a ∷ xs) (range_split (a + 1) n m ∙ ap (λ k. range_with_len (a + 1) n ++ range_with_len k m) (let e : a + 1 + n ≡ a + suc n = omega arith in e))
+
+-- a range up to another bound, where nothing past the first one gives anything
+pub range_shorter : {B : Type 0} (f : ℕ → Option B) (n m : ℕ) → n ≤ m → ((s : ℕ) → n ≤ s → f s ≡ None) → filter_map f (range_with_len 0 m) ≡ filter_map f (range_with_len 0 n)
+range_shorter f n m le none =
+    ap (λ k. filter_map f (range_with_len 0 k)) (let e : m ≡ n + (m - n) = omega (arith, le) in e)
+    ∙ ap (filter_map f) (range_split 0 n (m - n))
+    ∙ filter_map-append f (range_with_len 0 n) (range_with_len (0 + n) (m - n))
+    ∙ ap (λ xs. filter_map f (range_with_len 0 n) ++ xs) (filter_map_none f (range_with_len (0 + n) (m - n)) (range_all (λ s. f s ≡ None) (0 + n) (m - n) (λ s low high. none s (omega (arith, low)))))
+    ∙ append-nil (filter_map f (range_with_len 0 n))
+
+-- ---- the ports
+
+port_by : (q : Pooled) (s : ℕ) (a b a' b' : Bool) → a ≡ a' → b ≡ b' → (if a then Some (port_of q false s) else (if b then Some (port_of q true s) else None)) ≡ (if a' then Some (port_of q false s) else (if b' then Some (port_of q true s) else None))
+port_by q s a b a' b' e f = ap (λ x. if x then Some (port_of q false s) else (if b then Some (port_of q true s) else None)) e ∙ ap (λ x. if a' then Some (port_of q false s) else (if x then Some (port_of q true s) else None)) f
+
+loose_none : (q : Pooled) (ps : List Process) (s : ℕ) → IsPool q → length q.signals ≤ s → loose_port q ps s ≡ None
+loose_none q ps s rules le = port_by q s (is_driven q ps s) (is_read q ps s) false false (is_driven_none q ps s rules le) (read_none q (read_exprs q ps) s rules le)
+
+loose_same : (q : Pooled) (ps : List Process) (driven read : List Bool) → IsPool q → Flag driven (is_driven q ps) → Flag read (is_read q ps) → filter_map (known_port q (is_marked driven) (is_marked read)) (range_with_len 0 (length driven)) ≡ top_ports q ps Loose
+loose_same q ps driven read rules d r =
+    let same : (s : ℕ) → s < length driven → known_port q (is_marked driven) (is_marked read) s ≡ loose_port q ps s =
+    λ s low. port_by q s (is_marked driven s) (is_marked read s) (is_driven q ps s) (is_read q ps s) (d.each s (omega (arith, low, d.size))) (r.each s (omega (arith, low, d.size))) in
+    filter_map_agree (known_port q (is_marked driven) (is_marked read)) (loose_port q ps) (range_with_len 0 (length driven)) (range_all (λ s. known_port q (is_marked driven) (is_marked read) s ≡ loose_port q ps s) 0 (length driven) (λ s low high. same s (omega (arith, high))))
+    ∙ range_shorter (loose_port q ps) (length q.signals) (length driven) (omega (arith, rules.few_signals, d.size)) (λ s le. loose_none q ps s rules le)
+
+known_same : (q : Pooled) (ps : List Process) (driven read : List Bool) (top : TopPorts) → IsPool q → AreTopPorts q top → Flag driven (is_driven q ps) → Flag read (is_read q ps) → known_ports q driven read top ≡ top_ports q ps top
+known_same q ps driven read (Members given) rules h d r = refl
+known_same q ps driven read (Held given) rules h d r =
+    map_on (held_port (is_marked driven)) (λ (p : Port). record p { is_input = not (is_driven q ps p.sig.0) }) given
+    (all_imp (λ p k. ap (λ (b : Bool). record p { is_input = not b }) (d.each p.sig.0 (omega (arith, k.there, rules.few_signals)))) given h.each)
+known_same q ps driven read Loose rules h d r = loose_same q ps driven read rules d r
+
+AreSmall : Pooled → List Port → Type 0
+AreSmall q ports = AllByRecursion (λ (p : Port). p.sig.0 < length q.signals) ports
+
+loose_there : (q : Pooled) (ps : List Process) (a n : ℕ) → a + n ≤ length q.signals → AreSmall q (filter_map (loose_port q ps) (range_with_len a n))
+unfolding AreSmall
+loose_there q ps a zero le = tt
+loose_there q ps a (suc n) le = by_port (loose_port q ps a) refl (loose_there q ps (a + 1) n (omega (arith, le)))
+  where
+    by_test : (p : Port) (x y : Bool) → (if x then Some (port_of q false a) else (if y then Some (port_of q true a) else None)) ≡ Some p → p.sig.0 < length q.signals
+    by_test p true y e = let same : port_of q false a ≡ p = cc in subst (λ (x : Port). x.sig.0 < length q.signals) same (omega (arith, le))
+    by_test p false true e = let same : port_of q true a ≡ p = cc in subst (λ (x : Port). x.sig.0 < length q.signals) same (omega (arith, le))
+    by_test p false false e = cc
+
+    by_port : (o : Option Port) → loose_port q ps a ≡ o → AllByRecursion (λ (p : Port). p.sig.0 < length q.signals) (filter_map (loose_port q ps) (range_with_len (a + 1) n)) → AllByRecursion (λ (p : Port). p.sig.0 < length q.signals) (filter_map (loose_port q ps) (range_with_len a (suc n)))
+    by_port None e rest = subst (λ xs. AllByRecursion (λ (p : Port). p.sig.0 < length q.signals) xs) (sym (cons_none e)) rest
+      where
+        cons_none : loose_port q ps a ≡ None → filter_map (loose_port q ps) (range_with_len a (suc n)) ≡ filter_map (loose_port q ps) (range_with_len (a + 1) n)
+        cons_none e = let r = filter_map (loose_port q ps) (range_with_len (a + 1) n) in cc
+    by_port (Some p) e rest = subst (λ xs. AllByRecursion (λ (p : Port). p.sig.0 < length q.signals) xs) (sym (cons_some e)) (by_test p (is_driven q ps a) (is_read q ps a) e, rest)
+      where
+        cons_some : loose_port q ps a ≡ Some p → filter_map (loose_port q ps) (range_with_len a (suc n)) ≡ p ∷ filter_map (loose_port q ps) (range_with_len (a + 1) n)
+        cons_some e = let r = filter_map (loose_port q ps) (range_with_len (a + 1) n) in cc
+
+pub top_there : (q : Pooled) (ps : List Process) (top : TopPorts) → AreTopPorts q top → AllByRecursion (λ (p : Port). p.sig.0 < length q.signals) (top_ports q ps top)
+unfolding AreSmall
+top_there q ps (Members given) h = all_imp (λ p k. k.there) given h.each
+top_there q ps (Held given) h = all_mapped (λ (p : Port). p.sig.0 < length q.signals) (λ (p : Port). record p { is_input = not (is_driven q ps p.sig.0) }) given (all_imp (λ p k. k.there) given h.each)
+top_there q ps Loose h = loose_there q ps 0 (length q.signals) (omega arith)
+
+pub chosen_same : (q : Pooled) (domains : List Domain) (ps : List Process) (is_port driven read : List Bool) (top : TopPorts) → IsPool q → AreTopPorts q top → Flag is_port (is_among (signals_of (domain_ports q domains))) → Flag driven (is_driven q ps) → Flag read (is_read q ps)
+    → domain_ports q domains ++ filter (is_new q (is_marked is_port)) (known_ports q driven read top) ≡ ports_of q domains ps top
+chosen_same q domains ps is_port driven read top rules h f d r =
+    let before = domain_ports q domains in
+    ap (λ xs. before ++ filter (is_new q (is_marked is_port)) xs) (known_same q ps driven read top rules h d r)
+    ∙ ap (λ xs. before ++ xs)
+    (filter_agree (is_new q (is_marked is_port)) (λ (p : Port). not (is_among (signals_of before) p.sig.0) && has_width q p.sig.0) (top_ports q ps top)
+    (all_imp (λ p low. ap (λ (b : Bool). not b && has_width q p.sig.0) (f.each p.sig.0 (omega (arith, low, rules.few_signals)))) (top_ports q ps top) (top_there q ps top h)))
+
+-- ---- ports of domains are signals
+
+reset_there : (q : Pooled) (o : Option SigId) → IsResetThere q o → AllByRecursion (λ (p : Port). p.sig.0 < length q.signals) (option_map_or (λ (s : SigId). port_of q true s.0 ∷ []) o [])
+reset_there q None h = tt
+reset_there q (Some s) h = (h, tt)
+
+pub domain_there : (q : Pooled) (ds : List Domain) → AllByRecursion (IsSignal q) ds → AllByRecursion (λ (p : Port). p.sig.0 < length q.signals) (domain_ports q ds)
+domain_there q [] h = tt
+domain_there q (d ∷ ds) h = all_joined (λ (p : Port). p.sig.0 < length q.signals) (ports_of_domain q d) (domain_ports q ds) (h.0.clock, reset_there q d.rst h.0.reset) (domain_there q ds h.1)

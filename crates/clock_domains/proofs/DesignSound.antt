@@ -1,0 +1,246 @@
+-- The design of one module keeps to the rules of designs.
+use Rattle.std.proofs.Common.{◌≡◌, ◌≢◌, ℕ, zero, suc, ◌+◌, ◌<◌, ◌==◌, nat_eq, Bool, true, false, IsTrue, not, ◌||◌, cond, List, [], ◌∷◌, ◌++◌, map, length, Option, Some, None, slice_index_or, position, refl, sym, ap, ◌∙◌, subst, arith}
+use Rattle.std.specs.Prelude.{option_map}
+use Rattle.std.specs.List.{AllByRecursion, IsDistinct, list_any, flat_map, filter, filter_map, cons_option, range_with_len}
+use Rattle.std.proofs.lemmas.Bool.{false≢true, eqb-true, eq-eqb}
+use Rattle.std.proofs.lemmas.List.Quantifiers.{position-Some}
+use Rattle.lists.specs.Texts.{text_eq}
+use Rattle.lists.specs.Names.{IsName}
+use Rattle.design_ir.specs.declared.ids.ExprId.{ExprId}
+use Rattle.design_ir.specs.declared.ids.DomainId.{DomainId}
+use Rattle.design_ir.specs.declared.signal.Sig.{Sig}
+use Rattle.design_ir.specs.declared.domain.Domain.{Domain}
+use Rattle.design_ir.specs.declared.port.Port.{Port}
+use Rattle.design_ir.specs.declared.process.Side.{Side}
+use Rattle.design_ir.specs.declared.process.Side.TheVariants.{Comb, Clocked}
+use Rattle.design_ir.specs.declared.process.Process.{Process}
+use Rattle.design_ir.specs.Pools.{Pooled}
+use Rattle.design_ir.specs.Targets.{is_target, target_signals}
+use Rattle.design_ir.specs.Guards.{Guarded, guarded, driven, block_exprs}
+use Rattle.design_ir.specs.Circuits.{is_among}
+use Rattle.design_ir.specs.Designs.{holds_reset, share}
+use Rattle.clock_domains.specs.declared.top.TopPorts.{TopPorts}
+use Rattle.clock_domains.specs.declared.top.TopPorts.TheVariants.{Members, Held, Loose}
+use Rattle.clock_domains.specs.Reads.{is_driven, is_read}
+use Rattle.clock_domains.specs.Resolvable.{IsPlain, IsSideOf, AreTopPorts}
+use Rattle.clock_domains.specs.Resolved.{with_domains, domain_number, port_of, top_ports, signals_of, driver_refusal, loose_port, first_of, first_refusal, statement_refusal}
+use Rattle.clock_domains.proofs.Lists.{all_imp, all_joined, all_mapped, all_unmapped, any-append, any_none, none_any, or_none, map_map}
+use Rattle.clock_domains.proofs.MadeDomains.{length_with}
+use Rattle.clock_domains.proofs.ChoiceLaws.{range_all}
+
+-- ---- the pool with the domains' signals
+
+reset_with : (q : Pooled) (names : List (List ℕ)) (k : ℕ) → holds_reset (with_domains q names) k ≡ holds_reset q k
+unfolding holds_reset
+reset_with q names k = refl
+
+target_with : (q : Pooled) (names : List (List ℕ)) (k : ℕ) → is_target (with_domains q names) k ≡ is_target q k
+unfolding is_target
+target_with q names k = refl
+
+pub plain_with : (q : Pooled) (names : List (List ℕ)) (es : List ExprId) → AllByRecursion (IsPlain q) es → AllByRecursion (IsPlain (with_domains q names)) es
+plain_with q names es h = all_imp (λ e k. record { there = k.there; resolved = reset_with q names e.0 ∙ k.resolved }) es h
+
+pub targets_with : (q : Pooled) (names : List (List ℕ)) (gs : List Guarded) → AllByRecursion (λ (g : Guarded). IsTrue (is_target q g.target.0)) gs → AllByRecursion (λ (g : Guarded). IsTrue (is_target (with_domains q names) g.target.0)) gs
+targets_with q names gs h = all_imp (λ (g : Guarded) k. subst IsTrue (sym (target_with q names g.target.0)) k) gs h
+
+pub sides_with : (q : Pooled) (names : List (List ℕ)) (ps : List Process) → AllByRecursion (IsSideOf q) ps → AllByRecursion (IsSideOf (with_domains q names)) ps
+sides_with q names ps h = all_imp (λ (p : Process) k. record { side = k.side; expressions = plain_with q names (block_exprs p.body) k.expressions; targets = targets_with q names (guarded [] p.body) k.targets }) ps h
+
+pub longer : (q : Pooled) (names : List (List ℕ)) (s : ℕ) → s < length q.signals → s < length (with_domains q names).signals
+longer q names s h = omega (arith, h, length_with q names)
+
+pub top_with : (q : Pooled) (names : List (List ℕ)) (top : TopPorts) → AreTopPorts q top → AreTopPorts (with_domains q names) top
+top_with q names (Members given) h = record { each = all_imp (λ (p : Port) k. record { there = longer q names p.sig.0 k.there; name = k.name }) given h.each; distinct = h.distinct }
+top_with q names (Held given) h = record { each = all_imp (λ (p : Port) k. record { there = longer q names p.sig.0 k.there; name = k.name }) given h.each; distinct = h.distinct }
+top_with q names Loose h = tt
+
+-- ---- sides have domains
+
+abbrev pub IsThere : List Domain → Option DomainId → Type 0
+IsThere ds None = Unit {0}
+IsThere ds (Some d) = d.0 < length ds
+
+pub domain_there : (ds : List Domain) (s : Side) → IsThere ds (domain_number ds s)
+domain_there ds Comb = tt
+domain_there ds (Clocked n) = by_place (position (λ (d : Domain). text_eq d.name n) ds) refl
+  where
+    by_place : (o : Option ℕ) → position (λ (d : Domain). text_eq d.name n) ds ≡ o → IsThere ds (option_map (λ (k : ℕ). record { 0 = k }) o)
+    by_place None e = tt
+    by_place (Some k) e = within ds k e
+      where
+        within : (xs : List Domain) (k : ℕ) → position (λ (d : Domain). text_eq d.name n) xs ≡ Some k → k < length xs
+        within [] k e = cc
+        within (x ∷ xs) k e = (position-Some (λ (d : Domain). text_eq d.name n) (x ∷ xs) k x e).0
+
+-- ---- lists
+
+pub all_filtered : {A : Type 0} (P : A → Type 0) (p : A → Bool) (xs : List A) → AllByRecursion P xs → AllByRecursion P (filter p xs)
+all_filtered P p [] h = tt
+all_filtered P p (x ∷ xs) h = split (all_filtered P p xs h.1) (p x)
+  where
+    split : AllByRecursion P (filter p xs) → (b : Bool) → AllByRecursion P (cond b (x ∷ filter p xs) (filter p xs))
+    split rest true = (h.0, rest)
+    split rest false = rest
+
+pub passes : {A : Type 0} (p : A → Bool) (xs : List A) → AllByRecursion (λ x. p x ≡ true) (filter p xs)
+passes p [] = tt
+passes p (x ∷ xs) = split (passes p xs) (p x) refl
+  where
+    split : AllByRecursion (λ x. p x ≡ true) (filter p xs) → (b : Bool) → p x ≡ b → AllByRecursion (λ x. p x ≡ true) (cond b (x ∷ filter p xs) (filter p xs))
+    split rest true e = (e, rest)
+    split rest false e = rest
+
+pub distinct_filtered : {A : Type 0} (f : A → ℕ) (p : A → Bool) (xs : List A) → IsDistinct nat_eq (map f xs) → IsDistinct nat_eq (map f (filter p xs))
+unfolding IsDistinct
+distinct_filtered f p [] h = tt
+distinct_filtered f p (x ∷ xs) h =
+    split (all_mapped (λ y. nat_eq (f x) y ≡ false) f (filter p xs) (all_filtered (λ z. nat_eq (f x) (f z) ≡ false) p xs (all_unmapped (λ y. nat_eq (f x) y ≡ false) f xs h.0))) (distinct_filtered f p xs h.1) (p x)
+  where
+    split : AllByRecursion (λ y. nat_eq (f x) y ≡ false) (map f (filter p xs)) → IsDistinct nat_eq (map f (filter p xs)) → (b : Bool) → IsDistinct nat_eq (map f (cond b (x ∷ filter p xs) (filter p xs)))
+    split apart rest true = (apart, rest)
+    split apart rest false = rest
+
+pub distinct_joined : (xs ys : List ℕ) → IsDistinct nat_eq xs → IsDistinct nat_eq ys → AllByRecursion (λ y. is_among xs y ≡ false) ys → IsDistinct nat_eq (xs ++ ys)
+unfolding IsDistinct
+distinct_joined [] ys h k apart = k
+distinct_joined (x ∷ xs) ys h k apart = (
+  all_joined (λ y. nat_eq x y ≡ false) xs ys h.0 (all_imp (λ y a. (or_none (x == y) (is_among xs y) a).0) ys apart),
+  distinct_joined xs ys h.1 k (all_imp (λ y a. (or_none (x == y) (is_among xs y) a).1) ys apart),
+)
+
+pub not_equal : (a b : ℕ) → a ≢ b → nat_eq a b ≡ false
+not_equal a b ne = split (nat_eq a b) refl
+  where
+    split : (t : Bool) → nat_eq a b ≡ t → t ≡ false
+    split false e = refl
+    split true e = absurd (ne (eqb-true a b e))
+
+pub range_distinct : (a n : ℕ) → IsDistinct nat_eq (range_with_len a n)
+unfolding IsDistinct
+range_distinct a zero = tt
+range_distinct a (suc n) = (range_all (λ y. nat_eq a y ≡ false) (a + 1) n (λ s low high. not_equal a s (λ e. omega (arith, e, low))), range_distinct (a + 1) n)
+
+pub map_same : (xs : List ℕ) → map (λ (s : ℕ). s) xs ≡ xs
+map_same [] = refl
+map_same (x ∷ xs) = ap (λ ys. x ∷ ys) (map_same xs)
+
+-- ---- loose ports
+
+loose_step : (q : Pooled) (ps : List Process) (a n : ℕ) → signals_of (filter_map (loose_port q ps) (range_with_len a (suc n))) ≡ cond (is_driven q ps a || is_read q ps a) (a ∷ signals_of (filter_map (loose_port q ps) (range_with_len (a + 1) n))) (signals_of (filter_map (loose_port q ps) (range_with_len (a + 1) n)))
+loose_step q ps a n = bools (is_driven q ps a) (is_read q ps a) (filter_map (loose_port q ps) (range_with_len (a + 1) n))
+  where
+    bools : (x y : Bool) (rest : List Port) → signals_of (cons_option (cond x (Some (port_of q false a)) (cond y (Some (port_of q true a)) None)) rest) ≡ cond (x || y) (a ∷ signals_of rest) (signals_of rest)
+    bools true y rest = refl
+    bools false true rest = refl
+    bools false false rest = refl
+
+loose_past : (q : Pooled) (ps : List Process) (k a n : ℕ) → k < a → AllByRecursion (λ y. nat_eq k y ≡ false) (signals_of (filter_map (loose_port q ps) (range_with_len a n)))
+loose_past q ps k a zero h = tt
+loose_past q ps k a (suc n) h = subst (AllByRecursion (λ y. nat_eq k y ≡ false)) (sym (loose_step q ps a n)) (split (is_driven q ps a || is_read q ps a) (loose_past q ps k (a + 1) n (omega (arith, h))))
+  where
+    split : (b : Bool) → AllByRecursion (λ y. nat_eq k y ≡ false) (signals_of (filter_map (loose_port q ps) (range_with_len (a + 1) n))) → AllByRecursion (λ y. nat_eq k y ≡ false) (cond b (a ∷ signals_of (filter_map (loose_port q ps) (range_with_len (a + 1) n))) (signals_of (filter_map (loose_port q ps) (range_with_len (a + 1) n))))
+    split true rest = (not_equal k a (λ e. omega (arith, e, h)), rest)
+    split false rest = rest
+
+loose_distinct : (q : Pooled) (ps : List Process) (a n : ℕ) → IsDistinct nat_eq (signals_of (filter_map (loose_port q ps) (range_with_len a n)))
+unfolding IsDistinct
+loose_distinct q ps a zero = tt
+loose_distinct q ps a (suc n) = subst (IsDistinct nat_eq) (sym (loose_step q ps a n)) (split (is_driven q ps a || is_read q ps a) (loose_distinct q ps (a + 1) n))
+  where
+    split : (b : Bool) → IsDistinct nat_eq (signals_of (filter_map (loose_port q ps) (range_with_len (a + 1) n))) → IsDistinct nat_eq (cond b (a ∷ signals_of (filter_map (loose_port q ps) (range_with_len (a + 1) n))) (signals_of (filter_map (loose_port q ps) (range_with_len (a + 1) n))))
+    split true rest = (loose_past q ps a (a + 1) n (omega arith), rest)
+    split false rest = rest
+
+pub top_distinct : (q : Pooled) (ps : List Process) (top : TopPorts) → AreTopPorts q top → IsDistinct nat_eq (signals_of (top_ports q ps top))
+top_distinct q ps (Members given) h = h.distinct
+top_distinct q ps (Held given) h = subst (IsDistinct nat_eq) (sym (map_map (λ (p : Port). record p { is_input = not (is_driven q ps p.sig.0) }) (λ (p : Port). p.sig.0) given)) h.distinct
+top_distinct q ps Loose h = loose_distinct q ps 0 (length q.signals)
+
+-- ---- names of signals
+
+pub name_at : (xs : List Sig) (s : ℕ) (d : Sig) → s < length xs → AllByRecursion (λ (x : Sig). IsName x.name) xs → IsName (slice_index_or xs s d).name
+name_at [] s d low h = absurd (omega (arith, low))
+name_at (x ∷ xs) zero d low h = h.0
+name_at (x ∷ xs) (suc s) d low h = name_at xs s d (omega (arith, low)) h.1
+
+-- a signal driven by none of these inputs, by statements that are not refused
+pub none_some : {A : Type 0} (b : Bool) (x : A) (o : Option A) → cond b (Some x) o ≡ None → (b ≡ false) × (o ≡ None)
+none_some true x o e = cc
+none_some false x o e = (refl, e)
+
+pub first_none : {A : Type 0} (a b : Option A) → first_of a b ≡ None → (a ≡ None) × (b ≡ None)
+first_none None b e = (refl, e)
+first_none (Some x) b e = cc
+
+share_joined : (xs ys zs : List ℕ) → share xs zs ≡ false → share ys zs ≡ false → share (xs ++ ys) zs ≡ false
+share_joined xs ys zs h k = any-append (is_among zs) xs ys ∙ ap (λ b. b || list_any (is_among zs) ys) h ∙ k
+
+guarded_free : (q : Pooled) (ins before : List ℕ) (gs : List Guarded) → first_refusal (statement_refusal q ins before) gs ≡ None
+    → (share (flat_map (λ (g : Guarded). target_signals q g.target.0) gs) ins ≡ false) × (share (flat_map (λ (g : Guarded). target_signals q g.target.0) gs) before ≡ false)
+guarded_free q ins before [] e = (refl, refl)
+guarded_free q ins before (g ∷ gs) e =
+    let parts = first_none (statement_refusal q ins before g) (first_refusal (statement_refusal q ins before) gs) e in
+    let rest = guarded_free q ins before gs parts.1 in
+    let here = none_some (share (target_signals q g.target.0) ins) _ _ parts.0 in
+    let there = none_some (share (target_signals q g.target.0) before) _ _ here.1 in
+    (share_joined (target_signals q g.target.0) (flat_map (λ (g : Guarded). target_signals q g.target.0) gs) ins here.0 rest.0, share_joined (target_signals q g.target.0) (flat_map (λ (g : Guarded). target_signals q g.target.0) gs) before there.0 rest.1)
+
+any_has : (p : ℕ → Bool) (xs : List ℕ) (s : ℕ) → is_among xs s ≡ true → p s ≡ true → list_any p xs ≡ true
+any_has p [] s h e = absurd (false≢true h)
+any_has p (x ∷ xs) s h e = split (x == s) refl h (any_has p xs s)
+  where
+    or_true : (a b : Bool) → b ≡ true → (a || b) ≡ true
+    or_true true b k = refl
+    or_true false b k = k
+
+    split : (b : Bool) → (x == s) ≡ b → (b || is_among xs s) ≡ true → (is_among xs s ≡ true → p s ≡ true → list_any p xs ≡ true) → (p x || list_any p xs) ≡ true
+    split true f h rest = ap (λ b. b || list_any p xs) (ap p (eqb-true x s f) ∙ e)
+    split false f h rest = or_true (p x) (list_any p xs) (rest h e)
+
+-- lists that share nothing share no number
+pub apart_at : (xs ys : List ℕ) (s : ℕ) → share xs ys ≡ false → is_among ys s ≡ true → is_among xs s ≡ false
+apart_at xs ys s h in' = split (is_among xs s) refl
+  where
+    split : (b : Bool) → is_among xs s ≡ b → b ≡ false
+    split false e = refl
+    split true e = absurd (false≢true (sym h ∙ any_has (is_among ys) xs s e in'))
+
+share_flipped : (xs ys : List ℕ) → share xs ys ≡ false → share ys xs ≡ false
+share_flipped xs ys h = any_none (is_among xs) ys (each ys (λ s in'. apart_at xs ys s h in'))
+  where
+    each : (zs : List ℕ) → ((s : ℕ) → is_among zs s ≡ true → is_among xs s ≡ false) → AllByRecursion (λ s. is_among xs s ≡ false) zs
+    each [] f = tt
+    each (z ∷ zs) f = (f z (ap (λ b. b || is_among zs z) (eq-eqb z z refl)), each zs (λ s in'. f s (or_true (z == s) (is_among zs s) in')))
+      where
+        or_true : (a b : Bool) → b ≡ true → (a || b) ≡ true
+        or_true true b k = refl
+        or_true false b k = k
+
+-- what is driven by processes that are not refused
+pub record AreFree (q : Pooled) (ins before : List ℕ) (ps : List Process) : Type 0 where
+  pub inputs : AllByRecursion (λ (p : Process). share (driven q p.body) ins ≡ false) ps
+  pub earlier : AllByRecursion (λ (p : Process). share (driven q p.body) before ≡ false) ps
+  pub apart : IsDistinct share (map (λ (p : Process). driven q p.body) ps)
+
+pub are_free : (q : Pooled) (ins before : List ℕ) (ps : List Process) → driver_refusal q ins before ps ≡ None → AreFree q ins before ps
+unfolding IsDistinct
+are_free q ins before [] e = record { inputs = tt; earlier = tt; apart = tt }
+are_free q ins before (p ∷ ps) e =
+    let parts = first_none (first_refusal (statement_refusal q ins before) (guarded [] p.body)) (driver_refusal q ins (before ++ driven q p.body) ps) e in
+    let here = guarded_free q ins before (guarded [] p.body) parts.0 in
+    let rest = are_free q ins (before ++ driven q p.body) ps parts.1 in
+    record {
+      inputs = (here.0, rest.inputs);
+      earlier = (here.1, all_imp (λ (x : Process) k. front (driven q x.body) before (driven q p.body) k) ps rest.earlier);
+      apart = (all_mapped (λ ys. share (driven q p.body) ys ≡ false) (λ (x : Process). driven q x.body) ps (all_imp (λ (x : Process) k. share_flipped (driven q x.body) (driven q p.body) (back (driven q x.body) before (driven q p.body) k)) ps rest.earlier), rest.apart);
+    }
+  where
+    both : (xs a b : List ℕ) → share xs (a ++ b) ≡ false → AllByRecursion (λ s. (is_among a s ≡ false) × (is_among b s ≡ false)) xs
+    both xs a b h = all_imp (λ s k. or_none (is_among a s) (is_among b s) (sym (any-append (λ x. x == s) a b) ∙ k)) xs (none_any (is_among (a ++ b)) xs h)
+
+    front : (xs a b : List ℕ) → share xs (a ++ b) ≡ false → share xs a ≡ false
+    front xs a b h = any_none (is_among a) xs (all_imp (λ s k. k.0) xs (both xs a b h))
+
+    back : (xs a b : List ℕ) → share xs (a ++ b) ≡ false → share xs b ≡ false
+    back xs a b h = any_none (is_among b) xs (all_imp (λ s k. k.1) xs (both xs a b h))

@@ -1,0 +1,17 @@
+pub mod Samples
+pub mod Lists
+pub mod Markings
+pub mod Trees
+pub mod Outs
+pub mod MadeDomains
+pub mod DriverLaws
+pub mod ReadLaws
+pub mod PortLaws
+pub mod NameLaws
+pub mod DesignFacts
+pub mod ChoiceLaws
+pub mod DesignNames
+pub mod DesignSound
+pub mod DesignParts
+pub mod DesignWhole
+pub mod ReadyLaws

@@ -1,0 +1,76 @@
+-- Ports, one after another.
+use Rattle.std.proofs.Common.{◌≡◌, ℕ, zero, suc, ◌+◌, ◌<◌, Bool, true, false, ◌||◌, cond, List, [], ◌∷◌, ◌++◌, map, length, take, Option, Some, slice_get, sym, ap, ◌∙◌, subst, arith, append-nil, append_assoc}
+use Rattle.std.specs.List.{AllByRecursion, filter, filter_map, range_with_len}
+use Rattle.std.proofs.lemmas.List.Elements.{filter-append, filter_map-append}
+use Rattle.std.proofs.lemmas.List.Concat.{flat_map-append}
+use Rattle.design_ir.specs.declared.port.Port.{Port}
+use Rattle.design_ir.specs.declared.domain.Domain.{Domain}
+use Rattle.design_ir.specs.Pools.{Pooled}
+use Rattle.design_ir.specs.Circuits.{is_among}
+use Rattle.clock_domains.specs.Marks.{Flag, is_marked, marked}
+use Rattle.clock_domains.specs.Resolved.{signals_of, domain_ports, ports_of_domain}
+use Rattle.clock_domains.proofs.Lists.{take-push, map-push, map-append}
+use Rattle.clock_domains.proofs.Markings.{marked-append, marked_at, length_marked}
+
+-- these are marked beside those that were
+abbrev pub IsMarking : List Bool → List ℕ → List Bool → Type 0
+IsMarking old ss new = new ≡ marked ss old
+
+pub marking_flag : (old : List Bool) (ss : List ℕ) (new : List Bool) → length old ≡ 16384 → ((s : ℕ) → is_marked old s ≡ false) → AllByRecursion (λ s. s < 16384) ss → IsMarking old ss new → Flag new (is_among ss)
+marking_flag old ss new size none low h = record {
+  size = ap length h ∙ length_marked ss old ∙ size;
+  each = λ s small. ap (λ ms. is_marked ms s) h ∙ marked_at ss old s (subst (λ n. AllByRecursion (λ s. s < n) ss) (sym size) low) ∙ ap (λ b. b || is_among ss s) (none s);
+}
+
+pub small_signals : (ps : List Port) → AllByRecursion (λ (p : Port). p.sig.0 < 16384) ps → AllByRecursion (λ s. s < 16384) (signals_of ps)
+small_signals [] h = tt
+small_signals (p ∷ ps) h = (h.0, small_signals ps h.1)
+
+pub small_filtered : (test : Port → Bool) (ps : List Port) → AllByRecursion (λ (p : Port). p.sig.0 < 16384) ps → AllByRecursion (λ s. s < 16384) (signals_of (filter test ps))
+small_filtered test [] h = tt
+small_filtered test (p ∷ ps) h = split (small_filtered test ps h.1) (test p)
+  where
+    split : AllByRecursion (λ s. s < 16384) (signals_of (filter test ps)) → (b : Bool) → AllByRecursion (λ s. s < 16384) (signals_of (cond b (p ∷ filter test ps) (filter test ps)))
+    split rest true = (h.0, rest)
+    split rest false = rest
+
+pub ports_turn : (ps : List Port) (i : ℕ) (p : Port) (old cur new : List Bool) → slice_get ps i ≡ Some p → IsMarking old (signals_of (take i ps)) cur → new ≡ marked (p.sig.0 ∷ []) cur → IsMarking old (signals_of (take (i + 1) ps)) new
+ports_turn ps i p old cur new at h k =
+    k ∙ ap (marked (p.sig.0 ∷ [])) h ∙ sym (marked-append (signals_of (take i ps)) (p.sig.0 ∷ []) old) ∙ ap (λ ss. marked ss old) (sym (map-push (λ (p : Port). p.sig.0) (take i ps) p) ∙ ap signals_of (sym (take-push ps i p at)))
+
+-- ---- lists that grow by what one element more gives
+
+pub filtered_turn : {A B : Type 0} (f : List A → List B) (xs : List A) (i : ℕ) (x : A) (old cur new more : List B) → slice_get xs i ≡ Some x → f (take i xs ++ x ∷ []) ≡ f (take i xs) ++ more → cur ≡ old ++ f (take i xs) → new ≡ cur ++ more → new ≡ old ++ f (take (i + 1) xs)
+filtered_turn f xs i x old cur new more at push h k =
+    k ∙ ap (λ ys. ys ++ more) h ∙ append_assoc old (f (take i xs)) more ∙ ap (λ ys. old ++ ys) (sym push ∙ ap f (sym (take-push xs i x at)))
+
+pub range-push : (a n : ℕ) → range_with_len a (n + 1) ≡ range_with_len a n ++ (a + n) ∷ []
+range-push a n = ap (range_with_len a) (let e : n + 1 ≡ suc n = omega arith in e) ∙ push a n
+  where
+    push : (a n : ℕ) → range_with_len a (suc n) ≡ range_with_len a n ++ (a + n) ∷ []
+    push a zero = ap (λ k. k ∷ []) (let e : a ≡ a + 0 = omega arith in e)
+    push a (suc n) = ap (λ ks. a ∷ ks) (push (a + 1) n ∙ ap (λ k. range_with_len (a + 1) n ++ k ∷ []) (let e : a + 1 + n ≡ a + suc n = omega arith in e))
+
+pub loose_turn : (f : ℕ → Option Port) (test : Port → Bool) (n : ℕ) (old cur new : List Port) → cur ≡ old ++ filter test (filter_map f (range_with_len 0 n)) → new ≡ cur ++ filter test (filter_map f (n ∷ [])) → new ≡ old ++ filter test (filter_map f (range_with_len 0 (n + 1)))
+loose_turn f test n old cur new h k =
+    k ∙ ap (λ ys. ys ++ filter test (filter_map f (n ∷ []))) h ∙ append_assoc old (filter test (filter_map f (range_with_len 0 n))) (filter test (filter_map f (n ∷ [])))
+    ∙ ap (λ ys. old ++ ys)
+    (sym (filter-append test (filter_map f (range_with_len 0 n)) (filter_map f (n ∷ []))) ∙ ap (filter test) (sym (filter_map-append f (range_with_len 0 n) (n ∷ [])) ∙ ap (λ m. filter_map f (range_with_len 0 n ++ m ∷ [])) (let e : n ≡ 0 + n = omega arith in e) ∙ ap (filter_map f) (sym (range-push 0 n))))
+
+pub inputs_turn : (ps : List Port) (i : ℕ) (p : Port) (old cur new : List Bool) → slice_get ps i ≡ Some p → IsMarking old (signals_of (filter (λ (p : Port). p.is_input) (take i ps))) cur → new ≡ marked (signals_of (filter (λ (p : Port). p.is_input) (p ∷ []))) cur
+    → IsMarking old (signals_of (filter (λ (p : Port). p.is_input) (take (i + 1) ps))) new
+inputs_turn ps i p old cur new at h k =
+    let test : Port → Bool = λ (p : Port). p.is_input in
+    k ∙ ap (marked (signals_of (filter test (p ∷ [])))) h ∙ sym (marked-append (signals_of (filter test (take i ps))) (signals_of (filter test (p ∷ []))) old)
+    ∙ ap (λ ss. marked ss old) (sym (map-append (λ (p : Port). p.sig.0) (filter test (take i ps)) (filter test (p ∷ []))) ∙ ap signals_of (sym (filter-append test (take i ps) (p ∷ [])) ∙ ap (filter test) (sym (take-push ps i p at))))
+
+pub domains_turn : (q : Pooled) (ds : List Domain) (i : ℕ) (d : Domain) (cur new : List Port) → slice_get ds i ≡ Some d → cur ≡ domain_ports q (take i ds) → new ≡ cur ++ ports_of_domain q d → new ≡ domain_ports q (take (i + 1) ds)
+domains_turn q ds i d cur new at h k =
+    k ∙ ap (λ ps. ps ++ ports_of_domain q d) h ∙ ap (λ ps. domain_ports q (take i ds) ++ ps) (sym (append-nil (ports_of_domain q d))) ∙ sym (flat_map-append (ports_of_domain q) (take i ds) (d ∷ [])) ∙ ap (domain_ports q) (sym (take-push ds i d at))
+
+pub members_turn : (test : Port → Bool) (ps : List Port) (i : ℕ) (p : Port) (old cur new : List Port) → slice_get ps i ≡ Some p → cur ≡ old ++ filter test (take i ps) → new ≡ cur ++ filter test (p ∷ []) → new ≡ old ++ filter test (take (i + 1) ps)
+members_turn test ps i p old cur new at = filtered_turn (filter test) ps i p old cur new (filter test (p ∷ [])) at (filter-append test (take i ps) (p ∷ []))
+
+pub held_turn : (test : Port → Bool) (f : Port → Port) (ps : List Port) (i : ℕ) (p : Port) (old cur new : List Port) → slice_get ps i ≡ Some p → cur ≡ old ++ filter test (map f (take i ps)) → new ≡ cur ++ filter test (f p ∷ []) → new ≡ old ++ filter test (map f (take (i + 1) ps))
+held_turn test f ps i p old cur new at =
+    filtered_turn (λ xs. filter test (map f xs)) ps i p old cur new (filter test (f p ∷ [])) at (ap (filter test) (map-push f (take i ps) p) ∙ filter-append test (map f (take i ps)) (f p ∷ []))

@@ -1,0 +1,46 @@
+-- Ports as they are chosen, by marks.
+use Rattle.std.specs.Prelude.{◌≡◌, ℕ, ◌<◌, ◌&&◌, not, Bool, true, false, ⊤, if◌then◌else◌, List, map, length, Option, Some, None}
+use Rattle.std.specs.List.{filter_map, range_with_len}
+use Rattle.design_ir.specs.declared.ids.SigId.{SigId}
+use Rattle.design_ir.specs.declared.port.Port.{Port}
+use Rattle.design_ir.specs.declared.domain.Domain.{Domain}
+use Rattle.design_ir.specs.Pools.{Pooled}
+use Rattle.clock_domains.specs.declared.top.TopPorts.{TopPorts}
+use Rattle.clock_domains.specs.declared.top.TopPorts.TheVariants.{Members, Held, Loose}
+use Rattle.clock_domains.specs.Marks.{is_marked}
+use Rattle.clock_domains.specs.Resolved.{has_width, port_of}
+
+-- a signal that is not taken, and that has bits
+abbrev pub is_new : Pooled → (ℕ → Bool) → Port → Bool
+is_new q taken p = not (taken p.sig.0) && has_width q p.sig.0
+
+abbrev pub held_port : (ℕ → Bool) → Port → Port
+held_port driven p = record p { is_input = not (driven p.sig.0) }
+
+abbrev pub known_port : Pooled → (driven read : ℕ → Bool) → ℕ → Option Port
+known_port q driven read s = if driven s then Some (port_of q false s) else (if read s then Some (port_of q true s) else None)
+
+abbrev pub AreThere : Pooled → Port → Type 0
+AreThere q p = p.sig.0 < length q.signals
+
+abbrev pub IsResetThere : Pooled → Option SigId → Type 0
+IsResetThere q None = ⊤
+IsResetThere q (Some s) = s.0 < length q.signals
+
+-- the clock and the reset are signals
+pub record IsSignal (q : Pooled) (d : Domain) : Type 0 where
+  pub clock : d.clk.0 < length q.signals
+  pub reset : IsResetThere q d.rst
+
+-- only signals of the pool are driven or read
+pub record IsKnown (q : Pooled) (driven read : List Bool) : Type 0 where
+  pub driven_size : length driven ≡ 16384
+  pub read_size : length read ≡ 16384
+  pub driven_there : (s : ℕ) → is_marked driven s ≡ true → s < length q.signals
+  pub read_there : (s : ℕ) → is_marked read s ≡ true → s < length q.signals
+
+-- the ports of the top, by marks
+abbrev pub known_ports : Pooled → (driven read : List Bool) → TopPorts → List Port
+known_ports q driven read (Members given) = given
+known_ports q driven read (Held given) = map (held_port (is_marked driven)) given
+known_ports q driven read Loose = filter_map (known_port q (is_marked driven) (is_marked read)) (range_with_len 0 (length driven))

@@ -1,0 +1,9 @@
+pub mod Reads
+pub mod Resolvable
+pub mod Resolved
+pub mod Marks
+pub mod Stops
+pub mod Made
+pub mod Chosen
+pub mod Tracked
+pub mod Ready

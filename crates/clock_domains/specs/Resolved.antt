@@ -1,0 +1,215 @@
+-- The design that one module stands for, or the refusal of its domains or drivers. (Amaranth guide: Clock domains,
+-- Elaboration; what the guide leaves open, as which signals are ports and how they are named, is this project's own.)
+use Rattle.std.specs.Prelude.{◌≡◌, ℕ, suc, ◌+◌, ◌*◌, nat_lt, nat_le, ◌&&◌, ◌||◌, not, Bool, true, false, if◌then◌else◌, List, [], ◌∷◌, ◌++◌, map, length, slice_index_or, position, pos, Option, Some, None, is_some, option_map, unwrap_or, Result, Ok, Err, codes}
+use Rattle.std.specs.List.{flat_map, filter, filter_map, list_any, find, range_with_len}
+use Rattle.std.specs.Option.{option_map_or}
+use Rattle.std.specs.Fmt.{decimal}
+use Rattle.lists.specs.Texts.{text_eq}
+use Rattle.amh_host.specs.declared.place.Place.{Place}
+use Rattle.shape_rules.specs.Forms.{unsigned}
+use Rattle.design_ir.specs.declared.ids.DomainId.{DomainId}
+use Rattle.design_ir.specs.declared.ids.SigId.{SigId}
+use Rattle.design_ir.specs.declared.signal.Sig.{Sig}
+use Rattle.design_ir.specs.declared.domain.Domain.{Domain}
+use Rattle.design_ir.specs.declared.port.Port.{Port}
+use Rattle.design_ir.specs.declared.port.Column.{Column}
+use Rattle.design_ir.specs.declared.process.Side.{Side}
+use Rattle.design_ir.specs.declared.process.Side.TheVariants.{Comb, Clocked}
+use Rattle.design_ir.specs.declared.process.Process.{Process}
+use Rattle.design_ir.specs.declared.process.DesignProcess.{DesignProcess}
+use Rattle.design_ir.specs.declared.fragment.Fragment.{Fragment}
+use Rattle.design_ir.specs.Pools.{Pooled}
+use Rattle.design_ir.specs.PoolRules.{signal_bits}
+use Rattle.design_ir.specs.Values.{signal_form}
+use Rattle.design_ir.specs.Targets.{target_signals}
+use Rattle.design_ir.specs.Guards.{Guarded, guarded, driven}
+use Rattle.design_ir.specs.Circuits.{Circuit, is_among}
+use Rattle.design_ir.specs.Designs.{share}
+use Rattle.clock_domains.specs.declared.top.TopPorts.{TopPorts}
+use Rattle.clock_domains.specs.declared.top.TopPorts.TheVariants.{Members, Held, Loose}
+use Rattle.clock_domains.specs.declared.stop.ResolveStop.{ResolveStop}
+use Rattle.clock_domains.specs.declared.stop.ResolveStop.TheVariants.{DomainClash, NoReset, TwoDrivers, DrivenInput, Limit, NoMemory}
+use Rattle.clock_domains.specs.Reads.{is_read, is_driven}
+
+-- ---- domains: one for each clocked side, in the order of first statements
+
+abbrev pub side_name : Side → Option (List ℕ)
+side_name Comb = None
+side_name (Clocked n) = Some n
+
+abbrev pub domain_names : List Process → List (List ℕ)
+domain_names ps = filter_map (λ (p : Process). side_name p.side) ps
+
+-- the signals of domain `sync` are `clk` and `rst`, those of domain `x` are `x_clk` and `x_rst`
+abbrev pub domain_prefix : List ℕ → List ℕ
+domain_prefix name = if text_eq name (codes "sync") then [] else name ++ codes "_"
+
+abbrev pub bit_signal : List ℕ → Sig
+bit_signal name = record { name = name; shape = unsigned 1; init = pos 0; reset_less = false }
+
+abbrev pub domain_signals : List ℕ → List Sig
+domain_signals name = bit_signal (domain_prefix name ++ codes "clk") ∷ bit_signal (domain_prefix name ++ codes "rst") ∷ []
+
+-- the pool with the signals of these domains
+abbrev pub with_domains : Pooled → List (List ℕ) → Pooled
+with_domains q names = record q { signals = q.signals ++ flat_map domain_signals names }
+
+-- the clock of each is the next signal, and the reset the one behind it
+abbrev pub domains_from : ℕ → List (List ℕ) → List Domain
+domains_from n [] = []
+domains_from n (name ∷ more) = record { name = name; clk = record { 0 = n }; rst = Some (record { 0 = suc n }) } ∷ domains_from (n + 2) more
+
+-- more domains than there may be, or too many signals with theirs, or too many bits
+abbrev pub is_past_limit : Pooled → List (List ℕ) → Bool
+is_past_limit q names = nat_lt 64 (length names) || (nat_lt 16384 (length q.signals + 2 * length names) || nat_lt 262144 (signal_bits q.signals + 2 * length names))
+
+abbrev pub file_start : Place
+file_start = record { line = 1; col = 1 }
+
+-- ---- drivers
+
+-- the inputs among the members of the top
+abbrev pub top_inputs : TopPorts → List ℕ
+top_inputs (Members ps) = map (λ (p : Port). p.sig.0) (filter (λ (p : Port). p.is_input) ps)
+top_inputs (Held ps) = []
+top_inputs Loose = []
+
+-- an input that a statement drives is told before a signal that another process drives
+abbrev pub statement_refusal : Pooled → (inputs before : List ℕ) → Guarded → Option ResolveStop
+statement_refusal q inputs before g =
+    if share (target_signals q g.target.0) inputs then Some (DrivenInput g.place) else (if share (target_signals q g.target.0) before then Some (TwoDrivers g.place) else None)
+
+abbrev pub first_of : {A : Type 0} → Option A → Option A → Option A
+first_of None b = b
+first_of (Some a) b = Some a
+
+-- that of the first statement that has one
+abbrev pub first_refusal : (Guarded → Option ResolveStop) → List Guarded → Option ResolveStop
+first_refusal refusal [] = None
+first_refusal refusal (g ∷ more) = first_of (refusal g) (first_refusal refusal more)
+
+-- processes in order, each after what those before it drive
+abbrev pub driver_refusal : Pooled → (inputs before : List ℕ) → List Process → Option ResolveStop
+driver_refusal q inputs before [] = None
+driver_refusal q inputs before (p ∷ more) = first_of (first_refusal (statement_refusal q inputs before) (guarded [] p.body)) (driver_refusal q inputs (before ++ driven q p.body) more)
+
+-- ---- processes: each with the number of its side's domain
+
+abbrev pub domain_number : List Domain → Side → Option DomainId
+domain_number domains Comb = None
+domain_number domains (Clocked n) = option_map (λ (k : ℕ). record { 0 = k }) (position (λ (d : Domain). text_eq d.name n) domains)
+
+abbrev pub process_in : List Domain → Process → DesignProcess
+process_in domains p = record { domain = domain_number domains p.side; body = p.body }
+
+-- ---- ports
+
+abbrev pub signal_name : Pooled → ℕ → List ℕ
+signal_name q s = (slice_index_or q.signals s (bit_signal [])).name
+
+abbrev pub has_width : Pooled → ℕ → Bool
+has_width q s = nat_le 1 (signal_form q.signals s).width
+
+abbrev pub port_of : Pooled → Bool → ℕ → Port
+port_of q is_input s = record { name = signal_name q s; sig = record { 0 = s }; is_input = is_input }
+
+-- the clock of a domain and its reset are inputs
+abbrev pub ports_of_domain : Pooled → Domain → List Port
+ports_of_domain q d = port_of q true d.clk.0 ∷ option_map_or (λ (s : SigId). port_of q true s.0 ∷ []) d.rst []
+
+abbrev pub domain_ports : Pooled → List Domain → List Port
+domain_ports q domains = flat_map (ports_of_domain q) domains
+
+-- what is driven is an output, and what is only read an input
+abbrev pub loose_port : Pooled → List Process → ℕ → Option Port
+loose_port q ps s = if is_driven q ps s then Some (port_of q false s) else (if is_read q ps s then Some (port_of q true s) else None)
+
+-- members as they were given, held signals as inputs where nothing drives them, loose signals in order of making
+abbrev pub top_ports : Pooled → List Process → TopPorts → List Port
+top_ports q ps (Members given) = given
+top_ports q ps (Held given) = map (λ (p : Port). record p { is_input = not (is_driven q ps p.sig.0) }) given
+top_ports q ps Loose = filter_map (loose_port q ps) (range_with_len 0 (length q.signals))
+
+abbrev pub signals_of : List Port → List ℕ
+signals_of ports = map (λ (p : Port). p.sig.0) ports
+
+-- a signal that is a port already is not one again, and a signal without bits is none
+abbrev pub and_new : Pooled → List Port → List Port → List Port
+and_new q before ports = before ++ filter (λ (p : Port). not (is_among (signals_of before) p.sig.0) && has_width q p.sig.0) ports
+
+-- ---- columns: the ports, and then the named registers, which are driven from clocked sides
+
+abbrev pub is_clocked : Process → Bool
+is_clocked p = is_some (side_name p.side)
+
+abbrev pub named_registers : Pooled → List Process → List Port → List ℕ
+named_registers q ps ports =
+    filter (λ s. is_driven q (filter is_clocked ps) s && (not (is_among (signals_of ports) s) && has_width q s)) (range_with_len 0 (length q.signals))
+
+abbrev pub has_name : List (List ℕ) → List ℕ → Bool
+has_name names name = list_any (text_eq name) names
+
+abbrev pub numbered_name : List ℕ → ℕ → List ℕ
+numbered_name name k = name ++ (codes "$" ++ decimal k)
+
+-- a name that stands already gets the least number from 1 on with which it is new; of as many numbers as there are names
+-- one is
+abbrev pub fresh_name : List (List ℕ) → List ℕ → List ℕ
+fresh_name names name =
+    if has_name names name then unwrap_or (find (λ x. not (has_name names x)) (map (numbered_name name) (range_with_len 1 (length names)))) name else name
+
+-- each column under a name that none before it has
+abbrev pub columns_after : List (List ℕ) → List Column → List Column
+columns_after names [] = []
+columns_after names (c ∷ more) = record c { name = fresh_name names c.name } ∷ columns_after (names ++ fresh_name names c.name ∷ []) more
+
+abbrev pub column_of_port : Port → Column
+column_of_port p = record { name = p.name; sig = p.sig }
+
+abbrev pub column_of_register : Pooled → ℕ → Column
+column_of_register q s = record { name = signal_name q s; sig = record { 0 = s } }
+
+abbrev pub columns_of : Pooled → List Port → List ℕ → List Column
+columns_of q ports registers = columns_after [] (map column_of_port ports ++ map (column_of_register q) registers)
+
+-- a port has the name of its column
+abbrev pub ports_named : List Port → List Column → List Port
+ports_named [] columns = []
+ports_named (p ∷ ports) [] = []
+ports_named (p ∷ ports) (c ∷ columns) = record p { name = c.name } ∷ ports_named ports columns
+
+-- ---- the design
+
+abbrev pub ports_of : Pooled → List Domain → List Process → TopPorts → List Port
+ports_of q domains ps top = and_new q (domain_ports q domains) (top_ports q ps top)
+
+abbrev pub circuit_with : Pooled → List Domain → List Process → List Port → List Column → Circuit
+circuit_with q domains ps ports columns = record { pool = q; processes = map (process_in domains) ps; memories = []; domains = domains; ports = ports_named ports columns; columns = columns }
+
+abbrev pub circuit_of : Pooled → List Domain → List Process → List Port → Circuit
+circuit_of q domains ps ports = circuit_with q domains ps ports (columns_of q ports (named_registers q ps ports))
+
+abbrev pub or_refused : Option ResolveStop → Circuit → Result Circuit ResolveStop
+or_refused None c = Ok c
+or_refused (Some stop) c = Err stop
+
+-- over the pool with the domains' signals, the drivers are told before there is a design
+unfoldable pub resolved_in : Pooled → List Domain → List Process → TopPorts → Result Circuit ResolveStop
+resolved_in q domains ps top = or_refused (driver_refusal q (top_inputs top) [] ps) (circuit_of q domains ps (ports_of q domains ps top))
+
+-- the limits are told before the drivers
+unfoldable pub resolved : Pooled → Fragment → TopPorts → Result Circuit ResolveStop
+resolved q root top =
+    if is_past_limit q (domain_names root.processes) then Err (Limit file_start)
+    else resolved_in (with_domains q (domain_names root.processes)) (domains_from (length q.signals) (domain_names root.processes)) root.processes top
+
+-- ---- refusals
+
+-- a refusal is the definition's; want of memory may come at any time
+abbrev pub IsResolveRefusal : Result Circuit ResolveStop → ResolveStop → Type 0
+IsResolveRefusal owed NoMemory = Unit {0}
+IsResolveRefusal owed (DomainClash p) = owed ≡ Err (DomainClash p)
+IsResolveRefusal owed (NoReset p) = owed ≡ Err (NoReset p)
+IsResolveRefusal owed (TwoDrivers p) = owed ≡ Err (TwoDrivers p)
+IsResolveRefusal owed (DrivenInput p) = owed ≡ Err (DrivenInput p)
+IsResolveRefusal owed (Limit p) = owed ≡ Err (Limit p)

@@ -1,0 +1,274 @@
+// The ports of a design.
+ghost use Rattle.std.specs.Prelude.{◌≡◌, ◌<◌, ◌&&◌, ◌++◌, ◌∷◌, [], not, map, length, IfOk, OnOk};
+ghost use Rattle.std.specs.List.{AllByRecursion, filter, filter_map, range_with_len};
+ghost use Rattle.design_ir.specs.Circuits.{is_among};
+ghost use Rattle.clock_domains.specs.Marks.{Flag, is_marked, marked};
+ghost use Rattle.clock_domains.specs.Reads.{is_driven};
+ghost use Rattle.clock_domains.specs.Resolvable.{AreTopPorts, IsSideOf};
+ghost use Rattle.clock_domains.specs.Resolved.{domain_ports, has_width, port_of, ports_of, ports_of_domain, signals_of, top_inputs};
+ghost use Rattle.clock_domains.specs.Chosen.{AreThere, IsKnown, IsSignal, held_port, is_new, known_port, known_ports};
+
+use crate::domains::copied;
+use crate::drivers::{SIGNALS, unmarked};
+use crate::marks::mark;
+use crate::reads::reads;
+use crate::top::TopPorts;
+use amh_host::{Items, NoMemory};
+use design_ir::{Domain, Exprs, Pool, Port, Ports, Process, SigId};
+use std::alloc::Global;
+
+/// Marks the signals of ports.
+pub fn mark_ports(alloc: Global, ports: &[Port]) -> Result<Vec<bool>, NoMemory>
+    requires { AllByRecursion (λ p. p.sig.0 < 16384) ports.now }
+    ensures { IfOk result (λ v. Flag v.items (is_among (signals_of ports.now))) }
+{
+    let mut marks = unmarked(alloc, SIGNALS)?;
+    for port in ports {
+        mark(&mut marks, port.sig.0 as usize);
+    }
+    Ok(marks)
+}
+
+// Marks the signal of a port that is an input.
+fn mark_input(marks: &mut Vec<bool>, port: &Port)
+    requires { port.now.sig.0 < length marks.old.items }
+    ensures { marks.new.items ≡ marked (signals_of (filter (λ p. p.is_input) (port.now ∷ []))) marks.old.items }
+{
+    if port.is_input {
+        mark(marks, port.sig.0 as usize);
+    }
+}
+
+// Marks the inputs among ports.
+fn mark_inputs(alloc: Global, ports: &[Port]) -> Result<Vec<bool>, NoMemory>
+    requires { AllByRecursion (λ p. p.sig.0 < 16384) ports.now }
+    ensures { IfOk result (λ v. Flag v.items (is_among (signals_of (filter (λ p. p.is_input) ports.now)))) }
+{
+    let mut marks = unmarked(alloc, SIGNALS)?;
+    for port in ports {
+        mark_input(&mut marks, port);
+    }
+    Ok(marks)
+}
+
+/// Marks the inputs among the members of the top.
+pub fn mark_top_inputs(alloc: Global, pool: &Pool, top: &TopPorts) -> Result<Vec<bool>, NoMemory>
+    requires { AreTopPorts pool.now top.now }
+    ensures { IfOk result (λ v. Flag v.items (is_among (top_inputs top.now))) }
+{
+    let _ = pool.count();
+    match top {
+        TopPorts::Members(ports) => mark_inputs(alloc, ports.as_slice()),
+        TopPorts::Held(_) | TopPorts::Loose => unmarked(alloc, SIGNALS),
+    }
+}
+
+// A signal of the pool as a port under its own name.
+fn port_of(alloc: Global, pool: &Pool, is_input: bool, s: SigId) -> Result<Port, NoMemory>
+    requires { s.0 < length pool.now.signals }
+    ensures { IfOk result (λ p. p ≡ port_of pool.now is_input s.0) }
+{
+    Ok(Port {
+        name: copied(alloc, pool.sig_at(s).name.as_str())?,
+        sig: s,
+        is_input,
+    })
+}
+
+/// Whether a signal has bits.
+pub fn has_width(pool: &Pool, s: SigId) -> bool
+    requires { s.0 < length pool.now.signals }
+    ensures { result ≡ has_width pool.now s.0 }
+{
+    pool.sig_at(s).shape.width >= 1
+}
+
+// The clock and the reset of a domain.
+fn add_domain(
+    alloc: Global,
+    pool: &Pool,
+    domain: &Domain,
+    ports: &mut Ports,
+) -> Result<(), NoMemory>
+    requires { IsSignal pool.now domain.now }
+    ensures { OnOk result (ports.new ≡ ports.old ++ ports_of_domain pool.now domain.now) }
+{
+    ports.push(port_of(alloc, pool, true, domain.clk)?)?;
+    match domain.rst {
+        Some(reset) => ports.push(port_of(alloc, pool, true, reset)?),
+        None => Ok(()),
+    }
+}
+
+// The clocks and the resets of all domains.
+fn domain_ports(alloc: Global, pool: &Pool, domains: &[Domain]) -> Result<Ports, NoMemory>
+    requires { AllByRecursion (IsSignal pool.now) domains.now }
+    ensures { IfOk result (λ ps. ps ≡ domain_ports pool.now domains.now) }
+{
+    let mut ports = Items::new(alloc);
+    for domain in domains {
+        add_domain(alloc, pool, domain, &mut ports)?;
+    }
+    Ok(ports)
+}
+
+/// What is known of the signals of a module.
+#[derive(Drop)]
+pub struct Known {
+    pub is_port: Vec<bool>,
+    pub driven: Vec<bool>,
+    pub read: Vec<bool>,
+}
+
+// Whether a signal can be a port: it is none yet, and has bits.
+fn is_new(pool: &Pool, is_port: &[bool], s: SigId) -> bool
+    requires there { s.0 < length pool.now.signals }
+    requires size { length is_port.now ≡ 16384 }
+    ensures { result ≡ (not (is_marked is_port.now s.0) && has_width pool.now s.0) }
+{
+    let _ = pool.count();
+    !is_port[s.0 as usize] && has_width(pool, s)
+}
+
+// A port under its given name, where it is new.
+fn add_given(
+    alloc: Global,
+    pool: &Pool,
+    known: &Known,
+    given: &Port,
+    is_input: bool,
+    ports: &mut Ports,
+) -> Result<(), NoMemory>
+    requires there { given.now.sig.0 < length pool.now.signals }
+    requires size { length known.now.is_port.items ≡ 16384 }
+    ensures { OnOk result (ports.new ≡ ports.old ++ filter (is_new pool.now (is_marked known.now.is_port.items)) (record given.now { is_input = is_input } ∷ [])) }
+{
+    if is_new(pool, known.is_port.as_slice(), given.sig) {
+        ports.push(Port {
+            name: copied(alloc, given.name.as_str())?,
+            sig: given.sig,
+            is_input,
+        })?;
+    }
+    Ok(())
+}
+
+// The members of the top.
+fn add_members(
+    alloc: Global,
+    pool: &Pool,
+    known: &Known,
+    given: &[Port],
+    ports: &mut Ports,
+) -> Result<(), NoMemory>
+    requires there { AllByRecursion (AreThere pool.now) given.now }
+    requires size { length known.now.is_port.items ≡ 16384 }
+    ensures { OnOk result (ports.new ≡ ports.old ++ filter (is_new pool.now (is_marked known.now.is_port.items)) given.now) }
+{
+    for port in given {
+        add_given(alloc, pool, known, port, port.is_input, ports)?;
+    }
+    Ok(())
+}
+
+// The signals that the top holds, which are inputs where nothing drives them.
+fn add_held(
+    alloc: Global,
+    pool: &Pool,
+    known: &Known,
+    given: &[Port],
+    ports: &mut Ports,
+) -> Result<(), NoMemory>
+    requires there { AllByRecursion (AreThere pool.now) given.now }
+    requires size { length known.now.is_port.items ≡ 16384 }
+    requires driven { length known.now.driven.items ≡ 16384 }
+    ensures { OnOk result (ports.new ≡ ports.old ++ filter (is_new pool.now (is_marked known.now.is_port.items)) (map (held_port (is_marked known.now.driven.items)) given.now)) }
+{
+    let _ = pool.count();
+    for port in given {
+        let is_input = !known.driven[port.sig.0 as usize];
+        add_given(alloc, pool, known, port, is_input, ports)?;
+    }
+    Ok(())
+}
+
+// A signal as a port, where it is driven or read and is new.
+fn add_signal(
+    alloc: Global,
+    pool: &Pool,
+    known: &Known,
+    s: SigId,
+    ports: &mut Ports,
+) -> Result<(), NoMemory>
+    requires there { IsKnown pool.now known.now.driven.items known.now.read.items }
+    requires small { s.0 < 16384 }
+    requires size { length known.now.is_port.items ≡ 16384 }
+    ensures { OnOk result (ports.new ≡ ports.old ++ filter (is_new pool.now (is_marked known.now.is_port.items)) (filter_map (known_port pool.now (is_marked known.now.driven.items) (is_marked known.now.read.items)) (s.0 ∷ []))) }
+{
+    let is_driven = known.driven[s.0 as usize];
+    if !is_driven && !known.read[s.0 as usize] {
+        return Ok(());
+    }
+    if is_new(pool, known.is_port.as_slice(), s) {
+        ports.push(port_of(alloc, pool, !is_driven, s)?)?;
+    }
+    Ok(())
+}
+
+// All signals that are driven or read, in order of making.
+fn add_loose(alloc: Global, pool: &Pool, known: &Known, ports: &mut Ports) -> Result<(), NoMemory>
+    requires there { IsKnown pool.now known.now.driven.items known.now.read.items }
+    requires size { length known.now.is_port.items ≡ 16384 }
+    ensures { OnOk result (ports.new ≡ ports.old ++ filter (is_new pool.now (is_marked known.now.is_port.items)) (filter_map (known_port pool.now (is_marked known.now.driven.items) (is_marked known.now.read.items)) (range_with_len 0 (length known.now.driven.items)))) }
+{
+    for s in 0..known.driven.len() {
+        add_signal(alloc, pool, known, SigId(s as u32), ports)?;
+    }
+    Ok(())
+}
+
+// The ports of the top that are new.
+fn add_top(
+    alloc: Global,
+    pool: &Pool,
+    known: &Known,
+    top: &TopPorts,
+    ports: &mut Ports,
+) -> Result<(), NoMemory>
+    requires top { AreTopPorts pool.now top.now }
+    requires there { IsKnown pool.now known.now.driven.items known.now.read.items }
+    requires size { length known.now.is_port.items ≡ 16384 }
+    ensures { OnOk result (ports.new ≡ ports.old ++ filter (is_new pool.now (is_marked known.now.is_port.items)) (known_ports pool.now known.now.driven.items known.now.read.items top.now)) }
+{
+    match top {
+        TopPorts::Members(given) => add_members(alloc, pool, known, given.as_slice(), ports),
+        TopPorts::Held(given) => add_held(alloc, pool, known, given.as_slice(), ports),
+        TopPorts::Loose => add_loose(alloc, pool, known, ports),
+    }
+}
+
+/// The ports of a design, under the names that they are to have.
+pub fn ports_of(
+    alloc: Global,
+    pool: &Pool,
+    domains: &[Domain],
+    processes: &[Process],
+    driven: Vec<bool>,
+    top: &TopPorts,
+) -> Result<Ports, NoMemory>
+    requires domains { AllByRecursion (IsSignal pool.now) domains.now }
+    requires sides { AllByRecursion (IsSideOf pool.now) processes.now }
+    requires top { AreTopPorts pool.now top.now }
+    requires driven { Flag driven.items (is_driven pool.now processes.now) }
+    ensures { IfOk result (λ ps. ps ≡ ports_of pool.now domains.now processes.now top.now) }
+{
+    let _ = pool.count();
+    let mut ports = domain_ports(alloc, pool, domains)?;
+    let known = Known {
+        is_port: mark_ports(alloc, ports.as_slice())?,
+        driven,
+        read: reads(alloc, pool, processes)?,
+    };
+    add_top(alloc, pool, &known, top, &mut ports)?;
+    Ok(ports)
+}

@@ -1,0 +1,31 @@
+// Why a module gives no design.
+
+use amh_host::{NoMemory, Place};
+
+/// Why a module gives no design, and where.
+#[derive(Clone, Copy, Debug, PartialEq, Eq, Drop)]
+pub enum ResolveStop {
+    /// A domain is defined twice.
+    DomainClash(Place),
+    /// The reset of a domain that has none is read or driven.
+    NoReset(Place),
+    /// A signal is driven from two domains or modules.
+    TwoDrivers(Place),
+    /// An input of the top is driven.
+    DrivenInput(Place),
+    /// There would be too many domains, or too many signals with those of the domains.
+    Limit(Place),
+    /// No memory was left.
+    NoMemory,
+}
+
+impl From<NoMemory> for ResolveStop {
+    ghost use Rattle.std.specs.Prelude.{◌≡◌};
+    ghost use Rattle.clock_domains.specs.declared.stop.ResolveStop.TheVariants.{NoMemory as no_memory};
+
+    ghost from_gives = { λ _ stop. stop ≡ no_memory };
+
+    fn from(_: NoMemory) -> Self {
+        ResolveStop::NoMemory
+    }
+}
