@@ -1,0 +1,9 @@
+pub mod Widths
+pub mod StateLaws
+pub mod InPlace
+pub mod Register
+pub mod Refusals
+pub mod Unsettled
+pub mod OneChoice
+pub mod Meaning
+pub mod Samples

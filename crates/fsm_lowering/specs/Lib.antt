@@ -1,0 +1,4 @@
+pub mod States
+pub mod Machines
+pub mod Calls
+pub mod Laws
