@@ -1,0 +1,4 @@
+pub mod Names
+pub mod Layouts
+pub mod Enumerations
+pub mod Laws
