@@ -1,4 +1,5 @@
 -- What is proved of cut cells, whichever cells are marked.
+-- Internal: no rule of the language.
 use Rattle.std.specs.Prelude.{ℕ, ◌≤◌, ◌+◌, ◌^◌, Bool, List, length}
 use Rattle.rtlil_text.specs.declared.module.RtlModule.{RtlModule}
 use Rattle.rtlil_text.specs.Rules.{IsModule, module_ids}

@@ -1,4 +1,5 @@
 -- What the code must know of numbers in a module, and finds in its rules.
+-- Internal: no rule of the language.
 use Rattle.std.specs.Prelude.{◌≡◌, ◌≤◌, ◌<◌, ◌+◌, ◌^◌, ◌==◌, ℕ, Bool, true, false, List, [], ◌∷◌, length, All, IsTrue, codes}
 use Rattle.shape_rules.specs.declared.cell.CellKind.{CellKind}
 use Rattle.shape_rules.specs.declared.cell.CellKind.TheVariants.{Mux}

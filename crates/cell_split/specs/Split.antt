@@ -1,4 +1,5 @@
 -- A module of which some cells are cut into cells of one bit.
+-- Internal: no rule of the language.
 use Rattle.std.specs.Prelude.{ℕ, ◌+◌, nat_lt, ◌&&◌, Bool, if◌then◌else◌, List, [], ◌∷◌, ◌++◌, length, codes}
 use Rattle.rtlil_text.specs.declared.cell.RtlCell.{RtlCell}
 use Rattle.rtlil_text.specs.declared.module.RtlModule.{RtlModule}

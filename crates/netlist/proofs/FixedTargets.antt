@@ -10,11 +10,12 @@ use Rattle.design_ir.specs.declared.expr.Expr.{Expr}
 use Rattle.design_ir.specs.declared.expr.Expr.TheVariants as expr
 use Rattle.design_ir.specs.Pools.{Pooled, answers}
 use Rattle.design_ir.specs.Values.{form, num, signal_form}
-use Rattle.design_ir.specs.Targets.{Bit, target_step, target_bits, target_test, is_target, signals_step, target_signals}
+use Rattle.design_ir.specs.Targets.{Bit, target_step, target_bits, signals_step, target_signals}
 use Rattle.design_ir.specs.Circuits.{is_among}
 use Rattle.design_ir.proofs.Related.{related}
 use Rattle.design_ir.proofs.PutLaws.{AreWithin, target_within}
-use Rattle.netlist.specs.Latest.{fixed_step, is_fixed, places_step, places}
+use Rattle.design_ir.specs.Fixed.{fixed_step, is_fixed}
+use Rattle.netlist.specs.Latest.{places_step, places}
 
 -- ---- the same bits in every environment
 
@@ -158,34 +159,3 @@ unmapped ss (b ∷ bs) h = (h.0, unmapped ss bs h.1)
 
 pub places_of : (pool : Pooled) (k : ℕ) → is_fixed pool k ≡ true → AllByRecursion (IsOfThese (target_signals pool k)) (places pool k)
 places_of pool k t = unmapped (target_signals pool k) (places pool k) (rw (target_bits-fixed pool [] k t) at (target_within pool [] k))
-
--- ---- a fixed target is a target
-
-abbrev IsAlso : Bool → Bool → Type 0
-IsAlso fixed target = fixed ≡ true → target ≡ true
-
-all_also : (f g : ℕ → Bool) → ((k : ℕ) → IsAlso (f k) (g k)) → (es : List ExprId) → IsAlso (list_all (λ (e : ExprId). f e.0) es) (list_all (λ (e : ExprId). g e.0) es)
-all_also f g each [] = λ t. t
-all_also f g each (e ∷ es) = λ t.
-    let p = and_parts (f e.0) (list_all (λ (x : ExprId). f x.0) es) t in
-    let first : g e.0 ≡ true = each e.0 p.0 in
-    let others : list_all (λ (x : ExprId). g x.0) es ≡ true = all_also f g each es p.1 in
-    rw (first, others) refl
-
-step_also : (f g : ℕ → Bool) (e : Expr) → ((k : ℕ) → IsAlso (f k) (g k)) → IsAlso (fixed_step f e) (target_test g e)
-step_also f g (expr.Const n s) h = λ t. t
-step_also f g (expr.Sig s) h = λ t. t
-step_also f g (expr.Unary op a) h = λ t. t
-step_also f g (expr.Binary op a b) h = λ t. t
-step_also f g (expr.Mux s a b) h = λ t. t
-step_also f g (expr.Slice a low width) h = h a.0
-step_also f g (expr.Cat es) h = all_also f g h es
-step_also f g (expr.Part a offset width stride) h = λ t. absurd (false≢true t)
-step_also f g (expr.Pick index es) h = λ t. absurd (false≢true t)
-step_also f g (expr.Cast a signed) h = h a.0
-step_also f g (expr.Matches a patterns) h = λ t. t
-step_also f g (expr.Reset domain place) h = λ t. t
-
-pub is_target-fixed : (pool : Pooled) (k : ℕ) → is_fixed pool k ≡ true → is_target pool k ≡ true
-unfolding is_fixed is_target
-is_target-fixed pool k = related false false fixed_step target_test IsAlso (λ t. t) step_also pool.exprs k

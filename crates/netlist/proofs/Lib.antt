@@ -102,3 +102,4 @@ pub mod LowerLatest
 pub mod LowerDomains
 pub mod LowerWires
 pub mod LowerModule
+pub mod FlatModules

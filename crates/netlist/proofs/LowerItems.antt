@@ -1,12 +1,12 @@
 -- Turns of the loops over items and patterns.
-use Rattle.std.proofs.Common.{◌≡◌, ◌<◌, ◌≤◌, ◌+◌, ℕ, suc, max, List, [], ◌∷◌, ◌++◌, length, length-drop, drop, get_or, refl, sym, ap, ◌∙◌, arith, append_assoc, pos}
+use Rattle.std.proofs.Common.{◌≡◌, ◌<◌, ◌≤◌, ◌+◌, ℕ, suc, max, List, [], ◌∷◌, length, length-drop, drop, get_or, refl, sym, ap, ◌∙◌, arith, append_assoc, pos}
 use Rattle.std.proofs.lemmas.List.{drop_more, drop_all}
 use Rattle.shape_rules.specs.Forms.{unsigned}
 use Rattle.design_ir.specs.declared.expr.Pattern.{Pattern}
 use Rattle.netlist.specs.Ids.{part_id}
 use Rattle.netlist.specs.Operands.{at_width, const_spec}
-use Rattle.netlist.specs.Operators.{Value, Drawing, nothing, linked}
-use Rattle.netlist.specs.Expressions.{and_also, picked, picked_of, matched_within, matched_any}
+use Rattle.netlist.specs.Operators.{Value, Drawing, linked}
+use Rattle.netlist.specs.Expressions.{and_also, picked_of, matched_within, matched_any}
 use Rattle.netlist.specs.ItemSteps.{item_drawing, picked_from, either_drawing}
 
 pub and_also_assoc : (d e f : Drawing) → and_also (and_also d e) f ≡ and_also d (and_also e f)

@@ -1,5 +1,5 @@
 -- The last sources of a signal's bits, by the one process that drives it.
-use Rattle.std.proofs.Common.{◌≡◌, ◌≢◌, ◌<◌, ◌≤◌, ◌+◌, ◌*◌, ◌==◌, ◌&&◌, ℕ, zero, suc, Bool, true, false, cond, List, [], ◌∷◌, ◌++◌, map, length, take, drop, get_or, refl, sym, ap, ◌∙◌, arith, subst}
+use Rattle.std.proofs.Common.{◌≡◌, ◌<◌, ◌≤◌, ◌+◌, ◌*◌, ◌==◌, ◌&&◌, ℕ, zero, suc, Bool, true, false, cond, List, [], ◌∷◌, ◌++◌, map, length, take, drop, get_or, refl, sym, ap, ◌∙◌, arith, subst}
 use Rattle.std.specs.Prelude.{Option, Some, None, is_some}
 use Rattle.std.specs.List.{AllByRecursion, range_with_len, find}
 use Rattle.std.proofs.lemmas.Bool.{ne_eqb, and_parts, false≢true}
@@ -22,7 +22,7 @@ use Rattle.netlist.specs.Operators.{Value}
 use Rattle.netlist.specs.Latest.{Latest, is_fixed, is_plain, places, source_at, with_source, given, latest_of}
 use Rattle.netlist.specs.Spelled.{spec_of}
 use Rattle.netlist.specs.Module.{expr_value, drives, driving, driving_at, is_clocked, at_first, at_last, bits_at_last}
-use Rattle.netlist.specs.Plain.{ArePlain, IsPlain}
+use Rattle.netlist.specs.Plain.{IsPlain}
 use Rattle.netlist.specs.Tables.{source_of, Shows, at_start, latest_of_all, last_spec}
 use Rattle.netlist.proofs.FixedTargets.{IsOfThese, places_of}
 use Rattle.netlist.proofs.OneDriver.{AreNone, IsOnly, find_only}

@@ -1,5 +1,5 @@
 -- The module from what was drawn.
-use Rattle.std.proofs.Common.{◌≡◌, List, [], ◌++◌, map, length, refl, sym, ap, ◌∙◌, append_assoc}
+use Rattle.std.proofs.Common.{◌≡◌, List, [], ◌++◌, map, length, sym, ap, ◌∙◌}
 use Rattle.std.specs.List.{flat_map, range_with_len}
 use Rattle.std.proofs.lemmas.List.Concat.{flat_map-append}
 use Rattle.design_ir.specs.Circuits.{Circuit}

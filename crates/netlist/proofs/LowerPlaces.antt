@@ -1,5 +1,5 @@
 -- Places of signals, found from the last one on.
-use Rattle.std.proofs.Common.{◌≡◌, ◌<◌, ◌+◌, ◌-◌, ◌==◌, ◌≢◌, ℕ, zero, suc, Bool, true, false, cond, List, [], ◌∷◌, ◌++◌, length, drop, replicate, get_or, set, refl, sym, ap, ◌∙◌, arith, subst, ◌≤◌, ⊎_elim}
+use Rattle.std.proofs.Common.{◌≡◌, ◌<◌, ◌+◌, ◌-◌, ◌==◌, ℕ, zero, suc, Bool, true, false, cond, List, [], ◌∷◌, length, drop, replicate, get_or, set, refl, sym, ap, ◌∙◌, arith, subst, ◌≤◌, ⊎_elim}
 use Rattle.std.specs.Prelude.{Option, Some, None, slice_get, slice_index_or, option_and_then, map}
 use Rattle.std.specs.List.{find, AllByRecursion}
 use Rattle.std.proofs.lemmas.Bool.{eqb-true, eqb-false, cases_lt}

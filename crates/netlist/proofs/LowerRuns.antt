@@ -1,6 +1,6 @@
 -- Bits of one part, joined from the highest down.
-use Rattle.std.proofs.Common.{◌≡◌, ◌<◌, ◌≤◌, ◌+◌, ◌-◌, ◌==◌, ◌&&◌, ℕ, zero, suc, Bool, true, false, cond, List, [], ◌∷◌, ◌++◌, map, length, take, drop, get_or, refl, sym, ap, ◌∙◌, arith, subst, append_assoc}
-use Rattle.std.specs.Prelude.{Option, Some, None, option_map, unwrap_or}
+use Rattle.std.proofs.Common.{◌≡◌, ◌<◌, ◌≤◌, ◌+◌, ◌-◌, ◌==◌, ◌&&◌, ℕ, suc, Bool, true, false, cond, List, [], ◌∷◌, ◌++◌, map, length, take, drop, get_or, refl, sym, ap, ◌∙◌, arith, append_assoc}
+use Rattle.std.specs.Prelude.{Some, None, option_map, unwrap_or}
 use Rattle.std.specs.List.{AllByRecursion, find}
 use Rattle.std.proofs.lemmas.Bool.{ne_eqb, and_parts}
 use Rattle.std.proofs.lemmas.List.{drop_more, drop_all, take_more, map-append}
@@ -14,7 +14,7 @@ use Rattle.rtlil_text.specs.declared.sig.SigPart.TheVariants as parts
 use Rattle.rtlil_text.specs.Sources.{Source, Constant, Net}
 use Rattle.netlist.specs.Ids.{signal_id}
 use Rattle.netlist.specs.Operands.{const_part}
-use Rattle.netlist.specs.Module.{public_id, column_of, wire_id}
+use Rattle.netlist.specs.Module.{public_id, wire_id}
 use Rattle.netlist.specs.Spelled.{one_part, below, added_below, spec_of}
 use Rattle.netlist.specs.Tables.{joins, bit_of, run_of, source_id, source_place}
 

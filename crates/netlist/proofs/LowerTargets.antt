@@ -1,6 +1,6 @@
 -- The bits that fixed targets stand for.
-use Rattle.std.proofs.Common.{◌≡◌, ◌<◌, ◌≤◌, ◌+◌, ◌-◌, ℕ, suc, min, Bool, List, [], ◌∷◌, ◌++◌, length, length-drop, take, drop, map, get_or, refl, sym, ap, ◌∙◌, arith, subst, append-nil, ◌⊎◌, ⊎_elim, inl, inr, ℤ}
-use Rattle.std.specs.Prelude.{Option, Some, slice_get}
+use Rattle.std.proofs.Common.{◌≡◌, ◌<◌, ◌≤◌, ◌+◌, ◌-◌, ℕ, suc, min, List, [], ◌∷◌, ◌++◌, length, length-drop, take, drop, map, get_or, refl, sym, ap, ◌∙◌, arith, append-nil, ◌⊎◌, ⊎_elim, inl, inr, ℤ}
+use Rattle.std.specs.Prelude.{Some, slice_get}
 use Rattle.std.specs.List.{flat_map, range_with_len}
 use Rattle.std.proofs.lemmas.Bool.{cases_lt}
 use Rattle.std.proofs.lemmas.List.{take_more, take_min, take_all, drop_all}
@@ -12,10 +12,10 @@ use Rattle.design_ir.specs.declared.ids.ExprId.{ExprId}
 use Rattle.design_ir.specs.declared.expr.Pattern.{Pattern}
 use Rattle.design_ir.specs.declared.expr.Expr.{Expr}
 use Rattle.design_ir.specs.declared.expr.Expr.TheVariants as expr
-use Rattle.design_ir.specs.Named.{named, AllBelow}
+use Rattle.design_ir.specs.Named.{named}
 use Rattle.design_ir.specs.Pools.{Pooled}
 use Rattle.design_ir.specs.PoolRules.{IsPool}
-use Rattle.design_ir.specs.Targets.{Bit, bits_of}
+use Rattle.design_ir.specs.Targets.{Bit}
 use Rattle.design_ir.specs.Values.{signal_form}
 use Rattle.design_ir.proofs.Congruence.{AreSame, same_below}
 use Rattle.design_ir.proofs.Equations.{standing, answer_at}

@@ -12,7 +12,8 @@ use Rattle.design_ir.proofs.SanityParts.{signal, e, s, set, comb, bit, domain}
 use Rattle.rtlil_text.specs.declared.sig.SigPart.TheVariants as parts
 use Rattle.rtlil_text.specs.Sources.{Constant, Net}
 use Rattle.netlist.specs.Ids.{signal_id, value_id}
-use Rattle.netlist.specs.Latest.{is_fixed, places}
+use Rattle.design_ir.specs.Fixed.{is_fixed}
+use Rattle.netlist.specs.Latest.{places}
 use Rattle.netlist.specs.Spelled.{spec_of}
 use Rattle.netlist.specs.Module.{at_last, bits_at_last, driving, ByComb, ByNothing}
 

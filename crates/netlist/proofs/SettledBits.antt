@@ -9,7 +9,7 @@ use Rattle.design_ir.specs.declared.process.DesignProcess.{DesignProcess}
 use Rattle.design_ir.specs.Pools.{Pooled}
 use Rattle.design_ir.specs.PoolRules.{IsPool}
 use Rattle.design_ir.specs.Values.{form, num, signal_form}
-use Rattle.design_ir.specs.Targets.{Bit, Aim, aims}
+use Rattle.design_ir.specs.Targets.{Bit, fixed, Aim, aims}
 use Rattle.design_ir.specs.Needed.{extended, needed, needed_whole, needed_indices}
 use Rattle.design_ir.specs.Trees.{assign, choose, Block, done, next}
 use Rattle.design_ir.specs.Guards.{Guard, Guarded, guarded, block_exprs}
@@ -70,10 +70,10 @@ module _ (c : Circuit) (env : List ℤ) (design : IsDesign c) (rules : IsPool c.
 
   process_needs : (o : IsOnly (driven_by c) s c.processes p) → p.domain ≡ None → (t v : ExprId) (place : ℕ) → IsItsOwn t v → is_fixed c.pool t.0 ≡ true → slice_get (places c.pool t.0) place ≡ Some (record { sig = s; index = i })
       → (x : Bit) → Among (extended (form c.pool v.0) (needed c.pool v.0) place) x → Needs c (record { sig = s; index = i }) x
-  process_needs o d t v place own fixed lands x a =
+  process_needs o d t v place own firm lands x a =
       let g : Guarded = own.stands.assignment in
-      let aim : Aim = record { bit = record { sig = s; index = i }; source = Some place } in
-      let aimed : Among (aims c.pool g.target.0) aim = subst (λ (u : ExprId). Among (aims c.pool u.0) aim) (sym own.stands.target) (fixed_aims c.pool rules t place (record { sig = s; index = i }) own.target.there fixed lands) in
+      let aim : Aim = record { bit = record { sig = s; index = i }; spot = fixed place } in
+      let aimed : Among (aims c.pool g.target.0) aim = subst (λ (u : ExprId). Among (aims c.pool u.0) aim) (sym own.stands.target) (fixed_aims c.pool rules t place (record { sig = s; index = i }) own.target.there firm lands) in
       let read : Among (needed_value c.pool g.value (Some place)) x = subst (λ (u : ExprId). Among (needed_value c.pool u (Some place)) x) (sym own.stands.value) a in
       let others : List Bit = flat_map (λ (y : Guard). needed_whole c.pool y.condition) g.guards ++ needed_indices c.pool g.target.0 in
       inl (record {

@@ -1,6 +1,6 @@
 -- What each bit of each signal is given by statements without choices: the last assignment to a bit wins.
-use Rattle.std.specs.Prelude.{ℕ, ◌+◌, ◌-◌, ◌==◌, ◌&&◌, nat_lt, Bool, true, false, if◌then◌else◌, List, [], ◌∷◌, take, drop}
-use Rattle.std.specs.List.{flat_map, list_all}
+use Rattle.std.specs.Prelude.{ℕ, ◌+◌, ◌-◌, ◌==◌, ◌&&◌, nat_lt, false, if◌then◌else◌, List, [], ◌∷◌, take, drop}
+use Rattle.std.specs.List.{flat_map}
 use Rattle.shape_rules.specs.Forms.{Form}
 use Rattle.design_ir.specs.declared.ids.ExprId.{ExprId}
 use Rattle.design_ir.specs.declared.expr.Expr.{Expr}
@@ -8,6 +8,7 @@ use Rattle.design_ir.specs.declared.expr.Expr.TheVariants as expr
 use Rattle.design_ir.specs.Pools.{Pooled, answer}
 use Rattle.design_ir.specs.Values.{signal_form}
 use Rattle.design_ir.specs.Targets.{Bit, bits_of}
+pub use Rattle.design_ir.specs.Fixed.{fixed_step, is_fixed, is_plain}
 use Rattle.design_ir.specs.Trees.{assign, choose, Block, done, next}
 use Rattle.rtlil_text.specs.Sources.{Source, Constant, Net}
 use Rattle.netlist.specs.Operators.{Value}
@@ -15,25 +16,6 @@ use Rattle.netlist.specs.Operators.{Value}
 -- where each bit of each signal comes from
 abbrev pub Latest : Type 0
 Latest = ℕ → ℕ → Source
-
--- ---- targets that stand for the same bits whatever the signals' numbers are: signals, and slices, joins and readings of such
-
-abbrev pub fixed_step : (ℕ → Bool) → Expr → Bool
-fixed_step is (expr.Sig s) = true
-fixed_step is (expr.Slice a low width) = is a.0
-fixed_step is (expr.Cat es) = list_all (λ (e : ExprId). is e.0) es
-fixed_step is (expr.Cast a signed) = is a.0
-fixed_step is (expr.Part a offset width stride) = false
-fixed_step is (expr.Pick index es) = false
-fixed_step is (expr.Const n s) = false
-fixed_step is (expr.Unary o a) = false
-fixed_step is (expr.Binary o a b) = false
-fixed_step is (expr.Mux s a b) = false
-fixed_step is (expr.Matches a patterns) = false
-fixed_step is (expr.Reset domain place) = false
-
-unfoldable pub is_fixed : Pooled → ℕ → Bool
-is_fixed pool k = answer false fixed_step pool.exprs k
 
 -- the bits that a fixed target stands for, the lowest first
 abbrev pub places_step : (ℕ → Form) → (ℕ → List Bit) → Expr → List Bit
@@ -73,11 +55,3 @@ abbrev pub latest_of : Pooled → (ℕ → Value) → Block → Latest → Lates
 latest_of pool value done latest = latest
 latest_of pool value (next (assign target source place) rest) latest = latest_of pool value rest (given (value source.0) (places pool target.0) 0 latest)
 latest_of pool value (next (choose arms) rest) latest = latest_of pool value rest latest
-
--- ---- blocks that these are enough for
-
--- no choice, and each target is fixed
-abbrev pub is_plain : Pooled → Block → Bool
-is_plain pool done = true
-is_plain pool (next (assign target source place) rest) = is_fixed pool target.0 && is_plain pool rest
-is_plain pool (next (choose arms) rest) = false

@@ -16,5 +16,6 @@ pub mod PoolsDrawn
 pub mod Drives
 pub mod Corresponds
 pub mod Plain
+pub mod Beyond
 pub mod Histories
 pub mod Laws

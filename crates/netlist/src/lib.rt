@@ -4,9 +4,11 @@
 //! a wire of its own, which cells or a link drive (specs/Operators.antt, specs/Expressions.antt), and statements give
 //! each bit of a signal one source (specs/Latest.antt). `lower` makes that module in one pass over each list, and promises
 //! that it keeps the rules of RTLIL text, has the design's columns, and has the design's history over all legal events;
-//! what it rests on is proved for every design, and the functions of `laws` carry it in their clauses.
+//! what it rests on is proved for every design, and the functions of `laws` carry it in their clauses. `first_beyond` tells
+//! where the first part of a design stands that cannot be lowered yet (specs/Beyond.antt).
 #![tactic(auto)]
 
+mod beyond;
 mod cells;
 mod drawing;
 mod drawings;
@@ -27,6 +29,7 @@ mod tables;
 mod targets;
 mod wires;
 
+pub use beyond::first_beyond;
 pub use laws::{
     expressions_are_made, modules_are_sound, modules_have_the_history, operators_are_made,
 };

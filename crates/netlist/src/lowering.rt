@@ -1,7 +1,8 @@
 // The module of a design.
-ghost use Rattle.std.specs.Prelude.{◌≡◌, ◌<◌, ◌^◌, ◌++◌, length, IfOk};
+ghost use Rattle.std.specs.Prelude.{◌≡◌, ◌<◌, ◌^◌, ◌++◌, [], map, length, IfOk};
 ghost use Rattle.std.specs.List.{AllByRecursion, flat_map, range_with_len};
-ghost use Rattle.comb_graph.specs.Rankings.{IsRanking};
+ghost use Rattle.comb_graph.specs.Orders.{IsOrder};
+ghost use Rattle.comb_graph.specs.Rankings.{bit_of, IsRanking};
 ghost use Rattle.design_ir.specs.PoolRules.{IsPool};
 ghost use Rattle.design_ir.specs.Designs.{IsDesign};
 ghost use Rattle.rtlil_text.specs.Rules.{IsModule};
@@ -22,15 +23,34 @@ use amh_host::{Items, NoMemory};
 use cell_split::split_tangled;
 use comb_graph::Ranks;
 use design_ir::{Design, Expr, ExprId, Exprs};
+use flat_design::{flat_has_the_history, flat_keeps_orders, flatten};
 use rtlil_text::{RtlModule, RtlWire};
 use std::alloc::Global;
 
-/// The module of a design that has no memories, no choices and fixed targets alone. It keeps the rules of RTLIL text, has
-/// the design's columns, and has the design's history over all legal events, with a value on every bit of every wire.
-/// Cells whose bits need each other in turn are cut into cells of one bit.
+/// The module of a design that has no memories. It keeps the rules of RTLIL text, has the design's columns, and has the
+/// design's history over all legal events, with a value on every bit of every wire. Choices become multiplexers, and so do
+/// targets with computed offsets and indices. Cells whose bits need each other in turn are cut into cells of one bit.
 pub fn lower(alloc: Global, design: &Design, ranks: &Ranks) -> Result<RtlModule, NoMemory>
-    requires plain { IsPlain design.now }
+    requires flat { design.now.memories ≡ [] }
     requires ranked { IsRanking design.now ranks.now }
+    ensures rules { IfOk result IsModule }
+    ensures corresponds { IfOk result (Corresponds design.now) }
+    ensures history { IfOk result (SameHistory design.now) }
+{
+    flat_keeps_orders();
+    flat_has_the_history();
+    let _ = design.count();
+    let _ = design.processes();
+    let flat = flatten(alloc, design)?;
+    let _ = flat.count();
+    let _ = flat.processes();
+    lower_plain(alloc, &flat, ranks)
+}
+
+// The module of a design without choices and with fixed targets alone.
+fn lower_plain(alloc: Global, design: &Design, ranks: &Ranks) -> Result<RtlModule, NoMemory>
+    requires plain { IsPlain design.now }
+    requires ordered { IsOrder design.now (map bit_of ranks.now.order) }
     ensures rules { IfOk result IsModule }
     ensures corresponds { IfOk result (Corresponds design.now) }
     ensures history { IfOk result (SameHistory design.now) }

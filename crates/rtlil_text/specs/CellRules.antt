@@ -1,4 +1,5 @@
 -- The rules on the parameters and the ends of a cell that is no memory cell.
+-- Source: Yosys manual, Cell library: unary and binary operators, multiplexers, registers; equal widths: own rule (docs/RULES.md).
 use Rattle.std.specs.Prelude.{◌≡◌, ◌≤◌, ℕ, List, length, codes}
 use Rattle.rtlil_text.specs.declared.cell.RtlCell.{RtlCell}
 use Rattle.rtlil_text.specs.Sources.{end_width, number_at, bits_at}

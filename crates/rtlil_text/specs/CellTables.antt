@@ -1,4 +1,5 @@
 -- The parameters and the ends of each kind of cell, in order, and the end that it drives.
+-- Source: Yosys manual, Cell library; the order of parameters, and the memory cells: own rules (docs/RULES.md).
 use Rattle.std.specs.Prelude.{ℕ, List, [], ◌∷◌, codes}
 use Rattle.shape_rules.specs.declared.cell.CellKind.{CellKind}
 use Rattle.shape_rules.specs.declared.cell.CellKind.TheVariants.{Not, ReduceOr, ReduceAnd, ReduceXor, Mux, Dff, Adff, MemoryRead, MemoryWrite, MemoryInit}

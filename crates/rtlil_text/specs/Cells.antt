@@ -1,4 +1,5 @@
 -- The value of each bit of a cell's output, from the values of the bits at its ends.
+-- Source: Yosys manual, Cell library: unary operators, binary operators, multiplexers.
 use Rattle.std.specs.Prelude.{ℕ, zero, suc, ◌+◌, ◌*◌, ◌/◌, ◌%◌, ◌^◌, ◌==◌, ◌&&◌, ◌||◌, Bool, true, false, not, cond, List, [], ◌∷◌, map, length, slice_get, ℤ, pos, ◌+ℤ◌, ◌-ℤ◌, ◌*ℤ◌, int_lt, int_le, unsigned_abs, Option, Some, None, option_map, option_and_then, codes}
 use Rattle.std.specs.List.{list_any, list_all}
 use Rattle.amh_bits.specs.Integers.{floor_div, floor_rem, floor_quotient}

@@ -1,4 +1,5 @@
 -- What drives each bit of a module.
+-- Source: Yosys manual, RTLIL text representation: Connections, Wires, Cells; Cell library, for which end is the output.
 use Rattle.std.specs.Prelude.{ℕ, suc, ◌==◌, ◌&&◌, Bool, false, if◌then◌else◌, List, [], ◌∷◌, ◌++◌}
 use Rattle.std.specs.List.{flat_map, range_with_len}
 use Rattle.std.specs.Prelude.{map}

@@ -1,4 +1,5 @@
 -- The grammar: which texts stand for a module. A spec may be written in several ways.
+-- Source: Yosys manual, RTLIL text representation: Signal specifications, Connections, Cells; a part of it: own rule (docs/RULES.md).
 use Rattle.std.specs.Prelude.{◌≡◌, ℕ, ◌+◌, ◌-◌, ◌≤◌, Bool, List, [], ◌∷◌, ◌++◌, codes, Contains}
 use Rattle.std.specs.List.{flat_map}
 use Rattle.std.specs.Fmt.{decimal}

@@ -1,4 +1,5 @@
 -- What a module does over events: its states, and the values of its wires.
+-- Source: Yosys manual, Cell library: registers, memories; inputs from event to event: own rule (docs/RULES.md).
 use Rattle.std.specs.Prelude.{ℕ, suc, ◌+◌, ◌*◌, ◌==◌, nat_lt, ◌&&◌, Bool, false, not, if◌then◌else◌, List, [], ◌∷◌, length, slice_get, Option, Some, None, option_map, option_and_then, codes, fold}
 use Rattle.shape_rules.specs.declared.cell.CellKind.{CellKind}
 use Rattle.shape_rules.specs.declared.cell.CellKind.TheVariants.{Dff, Adff, MemoryRead}

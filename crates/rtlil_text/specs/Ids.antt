@@ -1,4 +1,5 @@
 -- The names that wires, memories and cells may have.
+-- Source: Yosys manual, RTLIL text representation: Identifiers; the form of public and inner names: own rule (docs/RULES.md).
 use Rattle.std.specs.Prelude.{◌≡◌, ◌≢◌, ◌⊎◌, ◌==◌, ◌&&◌, ◌||◌, nat_le, ℕ, Bool, List, [], ◌∷◌, All, AllPairs, codes, IsTrue}
 use Rattle.std.specs.Fmt.{decimal}
 use Rattle.rtlil_text.specs.Lines.{◌▸◌}

@@ -1,4 +1,5 @@
 -- The pieces of a text that can be written in one way only.
+-- Source: Yosys manual, RTLIL text representation: Values, Strings, Attribute statements, Modules, Wires, Memories, Cells.
 use Rattle.std.specs.Prelude.{ℕ, Bool, cond, List, [], ◌∷◌, ◌++◌, map, reverse, length, Option, Some, None, codes}
 use Rattle.std.specs.Fmt.{decimal}
 use Rattle.shape_rules.specs.declared.cell.CellKind.{CellKind}

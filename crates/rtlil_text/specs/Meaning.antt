@@ -1,4 +1,5 @@
 -- The value of each bit of a wire, to a depth: found by its driver from the values of other bits.
+-- Source: Yosys manual, RTLIL text representation: Connections; Cell library: memories (reads); depths: own rule (docs/RULES.md).
 use Rattle.std.specs.Prelude.{ℕ, zero, suc, ◌==◌, nat_lt, Bool, true, false, if◌then◌else◌, List, [], ◌∷◌, slice_get, Option, Some, None, option_map, option_and_then, unwrap_or, codes}
 use Rattle.lists.specs.Texts.{text_eq}
 use Rattle.shape_rules.specs.declared.cell.CellKind.{CellKind}

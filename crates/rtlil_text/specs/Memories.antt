@@ -1,4 +1,5 @@
 -- The cells of a memory, and what its writes leave in a bit of a row.
+-- Source: Yosys manual, Cell library: memories.
 use Rattle.std.specs.Prelude.{ℕ, ◌&&◌, Bool, true, false, if◌then◌else◌, List, [], ◌∷◌}
 use Rattle.std.specs.List.{filter}
 use Rattle.lists.specs.Texts.{text_eq}

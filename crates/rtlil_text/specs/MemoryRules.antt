@@ -1,4 +1,5 @@
 -- The rules on memories and their cells.
+-- Source: this project's own rule (docs/RULES.md), after the Yosys manual, Cell library: memories.
 use Rattle.std.specs.Prelude.{◌≡◌, ◌≤◌, ◌*◌, ℕ, suc, Bool, true, false, List, [], ◌∷◌, ◌++◌, length, max, take, replicate, All, slice_get, Some, MatchOption, Contains, codes}
 use Rattle.rtlil_text.specs.declared.cell.RtlCell.{RtlCell}
 use Rattle.rtlil_text.specs.declared.module.RtlMemory.{RtlMemory}

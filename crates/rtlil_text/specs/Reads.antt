@@ -1,4 +1,5 @@
 -- When a text stands for a module.
+-- Source: Yosys manual, RTLIL text representation; the part of it that this tool writes: own rule (docs/RULES.md).
 use Rattle.std.specs.Prelude.{ℕ, List}
 use Rattle.rtlil_text.specs.declared.module.RtlModule.{RtlModule}
 use Rattle.rtlil_text.specs.Grammar.{IsText}

@@ -1,4 +1,5 @@
 -- The rules on a module, beside the grammar of its text.
+-- Source: Yosys manual, RTLIL text representation: Modules, Wires, Cells; one driver for each bit: own rule (docs/RULES.md).
 use Rattle.std.specs.Prelude.{◌≡◌, ◌≤◌, ◌+◌, ℕ, List, ◌++◌, map, length, All, IfSome, Contains, IsPermutation}
 use Rattle.std.specs.List.{flat_map, range_with_len}
 use Rattle.shape_rules.specs.declared.cell.CellKind.{CellKind}

@@ -1,4 +1,5 @@
 -- What stands in a module under a name, and the bits that its specs name.
+-- Source: Yosys manual, RTLIL text representation: Signal specifications, Wires, Cells.
 use Rattle.std.specs.Prelude.{ℕ, ◌&&◌, Bool, true, false, if◌then◌else◌, List, [], ◌∷◌, ◌++◌, map, length, Option, Some, None, option_map, unwrap_or, codes}
 use Rattle.std.specs.List.{find, range_with_len, list_any}
 use Rattle.std.specs.Str.{bytes_eq}

@@ -1,4 +1,5 @@
 -- The widths that the code keeps by ids, as a function.
+-- Internal: no rule of the language.
 use Rattle.std.specs.Prelude.{ℕ, List, Option}
 use Rattle.std.specs.BTreeMap.{get_by_text}
 use Rattle.rtlil_text.specs.declared.widths.Widths.{Widths}

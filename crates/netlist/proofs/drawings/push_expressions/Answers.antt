@@ -1,4 +1,4 @@
-use Rattle.std.proofs.Common.{◌≡◌, ◌+◌, take, sym, ap, ◌∙◌, arith}
+use Rattle.std.proofs.Common.{◌+◌, take, sym, ap, ◌∙◌, arith}
 use Rattle.std.proofs.lemmas.Option.{get_or_from_slice_get}
 use Rattle.design_ir.proofs.Equations.{standing}
 use Rattle.netlist.specs.Operators.{Drawing}
@@ -6,7 +6,7 @@ use Rattle.netlist.specs.Expressions.{and_also, part_total}
 use Rattle.netlist.specs.Module.{drawings}
 use Rattle.netlist.specs.Tables.{together}
 use Rattle.netlist.proofs.PartCounts.{part_total-more}
-use Rattle.netlist.proofs.LowerDrawings.{drawings_turn, drawings_end}
+use Rattle.netlist.proofs.LowerDrawings.{drawings_turn}
 use Rattle.netlist.proofs.drawings.push_expressions.Goals as goal
 
 pub drawn-requires-clause-few : goal.drawn-requires-clause-few

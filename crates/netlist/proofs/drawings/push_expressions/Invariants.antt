@@ -1,4 +1,4 @@
-use Rattle.std.proofs.Common.{◌≡◌, ◌≤◌, ◌*◌, ◌^◌, length, take, drop}
+use Rattle.std.proofs.Common.{◌≡◌, ◌≤◌, ◌*◌, ◌^◌, take, drop}
 use Rattle.netlist.specs.Expressions.{and_also, part_total}
 use Rattle.netlist.specs.Module.{drawn_from, drawings}
 use Rattle.netlist.specs.Tables.{together}

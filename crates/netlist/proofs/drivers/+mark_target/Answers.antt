@@ -1,8 +1,8 @@
-use Rattle.std.proofs.Common.{◌≡◌, ◌<◌, ℕ, List, length, take, sym, ap, ◌∙◌, subst, arith}
+use Rattle.std.proofs.Common.{◌<◌, length, sym, ap, ◌∙◌, subst, arith}
 use Rattle.std.specs.List.{flat_map}
 use Rattle.std.proofs.lemmas.List.{take_all}
 use Rattle.design_ir.specs.declared.ids.ExprId.{ExprId}
-use Rattle.design_ir.specs.Named.{named, AllBelow}
+use Rattle.design_ir.specs.Named.{AllBelow}
 use Rattle.design_ir.specs.Targets.{signals_step, target_signals}
 use Rattle.design_ir.proofs.Equations.{standing}
 use Rattle.netlist.proofs.LowerJoined.{below_get}

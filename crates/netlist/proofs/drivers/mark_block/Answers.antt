@@ -1,9 +1,5 @@
-use Rattle.std.proofs.Common.{◌≡◌, sym, ap, ◌∙◌, subst, take}
-use Rattle.std.specs.Prelude.{Option}
-use Rattle.design_ir.specs.Statements.{block_of}
-use Rattle.design_ir.specs.Guards.{driven}
+use Rattle.std.proofs.Common.{subst}
 use Rattle.design_ir.specs.declared.stmt.Stmt.{Stmt}
-use Rattle.netlist.specs.Tables.{IsMarked}
 use Rattle.netlist.proofs.LowerDrivers.{IsPlainStmt, plain_at, driven_turn}
 use Rattle.netlist.proofs.drivers.mark_block.Goals as goal
 use Rattle.netlist.proofs.drivers.mark_block.Goals.{in-Assign, in-Choose}

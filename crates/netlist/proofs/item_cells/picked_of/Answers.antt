@@ -1,4 +1,4 @@
-use Rattle.std.proofs.Common.{◌≡◌, ◌+◌, ◌-◌, length, drop, sym, ap, ◌∙◌, arith}
+use Rattle.std.proofs.Common.{◌≡◌, ◌-◌, length, drop, sym, ap, ◌∙◌, arith}
 use Rattle.netlist.specs.Operators.{Drawing, linked}
 use Rattle.netlist.specs.Operands.{at_width}
 use Rattle.netlist.specs.Expressions.{and_also, picked_of}

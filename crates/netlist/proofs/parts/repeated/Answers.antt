@@ -1,5 +1,4 @@
-use Rattle.std.proofs.Common.{replicate, ◌≡◌, ◌+◌, ◌-◌, ◌++◌, ◌∷◌, [], ◌∙◌, ap}
-use Rattle.rtlil_text.specs.declared.sig.SigPart.{SigPart}
+use Rattle.std.proofs.Common.{replicate, ◌+◌, ◌-◌, ◌++◌, ◌∷◌, [], ◌∙◌, ap}
 use Rattle.rtlil_text.specs.declared.sig.SigPart.TheVariants as parts
 use Rattle.netlist.proofs.LowerParts.{one_more, no_more, replicate_next, replicate_end}
 use Rattle.netlist.proofs.parts.repeated.Goals as goal

@@ -4,7 +4,7 @@ use Rattle.netlist.specs.Operators.{Drawing}
 use Rattle.netlist.specs.Expressions.{and_also}
 use Rattle.netlist.specs.Module.{signal_drawing}
 use Rattle.netlist.specs.Tables.{together}
-use Rattle.netlist.proofs.LowerWires.{signals_turn, signals_end}
+use Rattle.netlist.proofs.LowerWires.{signals_turn}
 use Rattle.netlist.proofs.signals.push_signals.Goals as goal
 
 pub loop-i-preserved : goal.loop-i-preserved

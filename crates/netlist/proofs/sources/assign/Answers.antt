@@ -1,4 +1,4 @@
-use Rattle.std.proofs.Common.{length, sym, ◌∙◌, subst}
+use Rattle.std.proofs.Common.{sym, ◌∙◌, subst}
 use Rattle.shape_rules.specs.Forms.{Form}
 use Rattle.netlist.specs.Ids.{value_id}
 use Rattle.netlist.specs.Latest.{places, given}

@@ -1,4 +1,4 @@
-use Rattle.std.proofs.Common.{◌≡◌, ◌+◌, ◌*◌, length, take, sym, ap, ◌∙◌, subst, get_or, arith}
+use Rattle.std.proofs.Common.{◌≡◌, ◌+◌, ◌*◌, sym, ◌∙◌, subst, get_or}
 use Rattle.std.proofs.lemmas.List.{length-set, take_all}
 use Rattle.design_ir.specs.Targets.{Bit}
 use Rattle.netlist.specs.Ids.{value_id}

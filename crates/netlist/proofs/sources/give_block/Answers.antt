@@ -1,4 +1,4 @@
-use Rattle.std.proofs.Common.{◌≡◌, ◌*◌, length, take, sym, ap, ◌∙◌, subst}
+use Rattle.std.proofs.Common.{length, take, sym, ap, ◌∙◌, subst}
 use Rattle.std.proofs.lemmas.List.{take_all}
 use Rattle.design_ir.specs.declared.stmt.Stmt.{Stmt}
 use Rattle.design_ir.specs.Statements.{block_of}

@@ -1,18 +1,15 @@
-use Rattle.std.proofs.Common.{◌≡◌, ◌<◌, ℕ, List, length, take, drop, sym, ap, ◌∙◌, subst, arith}
-use Rattle.std.specs.Prelude.{Some, option_map, unwrap_or}
+use Rattle.std.proofs.Common.{take, drop, sym, ap, ◌∙◌, subst, arith}
 use Rattle.std.specs.List.{flat_map}
 use Rattle.std.proofs.lemmas.List.{take_all}
 use Rattle.std.proofs.lemmas.Result.{IfOk-weaker}
-use Rattle.shape_rules.specs.Forms.{Form, unsigned}
 use Rattle.design_ir.specs.declared.ids.ExprId.{ExprId}
-use Rattle.design_ir.specs.declared.signal.Sig.{Sig}
-use Rattle.design_ir.specs.Named.{named, AllBelow}
+use Rattle.design_ir.specs.Named.{AllBelow}
 use Rattle.design_ir.specs.Values.{signal_form}
 use Rattle.design_ir.specs.Targets.{bits_of}
 use Rattle.design_ir.proofs.Equations.{standing}
 use Rattle.netlist.specs.Latest.{places, places_step}
 use Rattle.netlist.proofs.LowerJoined.{below_get}
-use Rattle.netlist.proofs.LowerTargets.{places_is, joined_turn, bare_is}
+use Rattle.netlist.proofs.LowerTargets.{places_is, bare_is}
 use Rattle.netlist.proofs.targets.+places.Goals as goal
 
 pub signal_width-requires : goal.signal_width-requires

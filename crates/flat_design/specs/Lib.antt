@@ -1,0 +1,15 @@
+pub mod Growing
+pub mod Sources
+pub mod Adding
+pub mod Activity
+pub mod Writes
+pub mod WriteLaws
+pub mod Pieces
+pub mod Shown
+pub mod Replaced
+pub mod Written
+pub mod Begun
+pub mod Found
+pub mod Assigned
+pub mod Flat
+pub mod Laws
