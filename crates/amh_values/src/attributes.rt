@@ -1,0 +1,80 @@
+// Attributes of things.
+ghost use Rattle.std.specs.Prelude.{◌≡◌, slice_get};
+ghost use Rattle.amh_values.specs.Attributes.{method_made, thing_attribute, attributed};
+ghost use Rattle.amh_values.specs.Members.{member_named};
+ghost use Rattle.amh_values.specs.Plans.{IsPlanned};
+ghost use Rattle.amh_values.specs.Things.{held_expr, method_named, shown_enumeration};
+
+use crate::names::method_named;
+use crate::plan::{Ends, Plan, PlanStop, raised, value_given};
+use crate::thing::Thing;
+use crate::values::Values;
+use data_layouts::EnumShape;
+use py_values::{Hw, Val};
+use std::alloc::Global;
+
+// A method of the value that a thing is.
+fn method_made(
+    alloc: Global,
+    values: &Values,
+    ends: Ends,
+    of: Hw,
+    name: &str,
+) -> Result<Plan, PlanStop>
+    ensures { IsPlanned result (method_made ends of (held_expr (slice_get values.now of.0)) (method_named name.now)) }
+{
+    match (values.expr(of), method_named(name)) {
+        (Some(value), Some(method)) => ends.thing(alloc, Thing::Method { of, value, method }),
+        _ => Err(raised()),
+    }
+}
+
+// A member of an enumeration.
+fn member_named(
+    alloc: Global,
+    values: &Values,
+    of: Hw,
+    e: &EnumShape,
+    name: &str,
+) -> Result<Plan, PlanStop>
+    ensures { IsPlanned result (member_named values.now of e.now name.now) }
+{
+    let Some(number) = e.number_named(name) else {
+        return Err(raised());
+    };
+    match values.member(of, number) {
+        Some(member) => Ok(value_given(alloc, Val::Hw(member))),
+        None => Err(raised()),
+    }
+}
+
+fn thing_attribute(
+    alloc: Global,
+    values: &Values,
+    ends: Ends,
+    of: Hw,
+    name: &str,
+) -> Result<Plan, PlanStop>
+    ensures { IsPlanned result (thing_attribute ends values.now of (shown_enumeration (slice_get values.now of.0)) name.now) }
+{
+    match values.shown_enumeration(of) {
+        Some(e) => member_named(alloc, values, of, e, name),
+        None => method_made(alloc, values, ends, of, name),
+    }
+}
+
+/// The attribute of a thing.
+pub(crate) fn attributed(
+    alloc: Global,
+    values: &Values,
+    ends: Ends,
+    vals: &[Val],
+    name: &str,
+) -> Result<Plan, PlanStop>
+    ensures { IsPlanned result (attributed ends values.now vals.now name.now) }
+{
+    match vals {
+        [Val::Hw(hw)] => thing_attribute(alloc, values, ends, *hw, name),
+        _ => Err(raised()),
+    }
+}
