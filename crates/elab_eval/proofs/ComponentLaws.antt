@@ -1,0 +1,109 @@
+-- Steps of the loops over members, classes and names.
+use Rattle.std.specs.Prelude.{◌≡◌, refl, ℕ, zero, suc, ◌+◌, ◌<◌, ◌||◌, ◌&&◌, ◌==◌, ◌≢◌, not, Bool, true, false, cond, List, [], ◌∷◌, ◌++◌, length, drop, reverse, get_or, Option, Some, None, bytes_eq}
+use Rattle.std.specs.List.{list_any}
+use Rattle.std.proofs.Common.{sym, ◌∙◌, ap, arith, true≢false}
+use Rattle.std.proofs.lemmas.List.{at_drop_more, append-nil, append_assoc, reverse-append}
+use Rattle.std.proofs.lemmas.Bool.{eqb-true}
+use Rattle.std.proofs.lemmas.List.Folds.{list_any-append}
+use Rattle.std.proofs.lemmas.Slice.Eq.{bytes_eq-Decides}
+use Rattle.lists.specs.Texts.{text_eq}
+use Rattle.lists.proofs.TextLaws.{by_equal}
+use Rattle.py_values.specs.declared.val.ObjId.{ObjId}
+use Rattle.elab_eval.specs.declared.members.NamedMember.{NamedMember}
+use Rattle.elab_eval.specs.declared.members.ComponentClass.{ComponentClass}
+use Rattle.elab_eval.specs.declared.members.Member.{Member}
+use Rattle.elab_eval.specs.Classes.{is_keyword}
+use Rattle.elab_eval.specs.Names.{is_name}
+use Rattle.elab_eval.specs.Stores.{Stored}
+use Rattle.elab_eval.specs.ComponentClasses.{value_before, member_before, behind_members, annotated}
+use Rattle.elab_eval.specs.Interfaces.{are_named}
+use Rattle.elab_eval.specs.Components.{class_at, base_members, all_members, members_in}
+
+-- ---- members of classes
+
+abbrev pub Table : Type 0
+Table = List (ℕ × ComponentClass)
+
+-- a class that is kept has its members behind those of its base
+pub members_more : (classes : Table) (k n : ℕ) (c : ComponentClass) → class_at classes n ≡ Some c → members_in (suc k) classes n ≡ base_members (members_in k classes) c.base ++ c.members
+unfolding members_in
+members_more classes k n c e = ap (all_members (members_in k classes)) e
+
+-- one that is not has none
+pub members_absent : (classes : Table) (k n : ℕ) → class_at classes n ≡ None → members_in k classes n ≡ []
+unfolding members_in
+members_absent classes zero n e = refl
+members_absent classes (suc k) n e = ap (all_members (members_in k classes)) e
+
+pub members_none : (classes : Table) (next : Option ObjId) → base_members (members_in 0 classes) next ≡ []
+unfolding members_in
+members_none classes None = refl
+members_none classes (Some o) = refl
+
+-- a class that is not kept ends the walk
+pub walk_absent : (classes : Table) (k : ℕ) (o : ObjId) (all whole : List NamedMember) → class_at classes o.0 ≡ None → all ++ reverse (base_members (members_in k classes) (Some o)) ≡ whole → all ≡ whole
+walk_absent classes k o all whole e so_far =
+    sym (append-nil all) ∙ ap (λ ms. all ++ reverse ms) (sym (members_absent classes k o.0 e)) ∙ so_far
+
+-- so does the last of so many classes
+pub walk_ended : (classes : Table) (k : ℕ) (next : Option ObjId) (all whole : List NamedMember) → k ≡ 0 → all ++ reverse (base_members (members_in k classes) next) ≡ whole → all ≡ whole
+walk_ended classes k next all whole none so_far =
+    sym (append-nil all) ∙ ap (λ ms. all ++ reverse ms) (sym (ap (λ j. base_members (members_in j classes) next) none ∙ members_none classes next)) ∙ so_far
+
+-- from a class to its base
+pub walk_more : (classes : Table) (j k : ℕ) (o : ObjId) (c : ComponentClass) (all whole : List NamedMember) → j ≡ suc k → class_at classes o.0 ≡ Some c → all ++ reverse (base_members (members_in j classes) (Some o)) ≡ whole → (all ++ reverse c.members) ++ reverse (base_members (members_in k classes) c.base) ≡ whole
+walk_more classes j k o c all whole step e so_far =
+    append_assoc all (reverse c.members) (reverse (base_members (members_in k classes) c.base))
+    ∙ ap (λ ms. all ++ ms) (sym (reverse-append (base_members (members_in k classes) c.base) c.members))
+    ∙ ap (λ ms. all ++ reverse ms) (sym (ap (λ i. members_in i classes o.0) step ∙ members_more classes k o.0 c e))
+    ∙ so_far
+
+-- ---- names
+
+pub text_eq_bytes : (a b : List ℕ) → bytes_eq b a ≡ text_eq a b
+text_eq_bytes a b = by_equal (bytes_eq b a) a b (λ e. sym ((bytes_eq-Decides b a).0 e), λ e. (bytes_eq-Decides b a).1 (sym e))
+
+or_true : (a b : Bool) → (a || (b || false)) ≡ cond b true a
+or_true true true = refl
+or_true true false = refl
+or_true false true = refl
+or_true false false = refl
+
+-- one name more
+pub among_more : (names : List (List ℕ)) (name q : List ℕ) → cond (bytes_eq name q) true (list_any (text_eq q) names) ≡ list_any (text_eq q) (names ++ name ∷ [])
+among_more names name q =
+    ap (λ b. cond b true (list_any (text_eq q) names)) (text_eq_bytes q name)
+    ∙ sym (list_any-append (text_eq q) names (name ∷ []) ∙ or_true (list_any (text_eq q) names) (text_eq q name))
+
+-- a name in the form of one that stands not before
+pub named_more : (before : List (List ℕ)) (ms : List NamedMember) (i : ℕ) (m : NamedMember) → i < length ms → get_or ms i m ≡ m → is_name m.name ≡ true → list_any (text_eq m.name) before ≡ false → are_named before (drop i ms) ≡ are_named (before ++ m.name ∷ []) (drop (i + 1) ms)
+named_more before ms i m h same formed apart =
+    at_drop_more (are_named before) ms i m h
+    ∙ ap (λ (x : NamedMember). are_named before (x ∷ drop (i + 1) ms)) same
+    ∙ ap (λ b. b && (not (list_any (text_eq m.name) before) && are_named (before ++ m.name ∷ []) (drop (i + 1) ms))) formed
+    ∙ ap (λ b. not b && are_named (before ++ m.name ∷ []) (drop (i + 1) ms)) apart
+
+-- ---- values of a class
+
+abbrev Members : Type 0
+Members = Option (List NamedMember)
+
+chosen : (colon equals : Bool) (before : List NamedMember) (member rest : Members) → colon ≡ false → behind_members (not equals) before rest ≡ behind_members true before (cond colon member (cond equals None rest))
+chosen true equals before member rest e = absurd (true≢false e)
+chosen false true before member rest e = refl
+chosen false false before member rest e = refl
+
+no_colon : (sign : ℕ) (b : Bool) → (sign == 58) ≡ b → sign ≢ 58 → b ≡ false
+no_colon sign true e apart = absurd (apart (eqb-true sign 58 e))
+no_colon sign false e apart = refl
+
+-- a value whose name does not begin with a colon is no member, and may stand but where it is a keyword's
+pub value_other : (name : List ℕ) (m : Option Member) (before : List NamedMember) (rest : Option (List NamedMember)) → ((more : List ℕ) → name ≢ 58 ∷ more) → behind_members (not (is_keyword name)) before rest ≡ behind_members true before (value_before name m rest)
+value_other [] m before rest apart = refl
+value_other (sign ∷ name) m before rest apart =
+    chosen (sign == 58) (sign == 61) before (member_before name m rest) rest (no_colon sign (sign == 58) refl (λ e. apart name (ap (λ s. s ∷ name) e)))
+
+-- a name without a value is no annotation
+pub annotated_short : (s : Stored) (names : List (List ℕ)) → 0 < length names → annotated s [] names ≡ None
+annotated_short s [] h = absurd (omega arith)
+annotated_short s (n ∷ ns) h = refl

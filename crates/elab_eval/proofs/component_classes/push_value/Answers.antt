@@ -1,0 +1,11 @@
+use Rattle.std.proofs.Common.{◌∙◌, ap, lit<}
+use Rattle.std.specs.Prelude.{not, None}
+use Rattle.std.proofs.lemmas.Str.Pattern.{strip_prefix_char}
+use Rattle.elab_eval.specs.ComponentClasses.{behind_members}
+use Rattle.elab_eval.proofs.ComponentLaws.{value_other}
+use Rattle.elab_eval.proofs.component_classes.push_value.Goals as goal
+
+pub returns : goal.returns
+returns c = λ rest.
+    ap (λ b. behind_members (not b) c.args.members.now rest) c.is_keyword.ensures
+    ∙ value_other c.args.name.now c.args.member c.args.members.now rest (strip_prefix_char 58 c.args.name.now None c.in_default.ensures.cases (lit< tt))

@@ -1,0 +1,158 @@
+-- What a program is elaborated to within a budget: a design, or why there is none; and at what cost.
+use Rattle.std.specs.Prelude.{◌≡◌, ◌⊎◌, ℕ, ◌-◌, if◌then◌else◌, ⊤, List, [], slice_get, Option, Some, None, Result, Ok, Err}
+use Rattle.std.specs.List.{list_any}
+use Rattle.amh_host.specs.declared.place.Place.{Place}
+use Rattle.amh_host.specs.declared.place.Kind.TheVariants as kind
+use Rattle.py_tree.specs.Steps.{Steps}
+use Rattle.py_values.specs.declared.val.ObjId.{ObjId}
+use Rattle.py_values.specs.Heaps.{Made, Seen, seen, nothing}
+use Rattle.py_frames.specs.declared.request.Answer.{Answer}
+use Rattle.py_frames.specs.declared.request.Cause.{Cause}
+use Rattle.py_frames.specs.declared.request.Cause.TheVariants as cause
+use Rattle.py_frames.specs.declared.request.Stop.{Stop}
+use Rattle.py_frames.specs.declared.state.State.{State}
+use Rattle.py_frames.specs.declared.state.Got.{Got}
+use Rattle.py_frames.specs.Doing.{Done}
+use Rattle.py_frames.specs.Frames.{stops_as}
+use Rattle.py_frames.specs.Whole.{ask_program}
+use Rattle.design_ir.specs.Circuits.{Circuit}
+use Rattle.module_dsl.specs.Blocks.{is_outermost}
+use Rattle.module_dsl.specs.Builders.{Built, built_blocks, fragment_of}
+use Rattle.clock_domains.specs.declared.top.TopPorts.{TopPorts}
+use Rattle.clock_domains.specs.declared.top.TopPorts.TheVariants.{Loose}
+use Rattle.clock_domains.specs.declared.stop.ResolveStop.{ResolveStop}
+use Rattle.clock_domains.specs.declared.stop.ResolveStop.TheVariants as unresolved
+use Rattle.clock_domains.specs.Resolved.{resolved, file_start}
+use Rattle.elab_eval.specs.declared.running.Elaborated.{Elaborated}
+use Rattle.elab_eval.specs.declared.refusal.ElabStop.{ElabStop}
+use Rattle.elab_eval.specs.declared.refusal.ElabStop.TheVariants.{Refused, Spent, NoMemory}
+use Rattle.elab_eval.specs.ObjectTops.{object_ports}
+use Rattle.elab_eval.specs.Stores.{Stored, Held}
+use Rattle.elab_eval.specs.Sound.{is_reset}
+use Rattle.elab_eval.specs.Reaches.{Reaches, world}
+
+-- ---- the ports of the top
+
+-- those of a module are found in its statements
+abbrev pub ports_of : Seen → Held → Option ObjId → Option TopPorts
+ports_of s h None = Some Loose
+ports_of s h (Some o) = object_ports s h o
+
+abbrev pub top_ports : Seen → Held → Option TopPorts
+top_ports s h = ports_of s h h.store.top.object
+
+-- ---- the design
+
+-- a design, the store without the modules, which are done with, and all that the program made
+pub record Found : Type 0 where
+  pub circuit : Circuit
+  pub store : Stored
+  pub frozen : Made
+
+abbrev pub unresolved_stop : ResolveStop → ElabStop
+unresolved_stop (unresolved.DomainClash p) = Refused kind.DomainClash p
+unresolved_stop (unresolved.NoReset p) = Refused kind.Raised p
+unresolved_stop (unresolved.TwoDrivers p) = Refused kind.TwoDrivers p
+unresolved_stop (unresolved.DrivenInput p) = Refused kind.DrivenInput p
+unresolved_stop (unresolved.Limit p) = Refused kind.Limit p
+unresolved_stop unresolved.NoMemory = NoMemory
+
+abbrev pub without_modules : Stored → Stored
+without_modules s = record s { modules = [] }
+
+abbrev pub found_with : Held → Made → Result Circuit ResolveStop → Result Found ElabStop
+found_with h heap (Ok c) = Ok (record { circuit = c; store = without_modules h.store; frozen = heap })
+found_with h heap (Err stop) = Err (unresolved_stop stop)
+
+-- a component whose ports were not made is no top
+abbrev pub found_by : Held → Made → Built → Option TopPorts → Result Found ElabStop
+found_by h heap b None = Err (Refused kind.Raised file_start)
+found_by h heap b (Some ports) = found_with h heap (resolved h.pool (fragment_of b) ports)
+
+-- a module of which a block is open raises
+abbrev pub module_found : Held → Made → Option Built → Result Found ElabStop
+module_found h heap None = Err (Refused kind.Raised file_start)
+module_found h heap (Some b) = if is_outermost (built_blocks b).around then found_by h heap b (top_ports (seen nothing heap) h) else Err (Refused kind.Raised file_start)
+
+abbrev pub module_in : List Built → Option ℕ → Option Built
+module_in bs None = None
+module_in bs (Some m) = slice_get bs m
+
+-- the module that is the top, or what the top's `elaborate` gave
+abbrev pub root_module : Stored → Option Built
+root_module s = module_in s.modules s.top.root
+
+-- What is held at the end of a program, with the heap that it made, as a design. A reset would raise; `ResetSignal` comes with domains that
+-- modules define, and until then no expression is one.
+abbrev pub design_of : Held → Made → Result Found ElabStop
+design_of h heap =
+    if list_any is_reset h.pool.exprs then Err (Refused kind.Raised file_start) else module_found h heap (root_module h.store)
+
+-- ---- where a program stops: a false `assert` raises
+
+abbrev pub cause_stop : Cause → Place → ElabStop
+cause_stop cause.Raised p = Refused kind.Raised p
+cause_stop cause.Width p = Refused kind.Width p
+cause_stop cause.Limit p = Refused kind.Limit p
+cause_stop cause.Assert p = Refused kind.Raised p
+cause_stop cause.Spent p = Spent p
+
+abbrev pub stop_of : Stop → ElabStop
+stop_of x = cause_stop x.cause x.place
+
+-- ---- outcomes
+
+-- behind answers that are reached a program ended, and what is then held gives this
+pub record Ends (program : Steps) (budget : ℕ) (found : Result Found ElabStop) (used : ℕ) : Type 0 where
+  pub given : List Answer
+  pub held : Held
+  pub reached : Reaches program budget given held
+  pub got : Got
+  pub state : State
+  pub ends : ask_program program (world budget given) ≡ Done got state
+  pub found_is : found ≡ design_of held state.heap
+  pub used_is : used ≡ state.used
+
+-- behind answers that are reached it stopped, at this cost
+pub record Stops (program : Steps) (budget : ℕ) (found : Result Found ElabStop) (used : ℕ) : Type 0 where
+  pub given : List Answer
+  pub held : Held
+  pub reached : Reaches program budget given held
+  pub stop : Stop
+  pub stops : stops_as (ask_program program (world budget given)) ≡ Some (stop, used)
+  pub found_is : found ≡ Err (stop_of stop)
+
+-- what a program is elaborated to, and how many units it used
+abbrev pub Elaborates : Steps → ℕ → Result Found ElabStop → ℕ → Type 0
+Elaborates program budget found used = Ends program budget found used ⊎ Stops program budget found used
+
+-- there is one such outcome
+abbrev pub OneOutcome : Type 0
+OneOutcome =
+    (program : Steps) (budget : ℕ) (found other : Result Found ElabStop) (used spent : ℕ)
+    → Elaborates program budget found used → Elaborates program budget other spent → (found ≡ other) × (used ≡ spent)
+
+-- ---- what comes of a call, with what is left of the budget
+
+pub record Comes (program : Steps) (budget left : ℕ) (found : Result Found ElabStop) : Type 0 where
+  pub used : ℕ
+  pub outcome : Elaborates program budget found used
+  pub rest : left ≡ budget - used
+
+-- what is elaborated in the code, as the definitions see it
+abbrev pub found_of : Elaborated → Found
+found_of e = record { circuit = e.design; store = e.store; frozen = e.frozen }
+
+-- a design and a refusal are exactly what the program is elaborated to; want of memory may come at any time
+abbrev pub IsElaborated : Steps → ℕ → ℕ → Result Elaborated ElabStop → Type 0
+IsElaborated program budget left (Ok e) = Comes program budget left (Ok (found_of e))
+IsElaborated program budget left (Err (Refused k p)) = Comes program budget left (Err (Refused k p))
+IsElaborated program budget left (Err (Spent p)) = Comes program budget left (Err (Spent p))
+IsElaborated program budget left (Err NoMemory) = ⊤
+
+-- what the end of a program gives is what is owed
+abbrev pub IsFound : Result Elaborated ElabStop → Result Found ElabStop → Type 0
+IsFound (Ok e) owed = owed ≡ Ok (found_of e)
+IsFound (Err (Refused k p)) owed = owed ≡ Err (Refused k p)
+IsFound (Err (Spent p)) owed = owed ≡ Err (Spent p)
+IsFound (Err NoMemory) owed = ⊤

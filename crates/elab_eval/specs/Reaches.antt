@@ -1,0 +1,28 @@
+-- Which answers a program gets, one after the other, and what is held behind them.
+use Rattle.std.specs.Prelude.{◌≡◌, ℕ, List, [], ◌∷◌, ◌++◌}
+use Rattle.py_tree.specs.Steps.{Steps}
+use Rattle.py_values.specs.Heaps.{seen, nothing}
+use Rattle.py_frames.specs.declared.request.Answer.{Answer}
+use Rattle.py_frames.specs.declared.request.Answer.TheVariants as answer
+use Rattle.py_frames.specs.declared.request.Request.{Request}
+use Rattle.py_frames.specs.declared.state.State.{State}
+use Rattle.py_frames.specs.declared.state.Halt.TheVariants as halt
+use Rattle.py_frames.specs.Doing.{World, Halts}
+use Rattle.py_frames.specs.Whole.{ask_program}
+use Rattle.elab_eval.specs.Stores.{Held, Answered, nothing_held}
+use Rattle.elab_eval.specs.Table.{prim}
+
+-- a program is given so many units and these answers
+abbrev pub world : ℕ → List Answer → World
+world budget given = record { budget = budget; answers = given }
+
+-- what the table answers to a request that comes from this state
+abbrev pub answered : Held → Request → State → Answered
+answered h r s = prim (seen nothing s.heap) h r
+
+-- `Begin` comes first, and nothing is held then. Where the program asks behind answers that are reached, what the table answers comes next.
+pub data Reaches (program : Steps) (budget : ℕ) : List Answer → Held → Type 0 where
+  begins : Reaches program budget (answer.Begin ∷ []) nothing_held
+  goes_on : (given : List Answer) (h : Held) (r : Request) (s : State)
+      → Reaches program budget given h → ask_program program (world budget given) ≡ Halts (halt.Asks r) s
+      → Reaches program budget (given ++ (answered h r s).answer ∷ []) (answered h r s).held

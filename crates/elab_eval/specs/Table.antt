@@ -1,0 +1,174 @@
+-- The table of what requests are answered: first that of shapes and values, and where it leaves a request open, what this crate answers.
+use Rattle.std.specs.Prelude.{ℕ, true, false, if◌then◌else◌, List, [], ◌∷◌, ◌++◌, Option, Some, None, Result, Ok, Err, codes}
+use Rattle.lists.specs.Texts.{text_eq}
+use Rattle.py_values.specs.declared.val.Val.{Val}
+use Rattle.py_values.specs.Heaps.{Seen}
+use Rattle.py_frames.specs.declared.request.Act.{Act}
+use Rattle.py_frames.specs.declared.request.Act.TheVariants as act
+use Rattle.py_frames.specs.declared.request.Request.{Request}
+use Rattle.py_frames.specs.declared.request.Cause.{Cause}
+use Rattle.py_frames.specs.declared.request.Cause.TheVariants.{Raised}
+use Rattle.design_ir.specs.declared.ids.ExprId.{ExprId}
+use Rattle.amh_values.specs.declared.thing.Thing.{Thing}
+use Rattle.amh_values.specs.declared.thing.Thing.TheVariants as thing
+use Rattle.amh_values.specs.declared.thing.Method.TheVariants as method
+use Rattle.amh_values.specs.declared.plan.Plan.{Plan}
+use Rattle.amh_values.specs.Things.{thing_of, base_called}
+use Rattle.amh_values.specs.Plans.{grown_by}
+use Rattle.amh_values.specs.Acts.{acted}
+use Rattle.elab_eval.specs.declared.kept.HdlName.{HdlName}
+use Rattle.elab_eval.specs.declared.kept.HdlName.TheVariants as hdl
+use Rattle.elab_eval.specs.declared.kept.Kept.{Kept}
+use Rattle.elab_eval.specs.declared.kept.Kept.TheVariants as kept
+use Rattle.elab_eval.specs.Stores.{Held, Answered, refused, kept_of}
+use Rattle.elab_eval.specs.Imports.{import_answered}
+use Rattle.elab_eval.specs.Calls.{Called, called}
+use Rattle.elab_eval.specs.Signals.{module_called, signal_called}
+use Rattle.elab_eval.specs.Likes.{like_given, like_called}
+use Rattle.elab_eval.specs.Equations.{equated}
+use Rattle.elab_eval.specs.Blocks.{block_called, block_entered, block_left}
+use Rattle.elab_eval.specs.Sides.{module_attribute, domain_named, domain_given, index_name, domain_stored, deepest, equations_in, statements_added}
+use Rattle.elab_eval.specs.Libraries.{wiring_named, library_given, base_given}
+use Rattle.elab_eval.specs.Members.{member_called}
+use Rattle.elab_eval.specs.ComponentClasses.{class_answered}
+use Rattle.elab_eval.specs.Interfaces.{init_answered}
+use Rattle.elab_eval.specs.Tops.{global, body_ended, elaborate_ended}
+
+-- ---- calls
+
+-- other names are not called
+abbrev pub name_called : Seen → HdlName → Called → Held → Answered
+name_called s hdl.Module c h = module_called c h
+name_called s hdl.Signal c h = signal_called s c h
+name_called s hdl.Like c h = like_called s c h
+name_called s hdl.In c h = member_called s false c h
+name_called s hdl.Out c h = member_called s true c h
+name_called s n c h = refused Raised h
+
+abbrev pub kept_called : Seen → Option Kept → Called → Held → Answered
+kept_called s (Some (kept.Name n)) c h = name_called s n c h
+kept_called s (Some (kept.BlockName m n)) c h = block_called s m n c h
+kept_called s k c h = refused Raised h
+
+-- the value whose method `eq` a thing is, as its expression
+abbrev pub equated_by : Option Thing → Option ExprId
+equated_by (Some (thing.Method x e method.Eq)) = Some e
+equated_by t = None
+
+-- the method `eq` of a value, or a thing of this crate
+abbrev pub called_by : Seen → Option ExprId → Request → Called → Held → Answered
+called_by s (Some e) r c h = equated e c.placed c.keywords r.place h
+called_by s None r c h = kept_called s (kept_of h.store c.callee) c h
+
+abbrev pub call_answered : Seen → Request → Called → Held → Answered
+call_answered s r c h = called_by s (equated_by (thing_of h.store.things c.callee)) r c h
+
+-- ---- attributes and indices
+
+-- one name alone
+abbrev pub only : {A : Type 0} → List A → Option A
+only (x ∷ []) = Some x
+only [] = None
+only (x ∷ y ∷ xs) = None
+
+-- a module of the library, and `Signal.like`
+abbrev pub name_attribute : HdlName → List ℕ → Held → Answered
+name_attribute hdl.Wiring name h = library_given (wiring_named name) h
+name_attribute hdl.Enumerations name h = base_given (base_called name) h
+name_attribute hdl.Signal name h = like_given name h
+name_attribute n name h = refused Raised h
+
+abbrev pub attribute_of : Option Kept → List ℕ → Held → Answered
+attribute_of (Some (kept.Name n)) name h = name_attribute n name h
+attribute_of (Some (kept.Module m)) name h = module_attribute m name h
+attribute_of (Some (kept.Domains m)) name h = domain_given m (domain_named name) h
+attribute_of k name h = refused Raised h
+
+abbrev pub attribute_answered : List Val → Option (List ℕ) → Held → Answered
+attribute_answered (x ∷ []) (Some name) h = attribute_of (kept_of h.store x) name h
+attribute_answered vals name h = refused Raised h
+
+abbrev pub attribute_stored : Option Kept → List ℕ → Val → Held → Answered
+attribute_stored (Some (kept.Domains m)) name v h = domain_stored m (domain_named name) v h
+attribute_stored k name v h = refused Raised h
+
+abbrev pub store_answered : List Val → Option (List ℕ) → Held → Answered
+store_answered (x ∷ v ∷ []) (Some name) h = attribute_stored (kept_of h.store x) name v h
+store_answered vals name h = refused Raised h
+
+abbrev pub index_of : Seen → Option Kept → Val → Held → Answered
+index_of s (Some (kept.Domains m)) i h = domain_given m (index_name s i) h
+index_of s k i h = refused Raised h
+
+abbrev pub index_answered : Seen → List Val → Held → Answered
+index_answered s (x ∷ i ∷ []) h = index_of s (kept_of h.store x) i h
+index_answered s vals h = refused Raised h
+
+abbrev pub index_stored : Seen → Option Kept → Val → Val → Held → Answered
+index_stored s (Some (kept.Domains m)) i v h = domain_stored m (index_name s i) v h
+index_stored s k i v h = refused Raised h
+
+abbrev pub index_store_answered : Seen → List Val → Held → Answered
+index_store_answered s (x ∷ i ∷ v ∷ []) h = index_stored s (kept_of h.store x) i v h
+index_store_answered s vals h = refused Raised h
+
+-- ---- operators: `+=` on a domain
+
+abbrev pub added : Seen → Option Kept → Val → Val → Held → Answered
+added s (Some (kept.Domain m d)) x v h = statements_added x m d (equations_in deepest s h.store v) h
+added s k x v h = refused Raised h
+
+abbrev pub signed : Seen → Val → Val → List ℕ → Held → Answered
+signed s x v sign h = if text_eq sign (codes "+=") then added s (kept_of h.store x) x v h else refused Raised h
+
+abbrev pub operator_answered : Seen → List Val → Option (List ℕ) → Held → Answered
+operator_answered s (x ∷ v ∷ []) (Some sign) h = signed s x v sign h
+operator_answered s vals sign h = refused Raised h
+
+-- ---- `with`
+
+abbrev pub enter_answered : List Val → Held → Answered
+enter_answered (x ∷ []) h = block_entered (kept_of h.store x) h
+enter_answered vals h = refused Raised h
+
+abbrev pub leave_answered : List Val → Held → Answered
+leave_answered (x ∷ []) h = block_left (kept_of h.store x) h
+leave_answered vals h = refused Raised h
+
+-- ---- all acts
+
+-- what stands for no other act raises: modules, domains and statements have no length and no elements
+abbrev pub own_answered : Seen → Act → Request → Held → Answered
+own_answered s act.Import r h = import_answered r.names h
+own_answered s act.Attribute r h = attribute_answered r.vals (only r.names) h
+own_answered s act.SetAttribute r h = store_answered r.vals (only r.names) h
+own_answered s act.CallThing r h = call_answered s r (called r.vals r.names) h
+own_answered s act.Index r h = index_answered s r.vals h
+own_answered s act.SetIndex r h = index_store_answered s r.vals h
+own_answered s act.Operator r h = operator_answered s r.vals (only r.names) h
+own_answered s act.Length r h = refused Raised h
+own_answered s act.Iterate r h = refused Raised h
+own_answered s act.Enter r h = enter_answered r.vals h
+own_answered s act.Leave r h = leave_answered r.vals h
+own_answered s act.ClassMade r h = class_answered r.vals r.names h
+own_answered s act.InitBase r h = init_answered s r.vals r.names h
+own_answered s act.BodyEnd r h = body_ended s (global (codes "top") r.vals r.names) h
+own_answered s act.Returned r h = elaborate_ended s r.vals h
+own_answered s act.Await r h = refused Raised h
+
+-- ---- the table
+
+-- a plan of the table of shapes and values: what it makes stands at the ends
+abbrev pub with_plan : Plan → Held → Held
+with_plan plan h = record { pool = grown_by h.pool plan.exprs; store = record h.store { things = h.store.things ++ plan.things } }
+
+abbrev pub plan_answered : Result Plan Cause → Held → Answered
+plan_answered (Ok plan) h = record { answer = plan.answer; held = with_plan plan h }
+plan_answered (Err why) h = refused why h
+
+abbrev pub either_answered : Option (Result Plan Cause) → Answered → Held → Answered
+either_answered (Some plan) own h = plan_answered plan h
+either_answered None own h = own
+
+abbrev pub prim : Seen → Held → Request → Answered
+prim s h r = either_answered (acted s h.pool h.store.things r) (own_answered s r.act r h) h

@@ -1,0 +1,47 @@
+// The ports of a component that is the top.
+ghost use Rattle.std.specs.Prelude.{◌≡◌, IfOk};
+ghost use Rattle.elab_eval.specs.ComponentTops.{component_ports};
+
+use crate::interfaces::copied_text;
+use crate::store::Store;
+use clock_domains::TopPorts;
+use design_ir::{Port, Ports};
+use lists::NoMemory;
+use py_values::ObjId;
+use std::alloc::Global;
+
+fn copied_port(alloc: Global, port: &Port) -> Result<Port, NoMemory>
+    ensures { IfOk result (λ copy. copy ≡ port.now) }
+{
+    Ok(Port {
+        name: copied_text(alloc, &port.name)?,
+        sig: port.sig,
+        is_input: port.is_input,
+    })
+}
+
+fn copied_ports(alloc: Global, ports: &[Port]) -> Result<Ports, NoMemory>
+    ensures { IfOk result (λ all. all ≡ ports.now) }
+{
+    let mut all = Ports::new(alloc);
+    for port in ports {
+        all.push(copied_port(alloc, port)?)?;
+    }
+    Ok(all)
+}
+
+impl Store {
+    /// The ports of a component that is the top: those that were made for it.
+    pub(crate) fn component_ports(
+        &self,
+        alloc: Global,
+        object: ObjId,
+    ) -> Result<Option<TopPorts>, NoMemory>
+        ensures { IfOk result (λ ports. ports ≡ component_ports self.now object) }
+    {
+        match self.components.ports(object.0) {
+            Some(ports) => Ok(Some(TopPorts::Members(copied_ports(alloc, ports.as_slice())?))),
+            None => Ok(None),
+        }
+    }
+}

@@ -1,0 +1,95 @@
+// The things of a store that this crate knows by itself.
+
+use crate::members::Member;
+use amh_host::Place;
+use design_ir::ExprId;
+
+/// A name of Amaranth's modules that is served here.
+#[derive(Clone, Copy, Debug, PartialEq, Eq, Drop)]
+pub enum HdlName {
+    Module,
+    Signal,
+    /// `Signal.like`.
+    Like,
+    Elaboratable,
+    /// `Shape` and `Value` may be named and nothing else.
+    Shape,
+    Value,
+    /// The module `amaranth.lib.wiring`.
+    Wiring,
+    /// The module `amaranth.lib.enum`.
+    Enumerations,
+    In,
+    Out,
+    Component,
+}
+
+/// A domain of a module, as it is named behind `m.d`.
+#[derive(Clone, Copy, Debug, PartialEq, Eq, Drop)]
+pub enum DomainName {
+    Comb,
+    Sync,
+}
+
+/// The name of a block, as it is an attribute of a module.
+#[derive(Clone, Copy, Debug, PartialEq, Eq, Drop)]
+pub enum BlockName {
+    If,
+    Elif,
+    Else,
+    Switch,
+    Case,
+    Default,
+}
+
+/// How a block begins that was called.
+#[derive(Clone, Copy, Debug, PartialEq, Eq, Drop)]
+pub enum Begin {
+    If(ExprId),
+    Elif(ExprId),
+    Else,
+    Switch(ExprId),
+    /// The number of its patterns among those of all cases.
+    Case(u32),
+    Default,
+    /// A `Case` that was called where no `Switch` was the innermost block.
+    Misplaced,
+}
+
+/// What `x.eq(v)` gives: the statement that x takes v, with the place of the call.
+#[derive(Clone, Copy, Debug, PartialEq, Eq, Drop)]
+pub struct Equation {
+    pub target: ExprId,
+    pub value: ExprId,
+    pub place: Place,
+}
+
+/// What a kept thing is.
+#[derive(Clone, Copy, Debug, PartialEq, Eq, Drop)]
+pub enum Kept {
+    /// A name.
+    Name(HdlName),
+    /// A module, by its number in order of making.
+    Module(u32),
+    /// `m.d` of a module.
+    Domains(u32),
+    /// `m.d.comb` or `m.d.sync` of a module.
+    Domain { of: u32, name: DomainName },
+    /// `x.eq(v)`.
+    Statement(Equation),
+    /// `In(shape)` or `Out(shape)`.
+    Member(Member),
+    /// A signature, by its number in order of making.
+    Signature(u32),
+    /// `m.If` and the like.
+    BlockName { of: u32, name: BlockName },
+    /// `m.If(c)` and the like.
+    Block { of: u32, begin: Begin },
+}
+
+/// What is elaborated: the object of which it was asked first, where it was one, and the module that came of it.
+#[derive(Clone, Copy, Debug, PartialEq, Eq, Drop)]
+pub struct Top {
+    pub object: Option<py_values::ObjId>,
+    pub root: Option<u32>,
+}

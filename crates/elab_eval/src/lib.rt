@@ -1,0 +1,39 @@
+//! From a program to a design: what a program is answered when it asks about hardware, and what comes of it.
+//!
+//! `elaborate` runs a program with `Machine` of py_machine and answers each request by one table, `prim` of specs/Table.antt: shapes and
+//! values are those of amh_values, and imports, modules, signals, statements, blocks, classes, components and the top are this crate's own, a family of
+//! acts in a file each. Which answers a program gets is the relation `Reaches` of specs/Reaches.antt, and what then comes of it is `Elaborates` of
+//! specs/Elaborates.antt, which `elaborate` meets exactly; there is one such outcome (`outcome_is_one`).
+#![tactic(auto)]
+
+mod answering;
+mod blocks;
+mod calls;
+mod classes;
+mod component_classes;
+mod component_tops;
+mod components;
+mod equations;
+mod finish;
+mod imports;
+mod interfaces;
+mod kept;
+mod laws;
+mod libraries;
+mod likes;
+mod members;
+mod names;
+mod object_tops;
+mod refusal;
+mod running;
+mod sides;
+mod signals;
+mod store;
+mod tops;
+
+pub use kept::{Begin, BlockName, DomainName, Equation, HdlName, Kept, Top};
+pub use laws::outcome_is_one;
+pub use members::{ComponentClass, Member, Members, NamedMember};
+pub use refusal::ElabStop;
+pub use running::{Elaborated, elaborate};
+pub use store::Store;

@@ -1,0 +1,99 @@
+// The modules below `amaranth.lib`.
+ghost use Rattle.std.specs.Prelude.{◌≡◌, is_some, codes};
+ghost use Rattle.elab_eval.specs.Libraries.{is_library, is_wiring, is_enum, base_given, wiring_named, module_named, library_named, library_given};
+ghost use Rattle.amh_values.specs.Things.{base_called};
+ghost use Rattle.elab_eval.specs.Held.{held_of, Gives};
+
+use crate::kept::{HdlName, Kept};
+use crate::names::is_text;
+use crate::store::Elaboration;
+use lists::NoMemory;
+use py_frames::request::{Answer, Cause};
+
+/// The name of `amaranth.lib.wiring` that is spelled so.
+pub(crate) fn wiring_named(name: &str) -> Option<HdlName>
+    ensures { result ≡ wiring_named name.now }
+{
+    if is_text(name, "In") {
+        Some(HdlName::In)
+    } else if is_text(name, "Out") {
+        Some(HdlName::Out)
+    } else if is_text(name, "Component") {
+        Some(HdlName::Component)
+    } else {
+        None
+    }
+}
+
+fn module_named(name: &str) -> Option<HdlName>
+    ensures { result ≡ module_named name.now }
+{
+    if is_text(name, "wiring") {
+        Some(HdlName::Wiring)
+    } else if is_text(name, "enum") {
+        Some(HdlName::Enumerations)
+    } else {
+        None
+    }
+}
+
+fn is_library(path: &str) -> bool
+    ensures { result ≡ is_library path.now }
+{
+    is_text(path, "amaranth.lib")
+}
+
+fn is_wiring(path: &str) -> bool
+    ensures { result ≡ is_wiring path.now }
+{
+    is_text(path, "amaranth.lib.wiring")
+}
+
+pub(crate) fn is_enum(path: &str) -> bool
+    ensures { result ≡ is_enum path.now }
+{
+    is_text(path, "amaranth.lib.enum")
+}
+
+// Whether a name is one over which a class makes an enumeration.
+fn is_base_name(name: &str) -> bool
+    ensures { result ≡ is_some (base_called name.now) }
+{
+    is_text(name, "Enum") || is_text(name, "IntEnum")
+}
+
+/// A name of a module below `amaranth`.
+pub(crate) fn library_named(path: &str, name: &str) -> Option<HdlName>
+    ensures { result ≡ library_named path.now name.now }
+{
+    if is_library(path) {
+        module_named(name)
+    } else if is_wiring(path) {
+        wiring_named(name)
+    } else {
+        None
+    }
+}
+
+impl Elaboration {
+    /// A name of a library, where it is served.
+    pub(crate) fn give_library(&mut self, name: Option<HdlName>) -> Result<Answer, NoMemory>
+        ensures { Gives result self.new (library_given name (held_of self.old)) }
+    {
+        match name {
+            Some(name) => self.give_kept(Kept::Name(name)),
+            None => self.refuse(Cause::Raised),
+        }
+    }
+
+    /// A name of `amaranth.lib.enum`.
+    pub(crate) fn give_base(&mut self, name: &str) -> Result<Answer, NoMemory>
+        ensures { Gives result self.new (base_given (base_called name.now) (held_of self.old)) }
+    {
+        if !is_base_name(name) {
+            return self.refuse(Cause::Raised);
+        }
+        let v = self.store.base(name)?;
+        self.give(v)
+    }
+}

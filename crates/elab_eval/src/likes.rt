@@ -1,0 +1,164 @@
+// Signals like other values.
+ghost use Rattle.std.specs.Prelude.{◌≡◌, ◌<◌, length, map, slice_get, string_bytes};
+ghost use Rattle.std.specs.List.{list_all};
+ghost use Rattle.std.specs.Option.{option_copied};
+ghost use Rattle.py_values.specs.Heaps.{seen};
+ghost use Rattle.amh_values.specs.Meant.{form_meant};
+ghost use Rattle.elab_eval.specs.Seen.{called_of};
+ghost use Rattle.elab_eval.specs.Likes.{like_given, is_like_keyword, like_arguments, signal_in, liked_signal, own_init, own_reset_less, like_init, like_called};
+ghost use Rattle.elab_eval.specs.Sound.{IsSound};
+ghost use Rattle.elab_eval.specs.Held.{held_of, Gives};
+
+use crate::calls::Called;
+use crate::kept::{HdlName, Kept};
+use crate::names::is_text;
+use crate::signals::{SignalArguments, number_of, signal_name, with_keywords};
+use crate::store::Elaboration;
+use amh_bits::Int;
+use amh_values::form_meant;
+use design_ir::{Expr, ExprId, Exprs, Sig};
+use lists::NoMemory;
+use py_frames::request::{Answer, Cause};
+use py_values::{Frozen, Heap, Val};
+use shape_rules::Shape;
+
+// ---- arguments
+
+fn is_like_keyword(name: &str) -> bool
+    ensures { result ≡ is_like_keyword name.now }
+{
+    is_text(name, "name") || is_text(name, "init")
+}
+
+fn are_like_keywords(keywords: &[String]) -> bool
+    ensures { result ≡ list_all is_like_keyword (map string_bytes keywords.now) }
+{
+    for keyword in keywords {
+        if !is_like_keyword(keyword.as_str()) {
+            return false;
+        }
+    }
+    true
+}
+
+fn like_arguments(call: &Called) -> Option<SignalArguments>
+    ensures { result ≡ like_arguments (called_of call.now) }
+{
+    if !are_like_keywords(call.keywords) {
+        return None;
+    }
+    let none = SignalArguments {
+        shape: None,
+        name: None,
+        init: None,
+        reset_less: None,
+    };
+    with_keywords(call.keywords, call.keyword_vals, none)
+}
+
+// ---- what the value says
+
+fn own_init(signal: Option<&Sig>) -> Int
+    ensures { result ≡ own_init (option_copied signal.entry) }
+{
+    match signal {
+        Some(signal) => signal.init,
+        None => Int::of_u128(0),
+    }
+}
+
+fn own_reset_less(signal: Option<&Sig>) -> bool
+    ensures { result ≡ own_reset_less (option_copied signal.entry) }
+{
+    match signal {
+        Some(signal) => signal.reset_less,
+        None => false,
+    }
+}
+
+// The number that the signal begins with, where one is given.
+fn like_init(signal: Option<&Sig>, given: Option<Val>) -> Option<Int>
+    ensures { result ≡ like_init (option_copied signal.entry) given }
+{
+    match given {
+        None | Some(Val::None) => Some(own_init(signal)),
+        Some(v) => number_of(v),
+    }
+}
+
+impl Elaboration {
+    // The signal that an expression is, where it is one.
+    fn signal_at(&self, e: ExprId) -> Option<&Sig>
+        requires { e.0 < length (held_of self.now).pool.exprs }
+        ensures { option_copied result ≡ signal_in (held_of self.now).pool (slice_get (held_of self.now).pool.exprs e.0) }
+    {
+        let _rules = self.pool.count();
+        match self.pool.at(e) {
+            Expr::Sig(s) => Some(self.pool.sig_at(*s)),
+            _ => None,
+        }
+    }
+
+    // The signal that a value of the program is, where it is one.
+    fn liked_signal(&self, v: &Val) -> Option<&Sig>
+        requires { IsSound (held_of self.now) }
+        ensures { option_copied result ≡ liked_signal (held_of self.now) v.now }
+    {
+        let Val::Hw(hw) = v else {
+            return None;
+        };
+        match self.store.things.expr(*hw) {
+            Some(e) => self.signal_at(e),
+            None => None,
+        }
+    }
+
+    // The shape of a value of the program.
+    fn form_meant(&self, v: &Val) -> Option<Shape>
+        requires { IsSound (held_of self.now) }
+        ensures { result ≡ form_meant (held_of self.now).pool (held_of self.now).store.things v.now }
+    {
+        form_meant(&self.pool, &self.store.things, v)
+    }
+
+    /// `Signal.like(value, name=.., init=..)`.
+    pub(crate) fn make_like(
+        &mut self,
+        heap: &Heap,
+        frozen: &Frozen,
+        call: &Called,
+    ) -> Result<Answer, NoMemory>
+        requires { IsSound (held_of self.old) }
+        ensures { Gives result self.new (like_called (seen frozen.now heap.now) (called_of call.now) (held_of self.old)) }
+    {
+        let [v] = call.placed else {
+            return self.refuse(Cause::Raised);
+        };
+        let Some(args) = like_arguments(call) else {
+            return self.refuse(Cause::Raised);
+        };
+        let Some(name) = signal_name(heap, frozen, call.name, args.name) else {
+            return self.refuse(Cause::Raised);
+        };
+        let Some(shape) = self.form_meant(v) else {
+            return self.refuse(Cause::Raised);
+        };
+        let signal = self.liked_signal(v);
+        let reset_less = own_reset_less(signal);
+        match like_init(signal, args.init) {
+            Some(init) => self.put_signal(name, shape, init, reset_less),
+            None => self.refuse(Cause::Raised),
+        }
+    }
+
+    /// The attribute `like` of the name `Signal`.
+    pub(crate) fn give_like(&mut self, name: &str) -> Result<Answer, NoMemory>
+        ensures { Gives result self.new (like_given name.now (held_of self.old)) }
+    {
+        if is_text(name, "like") {
+            self.give_kept(Kept::Name(HdlName::Like))
+        } else {
+            self.refuse(Cause::Raised)
+        }
+    }
+}

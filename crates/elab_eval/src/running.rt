@@ -1,0 +1,186 @@
+// Elaboration: a program is run, and each of its requests is answered.
+ghost use Rattle.std.specs.Prelude.{◌≡◌, ◌<◌, ◌≤◌, ◌^◌, IfOk, OnOk, length, Ok, Err};
+ghost use Rattle.py_tree.specs.Programs.{program_of};
+ghost use Rattle.py_values.specs.Heaps.{nothing, seen};
+ghost use Rattle.py_frames.specs.declared.request.Answer.TheVariants.{Begin};
+ghost use Rattle.py_machine.specs.Lives.{IsOf};
+ghost use Rattle.amh_values.specs.Acts.{acted, Acts};
+ghost use Rattle.amh_values.specs.Held.{AreHeld};
+ghost use Rattle.elab_eval.specs.Elaborates.{IsElaborated, stop_of};
+ghost use Rattle.elab_eval.specs.Running.{IsRunning, Steps_to, Runs_to};
+ghost use Rattle.elab_eval.specs.Table.{prim};
+ghost use Rattle.elab_eval.specs.Sound.{IsSound};
+ghost use Rattle.elab_eval.specs.Held.{held_of, Gives};
+
+use crate::refusal::ElabStop;
+use crate::store::{Elaboration, Store};
+use amh_host::{Budget, Kind, Steps};
+use amh_values::{Acted, act};
+use design_ir::{Design, Pool};
+use lists::NoMemory;
+use py_frames::request::{Answer, Cause, Request, Stop, Turn};
+use py_machine::Machine;
+use py_tree::Program;
+use py_values::Frozen;
+use std::alloc::Global;
+use std::sync::ledger::Ledger;
+
+/// What a program is elaborated to: the design, the store without its pool, which the design has, and all that the program made.
+#[derive(Drop)]
+pub struct Elaborated {
+    pub design: Design,
+    pub store: Store,
+    pub frozen: Frozen,
+}
+
+/// What one answer brings: the next answer, or the end of the program.
+#[derive(Drop)]
+pub enum Step {
+    Next(Answer),
+    Ended,
+}
+
+impl Store {
+    // The table of shapes and values.
+    fn act(
+        &mut self,
+        alloc: Global,
+        pool: &mut Pool,
+        machine: &Machine,
+        frozen: &Frozen,
+        request: &Request,
+    ) -> Result<Acted, NoMemory>
+        requires { AreHeld (length pool.old.exprs) self.old.things }
+        ensures acts { IfOk result (λ a. Acts (acted (seen frozen.now machine.now.going.state.heap) pool.old self.old.things request.now) a pool.old pool.new self.old.things self.new.things) }
+        ensures held { OnOk result (AreHeld (length pool.new.exprs) self.new.things) }
+        ensures rest { OnOk result (self.new ≡ record self.old { things = self.new.things }) }
+    {
+        act(alloc, pool, &mut self.things, machine, frozen, request)
+    }
+}
+
+impl Elaboration {
+    // What a request is answered.
+    fn answer(
+        &mut self,
+        machine: &Machine,
+        frozen: &Frozen,
+        request: &Request,
+    ) -> Result<Answer, NoMemory>
+        requires { IsSound (held_of self.old) }
+        ensures gives { Gives result self.new (prim (seen frozen.now machine.now.going.state.heap) (held_of self.old) request.now) }
+        ensures sound { OnOk result (IsSound (held_of self.new)) }
+    {
+        match self
+            .store
+            .act(self.alloc, &mut self.pool, machine, frozen, request)?
+        {
+            Acted::Answer(answer) => Ok(answer),
+            Acted::Other => self.answer_own(&machine.going.state.heap, frozen, request),
+        }
+    }
+
+    // Takes an answer, and answers what comes next.
+    fn step<L: Ledger>(
+        &mut self,
+        machine: &mut Machine,
+        program: &Program,
+        frozen: &Frozen,
+        answer: Answer,
+        left: &mut Budget,
+        steps: &mut Steps<L>,
+        _budget: u64,
+    ) -> Result<Step, ElabStop>
+        requires of { IsOf (program_of program.now) machine.old }
+        requires frozen { frozen.now ≡ nothing }
+        requires running { IsRunning (program_of program.now) _budget machine.old (held_of self.old) answer left.old.left }
+        ensures of { IsOf (program_of program.now) machine.new }
+        ensures comes { Steps_to (program_of program.now) _budget result machine.old machine.new (held_of self.new) left.new.left }
+        ensures ticks { steps.old ≤ steps.new }
+    {
+        match machine.resume(program, frozen, answer, left, steps) {
+            Turn::Asks(request) => match self.answer(machine, frozen, &request) {
+                Ok(next) => {
+                    note_taken(machine);
+                    Ok(Step::Next(next))
+                }
+                Err(_) => Err(ElabStop::NoMemory),
+            },
+            Turn::Ended(_) => Ok(Step::Ended),
+            Turn::Stopped(stop) => Err(stop_of(stop)),
+            Turn::NoMemory => Err(ElabStop::NoMemory),
+        }
+    }
+}
+
+impl Elaboration {
+    // Answers from the first one on, until the program ends.
+    fn run<L: Ledger>(
+        &mut self,
+        machine: &mut Machine,
+        program: &Program,
+        frozen: &Frozen,
+        left: &mut Budget,
+        steps: &mut Steps<L>,
+    ) -> Result<(), ElabStop>
+        requires of { IsOf (program_of program.now) machine.old }
+        requires frozen { frozen.now ≡ nothing }
+        requires running { IsRunning (program_of program.now) left.old.left machine.old (held_of self.old) Begin left.old.left }
+        ensures of { IsOf (program_of program.now) machine.new }
+        ensures comes { Runs_to (program_of program.now) left.old.left result machine.new (held_of self.new) left.new.left }
+        ensures ticks { steps.old ≤ steps.new }
+    {
+        let budget = left.left;
+        let mut answer = Answer::Begin;
+        loop {
+            match self.step(machine, program, frozen, answer, left, steps, budget) {
+                Ok(Step::Next(next)) => answer = next,
+                Ok(Step::Ended) => return Ok(()),
+                Err(stop) => return Err(stop),
+            }
+        }
+    }
+}
+
+// Nothing is done; callers learn from it that the answers taken are counted in 64 bits.
+fn note_taken(machine: &Machine)
+    ensures { machine.now.going.state.taken < 2 ^ 64 }
+{
+    let _taken = machine.going.state.taken;
+}
+
+// What a stop of the program is told as: a false `assert` raises.
+fn stop_of(stop: Stop) -> ElabStop
+    ensures { result ≡ stop_of stop }
+{
+    match stop.cause {
+        Cause::Raised | Cause::Assert => ElabStop::Refused(Kind::Raised, stop.place),
+        Cause::Width => ElabStop::Refused(Kind::Width, stop.place),
+        Cause::Limit => ElabStop::Refused(Kind::Limit, stop.place),
+        Cause::Spent => ElabStop::Spent(stop.place),
+    }
+}
+
+/// Elaborates a program: the design that it makes, or why it makes none, exactly as `Elaborates` says within what is left, of which what
+/// it used is taken. Want of memory may come at any time.
+pub fn elaborate<L: Ledger>(
+    alloc: Global,
+    program: &Program,
+    left: &mut Budget,
+    steps: &mut Steps<L>,
+) -> Result<Elaborated, ElabStop>
+    requires { 0 < left.old.left }
+    ensures comes { IsElaborated (program_of program.now) left.old.left left.new.left result }
+    ensures ticks { steps.old ≤ steps.new }
+{
+    let frozen = Frozen::empty(alloc);
+    let Ok(machine) = Machine::start(alloc, program) else {
+        return Err(ElabStop::NoMemory);
+    };
+    let mut machine = machine;
+    let mut held = Elaboration::new(alloc);
+    match held.run(&mut machine, program, &frozen, left, steps) {
+        Ok(()) => held.finish(machine, &frozen),
+        Err(stop) => Err(stop),
+    }
+}

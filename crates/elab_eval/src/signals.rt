@@ -1,0 +1,263 @@
+// Modules and signals that are made.
+ghost use Rattle.std.specs.Prelude.{◌≡◌, ◌<◌, length, map, drop, string_bytes, Some, None, IfOk, option_map, option_and_then};
+ghost use Rattle.std.specs.Option.{option_copied};
+ghost use Rattle.py_values.specs.Heaps.{seen};
+ghost use Rattle.py_values.specs.Numbers.{number_of};
+ghost use Rattle.design_ir.specs.declared.expr.Expr.TheVariants as expr;
+ghost use Rattle.design_ir.specs.PoolRules.{expr_added};
+ghost use Rattle.amh_values.specs.declared.thing.Thing.TheVariants as thing;
+ghost use Rattle.elab_eval.specs.Stores.{thing_given};
+ghost use Rattle.elab_eval.specs.Seen.{called_of};
+ghost use Rattle.elab_eval.specs.Signals.{module_called, with_module, no_arguments, once, formed, with_keyword, with_keywords, placed_arguments, signal_arguments, call_name, signal_name, signal_init, signal_reset_less, signal_passes, signal_of, signal_given, signal_shaped, signal_said, signal_form, signal_from, signal_called};
+ghost use Rattle.elab_eval.specs.Held.{held_of, Gives};
+
+use crate::calls::Called;
+use crate::kept::Kept;
+use crate::names::{is_name, is_text};
+use crate::store::Elaboration;
+use amh_bits::Int;
+use amh_host::Text;
+use design_ir::Sig;
+use lists::NoMemory;
+use py_frames::request::{Answer, Cause};
+use py_values::{Frozen, Heap, Val};
+use shape_rules::Shape;
+
+/// The arguments of a signal, where they are given.
+#[derive(Clone, Copy, Debug, PartialEq, Eq, Drop)]
+pub struct SignalArguments {
+    pub shape: Option<Val>,
+    pub name: Option<Val>,
+    pub init: Option<Val>,
+    pub reset_less: Option<Val>,
+}
+
+// An argument is given once.
+fn once(before: Option<Val>, args: SignalArguments) -> Option<SignalArguments>
+    ensures { result ≡ once before args }
+{
+    match before {
+        None => Some(args),
+        Some(_) => None,
+    }
+}
+
+fn with_keyword(name: &str, v: Val, args: SignalArguments) -> Option<SignalArguments>
+    ensures { result ≡ with_keyword name.now v args }
+{
+    if is_text(name, "shape") {
+        once(
+            args.shape,
+            SignalArguments {
+                shape: Some(v),
+                ..args
+            },
+        )
+    } else if is_text(name, "name") {
+        once(
+            args.name,
+            SignalArguments {
+                name: Some(v),
+                ..args
+            },
+        )
+    } else if is_text(name, "init") {
+        once(
+            args.init,
+            SignalArguments {
+                init: Some(v),
+                ..args
+            },
+        )
+    } else if is_text(name, "reset_less") {
+        once(
+            args.reset_less,
+            SignalArguments {
+                reset_less: Some(v),
+                ..args
+            },
+        )
+    } else {
+        None
+    }
+}
+
+/// Arguments by keyword, each with its value.
+pub(crate) fn with_keywords(
+    keywords: &[String],
+    vals: &[Val],
+    args: SignalArguments,
+) -> Option<SignalArguments>
+    ensures { result ≡ with_keywords (map string_bytes keywords.now) vals.now args }
+{
+    let mut args = args;
+    for i in 0..keywords.len() {
+        if i >= vals.len() {
+            return None;
+        }
+        args = with_keyword(keywords[i].as_str(), vals[i], args)?;
+    }
+    Some(args)
+}
+
+// The arguments by their places: the shape alone may be given so.
+fn placed_arguments(placed: &[Val]) -> Option<SignalArguments>
+    ensures { result ≡ placed_arguments placed.now }
+{
+    let shape = match placed {
+        [] => None,
+        [shape] => Some(*shape),
+        _ => return None,
+    };
+    Some(SignalArguments {
+        shape,
+        name: None,
+        init: None,
+        reset_less: None,
+    })
+}
+
+fn signal_arguments(call: &Called) -> Option<SignalArguments>
+    ensures { result ≡ signal_arguments (called_of call.now) }
+{
+    match placed_arguments(call.placed) {
+        Some(args) => with_keywords(call.keywords, call.keyword_vals, args),
+        None => None,
+    }
+}
+
+// The name of the call, and `sig` where it is assigned to none.
+fn call_name(name: &str) -> &str
+    ensures { result.now ≡ call_name name.now }
+{
+    if name.is_empty() { "sig" } else { name }
+}
+
+// A name, where it has the form of one.
+fn formed(name: &str) -> Option<&str>
+    ensures { option_copied result ≡ formed name.now }
+{
+    if is_name(name) { Some(name) } else { None }
+}
+
+/// The name that a signal is to have.
+pub(crate) fn signal_name<'a>(
+    heap: &'a Heap,
+    frozen: &'a Frozen,
+    call: &'a str,
+    given: Option<Val>,
+) -> Option<&'a str>
+    ensures { option_copied result ≡ signal_name (seen frozen.now heap.now) call.now given }
+{
+    match given {
+        None | Some(Val::None) => formed(call_name(call)),
+        Some(Val::Str(x)) => formed(heap.text(frozen, x)),
+        _ => None,
+    }
+}
+
+// The number that a value is.
+pub(crate) fn number_of(v: Val) -> Option<Int>
+    ensures { result ≡ number_of v }
+{
+    match v {
+        Val::Bool(b) => Some(Int::of_u128(if b { 1 } else { 0 })),
+        Val::Int(n) => Some(n),
+        _ => None,
+    }
+}
+
+fn signal_init(given: Option<Val>) -> Option<Int>
+    ensures { result ≡ signal_init given }
+{
+    match given {
+        None => Some(Int::of_u128(0)),
+        Some(v) => number_of(v),
+    }
+}
+
+fn signal_reset_less(heap: &Heap, frozen: &Frozen, given: Option<Val>) -> Option<bool>
+    ensures { result ≡ signal_reset_less (seen frozen.now heap.now) given }
+{
+    match given {
+        None => Some(false),
+        Some(v) => heap.truth(frozen, v),
+    }
+}
+
+impl Elaboration {
+    /// `Module()`.
+    pub(crate) fn make_module(&mut self, call: &Called) -> Result<Answer, NoMemory>
+        ensures { Gives result self.new (module_called (called_of call.now) (held_of self.old)) }
+    {
+        if !call.placed.is_empty() || !call.keywords.is_empty() {
+            return self.refuse(Cause::Raised);
+        }
+        let number = self.store.add_module(self.alloc)?;
+        self.give_kept(Kept::Module(number))
+    }
+
+    /// `Signal(..)`.
+    pub(crate) fn make_signal(
+        &mut self,
+        heap: &Heap,
+        frozen: &Frozen,
+        call: &Called,
+    ) -> Result<Answer, NoMemory>
+        ensures { Gives result self.new (signal_called (seen frozen.now heap.now) (called_of call.now) (held_of self.old)) }
+    {
+        let Some(args) = signal_arguments(call) else {
+            return self.refuse(Cause::Raised);
+        };
+        let Some(name) = signal_name(heap, frozen, call.name, args.name) else {
+            return self.refuse(Cause::Raised);
+        };
+        let Some(init) = signal_init(args.init) else {
+            return self.refuse(Cause::Raised);
+        };
+        let Some(reset_less) = signal_reset_less(heap, frozen, args.reset_less) else {
+            return self.refuse(Cause::Raised);
+        };
+        match self.signal_form(heap, frozen, args.shape) {
+            Ok(shape) => self.put_signal(name, shape, init, reset_less),
+            Err(why) => self.refuse(why),
+        }
+    }
+
+    // The shape of a signal.
+    fn signal_form(&self, heap: &Heap, frozen: &Frozen, given: Option<Val>) -> Result<Shape, Cause>
+        ensures { result ≡ signal_form (seen frozen.now heap.now) (held_of self.now) given }
+    {
+        match given {
+            None => Ok(Shape {
+                width: 1,
+                signed: false,
+            }),
+            Some(v) => self.store.shape_meant(heap, frozen, &v),
+        }
+    }
+
+    /// A signal, and the expression that it is.
+    pub(crate) fn put_signal(
+        &mut self,
+        name: &str,
+        shape: Shape,
+        init: Int,
+        reset_less: bool,
+    ) -> Result<Answer, NoMemory>
+        ensures { Gives result self.new (signal_given (signal_of name.now shape init reset_less) (held_of self.old)) }
+    {
+        let mut copy = Text::new(self.alloc);
+        copy.push(name)?;
+        let sig = Sig {
+            name: copy,
+            shape,
+            init: init.wrap(shape.width, shape.signed),
+            reset_less,
+        };
+        match self.new_signal(sig)? {
+            Some(new) => self.give(new.val),
+            None => self.refuse(Cause::Limit),
+        }
+    }
+}

@@ -1,0 +1,201 @@
+// What is elaborated.
+ghost use Rattle.std.specs.Prelude.{◌≡◌, map, string_bytes, codes, Some, None, IfOk, option_map};
+ghost use Rattle.py_values.specs.declared.val.Val.TheVariants as val;
+ghost use Rattle.py_values.specs.Heaps.{seen, func_at};
+ghost use Rattle.py_values.specs.Objects.{first_in};
+ghost use Rattle.elab_eval.specs.Tops.{is_unbound, is_method, method_calling, found_calling, class_calling, object_calling, elaborate_of, global, top_called, top_taken, elaborated, body_ended, elaborate_ended, call_args, object_in, first_object};
+ghost use Rattle.elab_eval.specs.Held.{held_of, Gives};
+
+use crate::kept::{Kept, Top};
+use crate::names::is_text;
+use crate::store::Elaboration;
+use lists::NoMemory;
+use py_frames::request::{Answer, Cause, Request};
+use py_values::{Code, Frozen, FuncId, Heap, Inherited, ObjId, Val, Vals};
+use std::alloc::Global;
+
+/// `elaborate` of an object: what is called, and whether with the object before the platform.
+#[derive(Clone, Copy, Debug, PartialEq, Eq, Drop)]
+pub struct Calling {
+    pub callee: Val,
+    pub first: Option<ObjId>,
+}
+
+// A function that `def` made and that is bound to no object yet.
+fn is_method(heap: &Heap, frozen: &Frozen, f: FuncId) -> bool
+    ensures { result ≡ is_method (func_at (seen frozen.now heap.now) f.0) }
+{
+    match heap.func(frozen, f) {
+        Some(f) => is_unbound(&f.code, &f.this),
+        None => false,
+    }
+}
+
+fn is_unbound(code: &Code, this: &Option<Val>) -> bool
+    ensures { result ≡ is_unbound code.now this.now }
+{
+    match (code, this) {
+        (Code::Def(_), None) => true,
+        _ => false,
+    }
+}
+
+// What a class has as `elaborate`, for an object of it.
+fn method_calling(heap: &Heap, frozen: &Frozen, o: ObjId, v: Val) -> Calling
+    ensures { result ≡ method_calling (seen frozen.now heap.now) o v }
+{
+    let first = match v {
+        Val::Func(f) if is_method(heap, frozen, f) => Some(o),
+        _ => None,
+    };
+    Calling { callee: v, first }
+}
+
+fn class_calling(heap: &Heap, frozen: &Frozen, o: ObjId, class: Val) -> Option<Calling>
+    ensures { result ≡ class_calling (seen frozen.now heap.now) o class }
+{
+    let Val::Class(class) = class else {
+        return None;
+    };
+    match heap.inherited(frozen, class, "elaborate") {
+        Inherited::Found(v, _) => Some(method_calling(heap, frozen, o, v)),
+        _ => None,
+    }
+}
+
+/// The first item of a row, which of an object is its class.
+pub(crate) fn first_in(row: &[Val]) -> Val
+    ensures { result ≡ first_in row.now }
+{
+    match row {
+        [] => Val::None,
+        [first, ..] => *first,
+    }
+}
+
+// `elaborate` of an object: its own, or that of its class.
+fn object_calling(heap: &Heap, frozen: &Frozen, o: ObjId) -> Option<Calling>
+    ensures { result ≡ elaborate_of (seen frozen.now heap.now) (val.Object o) }
+{
+    match heap.attribute(frozen, o, "elaborate") {
+        Some(v) => Some(Calling {
+            callee: v,
+            first: None,
+        }),
+        None => class_calling(heap, frozen, o, first_in(heap.row(frozen, o))),
+    }
+}
+
+fn elaborate_of(heap: &Heap, frozen: &Frozen, v: Val) -> Option<Calling>
+    ensures { result ≡ elaborate_of (seen frozen.now heap.now) v }
+{
+    match v {
+        Val::Object(o) => object_calling(heap, frozen, o),
+        _ => None,
+    }
+}
+
+fn call_args(alloc: Global, first: Option<ObjId>) -> Result<Vals, NoMemory>
+    ensures { IfOk result (λ vals. vals ≡ call_args first) }
+{
+    let mut args = Vals::new(alloc);
+    if let Some(o) = first {
+        args.push(Val::Object(o))?;
+    }
+    args.push(Val::None)?;
+    Ok(args)
+}
+
+fn object_in(v: Val) -> Option<ObjId>
+    ensures { result ≡ object_in v }
+{
+    match v {
+        Val::Object(o) => Some(o),
+        _ => None,
+    }
+}
+
+/// The object that was first asked.
+pub(crate) fn first_object(before: Option<ObjId>, v: Val) -> Option<ObjId>
+    ensures { result ≡ first_object before (object_in v) }
+{
+    match before {
+        Some(o) => Some(o),
+        None => object_in(v),
+    }
+}
+
+// The value of a global.
+fn global(name: &str, vals: &[Val], names: &[String]) -> Option<Val>
+    ensures { result ≡ global name.now vals.now (map string_bytes names.now) }
+{
+    for i in 0..names.len() {
+        if i >= vals.len() {
+            return None;
+        }
+        if is_text(names[i].as_str(), name) {
+            return Some(vals[i]);
+        }
+    }
+    None
+}
+
+impl Elaboration {
+    // `elaborate` is called.
+    fn call_top(&mut self, heap: &Heap, frozen: &Frozen, v: &Val) -> Result<Answer, NoMemory>
+        ensures { Gives result self.new (top_called v.now (elaborate_of (seen frozen.now heap.now) v.now) (held_of self.old)) }
+    {
+        let Some(calling) = elaborate_of(heap, frozen, *v) else {
+            return self.refuse(Cause::Raised);
+        };
+        let args = call_args(self.alloc, calling.first)?;
+        self.store.ask_object(*v);
+        Ok(Answer::Call {
+            callee: calling.callee,
+            args,
+        })
+    }
+
+    // A value is elaborated: a module is taken, and of an object `elaborate` is called.
+    fn elaborate(&mut self, heap: &Heap, frozen: &Frozen, v: Val) -> Result<Answer, NoMemory>
+        ensures { Gives result self.new (elaborated (seen frozen.now heap.now) v (held_of self.old)) }
+    {
+        match self.store.module_of(&v) {
+            Some(m) => {
+                self.store.set_root(m);
+                self.give(Val::None)
+            }
+            None => self.call_top(heap, frozen, &v),
+        }
+    }
+
+    /// The body of the program ended.
+    pub(crate) fn end_body(
+        &mut self,
+        heap: &Heap,
+        frozen: &Frozen,
+        request: &Request,
+    ) -> Result<Answer, NoMemory>
+        ensures { Gives result self.new (body_ended (seen frozen.now heap.now) (global (codes "top") request.now.vals request.now.names) (held_of self.old)) }
+    {
+        match global("top", request.vals.as_slice(), request.names.items()) {
+            Some(v) => self.elaborate(heap, frozen, v),
+            None => self.refuse(Cause::Raised),
+        }
+    }
+
+    /// `elaborate` ended.
+    pub(crate) fn end_elaborate(
+        &mut self,
+        heap: &Heap,
+        frozen: &Frozen,
+        request: &Request,
+    ) -> Result<Answer, NoMemory>
+        ensures { Gives result self.new (elaborate_ended (seen frozen.now heap.now) request.now.vals (held_of self.old)) }
+    {
+        match request.vals.as_slice() {
+            [v, ..] => self.elaborate(heap, frozen, *v),
+            [] => self.refuse(Cause::Raised),
+        }
+    }
+}
