@@ -150,51 +150,54 @@ brings : (program : Steps) (frozen : Made) (given : List Answer) (a : Answer) (b
     → Brings program frozen given a (turn_of rest) (record before { going = z; stage = stage_of rest }) budget
 unfolding GoesOn
 brings program frozen given a before z budget (Ok (Waits r act zero)) of opened stands room moves grows rested kept left =
-    let w : World = life given a budget in (
-      refl,
-      ap stops_as (came_total program frozen given a before before.stage of opened stands w [] room refl ∙ moves w left
+    let w : World = life given a budget in record {
+      told = refl;
+      stops = ap stops_as (came_total program frozen given a before before.stage of opened stands w [] room refl ∙ moves w left
           ∙ ap (finish (steps_of before.functions.program) frozen z.state.here.room z.frames w) (none_begun (known (steps_of before.functions.program) frozen z.state.here.room) act r w z.state))
-          ∙ stops_as-finish (steps_of before.functions.program) frozen z.state.here.room z.frames w (record { cause = cause.Spent; place = r.place }) z.state,
-    )
+          ∙ stops_as-finish (steps_of before.functions.program) frozen z.state.here.room z.frames w (record { cause = cause.Spent; place = r.place }) z.state;
+    }
 brings program frozen given a before z budget (Ok (Waits r act (suc n))) of opened stands room moves grows rested kept left =
     let w : World = life given a budget in
     let counted : z.state.taken ≡ length (given ++ a ∷ []) = kept ∙ ap (λ i. i + 1) (as_given program frozen given before before.stage opened stands) ∙ sym (length_more given a) in
-    let past : slice_get w.answers z.state.taken ≡ None = slice_get_past (given ++ a ∷ []) z.state.taken (omega (arith, counted)) in (
-      (came_total program frozen given a before before.stage of opened stands w [] room refl ∙ moves w left
+    let past : slice_get w.answers z.state.taken ≡ None = slice_get_past (given ++ a ∷ []) z.state.taken (omega (arith, counted)) in record {
+      asks = (came_total program frozen given a before before.stage of opened stands w [] room refl ∙ moves w left
           ∙ ap (finish (steps_of before.functions.program) frozen z.state.here.room z.frames w) (no_answer (known (steps_of before.functions.program) frozen z.state.here.room) n act r w z.state past)
-          ∙ finish-halts (steps_of before.functions.program) frozen z.state.here.room z.frames w (halt.Asks r) z.state),
-      (
+          ∙ finish-halts (steps_of before.functions.program) frozen z.state.here.room z.frames w (halt.Asks r) z.state);
+      stands = (
         counted,
         (λ v b more lt e.
             came_total program frozen given a before before.stage of opened stands v (b ∷ more) (omega (arith, grows, lt)) (e ∙ then_more given a (b ∷ more)) ∙ moves v lt
             ∙ ap (finish (steps_of before.functions.program) frozen z.state.here.room z.frames v) (one_answer (known (steps_of before.functions.program) frozen z.state.here.room) n act r v z.state b (ap (λ (l : List Answer). slice_get l z.state.taken) e ∙ ap (slice_get ((given ++ a ∷ []) ++ b ∷ more)) counted ∙ slice_get_at (given ++ a ∷ []) b more))
             ∙ ap (λ p. finish p frozen z.state.here.room z.frames v (reply (known p frozen z.state.here.room) n act r.place b v (next_taken z.state))) of.1),
-      ),
-    )
-brings program frozen given a before z budget (Ok (Came got)) of opened stands room moves grows rested kept left = (
-  refl,
-  (λ w more lt e. (
-    got,
-    came_total program frozen given a before before.stage of opened stands w more (omega (arith, grows, lt)) (e ∙ then_more given a more) ∙ moves w lt
-        ∙ ap (λ fs. finish (steps_of before.functions.program) frozen z.state.here.room fs w (Done got z.state)) (alone z.frames rested),
-    refl,
-  )),
-)
-brings program frozen given a before z budget (Ok (Begin e purpose)) of opened stands room moves grows rested kept left = tt
-brings program frozen given a before z budget (Ok (Run s)) of opened stands room moves grows rested kept left = tt
+      );
+      waits = refl;
+      taken = counted;
+      below = left;
+    }
+brings program frozen given a before z budget (Ok (Came got)) of opened stands room moves grows rested kept left =
+    let ended : (w : World) (more : List Answer) → z.state.used < w.budget → w.answers ≡ given ++ a ∷ more → ask_program program w ≡ Done got z.state = λ w more lt e.
+    came_total program frozen given a before before.stage of opened stands w more (omega (arith, grows, lt)) e ∙ moves w lt
+    ∙ ap (λ fs. finish (steps_of before.functions.program) frozen z.state.here.room fs w (Done got z.state)) (alone z.frames rested) in record {
+      told = refl;
+      stands = (λ w more lt e. (got, ended w more lt (e ∙ then_more given a more), refl));
+      ends = (got, ended (life given a budget) [] left refl, refl);
+      below = left;
+    }
+brings program frozen given a before z budget (Ok (Begin e purpose)) of opened stands room moves grows rested kept left = refl
+brings program frozen given a before z budget (Ok (Run s)) of opened stands room moves grows rested kept left = refl
 brings program frozen given a before z budget (Err (halt.Stopped s)) of opened stands room moves grows rested kept left =
     let w : World = life given a budget in
-    (refl, ap stops_as (came_total program frozen given a before before.stage of opened stands w [] room refl) ∙ moves w refl)
-brings program frozen given a before z budget (Err (halt.Asks r)) of opened stands room moves grows rested kept left = tt
-brings program frozen given a before z budget (Err halt.NoMemory) of opened stands room moves grows rested kept left = tt
+    record { told = refl; stops = ap stops_as (came_total program frozen given a before before.stage of opened stands w [] room refl) ∙ moves w refl }
+brings program frozen given a before z budget (Err (halt.Asks r)) of opened stands room moves grows rested kept left = refl
+brings program frozen given a before z budget (Err halt.NoMemory) of opened stands room moves grows rested kept left = refl
 
 -- ---- `resume`
 
 pub resumed_again : (program : Steps) (frozen : Made) (a : Answer) (t : Turn) (before behind : Machine) (left : ℕ) → again before.stage ≡ Some t → behind ≡ before → Resumed (again before.stage) program frozen a t before behind left
 resumed_again program frozen a t before behind left e same = subst (λ o. Resumed o program frozen a t before behind left) (sym e) (refl, same)
 
-pub resumed_none : (program : Steps) (frozen : Made) (a : Answer) (before behind : Machine) (left : ℕ) → again before.stage ≡ None → Resumed (again before.stage) program frozen a turn.NoMemory before behind left
-resumed_none program frozen a before behind left e = subst (λ o. Resumed o program frozen a turn.NoMemory before behind left) (sym e) (λ given stands. tt)
+pub resumed_none : (program : Steps) (frozen : Made) (a : Answer) (before behind : Machine) (left : ℕ) → again before.stage ≡ None → behind.stage ≡ stage.NoMemory → Resumed (again before.stage) program frozen a turn.NoMemory before behind left
+resumed_none program frozen a before behind left e same = subst (λ o. Resumed o program frozen a turn.NoMemory before behind left) (sym e) (λ given stands. same)
 
 pub resumed_goes : (program : Steps) (frozen : Made) (a : Answer) (t : Turn) (before behind : Machine) (left budget : ℕ) (z : Going) (rest : Result Now Halt)
     → IsOf program before → again before.stage ≡ None → budget ≡ before.going.state.used + left → before.going.state.used < budget

@@ -8,6 +8,8 @@ use Rattle.py_values.specs.declared.val.Val.{Val}
 use Rattle.py_values.specs.declared.val.Val.TheVariants as val
 use Rattle.py_frames.specs.declared.request.Act.{Act}
 use Rattle.py_frames.specs.declared.request.Answer.{Answer}
+use Rattle.py_frames.specs.declared.request.Request.{Request}
+use Rattle.py_frames.specs.declared.request.Stop.{Stop}
 use Rattle.py_frames.specs.declared.request.Turn.{Turn}
 use Rattle.py_frames.specs.declared.request.Turn.TheVariants as turn
 use Rattle.py_frames.specs.declared.state.State.{State}
@@ -66,15 +68,6 @@ Stands program frozen given m = StandsAs program frozen given m m.stage
 abbrev pub life : List Answer → Answer → ℕ → World
 life given a budget = record { budget = budget; answers = given ++ a ∷ [] }
 
--- what an answer brings
-abbrev pub Brings : Steps → Made → List Answer → Answer → Turn → Machine → ℕ → Type 0
-Brings program frozen given a (turn.Asks r) behind budget =
-    (ask_program program (life given a budget) ≡ Halts (halt.Asks r) behind.going.state) × Stands program frozen (given ++ a ∷ []) behind
-Brings program frozen given a (turn.Ended v) behind budget = (behind.stage ≡ stage.Ended v) × Stands program frozen (given ++ a ∷ []) behind
-Brings program frozen given a (turn.Stopped stop) behind budget =
-    (behind.stage ≡ stage.Stopped stop) × (stops_as (ask_program program (life given a budget)) ≡ Some (stop, behind.going.state.used))
-Brings program frozen given a turn.NoMemory behind budget = ⊤
-
 -- what is answered once it is over: the same again
 abbrev pub again : Stage → Option Turn
 again stage.Before = None
@@ -82,6 +75,41 @@ again (stage.Waiting act place n) = None
 again (stage.Ended v) = Some (turn.Ended v)
 again (stage.Stopped stop) = Some (turn.Stopped stop)
 again stage.NoMemory = Some turn.NoMemory
+
+-- A request is what the program comes to by these answers. The machine then waits for one answer more, as many were taken as were given, and
+-- what it used is below the budget.
+pub record IsAsked (program : Steps) (frozen : Made) (given : List Answer) (a : Answer) (r : Request) (behind : Machine) (budget : ℕ) : Type 0 where
+  pub asks : ask_program program (life given a budget) ≡ Halts (halt.Asks r) behind.going.state
+  pub stands : Stands program frozen (given ++ a ∷ []) behind
+  pub waits : again behind.stage ≡ None
+  pub taken : behind.going.state.taken ≡ length (given ++ a ∷ [])
+  pub below : behind.going.state.used < budget
+
+-- The program ends by these answers, worth this value, and what it used is below the budget. The machine tells the same again.
+pub record IsEnded (program : Steps) (frozen : Made) (given : List Answer) (a : Answer) (v : Val) (behind : Machine) (budget : ℕ) : Type 0 where
+  pub told : behind.stage ≡ stage.Ended v
+  pub stands : Stands program frozen (given ++ a ∷ []) behind
+  pub ends : (got : Got) × (ask_program program (life given a budget) ≡ Done got behind.going.state) × (v ≡ worth got)
+  pub below : behind.going.state.used < budget
+
+-- The program stops by these answers, at this cost, and the machine tells the same again.
+pub record IsStopped (program : Steps) (given : List Answer) (a : Answer) (stop : Stop) (behind : Machine) (budget : ℕ) : Type 0 where
+  pub told : behind.stage ≡ stage.Stopped stop
+  pub stops : stops_as (ask_program program (life given a budget)) ≡ Some (stop, behind.going.state.used)
+
+-- what an answer brings; of want of memory, that the same is told again
+abbrev pub Brings : Steps → Made → List Answer → Answer → Turn → Machine → ℕ → Type 0
+Brings program frozen given a (turn.Asks r) behind budget = IsAsked program frozen given a r behind budget
+Brings program frozen given a (turn.Ended v) behind budget = IsEnded program frozen given a v behind budget
+Brings program frozen given a (turn.Stopped stop) behind budget = IsStopped program given a stop behind budget
+Brings program frozen given a turn.NoMemory behind budget = behind.stage ≡ stage.NoMemory
+
+-- Where a request waits and where the program ended, what is used and what is left are together what they were.
+abbrev pub KeepsBudget : Turn → ℕ → ℕ → Type 0
+KeepsBudget (turn.Asks r) before behind = behind ≡ before
+KeepsBudget (turn.Ended v) before behind = behind ≡ before
+KeepsBudget (turn.Stopped stop) before behind = ⊤
+KeepsBudget turn.NoMemory before behind = ⊤
 
 abbrev pub Resumed : Option Turn → Steps → Made → Answer → Turn → Machine → Machine → ℕ → Type 0
 Resumed (Some same) program frozen a result before behind left = (result ≡ same) × (behind ≡ before)

@@ -10,7 +10,7 @@ ghost use Rattle.py_frames.specs.Tables.{IsTable};
 ghost use Rattle.py_frames.specs.Turns.{Rests};
 ghost use Rattle.py_tree.specs.Programs.{program_of};
 ghost use Rattle.py_values.specs.Heaps.{nothing, seen, row_at, text_at};
-ghost use Rattle.py_machine.specs.Lives.{IsOf, Stands, Resumed, again, worth};
+ghost use Rattle.py_machine.specs.Lives.{IsOf, Stands, Resumed, KeepsBudget, again, worth};
 
 use crate::reply::answered;
 use crate::turn::go;
@@ -52,6 +52,8 @@ impl Machine {
     pub fn start(alloc: Global, program: &Program) -> Result<Machine, NoMemory>
         ensures of { IfOk result (IsOf (program_of program.now)) }
         ensures stands { IfOk result (Stands (program_of program.now) nothing []) }
+        ensures before { IfOk result (λ m. m.stage ≡ stage.Before) }
+        ensures unused { IfOk result (λ m. m.going.state.used ≡ 0) }
     {
         let Ok(functions) = Functions::of(alloc, &program.body) else {
             return Err(NoMemory);
@@ -87,6 +89,8 @@ impl Machine {
         ensures of { IsOf (program_of program.now) self.new }
         ensures comes { Resumed (again self.old.stage) (program_of program.now) frozen.now answer result self.old self.new left.old.left }
         ensures left { left.new.left ≡ self.old.going.state.used + left.old.left - self.new.going.state.used }
+        ensures ticks { steps.old ≤ steps.new }
+        ensures kept { KeepsBudget result (self.old.going.state.used + left.old.left) (self.new.going.state.used + left.new.left) }
     {
         if let Some(turn) = self.again() {
             return turn;
@@ -290,6 +294,7 @@ fn replied<L: Ledger>(
     ensures left { OnOk result (going.new.state.used < budget) }
     ensures grows { going.old.state.used ≤ going.new.state.used }
     ensures taken { KeepsTaken result going.old going.new }
+    ensures ticks { steps.old ≤ steps.new }
 {
     let before = going.state.taken;
     let Ok(()) = take(going) else {
@@ -319,6 +324,7 @@ fn rest_of<L: Ledger>(
     ensures left { OnOk result (going.new.state.used < budget) }
     ensures grows { going.old.state.used ≤ going.new.state.used }
     ensures taken { OnOk result (going.new.state.taken ≡ before + 1) }
+    ensures ticks { steps.old ≤ steps.new }
 {
     match go(going, functions, frozen, now, budget, steps) {
         Err(halt) => Err(halt),

@@ -40,6 +40,7 @@ pub fn go<L: Ledger>(
     ensures rests { OnOk result (Rests result going.new) }
     ensures left { OnOk result (going.new.state.used < budget) }
     ensures grows { going.old.state.used ≤ going.new.state.used }
+    ensures ticks { steps.old ≤ steps.new }
 {
     let mut now = first;
     let mut turns = MOST;

@@ -11,6 +11,7 @@ loop-turns-preserved g c =
       moves = turn_follows c.args.functions.now c.args.frozen.now (Ok c.in-Ok.next) c.args.going.now c.loop-turns.going c.turn.new.going c.args.budget c.loop-turns.now (λ k. now_means k c.args.first) before.moves before.left turn.grows turn.moves;
       left = turn.left;
       grows = omega (arith, before.grows, turn.grows);
+      ticks = omega (arith, before.ticks, c.tick.ensures);
     }
 
 pub returns-in-Err-clause-moves : goal.returns-in-Err-clause-moves

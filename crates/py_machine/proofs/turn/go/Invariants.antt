@@ -10,4 +10,5 @@ invariant-loop-turns g l = record {
   moves : GoesOn l.fn.functions l.fn.frozen (Ok l.now) l.fn.going l.going l.fn.budget (λ k. now_means k l.fn.first);
   left : l.going.state.used < l.fn.budget;
   grows : l.fn.going.state.used ≤ l.going.state.used;
+  ticks : l.fn.steps ≤ l.steps;
 }
