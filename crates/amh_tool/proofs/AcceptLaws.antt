@@ -1,21 +1,22 @@
 -- From what was read to the outcome of a plan.
 use Rattle.std.proofs.Common.{◌≡◌, ◌∙◌, ◌<◌, ℕ, List, length, length-append, refl, ap, sym, subst, arith}
-use Rattle.std.specs.Prelude.{Option, None, Some, IfSome, MatchOption, Ok, Err, Vec}
+use Rattle.std.specs.Prelude.{Option, None, Some, IfSome, MatchOption, Vec}
 use Rattle.std.specs.declared.alloc.Global.{Global}
 use Rattle.amh_host.specs.Seen.{Files}
 use Rattle.amh_host.specs.Whole.{ReadsWhole, IsWhole}
 use Rattle.amh_host.specs.declared.whole.Whole.TheVariants.{Bytes, TooLong}
+use Rattle.amh_host.specs.declared.place.Place.{Place}
 use Rattle.amh_host.specs.declared.place.Kind.TheVariants.{Limit}
 use Rattle.design_ir.specs.Circuits.{Circuit}
-use Rattle.component_form.specs.declared.refusal.Refusal.{Refusal}
+use Rattle.amh_tool.specs.declared.refusal.Refusal.{Refusal}
 use Rattle.amh_tool.specs.Plan.{Plan}
-use Rattle.amh_tool.specs.Designs.{Designed, IsDesigned, refusal, line_start}
+use Rattle.amh_tool.specs.Designs.{Designed, gives, refuses, spends, IsDesigned, refusal, line_start}
 use Rattle.amh_tool.specs.Boards.{board_of}
 use Rattle.amh_tool.specs.Script.{script_events}
 use Rattle.amh_tool.specs.ScriptGives.{SaysAs, ReadsScript}
 use Rattle.amh_tool.proofs.ScriptFronts.{script_events-front}
 use Rattle.amh_tool.proofs.DesignLaws.{IsDesigned-long}
-use Rattle.amh_tool.specs.Outcome.{Outcome, Unread, Refuses, FromDesign, IsJudged, IsPlanned, played}
+use Rattle.amh_tool.specs.Outcome.{Outcome, Unread, Refuses, Spends, FromDesign, IsJudged, IsPlanned, played}
 
 -- a front that is too long is of a file that is
 past_limit : (file : List ℕ) (limit : ℕ) (v : Vec ℕ Global) → IsWhole file limit (TooLong v) → limit < length file
@@ -25,7 +26,7 @@ long_at : (p : Plan) (files : Files) (v : Vec ℕ Global) (o : Option (List ℕ)
     → MatchOption o (Refuses (refusal Limit (line_start 1)) ≡ Unread) (λ file. FromDesign p files file (Refuses (refusal Limit (line_start 1))))
 long_at p files v None h = absurd h
 long_at p files v (Some file) h =
-    record { found = Err (refusal Limit (line_start 1)); designed = IsDesigned-long file (past_limit file 1_048_576 v h); judged = refl }
+    record { found = refuses (refusal Limit (line_start 1)); designed = IsDesigned-long file (past_limit file 1_048_576 v h); judged = refl }
 
 -- a design file that is too long is refused
 pub too_long : (p : Plan) (told : Option Files) (v : Vec ℕ Global) → ReadsWhole told p.design 1_048_576 (TooLong v) → IfSome told (λ files. IsPlanned p files (Refuses (refusal Limit (line_start 1))))
@@ -44,12 +45,17 @@ read_design_of p None v found x h d j = tt
 read_design_of p (Some files) v found x h d j = short_at p files v found x (files p.design) h d j
 
 -- a refused design needs no script
-pub refused_at_once : (p : Plan) (told : Option Files) (why : Refusal) → IfSome told (λ files. IsJudged p files (Err why) (Refuses why))
+pub refused_at_once : (p : Plan) (told : Option Files) (why : Refusal) → IfSome told (λ files. IsJudged p files (refuses why) (Refuses why))
 refused_at_once p None why = tt
 refused_at_once p (Some files) why = refl
 
+-- nor does one whose budget is spent
+pub spent_at_once : (p : Plan) (told : Option Files) (place : Place) → IfSome told (λ files. IsJudged p files (spends place) (Spends place))
+spent_at_once p None place = tt
+spent_at_once p (Some files) place = refl
+
 -- what the script leads to is what the design leads to
-pub read_script_of : (p : Plan) (told : Option Files) (c : Circuit) (bytes : List ℕ) (x : Outcome) → ReadsScript told p.script bytes → x ≡ played c (script_events (board_of c) bytes) → IfSome told (λ files. IsJudged p files (Ok c) x)
+pub read_script_of : (p : Plan) (told : Option Files) (c : Circuit) (bytes : List ℕ) (x : Outcome) → ReadsScript told p.script bytes → x ≡ played c (script_events (board_of c) bytes) → IfSome told (λ files. IsJudged p files (gives c) x)
 read_script_of p None c bytes x h e = tt
 read_script_of p (Some files) c bytes x h e = held (files p.script) h
   where

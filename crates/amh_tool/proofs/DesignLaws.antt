@@ -1,12 +1,12 @@
 -- From what the parts of a design file gave to what the file stands for.
-use Rattle.std.specs.Prelude.{◌≡◌, refl, ℕ, ◌+◌, ◌≤◌, ◌<◌, ◌⊎◌, ◌==◌, false, List, length, take, count_by, Result, Ok, Err, IfOk, IsUtf8}
+use Rattle.std.specs.Prelude.{◌≡◌, refl, ℕ, ◌+◌, ◌≤◌, ◌<◌, ◌⊎◌, ◌==◌, false, List, length, take, count_by, Option, None, Some, MatchOption, Result, Ok, Err, IsUtf8}
 use Rattle.std.specs.Str.{chars, IsValidUpTo}
 use Rattle.std.specs.Str.Lossy.{utf8_valid_len}
 use Rattle.std.proofs.Common.{sym, subst, arith, inl, inr}
 use Rattle.std.proofs.lemmas.Bool.{le-ltb, lt-ltb, eq-eqb, eqb-true, false_from_ne_true}
 use Rattle.std.proofs.lemmas.Str.{utf8_valid_len-IsUtf8, utf8_valid_len-IsValidUpTo}
 use Rattle.amh_host.specs.declared.place.Place.{Place}
-use Rattle.amh_host.specs.declared.place.Kind.TheVariants.{Text, Subset, Loop as a_loop, Limit}
+use Rattle.amh_host.specs.declared.place.Kind.TheVariants.{Text, Subset, Raised, Loop as a_loop, Limit}
 use Rattle.py_lexer.specs.declared.line.Line.{Line}
 use Rattle.py_lexer.specs.Lines.{logical_lines}
 use Rattle.py_tree.specs.Steps.{Steps}
@@ -17,38 +17,39 @@ use Rattle.design_ir.specs.Circuits.{Circuit}
 use Rattle.comb_graph.specs.Orders.{IsOrder}
 use Rattle.comb_graph.specs.Laws.{OrderedHaveNoLoop}
 use Rattle.comb_graph.specs.Refusals.{IsTold}
-use Rattle.component_form.specs.declared.refusal.FormStop.{FormStop}
-use Rattle.component_form.specs.declared.refusal.FormStop.TheVariants.{Refused, NoMemory}
-use Rattle.component_form.specs.Elaborated.{elaborated}
-use Rattle.component_form.specs.Gives.{Gives}
-use Rattle.component_form.specs.Laws.{FilesAreSound}
-use Rattle.component_form.specs.Sound.{IsSoundDesign}
-use Rattle.amh_tool.specs.Designs.{Designed, refusal, line_start, line_places, IsChecked, IsCut, IsDesigned, IsElaborated, IsUnparsed, IsRanked}
-use Rattle.amh_tool.specs.DesignGives.{Found, DesignGives, CutGives, LinesGive, RankGives}
+use Rattle.netlist.specs.Beyond.{first_beyond}
+use Rattle.elab_eval.specs.declared.refusal.ElabStop.{ElabStop}
+use Rattle.elab_eval.specs.declared.refusal.ElabStop.TheVariants as elab
+use Rattle.elab_eval.specs.Elaborates.{Found as Elab_found, Comes, IsElaborated as Comes_to}
+use Rattle.amh_tool.specs.declared.refusal.DesignStop.{DesignStop}
+use Rattle.amh_tool.specs.declared.refusal.DesignStop.TheVariants.{Refused, Spent, NoMemory}
+use Rattle.amh_tool.specs.Designs.{Designed, gives, refuses, spends, refusal, line_start, budget, ComesTo, IsCut, IsDesigned, IsElaborated, IsUnparsed, IsLowered, IsRanked}
+use Rattle.amh_tool.specs.DesignGives.{Found, DesignGives, CutGives, LinesGive, ProgramGives, LoweringGives, RankGives, stop_seen}
 use Rattle.amh_tool.specs.declared.design_text.Ranked.{Ranked}
 
-found_weaker : (P Q : Designed → Type 0) (given : Result Ranked FormStop) → ((x : Designed) → P x → Q x) → Found P given → Found Q given
-found_weaker P Q (Ok r) f h = f (Ok r.design) h
-found_weaker P Q (Err (Refused why)) f h = f (Err why) h
+found_weaker : (P Q : Designed → Type 0) (given : Result Ranked DesignStop) → ((x : Designed) → P x → Q x) → Found P given → Found Q given
+found_weaker P Q (Ok r) f h = f (gives r.design) h
+found_weaker P Q (Err (Refused why)) f h = f (refuses why) h
+found_weaker P Q (Err (Spent place)) f h = f (spends place) h
 found_weaker P Q (Err NoMemory) f h = tt
 
 -- ---- bytes
 
 -- a file that is longer than it may be
-pub IsDesigned-long : (bytes : List ℕ) → 1_048_576 < length bytes → IsDesigned bytes (Err (refusal Limit (line_start 1)))
+pub IsDesigned-long : (bytes : List ℕ) → 1_048_576 < length bytes → IsDesigned bytes (refuses (refusal Limit (line_start 1)))
 IsDesigned-long bytes long = rw (lt-ltb 1_048_576 (length bytes) long) refl
 
 text_designed : (bytes : List ℕ) (found : Designed) → length bytes ≤ 1_048_576 → IsUtf8 bytes → IsCut bytes (logical_lines (chars bytes)) found → IsDesigned bytes found
 text_designed bytes found few text h =
     rw (le-ltb 1_048_576 (length bytes) few, eq-eqb (utf8_valid_len bytes) (length bytes) (utf8_valid_len-IsUtf8 bytes text)) h
 
-pub DesignGives-text : (bytes : List ℕ) (given : Result Ranked FormStop) → length bytes ≤ 1_048_576 → IsUtf8 bytes → CutGives bytes (logical_lines (chars bytes)) given → DesignGives bytes given
+pub DesignGives-text : (bytes : List ℕ) (given : Result Ranked DesignStop) → length bytes ≤ 1_048_576 → IsUtf8 bytes → CutGives bytes (logical_lines (chars bytes)) given → DesignGives bytes given
 DesignGives-text bytes given few text h =
     found_weaker (IsCut bytes (logical_lines (chars bytes))) (IsDesigned bytes) given (λ found. text_designed bytes found few text) h
 
 -- bytes that are no text
 pub IsDesigned-bytes : (bytes : List ℕ) (n : ℕ) → length bytes ≤ 1_048_576 → IsValidUpTo bytes n
-    → IsDesigned bytes (Err (refusal Text (line_start (count_by (λ b. b == 10) (take n bytes) + 1))))
+    → IsDesigned bytes (refuses (refusal Text (line_start (count_by (λ b. b == 10) (take n bytes) + 1))))
 IsDesigned-bytes bytes n few upto =
     let front : utf8_valid_len bytes ≡ n = utf8_valid_len-IsValidUpTo bytes n upto in
     let short : n < length bytes = upto.short in
@@ -58,7 +59,7 @@ IsDesigned-bytes bytes n few upto =
 
 -- ---- lines
 
-pub CutGives-lines : (text : List ℕ) (cut : Result (List Line) Place) (lines : List Line) (given : Result Ranked FormStop) → cut ≡ Ok lines → LinesGive text lines given → CutGives text cut given
+pub CutGives-lines : (text : List ℕ) (cut : Result (List Line) Place) (lines : List Line) (given : Result Ranked DesignStop) → cut ≡ Ok lines → LinesGive text lines given → CutGives text cut given
 CutGives-lines text cut lines given is h = subst (λ (x : Result (List Line) Place). CutGives text x given) (sym is) h
 
 pub CutGives-fault : (text : List ℕ) (cut : Result (List Line) Place) (place : Place) → cut ≡ Err place → CutGives text cut (Err (Refused (refusal Subset place)))
@@ -69,32 +70,40 @@ LinesGive-unparsed text lines place h = inr (record { place = place; refused = h
 
 -- ---- programs
 
--- a program whose design is refused
-pub LinesGive-refused : (text : List ℕ) (lines : List Line) (body : Steps) (stop : FormStop) → IsProgram (file_lines text lines) body → Gives (line_places lines) body (Err stop) → LinesGive text lines (Err stop)
-LinesGive-refused text lines body (Refused r) program h =
-    inl (record { body = body; program = program; checked = subst (λ (x : Designed). IsChecked x (Err r)) (sym h) refl })
-LinesGive-refused text lines body NoMemory program h = tt
+LinesGive-parsed : (text : List ℕ) (lines : List Line) (body : Steps) → IsProgram (file_lines text lines) body → (found : Designed) → ComesTo body found → IsElaborated text lines found ⊎ IsUnparsed text lines found
+LinesGive-parsed text lines body program found h = inl (record { body = body; program = program; comes = h })
 
--- a program with a design, which is ranked
-pub LinesGive-design : (text : List ℕ) (lines : List Line) (body : Steps) (c : Circuit) (given : Result Ranked FormStop) → IsProgram (file_lines text lines) body → elaborated (line_places lines) body ≡ Ok c → RankGives c given
-    → LinesGive text lines given
-LinesGive-design text lines body c given program h ranks =
-    found_weaker (IsRanked c) (λ found. IsElaborated text lines found ⊎ IsUnparsed text lines found) given
-    (λ found ranked. inl (record { body = body; program = program; checked = subst (λ (x : Designed). IsChecked x found) (sym h) ranked })) ranks
+-- a program gives what it comes to
+pub LinesGive-program : (text : List ℕ) (lines : List Line) (body : Steps) (given : Result Ranked DesignStop) → IsProgram (file_lines text lines) body → ProgramGives body given → LinesGive text lines given
+LinesGive-program text lines body given program h =
+    found_weaker (ComesTo body) (λ found. IsElaborated text lines found ⊎ IsUnparsed text lines found) given (LinesGive-parsed text lines body program) h
 
--- ---- sound designs
+-- a program with a design, which is lowered
+pub ProgramGives-design : (body : Steps) (left : ℕ) (f : Elab_found) (given : Result Ranked DesignStop) → Comes body budget left (Ok f) → LoweringGives f.circuit given → ProgramGives body given
+ProgramGives-design body left f given h lowers =
+    found_weaker (IsLowered f.circuit) (ComesTo body) given (λ found lowered. record { came = Ok f; used = h.used; elaborates = h.outcome; checked = lowered }) lowers
 
-sound_where : (x : Designed) (c : Circuit) → x ≡ Ok c → IfOk x IsSoundDesign → IsSoundDesign c
-sound_where x c is h = subst (λ (x : Designed). IfOk x IsSoundDesign) is h
+-- a program that is refused, or whose budget is spent
+pub ProgramGives-stop : (body : Steps) (left : ℕ) (stop : ElabStop) → Comes_to body budget left (Err stop) → ProgramGives body (Err (stop_seen stop))
+ProgramGives-stop body left (elab.Refused kind place) h = record { came = Err (elab.Refused kind place); used = h.used; elaborates = h.outcome; checked = refl }
+ProgramGives-stop body left (elab.Spent place) h = record { came = Err (elab.Spent place); used = h.used; elaborates = h.outcome; checked = refl }
+ProgramGives-stop body left elab.NoMemory h = tt
 
-pub sound_given : (lines : List Place) (body : Steps) (given : Result Circuit FormStop) → FilesAreSound → Gives lines body given → IfOk given IsSoundDesign
-sound_given lines body (Ok c) law h = sound_where (elaborated lines body) c h (law lines body)
-sound_given lines body (Err stop) law h = tt
+-- ---- what can be lowered
+
+pub LoweringGives-none : (c : Circuit) (given : Result Ranked DesignStop) → None ≡ first_beyond c → RankGives c given → LoweringGives c given
+LoweringGives-none c given none h =
+    found_weaker (IsRanked c) (IsLowered c) given
+    (λ found ranked. subst (λ (o : Option Place). MatchOption o (IsRanked c found) (λ place. found ≡ refuses (refusal Raised place))) none ranked) h
+
+pub IsLowered-beyond : (c : Circuit) (place : Place) → Some place ≡ first_beyond c → IsLowered c (refuses (refusal Raised place))
+IsLowered-beyond c place some =
+    subst (λ (o : Option Place). MatchOption o (IsRanked c (refuses (refusal Raised place))) (λ p. refuses (refusal Raised place) ≡ refuses (refusal Raised p))) some refl
 
 -- ---- the order of bits
 
-pub IsRanked-order : (c : Circuit) (order : List Bit) → OrderedHaveNoLoop → IsOrder c order → IsRanked c (Ok c)
+pub IsRanked-order : (c : Circuit) (order : List Bit) → OrderedHaveNoLoop → IsOrder c order → IsRanked c (gives c)
 IsRanked-order c order law h = record { same = refl; loopless = law c order h }
 
-pub IsRanked-loop : (c : Circuit) (bit : Bit) (place : Place) → IsTold c bit place → IsRanked c (Err (refusal a_loop place))
+pub IsRanked-loop : (c : Circuit) (bit : Bit) (place : Place) → IsTold c bit place → IsRanked c (refuses (refusal a_loop place))
 IsRanked-loop c bit place h = record { bit = bit; told = h; kind = refl }

@@ -13,7 +13,6 @@ pub mod ScriptTexts
 mod ScriptSamples
 pub mod ScriptFronts
 pub mod ScriptLegal
-pub mod PlainDesigns
 pub mod DesignLaws
 pub mod AcceptLaws
 pub mod RunLaws
@@ -21,3 +20,4 @@ pub mod LinePlaces
 pub mod RefusedLines
 pub mod OneDesign
 pub mod OneOutcome
+pub mod PromiseLaws

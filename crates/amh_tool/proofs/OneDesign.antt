@@ -1,11 +1,11 @@
--- The bytes of a design file stand for one design, or for one refusal.
-use Rattle.std.specs.Prelude.{◌≡◌, refl, ℕ, ◌==◌, nat_lt, Bool, true, false, List, length, Result, Ok, Err}
+-- The bytes of a design file stand for one design, for one refusal, or for one spent budget.
+use Rattle.std.specs.Prelude.{◌≡◌, refl, ℕ, ◌==◌, nat_lt, Bool, true, false, List, length, Option, None, Some, MatchOption, Result, Ok, Err}
 use Rattle.std.specs.Bool.{MatchBool}
 use Rattle.std.specs.Str.{chars}
 use Rattle.std.specs.Str.Lossy.{utf8_valid_len}
 use Rattle.std.proofs.Common.{sym, ◌∙◌, ap, subst, arith, inl, inr}
 use Rattle.amh_host.specs.declared.place.Place.{Place}
-use Rattle.amh_host.specs.declared.place.Kind.TheVariants.{Text, Subset, Limit}
+use Rattle.amh_host.specs.declared.place.Kind.TheVariants.{Text, Subset, Raised, Limit}
 use Rattle.py_lexer.specs.declared.line.Line.{Line}
 use Rattle.py_lexer.specs.Lines.{logical_lines}
 use Rattle.py_tree.specs.Steps.{Steps}
@@ -13,9 +13,12 @@ use Rattle.py_grammar.specs.Block_laws.{OneProgram, FrontOfFront}
 use Rattle.py_parser.specs.Parsing.{file_lines, words_line, IsRefusedAt}
 use Rattle.design_ir.specs.Targets.{Bit}
 use Rattle.design_ir.specs.Circuits.{Circuit}
-use Rattle.component_form.specs.Elaborated.{elaborated}
 use Rattle.comb_graph.specs.Refusals.{IsUpTo, IsLeastLoop, loop_place}
-use Rattle.amh_tool.specs.Designs.{Designed, refusal, line_start, line_places, bad_line, IsLoopTold, IsRanked, IsChecked, IsElaborated, IsUnparsed, IsCut, IsText, IsDesigned}
+use Rattle.netlist.specs.Beyond.{first_beyond}
+use Rattle.elab_eval.specs.declared.refusal.ElabStop.{ElabStop}
+use Rattle.elab_eval.specs.declared.refusal.ElabStop.TheVariants as elab
+use Rattle.elab_eval.specs.Elaborates.{Found, OneOutcome as One_elaboration}
+use Rattle.amh_tool.specs.Designs.{Designed, gives, refuses, spends, refusal, line_start, budget, bad_line, IsLoopTold, IsRanked, IsLowered, IsChecked, ComesTo, IsElaborated, IsUnparsed, IsCut, IsText, IsDesigned}
 use Rattle.amh_tool.proofs.LinePlaces.{place_by_words}
 use Rattle.amh_tool.proofs.RefusedLines.{refused_once, program_stands}
 
@@ -47,22 +50,41 @@ told_once c r s h k =
     λ i. record { place = place i; kind = kind i }
 
 ranked_once : (c : Circuit) → Once (IsRanked c)
-ranked_once c (Ok d) (Ok e) h k = ap Ok (h.same ∙ sym k.same)
-ranked_once c (Ok d) (Err s) h k = absurd (h.loopless k.bit k.told.is_least.loops)
-ranked_once c (Err r) (Ok e) h k = absurd (k.loopless h.bit h.told.is_least.loops)
-ranked_once c (Err r) (Err s) h k = ap Err (told_once c r s h k)
+ranked_once c (gives d) (gives e) h k = ap gives (h.same ∙ sym k.same)
+ranked_once c (gives d) (refuses s) h k = absurd (h.loopless k.bit k.told.is_least.loops)
+ranked_once c (gives d) (spends p) h k = absurd k
+ranked_once c (refuses r) (gives e) h k = absurd (k.loopless h.bit h.told.is_least.loops)
+ranked_once c (refuses r) (refuses s) h k = ap refuses (told_once c r s h k)
+ranked_once c (refuses r) (spends p) h k = absurd k
+ranked_once c (spends p) y h k = absurd h
 
-checked_once : (d : Designed) → Once (IsChecked d)
-checked_once (Ok c) = ranked_once c
-checked_once (Err r) = once_equal (Err r)
+-- ---- programs
+
+lowered_at : (c : Circuit) (o : Option Place) → Once (λ found. MatchOption o (IsRanked c found) (λ place. found ≡ refuses (refusal Raised place)))
+lowered_at c None = ranked_once c
+lowered_at c (Some place) = once_equal (refuses (refusal Raised place))
+
+lowered_once : (c : Circuit) → Once (IsLowered c)
+lowered_once c = lowered_at c (first_beyond c)
+
+checked_once : (x : Result Found ElabStop) → Once (IsChecked x)
+checked_once (Ok f) = lowered_once f.circuit
+checked_once (Err (elab.Refused kind place)) = once_equal (refuses (refusal kind place))
+checked_once (Err (elab.Spent place)) = once_equal (spends place)
+checked_once (Err elab.NoMemory) = λ x y h k. absurd h
+
+comes_once : One_elaboration → (body : Steps) → Once (ComesTo body)
+comes_once one body x y h k =
+    let same = (one body budget h.came k.came h.used k.used h.elaborates k.elaborates).0 in
+    checked_once k.came x y (subst (λ (r : Result Found ElabStop). IsChecked r x) same h.checked) k.checked
 
 -- ---- lines
 
-module _ (one_program : OneProgram) (front_of_front : FrontOfFront) where
+module _ (one_elaboration : One_elaboration) (one_program : OneProgram) (front_of_front : FrontOfFront) where
   elaborated_once : (text : List ℕ) (lines : List Line) → Once (IsElaborated text lines)
   elaborated_once text lines x y h k =
       let body : h.body ≡ k.body = one_program (file_lines text lines) h.body k.body h.program k.program in
-      checked_once (elaborated (line_places lines) k.body) x y (subst (λ (b : Steps). IsChecked (elaborated (line_places lines) b) x) body h.checked) k.checked
+      comes_once one_elaboration k.body x y (subst (λ (b : Steps). ComesTo b x) body h.comes) k.comes
 
   refused_at_once : (text cs : List ℕ) (lines : List Line) → logical_lines cs ≡ Ok lines → Once (IsRefusedAt text lines)
   refused_at_once text cs lines cut x y h k =
@@ -71,7 +93,7 @@ module _ (one_program : OneProgram) (front_of_front : FrontOfFront) where
 
   unparsed_once : (text cs : List ℕ) (lines : List Line) → logical_lines cs ≡ Ok lines → Once (IsUnparsed text lines)
   unparsed_once text cs lines cut x y h k =
-      h.is ∙ ap (λ (p : Place). Err (refusal Subset p)) (refused_at_once text cs lines cut h.place k.place h.refused k.refused) ∙ sym k.is
+      h.is ∙ ap (λ (p : Place). refuses (refusal Subset p)) (refused_at_once text cs lines cut h.place k.place h.refused k.refused) ∙ sym k.is
 
   not_both : (text : List ℕ) (lines : List Line) (x y : Designed) → IsElaborated text lines x → IsUnparsed text lines y → ⊥
   not_both text lines x y h k = program_stands front_of_front (file_lines text lines) h.body (words_line text k.refused.line) h.program k.refused.refused
@@ -81,7 +103,7 @@ module _ (one_program : OneProgram) (front_of_front : FrontOfFront) where
   cut_once text cs (Ok lines) is x y (inl h) (inr k) = absurd (not_both text lines x y h k)
   cut_once text cs (Ok lines) is x y (inr h) (inl k) = absurd (not_both text lines y x k h)
   cut_once text cs (Ok lines) is x y (inr h) (inr k) = unparsed_once text cs lines is x y h k
-  cut_once text cs (Err place) is x y h k = once_equal (Err (refusal Subset place)) x y h k
+  cut_once text cs (Err place) is x y h k = once_equal (refuses (refusal Subset place)) x y h k
 
   -- ---- bytes
 
@@ -91,10 +113,10 @@ module _ (one_program : OneProgram) (front_of_front : FrontOfFront) where
 
   text_once : (bytes : List ℕ) → Once (IsText bytes)
   text_once bytes =
-      either_once (utf8_valid_len bytes == length bytes) (IsCut bytes (logical_lines (chars bytes))) (λ found. found ≡ Err (refusal Text (line_start (bad_line bytes))))
-      (cut_once bytes (chars bytes) (logical_lines (chars bytes)) refl) (once_equal (Err (refusal Text (line_start (bad_line bytes)))))
+      either_once (utf8_valid_len bytes == length bytes) (IsCut bytes (logical_lines (chars bytes))) (λ found. found ≡ refuses (refusal Text (line_start (bad_line bytes))))
+      (cut_once bytes (chars bytes) (logical_lines (chars bytes)) refl) (once_equal (refuses (refusal Text (line_start (bad_line bytes)))))
 
   pub designed_once : (bytes : List ℕ) → Once (IsDesigned bytes)
   designed_once bytes =
-      either_once (nat_lt 1_048_576 (length bytes)) (λ found. found ≡ Err (refusal Limit (line_start 1))) (IsText bytes)
-      (once_equal (Err (refusal Limit (line_start 1)))) (text_once bytes)
+      either_once (nat_lt 1_048_576 (length bytes)) (λ found. found ≡ refuses (refusal Limit (line_start 1))) (IsText bytes)
+      (once_equal (refuses (refusal Limit (line_start 1)))) (text_once bytes)

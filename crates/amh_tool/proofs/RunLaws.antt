@@ -13,11 +13,11 @@ use Rattle.design_ir.specs.declared.event.Event.{Event}
 use Rattle.design_ir.specs.Circuits.{Circuit}
 use Rattle.amh_tool.specs.Trace.{Row, End, Done as EndDone, timed}
 use Rattle.amh_tool.specs.Plan.{Plan, plan_of, differ, are_distinct}
-use Rattle.amh_tool.specs.Outcome.{Outcome, Unread, BadWords, Refuses, BadLine, Accepts, IsOutcome, IsPlanned, status_of, said_of, warned_of, names, no_plan, usage_text}
-use Rattle.amh_tool.specs.Headline.{HasOutcome, Tells, IfAccepted, IsAccepted, HoldsRtlil, HoldsTrace, IsWritten, grown}
+use Rattle.amh_tool.specs.Outcome.{Outcome, Unread, BadWords, Refuses, Spends, BadLine, Accepts, IsOutcome, IsPlanned, status_of, said_of, warned_of, names, no_plan, usage_text}
+use Rattle.amh_tool.specs.Headline.{Tells, IfAccepted, IsAccepted, HoldsRtlil, HoldsTrace, IsWritten, grown}
 use Rattle.amh_tool.specs.Work.{Owed, Works, WorksFor, WorksUsage, Fails, FailsFor, Carries, CarriesPart, IsFor, with_files}
-use Rattle.amh_tool.specs.declared.run.Status.{Status}
-use Rattle.amh_tool.specs.declared.run.Status.TheVariants.{Fault, NoMemory}
+use Rattle.amh_tool.specs.declared.running.Status.{Status}
+use Rattle.amh_tool.specs.declared.running.Status.TheVariants.{Fault, NoMemory}
 
 nothing_more : (o : Option (List ℕ)) → o ≡ grown [] o
 nothing_more None = refl
@@ -33,6 +33,7 @@ tells_for : (words : List (List ℕ)) (p : Plan) (o : Outcome) (answer : Status)
 tells_for words p Unread answer old new n s h = absurd h
 tells_for words p BadWords answer old new n s h = record { status = s; said = ap (λ x. x.said) h ∙ nothing_more old.said; warned = ap (λ x. x.warned) h }
 tells_for words p (Refuses why) answer old new n s h = record { status = s; said = ap (λ x. x.said) h ∙ nothing_more old.said; warned = ap (λ x. x.warned) h ∙ ap (λ q. grown (warned_of q (Refuses why)) old.warned) (sym n) }
+tells_for words p (Spends place) answer old new n s h = record { status = s; said = ap (λ x. x.said) h ∙ nothing_more old.said; warned = ap (λ x. x.warned) h ∙ ap (λ q. grown (warned_of q (Spends place)) old.warned) (sym n) }
 tells_for words p (BadLine line) answer old new n s h = record { status = s; said = ap (λ x. x.said) h ∙ nothing_more old.said; warned = ap (λ x. x.warned) h ∙ ap (λ q. grown (warned_of q (BadLine line)) old.warned) (sym n) }
 tells_for words p (Accepts c rows end) answer old new n s h = record { status = s; said = ap (λ x. x.said) h.1; warned = ap (λ x. x.warned) h.1 ∙ nothing_more old.warned }
 
@@ -40,6 +41,7 @@ rtlil_for : (p : Plan) (o : Outcome) (old new : Seen) (files : Files) → old.fi
 rtlil_for p Unread old new files e apart h = tt
 rtlil_for p BadWords old new files e apart h = tt
 rtlil_for p (Refuses why) old new files e apart h = tt
+rtlil_for p (Spends place) old new files e apart h = tt
 rtlil_for p (BadLine line) old new files e apart h = tt
 rtlil_for p (Accepts c rows end) old new files e apart h =
     let owed = h.0 in
@@ -49,6 +51,7 @@ trace_for : (p : Plan) (o : Outcome) (old new : Seen) (files : Files) → old.fi
 trace_for p Unread old new files e h = tt
 trace_for p BadWords old new files e h = tt
 trace_for p (Refuses why) old new files e h = tt
+trace_for p (Spends place) old new files e h = tt
 trace_for p (BadLine line) old new files e h = tt
 trace_for p (Accepts c rows end) old new files e h =
     let owed = h.0 in
@@ -58,6 +61,7 @@ untouched_for : (p : Plan) (o : Outcome) (old new : Seen) → (IsAccepted o → 
 untouched_for p Unread old new not h = absurd h
 untouched_for p BadWords old new not h = ap (λ x. x.files) h
 untouched_for p (Refuses why) old new not h = ap (λ x. x.files) h
+untouched_for p (Spends place) old new not h = ap (λ x. x.files) h
 untouched_for p (BadLine line) old new not h = ap (λ x. x.files) h
 untouched_for p (Accepts c rows end) old new not h = absurd (not tt)
 
@@ -65,6 +69,7 @@ untouched_part : (p : Plan) (o : Outcome) (old new : Seen) → (IsAccepted o →
 untouched_part p Unread old new not h = ap (λ x. x.files) h
 untouched_part p BadWords old new not h = ap (λ x. x.files) h.changed
 untouched_part p (Refuses why) old new not h = ap (λ x. x.files) h.changed
+untouched_part p (Spends place) old new not h = ap (λ x. x.files) h.changed
 untouched_part p (BadLine line) old new not h = ap (λ x. x.files) h.changed
 untouched_part p (Accepts c rows end) old new not h = absurd (not tt)
 
@@ -76,6 +81,7 @@ others_for : (p : Plan) (o : Outcome) (old new : Seen) (q : List ℕ) → q ≢ 
 others_for p Unread old new q a b h = absurd h
 others_for p BadWords old new q a b h = ap (λ s. file_of s q) h
 others_for p (Refuses why) old new q a b h = ap (λ s. file_of s q) h
+others_for p (Spends place) old new q a b h = ap (λ s. file_of s q) h
 others_for p (BadLine line) old new q a b h = ap (λ s. file_of s q) h
 others_for p (Accepts c rows end) old new q a b h = ap (λ s. file_of s q) h.1 ∙ both_written p h.0.il h.0.trace q old a b
 
@@ -93,6 +99,7 @@ others_part : (p : Plan) (o : Outcome) (old new : Seen) (q : List ℕ) → q ≢
 others_part p Unread old new q a b h = ap (λ s. file_of s q) h
 others_part p BadWords old new q a b h = ap (λ s. file_of s q) h.changed
 others_part p (Refuses why) old new q a b h = ap (λ s. file_of s q) h.changed
+others_part p (Spends place) old new q a b h = ap (λ s. file_of s q) h.changed
 others_part p (BadLine line) old new q a b h = ap (λ s. file_of s q) h.changed
 others_part p (Accepts c rows end) old new q a b (inl h) = ap (λ s. file_of s q) h
 others_part p (Accepts c rows end) old new q a b (inr (inl h)) = front_apart p.il h.il q old new a h.part
@@ -147,27 +154,33 @@ outcome_at : (op : Option Plan) (P : Outcome → Type 0) (answer : Status) (old 
 outcome_at None P answer old new files e bad good w = (BadWords, refl, bad refl w)
 outcome_at (Some p) P answer old new files e bad good w = (w.found, found_told p w.found old.files files e w.is_for, good p refl w)
 
+-- the words and the files have an outcome, of which this holds
+pub record SomeOutcome (words : List (List ℕ)) (files : Files) (P : Outcome → Type 0) : Type 0 where
+  pub found : Outcome
+  pub is_outcome : IsOutcome words files found
+  pub holds : P found
+
 has_outcome : (words : List (List ℕ)) (P : Outcome → Type 0) (answer : Status) (old new : Seen) (files : Files) → old.files ≡ Some files
     → (plan_of words ≡ None → WorksUsage answer old new → P BadWords) → ((p : Plan) → plan_of words ≡ Some p → (w : WorksFor p answer old new) → P w.found)
-    → Works (plan_of words) answer old new → HasOutcome words files P
+    → Works (plan_of words) answer old new → SomeOutcome words files P
 has_outcome words P answer old new files e bad good w =
     let x = outcome_at (plan_of words) P answer old new files e bad good w in
     record { found = x.0; is_outcome = x.1; holds = x.2 }
 
-pub texts : (words : List (List ℕ)) (answer : Status) (old new : Seen) (files : Files) → old.files ≡ Some files → Works (plan_of words) answer old new → HasOutcome words files (λ o. Tells words o answer old new)
+pub texts : (words : List (List ℕ)) (answer : Status) (old new : Seen) (files : Files) → old.files ≡ Some files → Works (plan_of words) answer old new → SomeOutcome words files (λ o. Tells words o answer old new)
 texts words answer old new files e =
     has_outcome words (λ o. Tells words o answer old new) answer old new files e
     (λ n w. record { status = ap Some (sym w.usage); said = ap (λ x. x.said) w.warned ∙ nothing_more old.said; warned = ap (λ x. x.warned) w.warned })
     (λ p n w. tells_for words p w.found answer old new (ap names_at n) w.status w.carries)
 
 pub rtlil : (words : List (List ℕ)) (answer : Status) (old new : Seen) (files : Files) → old.files ≡ Some files → Works (plan_of words) answer old new
-    → HasOutcome words files (λ o. IfAccepted o (λ c rows end. HoldsRtlil new (names words).il c))
+    → SomeOutcome words files (λ o. IfAccepted o (λ c rows end. HoldsRtlil new (names words).il c))
 rtlil words answer old new files e =
     has_outcome words (λ o. IfAccepted o (λ c rows end. HoldsRtlil new (names words).il c)) answer old new files e (λ n w. tt)
     (λ p n w. subst (λ (q : Plan). IfAccepted w.found (λ c rows end. HoldsRtlil new q.il c)) (sym (ap names_at n)) (rtlil_for p w.found old new files e (plan-apart words p n) w.carries))
 
 pub trace : (words : List (List ℕ)) (answer : Status) (old new : Seen) (files : Files) → old.files ≡ Some files → Works (plan_of words) answer old new
-    → HasOutcome words files (λ o. IfAccepted o (λ c rows end. HoldsTrace new (names words).trace c rows end))
+    → SomeOutcome words files (λ o. IfAccepted o (λ c rows end. HoldsTrace new (names words).trace c rows end))
 trace words answer old new files e =
     has_outcome words (λ o. IfAccepted o (λ c rows end. HoldsTrace new (names words).trace c rows end)) answer old new files e (λ n w. tt)
     (λ p n w. subst (λ (q : Plan). IfAccepted w.found (λ c rows end. HoldsTrace new q.trace c rows end)) (sym (ap names_at n)) (trace_for p w.found old new files e w.carries))
@@ -245,7 +258,9 @@ not_fault Unread answer e (inr f) = cc
 not_fault BadWords answer e (inl f) = cc
 not_fault BadWords answer e (inr f) = cc
 not_fault (Refuses why) answer e (inl f) = cc
+not_fault (Spends place) answer e (inl f) = cc
 not_fault (Refuses why) answer e (inr f) = cc
+not_fault (Spends place) answer e (inr f) = cc
 not_fault (BadLine line) answer e (inl f) = cc
 not_fault (BadLine line) answer e (inr f) = cc
 not_fault (Accepts c rows EndDone) answer e (inl f) = cc

@@ -1,4 +1,5 @@
 -- A mark for each signal that a script may set, as the marks are made.
+-- Internal: no rule of the language.
 use Rattle.std.specs.Prelude.{Bool, true, false, if◌then◌else◌, List, slice_set}
 use Rattle.design_ir.specs.declared.domain.Domain.{Domain}
 use Rattle.design_ir.specs.declared.port.Port.{Port}

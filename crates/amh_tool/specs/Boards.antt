@@ -1,4 +1,5 @@
 -- What the trace and the script see of a design: its columns with their shapes, and its domains.
+-- Source: this project's own rule (docs/RULES.md).
 use Rattle.std.specs.Prelude.{ℕ, Bool, not, ◌&&◌, ◌==◌, map}
 use Rattle.std.specs.List.{list_any}
 use Rattle.design_ir.specs.declared.domain.Domain.{Domain}

@@ -1,27 +1,44 @@
 -- What reading a design file gives, beside what the definition says.
+-- Internal: no rule of the language.
 use Rattle.std.specs.Prelude.{◌⊎◌, ℕ, List, Result, Ok, Err}
 use Rattle.amh_host.specs.declared.place.Place.{Place}
 use Rattle.py_lexer.specs.declared.line.Line.{Line}
+use Rattle.py_tree.specs.Steps.{Steps}
 use Rattle.design_ir.specs.Circuits.{Circuit}
-use Rattle.component_form.specs.declared.refusal.FormStop.{FormStop}
-use Rattle.component_form.specs.declared.refusal.FormStop.TheVariants.{Refused, NoMemory}
-use Rattle.amh_tool.specs.Designs.{Designed, IsDesigned, IsCut, IsElaborated, IsUnparsed, IsRanked}
+use Rattle.elab_eval.specs.declared.refusal.ElabStop.{ElabStop}
+use Rattle.elab_eval.specs.declared.refusal.ElabStop.TheVariants as elab
+use Rattle.amh_tool.specs.declared.refusal.DesignStop.{DesignStop}
+use Rattle.amh_tool.specs.declared.refusal.DesignStop.TheVariants.{Refused, Spent, NoMemory}
+use Rattle.amh_tool.specs.Designs.{Designed, refusal, gives, refuses, spends, IsDesigned, IsCut, IsElaborated, IsUnparsed, ComesTo, IsLowered, IsRanked}
 use Rattle.amh_tool.specs.declared.design_text.Ranked.{Ranked}
 
--- a design or a refusal is what is found; want of memory may come at any point
-abbrev pub Found : (Designed → Type 0) → Result Ranked FormStop → Type 0
-Found P (Ok r) = P (Ok r.design)
-Found P (Err (Refused why)) = P (Err why)
+-- a design, a refusal or a spent budget is what is found; want of memory may come at any point
+abbrev pub Found : (Designed → Type 0) → Result Ranked DesignStop → Type 0
+Found P (Ok r) = P (gives r.design)
+Found P (Err (Refused why)) = P (refuses why)
+Found P (Err (Spent place)) = P (spends place)
 Found P (Err NoMemory) = Unit {0}
 
-abbrev pub DesignGives : List ℕ → Result Ranked FormStop → Type 0
+abbrev pub DesignGives : List ℕ → Result Ranked DesignStop → Type 0
 DesignGives bytes given = Found (IsDesigned bytes) given
 
-abbrev pub CutGives : List ℕ → Result (List Line) Place → Result Ranked FormStop → Type 0
+abbrev pub CutGives : List ℕ → Result (List Line) Place → Result Ranked DesignStop → Type 0
 CutGives text cut given = Found (IsCut text cut) given
 
-abbrev pub LinesGive : List ℕ → List Line → Result Ranked FormStop → Type 0
+abbrev pub LinesGive : List ℕ → List Line → Result Ranked DesignStop → Type 0
 LinesGive text lines given = Found (λ found. IsElaborated text lines found ⊎ IsUnparsed text lines found) given
 
-abbrev pub RankGives : Circuit → Result Ranked FormStop → Type 0
+abbrev pub ProgramGives : Steps → Result Ranked DesignStop → Type 0
+ProgramGives body given = Found (ComesTo body) given
+
+abbrev pub LoweringGives : Circuit → Result Ranked DesignStop → Type 0
+LoweringGives c given = Found (IsLowered c) given
+
+abbrev pub RankGives : Circuit → Result Ranked DesignStop → Type 0
 RankGives c given = Found (IsRanked c) given
+
+-- what elaboration was stopped by, as this crate says it
+abbrev pub stop_seen : ElabStop → DesignStop
+stop_seen (elab.Refused kind place) = Refused (refusal kind place)
+stop_seen (elab.Spent place) = Spent place
+stop_seen elab.NoMemory = NoMemory

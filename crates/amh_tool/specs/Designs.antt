@@ -1,11 +1,12 @@
--- What the bytes of a design file stand for: a design, or the first refusal.
-use Rattle.std.specs.Prelude.{◌≡◌, ◌+◌, ◌==◌, ◌⊎◌, nat_lt, ℕ, List, length, map, take, count_by, Result, Ok, Err}
+-- What the bytes of a design file stand for: a design, or why there is none.
+-- Source: this project's own rule (docs/RULES.md).
+use Rattle.std.specs.Prelude.{◌≡◌, ◌+◌, ◌==◌, ◌⊎◌, nat_lt, ℕ, List, length, take, count_by, MatchOption, Result, Ok, Err}
 use Rattle.std.specs.Bool.{MatchBool}
 use Rattle.std.specs.Str.{chars}
 use Rattle.std.specs.Str.Lossy.{utf8_valid_len}
 use Rattle.amh_host.specs.declared.place.Place.{Place}
 use Rattle.amh_host.specs.declared.place.Kind.{Kind}
-use Rattle.amh_host.specs.declared.place.Kind.TheVariants.{Text, Subset, Loop as a_loop, Limit}
+use Rattle.amh_host.specs.declared.place.Kind.TheVariants.{Text, Subset, Raised, Loop as a_loop, Limit}
 use Rattle.py_lexer.specs.declared.line.Line.{Line}
 use Rattle.py_lexer.specs.Lines.{logical_lines}
 use Rattle.py_tree.specs.Steps.{Steps}
@@ -14,13 +15,18 @@ use Rattle.py_parser.specs.Parsing.{file_lines, IsRefusedAt}
 use Rattle.design_ir.specs.Targets.{Bit}
 use Rattle.design_ir.specs.Loops.{Loop}
 use Rattle.design_ir.specs.Circuits.{Circuit}
-use Rattle.component_form.specs.declared.refusal.Refusal.{Refusal}
-use Rattle.component_form.specs.Elaborated.{elaborated}
 use Rattle.comb_graph.specs.Refusals.{IsTold}
+use Rattle.netlist.specs.Beyond.{first_beyond}
+use Rattle.elab_eval.specs.declared.refusal.ElabStop.{ElabStop}
+use Rattle.elab_eval.specs.declared.refusal.ElabStop.TheVariants as elab
+use Rattle.elab_eval.specs.Elaborates.{Found, Elaborates}
+use Rattle.amh_tool.specs.declared.refusal.Refusal.{Refusal}
 
--- a design, or the first refusal
-abbrev pub Designed : Type 0
-Designed = Result Circuit Refusal
+-- a design, a refusal, or a budget that is spent before there is a design
+pub data Designed : Type 0 where
+  gives : Circuit → Designed
+  refuses : Refusal → Designed
+  spends : Place → Designed
 
 abbrev pub refusal : Kind → Place → Refusal
 refusal kind place = record { place = place; kind = kind }
@@ -42,37 +48,54 @@ pub record IsLoopless (c d : Circuit) : Type 0 where
   pub loopless : (b : Bit) → Loop c b → ⊥
 
 abbrev pub IsRanked : Circuit → Designed → Type 0
-IsRanked c (Ok d) = IsLoopless c d
-IsRanked c (Err r) = IsLoopTold c r
+IsRanked c (gives d) = IsLoopless c d
+IsRanked c (refuses r) = IsLoopTold c r
+IsRanked c (spends place) = ⊥
+
+-- ---- what cannot be lowered yet
+
+-- A memory cannot be lowered yet. What is still to come is refused as `raised`, as a name is that elaboration does not serve yet; a
+-- memory has no place of its own. (This project's own rule.)
+abbrev pub IsLowered : Circuit → Designed → Type 0
+IsLowered c found = MatchOption (first_beyond c) (IsRanked c found) (λ place. found ≡ refuses (refusal Raised place))
 
 -- ---- the program
 
--- an elaborated design is searched for loops
-abbrev pub IsChecked : Designed → Designed → Type 0
-IsChecked (Ok c) found = IsRanked c found
-IsChecked (Err r) found = found ≡ Err r
+-- how many units of cost a program has
+abbrev pub budget : ℕ
+budget = 10_000_000
 
--- where each logical line begins
-abbrev pub line_places : List Line → List Place
-line_places lines = map (λ (l : Line). l.place) lines
+-- what elaboration comes to leads to this; want of memory is no answer of a file
+abbrev pub IsChecked : Result Found ElabStop → Designed → Type 0
+IsChecked (Ok f) found = IsLowered f.circuit found
+IsChecked (Err (elab.Refused kind place)) found = found ≡ refuses (refusal kind place)
+IsChecked (Err (elab.Spent place)) found = found ≡ spends place
+IsChecked (Err elab.NoMemory) found = ⊥
+
+-- a program, elaborated within the budget, comes to this
+pub record ComesTo (body : Steps) (found : Designed) : Type 0 where
+  pub came : Result Found ElabStop
+  pub used : ℕ
+  pub elaborates : Elaborates body budget came used
+  pub checked : IsChecked came found
 
 -- the lines stand for a program, which is elaborated
 pub record IsElaborated (text : List ℕ) (lines : List Line) (found : Designed) : Type 0 where
   pub body : Steps
   pub program : IsProgram (file_lines text lines) body
-  pub checked : IsChecked (elaborated (line_places lines) body) found
+  pub comes : ComesTo body found
 
 -- the lines stand for no program
 pub record IsUnparsed (text : List ℕ) (lines : List Line) (found : Designed) : Type 0 where
   pub place : Place
   pub refused : IsRefusedAt text lines place
-  pub is : found ≡ Err (refusal Subset place)
+  pub is : found ≡ refuses (refusal Subset place)
 
 -- ---- the text
 
 abbrev pub IsCut : List ℕ → Result (List Line) Place → Designed → Type 0
 IsCut text (Ok lines) found = IsElaborated text lines found ⊎ IsUnparsed text lines found
-IsCut text (Err place) found = found ≡ Err (refusal Subset place)
+IsCut text (Err place) found = found ≡ refuses (refusal Subset place)
 
 -- the number of the line in which the first bad byte stands
 abbrev pub bad_line : List ℕ → ℕ
@@ -83,7 +106,7 @@ abbrev pub IsText : List ℕ → Designed → Type 0
 IsText bytes found =
     MatchBool (utf8_valid_len bytes == length bytes)
     (IsCut bytes (logical_lines (chars bytes)) found)
-    (found ≡ Err (refusal Text (line_start (bad_line bytes))))
+    (found ≡ refuses (refusal Text (line_start (bad_line bytes))))
 
 -- how many bytes a design file may have
 abbrev pub most_design : ℕ
@@ -91,4 +114,4 @@ most_design = 1_048_576
 
 -- what a design file stands for
 abbrev pub IsDesigned : List ℕ → Designed → Type 0
-IsDesigned bytes found = MatchBool (nat_lt most_design (length bytes)) (found ≡ Err (refusal Limit (line_start 1))) (IsText bytes found)
+IsDesigned bytes found = MatchBool (nat_lt most_design (length bytes)) (found ≡ refuses (refusal Limit (line_start 1))) (IsText bytes found)

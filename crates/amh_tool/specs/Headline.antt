@@ -1,4 +1,5 @@
 -- What is proved of the whole program.
+-- Source: this project's own promise (README.md, What is claimed).
 use Rattle.std.specs.Prelude.{◌≡◌, ◌≢◌, ◌⊎◌, ℕ, List, ◌++◌, Option, Some, MatchOption, ℤ}
 use Rattle.std.specs.Option.{option_map}
 use Rattle.amh_host.specs.Seen.{Files, Seen, file_of}
@@ -11,9 +12,9 @@ use Rattle.netlist.specs.Histories.{SameHistory, IsHistory}
 use Rattle.amh_tool.specs.Boards.{board_of}
 use Rattle.amh_tool.specs.Trace.{Row, End, trace_text, events_in}
 use Rattle.amh_tool.specs.Plan.{plan_of}
-use Rattle.amh_tool.specs.Outcome.{Outcome, IsOutcome, Unread, BadWords, Refuses, BadLine, Accepts, status_of, said_of, warned_of, names}
-use Rattle.amh_tool.specs.declared.run.Status.{Status}
-use Rattle.amh_tool.specs.declared.run.Status.TheVariants.{NoMemory}
+use Rattle.amh_tool.specs.Outcome.{Outcome, IsOutcome, Unread, BadWords, Refuses, Spends, BadLine, Accepts, status_of, said_of, warned_of, names}
+use Rattle.amh_tool.specs.declared.running.Status.{Status}
+use Rattle.amh_tool.specs.declared.running.Status.TheVariants.{NoMemory}
 
 -- ---- what an accepted design is owed
 
@@ -43,6 +44,7 @@ abbrev pub IfAccepted : Outcome → (Circuit → List Row → End → Type 0) �
 IfAccepted Unread P = Unit {0}
 IfAccepted BadWords P = Unit {0}
 IfAccepted (Refuses r) P = Unit {0}
+IfAccepted (Spends place) P = Unit {0}
 IfAccepted (BadLine line) P = Unit {0}
 IfAccepted (Accepts c rows end) P = P c rows end
 
@@ -50,6 +52,7 @@ abbrev pub IsAccepted : Outcome → Type 0
 IsAccepted Unread = ⊥
 IsAccepted BadWords = ⊥
 IsAccepted (Refuses r) = ⊥
+IsAccepted (Spends place) = ⊥
 IsAccepted (BadLine line) = ⊥
 IsAccepted (Accepts c rows end) = Unit {0}
 
@@ -75,12 +78,12 @@ IsWritten words name = MatchOption (plan_of words) ⊥ (λ p. (name ≡ p.il) �
 
 -- ---- the outcome
 
--- the words and the files have an outcome, of which this holds
-pub record HasOutcome (words : List (List ℕ)) (files : Files) (P : Outcome → Type 0) : Type 0 where
-  pub found : Outcome
-  pub is_outcome : IsOutcome words files found
-  pub holds : P found
-
 -- words and files have one outcome
 abbrev pub OneOutcome : Type 0
 OneOutcome = (words : List (List ℕ)) (files : Files) (a b : Outcome) → IsOutcome words files a → IsOutcome words files b → a ≡ b
+
+-- the words and the files have an outcome, and no other
+pub record HasOutcome (words : List (List ℕ)) (files : Files) : Type 0 where
+  pub found : Outcome
+  pub is_outcome : IsOutcome words files found
+  pub only : (o : Outcome) → IsOutcome words files o → o ≡ found

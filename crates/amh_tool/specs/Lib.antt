@@ -11,5 +11,6 @@ pub mod DesignGives
 pub mod Outcome
 pub mod Headline
 pub mod Work
+pub mod Promises
 pub mod Views
 pub mod Verdicts

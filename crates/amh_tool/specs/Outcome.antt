@@ -1,18 +1,20 @@
 -- What the words and the files ask for.
+-- Source: this project's own rule (docs/RULES.md).
 use Rattle.std.specs.Prelude.{◌≡◌, ℕ, List, [], length, Option, None, Some, MatchOption, codes, Result, Ok, Err}
 use Rattle.std.specs.Option.{option_map_or}
 use Rattle.std.specs.Fmt.{decimal}
 use Rattle.amh_host.specs.Seen.{Files}
+use Rattle.amh_host.specs.declared.place.Place.{Place}
 use Rattle.amh_host.specs.declared.place.Kind.{Kind}
 use Rattle.amh_host.specs.declared.place.Kind.TheVariants.{Text, Subset, Raised, Width, TwoDrivers, DrivenInput, DomainClash, Loop, Limit, Script}
 use Rattle.design_ir.specs.declared.event.Event.{Event}
 use Rattle.design_ir.specs.Circuits.{Circuit}
-use Rattle.component_form.specs.declared.refusal.Refusal.{Refusal}
-use Rattle.amh_tool.specs.declared.run.Status.{Status}
-use Rattle.amh_tool.specs.declared.run.Status.TheVariants.{Done, Refused, AssertFailed, Usage, Spent, Fault, NoMemory}
+use Rattle.amh_tool.specs.declared.refusal.Refusal.{Refusal}
+use Rattle.amh_tool.specs.declared.running.Status.{Status}
+use Rattle.amh_tool.specs.declared.running.Status.TheVariants.{Done, Refused, AssertFailed, Usage, Spent, Fault, NoMemory}
 use Rattle.amh_tool.specs.Trace.{Row, End, Done as EndDone, timed, ◌▸◌, line_feed}
 use Rattle.amh_tool.specs.Plan.{Plan, plan_of}
-use Rattle.amh_tool.specs.Designs.{Designed, IsDesigned}
+use Rattle.amh_tool.specs.Designs.{Designed, gives, refuses, spends, IsDesigned, budget}
 use Rattle.amh_tool.specs.Boards.{board_of}
 use Rattle.amh_tool.specs.Script.{script_events}
 
@@ -21,6 +23,8 @@ pub data Outcome : Type 0 where
   Unread : Outcome
   BadWords : Outcome
   Refuses : Refusal → Outcome
+  -- the budget is spent before the run
+  Spends : Place → Outcome
   BadLine : (line : ℕ) → Outcome
   Accepts : (design : Circuit) (rows : List Row) (end : End) → Outcome
 
@@ -33,10 +37,11 @@ played c (Err line) = BadLine line
 abbrev pub Follows : Files → List ℕ → (List ℕ → Outcome → Type 0) → Outcome → Type 0
 Follows files name from o = MatchOption (files name) (o ≡ Unread) (λ bytes. from bytes o)
 
--- the design is refused, or its script is read
+-- the design is refused, or its budget is spent, or its script is read
 abbrev pub IsJudged : Plan → Files → Designed → Outcome → Type 0
-IsJudged p files (Err r) o = o ≡ Refuses r
-IsJudged p files (Ok c) o = Follows files p.script (λ script x. x ≡ played c (script_events (board_of c) script)) o
+IsJudged p files (refuses r) o = o ≡ Refuses r
+IsJudged p files (spends place) o = o ≡ Spends place
+IsJudged p files (gives c) o = Follows files p.script (λ script x. x ≡ played c (script_events (board_of c) script)) o
 
 -- what a design file leads to
 pub record FromDesign (p : Plan) (files : Files) (bytes : List ℕ) (o : Outcome) : Type 0 where
@@ -58,6 +63,7 @@ abbrev pub status_of : Outcome → Option Status
 status_of Unread = None
 status_of BadWords = Some Usage
 status_of (Refuses r) = Some Refused
+status_of (Spends place) = Some Spent
 status_of (BadLine line) = Some Refused
 status_of (Accepts c rows EndDone) = Some Done
 
@@ -83,6 +89,7 @@ said_of (Accepts c rows EndDone) = done_text (length c.columns) (length rows)
 said_of Unread = []
 said_of BadWords = []
 said_of (Refuses r) = []
+said_of (Spends place) = []
 said_of (BadLine line) = []
 
 unfoldable pub fault_text : List ℕ
@@ -93,6 +100,9 @@ usage_text = codes "usage: amh_tool DESIGN IL TRACE [--play FILE] [--top NAME] [
 
 unfoldable pub refusal_text : List ℕ → Refusal → List ℕ
 refusal_text name r = name ▸ codes ":" ▸ decimal r.place.line ▸ codes ":" ▸ decimal r.place.col ▸ codes ": " ▸ kind_text r.kind ▸ line_feed
+
+unfoldable pub spent_text : ℕ → List ℕ
+spent_text n = codes "budget of " ▸ decimal n ▸ codes " spent" ▸ line_feed
 
 unfoldable pub bad_line_text : List ℕ → ℕ → List ℕ
 bad_line_text name line = name ▸ codes ":" ▸ decimal line ▸ codes ": script" ▸ line_feed
@@ -108,6 +118,7 @@ abbrev pub warned_of : Plan → Outcome → List ℕ
 warned_of p Unread = []
 warned_of p BadWords = usage_text
 warned_of p (Refuses r) = refusal_text p.design r
+warned_of p (Spends place) = spent_text budget
 warned_of p (BadLine line) = bad_line_text p.script line
 warned_of p (Accepts c rows end) = []
 

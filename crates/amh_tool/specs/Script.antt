@@ -1,4 +1,5 @@
 -- What a script says: one event a line.
+-- Source: this project's own rule (docs/RULES.md).
 use Rattle.std.specs.Prelude.{ℕ, suc, ◌+◌, ◌-◌, ◌*◌, ◌^◌, ◌==◌, nat_lt, ◌&&◌, Bool, true, not, if◌then◌else◌, List, [], ◌∷◌, length, codes, ℤ, pos, negsuc, Option, Some, None, option_and_then, Result, Ok, Err, bytes_eq}
 use Rattle.std.specs.Option.{option_map}
 use Rattle.std.specs.List.{find, filter_map, list_any, list_all, enumerate_from}

@@ -1,4 +1,5 @@
 -- What reading a script gives, beside what the definition says.
+-- Internal: no rule of the language.
 use Rattle.std.specs.Prelude.{◌≡◌, ℕ, List, Option, Result, Ok, Err, IfSome, MatchOption}
 use Rattle.amh_host.specs.Seen.{Files}
 use Rattle.design_ir.specs.declared.event.Event.{Event}

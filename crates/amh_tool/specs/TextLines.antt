@@ -1,4 +1,5 @@
 -- The lines of a text.
+-- Source: this project's own rule (docs/RULES.md).
 use Rattle.std.specs.Prelude.{ℕ, ◌==◌, if◌then◌else◌, List, [], ◌∷◌}
 
 -- a line with its line feed; a file's last line may be without one

@@ -1,11 +1,11 @@
 -- The outcome that the program found.
-use Rattle.std.specs.Prelude.{◌≡◌}
+-- Internal: no rule of the language.
+use Rattle.std.specs.Prelude.{◌≡◌, []}
 use Rattle.design_ir.specs.Legal.{AllLegal}
 use Rattle.comb_graph.specs.Rankings.{IsRanking}
-use Rattle.netlist.specs.Plain.{IsPlain}
 use Rattle.amh_tool.specs.Boards.{board_of}
 use Rattle.amh_tool.specs.Trace.{timed, Done}
-use Rattle.amh_tool.specs.Outcome.{Outcome, Refuses, BadLine, Accepts}
+use Rattle.amh_tool.specs.Outcome.{Outcome, Refuses, Spends, BadLine, Accepts}
 use Rattle.amh_tool.specs.declared.design_text.Ranked.{Ranked}
 use Rattle.amh_tool.specs.declared.accept.Accepted.{Accepted}
 use Rattle.amh_tool.specs.declared.accept.Verdict.{Verdict}
@@ -14,13 +14,14 @@ use Rattle.amh_tool.specs.declared.accept.Verdict.TheVariants as verdict
 -- the ranks are the design's, and the design can be lowered
 pub record IsReady (r : Ranked) : Type 0 where
   pub ranking : IsRanking r.design r.ranks
-  pub plain : IsPlain r.design
+  pub flat : r.design.memories ≡ []
 
 abbrev pub accepted_seen : Accepted → Outcome
 accepted_seen a = Accepts a.ranked.design (timed 1 a.events) Done
 
 abbrev pub verdict_seen : Verdict → Outcome
 verdict_seen (verdict.Refused r) = Refuses r
+verdict_seen (verdict.Spent place) = Spends place
 verdict_seen (verdict.BadLine line) = BadLine line
 verdict_seen (verdict.Accepted a) = accepted_seen a
 
@@ -32,5 +33,6 @@ pub record IsFitting (a : Accepted) : Type 0 where
 
 abbrev pub IsFit : Verdict → Type 0
 IsFit (verdict.Refused r) = Unit {0}
+IsFit (verdict.Spent place) = Unit {0}
 IsFit (verdict.BadLine line) = Unit {0}
 IsFit (verdict.Accepted a) = IsFitting a

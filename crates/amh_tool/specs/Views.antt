@@ -1,4 +1,5 @@
 -- What the program's values stand for.
+-- Internal: no rule of the language.
 use Rattle.amh_tool.specs.Plan.{Plan}
 use Rattle.amh_tool.specs.declared.plan.Plan.{Plan as CodePlan}
 

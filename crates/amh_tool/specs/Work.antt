@@ -1,4 +1,5 @@
 -- What the parts of a run do, whatever the host tells.
+-- Internal: no rule of the language.
 use Rattle.std.specs.Prelude.{◌≡◌, ◌⊎◌, ℕ, List, Option, Some, IfSome, MatchOption}
 use Rattle.amh_host.specs.Seen.{Files, Seen, with_file, with_said, with_warned}
 use Rattle.amh_host.specs.Calls.{AddsFront}
@@ -6,10 +7,10 @@ use Rattle.amh_host.specs.Written.{WritesFront}
 use Rattle.design_ir.specs.Circuits.{Circuit}
 use Rattle.amh_tool.specs.Trace.{Row, End}
 use Rattle.amh_tool.specs.Plan.{Plan}
-use Rattle.amh_tool.specs.Outcome.{Outcome, Unread, BadWords, Refuses, BadLine, Accepts, IsPlanned, status_of, said_of, warned_of, usage_text, fault_text}
+use Rattle.amh_tool.specs.Outcome.{Outcome, Unread, BadWords, Refuses, Spends, BadLine, Accepts, IsPlanned, status_of, said_of, warned_of, usage_text, fault_text}
 use Rattle.amh_tool.specs.Headline.{StandsFor, IsTrace}
-use Rattle.amh_tool.specs.declared.run.Status.{Status}
-use Rattle.amh_tool.specs.declared.run.Status.TheVariants.{Usage}
+use Rattle.amh_tool.specs.declared.running.Status.{Status}
+use Rattle.amh_tool.specs.declared.running.Status.TheVariants.{Usage}
 
 -- the two texts that an accepted design is owed
 pub record Owed (c : Circuit) (rows : List Row) (end : End) : Type 0 where
@@ -27,6 +28,7 @@ abbrev pub Carries : Plan → Outcome → Seen → Seen → Type 0
 Carries p Unread old new = ⊥
 Carries p BadWords old new = new ≡ with_warned (warned_of p BadWords) old
 Carries p (Refuses r) old new = new ≡ with_warned (warned_of p (Refuses r)) old
+Carries p (Spends place) old new = new ≡ with_warned (warned_of p (Spends place)) old
 Carries p (BadLine line) old new = new ≡ with_warned (warned_of p (BadLine line)) old
 Carries p (Accepts c rows end) old new = (owed : Owed c rows end) × (new ≡ with_said (said_of (Accepts c rows end)) (with_files p owed.il owed.trace old))
 
@@ -46,6 +48,7 @@ abbrev pub CarriesPart : Plan → Outcome → Seen → Seen → Type 0
 CarriesPart p Unread old new = new ≡ old
 CarriesPart p BadWords old new = AddsFront with_warned (warned_of p BadWords) old new
 CarriesPart p (Refuses r) old new = AddsFront with_warned (warned_of p (Refuses r)) old new
+CarriesPart p (Spends place) old new = AddsFront with_warned (warned_of p (Spends place)) old new
 CarriesPart p (BadLine line) old new = AddsFront with_warned (warned_of p (BadLine line)) old new
 CarriesPart p (Accepts c rows end) old new =
     (new ≡ old) ⊎ WritesRtlilPart p c old new ⊎ WritesTracePart p c rows end (said_of (Accepts c rows end)) old new

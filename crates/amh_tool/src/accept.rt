@@ -1,8 +1,8 @@
 // What the files ask for: the design is read and judged, then its script.
-ghost use Rattle.std.specs.Prelude.{◌≡◌, ◌≤◌, length, IfOk, IfSome, Ok};
+ghost use Rattle.std.specs.Prelude.{◌≡◌, ◌≤◌, length, IfOk, IfSome};
 ghost use Rattle.amh_host.specs.Causes.{HasCause};
 ghost use Rattle.amh_tool.specs.Outcome.{IsPlanned, IsJudged};
-ghost use Rattle.amh_tool.specs.Designs.{refusal, line_start};
+ghost use Rattle.amh_tool.specs.Designs.{gives, refusal, line_start};
 ghost use Rattle.amh_tool.specs.Verdicts.{verdict_seen, IsFit, IsReady};
 ghost use Rattle.amh_tool.specs.ScriptGives.{ReadsScript};
 ghost use Rattle.amh_tool.specs.Views.{plan_seen};
@@ -10,11 +10,12 @@ ghost use Rattle.amh_tool.specs.Views.{plan_seen};
 use crate::board::{Board, board_of};
 use crate::design_text::{Ranked, read_design};
 use crate::plan::Plan;
+use crate::refusal::{DesignStop, Refusal};
 use crate::script::{ScriptStop, read_script};
-use amh_host::{Host, HostStop, Items, Kind, Place, Whole, read_whole};
-use component_form::{FormStop, Refusal};
+use amh_host::{Host, HostStop, Items, Kind, Place, Steps, Whole, read_whole};
 use design_ir::Event;
 use std::alloc::Global;
+use std::sync::ledger::Ledger;
 
 /// How many bytes a design file may have.
 const MOST_DESIGN: usize = 1_048_576;
@@ -34,25 +35,33 @@ pub struct Accepted {
 #[derive(Drop)]
 pub enum Verdict {
     Refused(Refusal),
+    Spent(Place),
     BadLine(u32),
     Accepted(Accepted),
 }
 
 /// Reads the design and then the script, and says what they ask for. It changes nothing.
-pub fn accept<H: Host>(alloc: Global, host: &mut H, plan: &Plan<'_>) -> Result<Verdict, HostStop>
+pub fn accept<H: Host, L: Ledger>(
+    alloc: Global,
+    host: &mut H,
+    plan: &Plan<'_>,
+    steps: &mut Steps<L>,
+) -> Result<Verdict, HostStop>
     ensures given { IfOk result (λ v. IfSome (H.seen host.old).files (λ files. IsPlanned (plan_seen plan.now) files (verdict_seen v))) }
     ensures fit { IfOk result IsFit }
     ensures same { H.seen host.new ≡ H.seen host.old }
     ensures cause { HasCause (H.faults host.old) (H.faults host.new) result }
+    ensures counted { steps.old ≤ steps.new }
 {
     let text = match read_whole(alloc, host, plan.design, MOST_DESIGN)? {
         Whole::Bytes(text) => text,
         Whole::TooLong(_) => return Ok(Verdict::Refused(too_long())),
     };
-    match read_design(alloc, &text) {
+    match read_design(alloc, &text, steps) {
         Ok(ranked) => accept_script(alloc, host, plan, ranked),
-        Err(FormStop::Refused(why)) => Ok(Verdict::Refused(why)),
-        Err(FormStop::NoMemory) => Err(HostStop::NoMemory),
+        Err(DesignStop::Refused(why)) => Ok(Verdict::Refused(why)),
+        Err(DesignStop::Spent(place)) => Ok(Verdict::Spent(place)),
+        Err(DesignStop::NoMemory) => Err(HostStop::NoMemory),
     }
 }
 
@@ -74,7 +83,7 @@ fn accept_script<H: Host>(
     ranked: Ranked,
 ) -> Result<Verdict, HostStop>
     requires { IsReady ranked }
-    ensures given { IfOk result (λ v. IfSome (H.seen host.old).files (λ files. IsJudged (plan_seen plan.now) files (Ok ranked.design) (verdict_seen v))) }
+    ensures given { IfOk result (λ v. IfSome (H.seen host.old).files (λ files. IsJudged (plan_seen plan.now) files (gives ranked.design) (verdict_seen v))) }
     ensures fit { IfOk result IsFit }
     ensures same { H.seen host.new ≡ H.seen host.old }
     ensures cause { HasCause (H.faults host.old) (H.faults host.new) result }

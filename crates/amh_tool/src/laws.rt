@@ -1,11 +1,13 @@
 // The law of outcomes. The function does nothing: its clause is the law.
 ghost use Rattle.amh_tool.specs.Headline.{OneOutcome};
 
+use elab_eval::outcome_is_one;
 use py_grammar::programs_are_exact;
 
 /// Words and files have one outcome, and no other.
 pub fn outcomes_are_one()
     ensures { OneOutcome }
 {
+    outcome_is_one();
     programs_are_exact();
 }

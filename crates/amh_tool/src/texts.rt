@@ -1,9 +1,9 @@
 // What the program says and warns.
 ghost use Rattle.std.specs.Prelude.{◌≡◌, IfOk, string_bytes};
-ghost use Rattle.amh_tool.specs.Outcome.{kind_text, refusal_text, bad_line_text, done_text, fault_text, usage_text};
+ghost use Rattle.amh_tool.specs.Outcome.{kind_text, refusal_text, spent_text, bad_line_text, done_text, fault_text, usage_text};
 
+use crate::refusal::Refusal;
 use amh_host::Kind;
-use component_form::Refusal;
 use std::alloc::{AllocError, Global};
 
 const USAGE: &str =
@@ -26,6 +26,14 @@ pub fn refusal(alloc: Global, name: &str, why: Refusal) -> Result<String, AllocE
     let col = why.place.col;
     let kind = kind_text(why.kind);
     format!(in alloc; "{name}:{line}:{col}: {kind}\n")
+}
+
+/// That a budget of so many units is spent.
+#[tactic(auto, unfolding(crate::specs::Outcome::spent_text))]
+pub fn spent(alloc: Global, budget: u64) -> Result<String, AllocError>
+    ensures { IfOk result (λ text. string_bytes text ≡ spent_text budget) }
+{
+    format!(in alloc; "budget of {budget} spent\n")
 }
 
 /// Which line of a script is bad.

@@ -1,6 +1,5 @@
 use Rattle.std.specs.Prelude.{map}
 use Rattle.comb_graph.specs.Rankings.{bit_of}
-use Rattle.amh_tool.proofs.PlainDesigns.{IsPlain-sound}
 use Rattle.amh_tool.proofs.DesignLaws.{IsRanked-order}
 use Rattle.amh_tool.proofs.design_text.rank_design.Goals as goal
 
@@ -8,4 +7,4 @@ pub returns-in-Ok-clause-given : goal.returns-in-Ok-clause-given
 returns-in-Ok-clause-given c = IsRanked-order c.args.design (map bit_of c.in-Ok.ranks.order) c.ordered_have_no_loop.ensures c.in-Ok.ensures.ranks.order
 
 pub returns-in-Ok-clause-ready : goal.returns-in-Ok-clause-ready
-returns-in-Ok-clause-ready c = record { ranking = c.in-Ok.ensures.ranks; plain = IsPlain-sound c.args.design c.requires }
+returns-in-Ok-clause-ready c = record { ranking = c.in-Ok.ensures.ranks; flat = c.requires }

@@ -1,4 +1,4 @@
-use Rattle.amh_tool.proofs.play.play.Given as goal
+use Rattle.amh_tool.proofs.playing.play.Given as goal
 
 abbrev pub ghosts-counted : goal.ghosts-counted
 ghosts-counted g a = record { name = a.blank.name; parts = a.blank.parts }

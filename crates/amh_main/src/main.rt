@@ -1,37 +1,8 @@
-//! Amaranth HDL as one program: it reads a design file, writes the hardware as RTLIL, and writes a trace of every
-//! port after every event of a script.
-//!
-//! `run` is the whole of it, over any host. Its clauses say what is proved of the program: specs/Headline.antt has
-//! their words, specs/Outcome.antt what the words and the files ask for, and specs/Designs.antt what a design file stands
-//! for. `main` makes the real host and calls it.
+//! Amaranth HDL as one program. `main` makes the real host and calls `play` of amh_tool, whose clauses are what is proved.
 #![tactic(auto)]
 
-mod accept;
-mod board;
-mod design_text;
-mod laws;
-mod perform;
-mod plan;
-mod play;
-mod run;
-mod script;
-mod script_edge;
-mod script_line;
-mod script_names;
-mod script_numbers;
-mod script_saying;
-mod script_words;
-#[cfg(test)]
-mod tests;
-mod text_lines;
-mod texts;
-mod trace;
-mod trace_events;
-mod trace_lines;
-
 use amh_host::{NoMemory, RealHost, Words};
-use play::play;
-use run::Status;
+use amh_tool::{Status, play};
 use std::alloc::Global;
 use std::env::Env;
 use std::io::ErrorKind;

@@ -3,13 +3,14 @@ use Rattle.std.specs.Prelude.{Some, IfSome}
 use Rattle.amh_host.specs.Seen.{Seen, with_warned}
 use Rattle.amh_host.specs.Calls.{AddsFront}
 use Rattle.amh_tool.specs.Plan.{plan_of}
-use Rattle.amh_tool.specs.Outcome.{Refuses, BadLine, IsPlanned, refusal_text, bad_line_text}
+use Rattle.amh_tool.specs.Outcome.{Refuses, Spends, BadLine, IsPlanned, refusal_text, spent_text, bad_line_text}
+use Rattle.amh_tool.specs.Designs.{budget}
 use Rattle.amh_tool.specs.Views.{plan_seen}
 use Rattle.amh_tool.specs.Verdicts.{verdict_seen, accepted_seen}
 use Rattle.amh_tool.specs.Work.{Carries, CarriesPart}
 use Rattle.amh_tool.specs.declared.accept.Verdict.{Verdict}
 use Rattle.amh_tool.proofs.RunLaws.{plan_is, works_for, fails_for, on_err}
-use Rattle.amh_tool.proofs.run.work.Goals as goal
+use Rattle.amh_tool.proofs.running.work.Goals as goal
 
 pub returns-in_err-warn-in-Refused-clause-err : goal.returns-in_err-warn-in-Refused-clause-err
 returns-in_err-warn-in-Refused-clause-err g c =
@@ -37,6 +38,34 @@ returns-in_ok-warn-in-Refused-clause-done g c =
       is_for = subst (λ (v : Verdict). IfSome old.files (λ files. IsPlanned p files (verdict_seen v))) c.in-Refused.is c.in_ok-why.ensures.given;
       status = refl;
       carries = c.in_ok-warn-in-Refused.ensures.done ∙ (λ i. with_warned (text i) (c.in_ok-why.ensures.same i));
+    })
+
+pub returns-in_err-warn-in-Spent-clause-err : goal.returns-in_err-warn-in-Spent-clause-err
+returns-in_err-warn-in-Spent-clause-err g c =
+    let old = g.H.Host.seen c.args.host.now in
+    let new = g.H.Host.seen c.warn-in-Spent.new.self in
+    let p = plan_seen c.in-Some.plan in
+    let is : plan_of c.args.words.now ≡ Some p = plan_is plan_seen c.plan_of.result c.in-Some.plan (plan_of c.args.words.now) c.in-Some.is (c.plan_of.ensures ∙ ap plan_of c.items.ensures) in
+    let text : c.as_str-in-Spent.result.now ≡ spent_text budget = c.as_str-in-Spent.ensures.value ∙ c.in_ok-text-in-Spent.ensures in
+    on_err _ (fails_for (plan_of c.args.words.now) p old new is (
+      Spends c.in-Spent.field-0,
+      subst (λ (v : Verdict). IfSome old.files (λ files. IsPlanned p files (verdict_seen v))) c.in-Spent.is c.in_ok-why.ensures.given,
+      subst (λ (b : List ℕ). AddsFront with_warned b old new) text
+          (subst (λ (s : Seen). AddsFront with_warned c.as_str-in-Spent.result.now s new) c.in_ok-why.ensures.same c.in_err-warn-in-Spent.ensures.done),
+    ))
+
+pub returns-in_ok-warn-in-Spent-clause-done : goal.returns-in_ok-warn-in-Spent-clause-done
+returns-in_ok-warn-in-Spent-clause-done g c =
+    let old = g.H.Host.seen c.args.host.now in
+    let new = g.H.Host.seen c.warn-in-Spent.new.self in
+    let p = plan_seen c.in-Some.plan in
+    let is : plan_of c.args.words.now ≡ Some p = plan_is plan_seen c.plan_of.result c.in-Some.plan (plan_of c.args.words.now) c.in-Some.is (c.plan_of.ensures ∙ ap plan_of c.items.ensures) in
+    let text : c.as_str-in-Spent.result.now ≡ spent_text budget = c.as_str-in-Spent.ensures.value ∙ c.in_ok-text-in-Spent.ensures in
+    works_for (plan_of c.args.words.now) p _ old new is (record {
+      found = Spends c.in-Spent.field-0;
+      is_for = subst (λ (v : Verdict). IfSome old.files (λ files. IsPlanned p files (verdict_seen v))) c.in-Spent.is c.in_ok-why.ensures.given;
+      status = refl;
+      carries = c.in_ok-warn-in-Spent.ensures.done ∙ (λ i. with_warned (text i) (c.in_ok-why.ensures.same i));
     })
 
 pub returns-in_err-warn-in-BadLine-clause-err : goal.returns-in_err-warn-in-BadLine-clause-err

@@ -1,0 +1,116 @@
+// The whole program: what the words ask for, carried out.
+ghost use Rattle.std.specs.Prelude.{◌≡◌, ◌≤◌, OnErr, IfOk};
+ghost use Rattle.amh_host.specs.Causes.{HasCause};
+ghost use Rattle.amh_tool.specs.Plan.{plan_of};
+ghost use Rattle.amh_tool.specs.Outcome.{code_of};
+ghost use Rattle.amh_tool.specs.Promises.{Promises};
+ghost use Rattle.amh_tool.specs.Work.{Works, Fails};
+
+use crate::accept::{Verdict, accept};
+use crate::design_text::BUDGET;
+use crate::laws::outcomes_are_one;
+use crate::perform::perform;
+use crate::plan::plan_of;
+use crate::texts::{bad_line, fault_text, refusal, spent, usage_text};
+use amh_host::{Host, HostStop, Steps, Words};
+use std::alloc::Global;
+use std::sync::ledger::Ledger;
+
+/// How a run ends.
+#[derive(Clone, Copy, Debug, PartialEq, Eq, Drop)]
+pub enum Status {
+    /// Both files are written.
+    Done,
+    /// The design or the script is refused.
+    Refused,
+    /// An assertion of a testbench is false.
+    AssertFailed,
+    /// The words are not of the command.
+    Usage,
+    /// The budget is spent.
+    Spent,
+    /// The host failed.
+    Fault,
+    /// No memory was left.
+    NoMemory,
+}
+
+impl Status {
+    /// The exit code of the program.
+    pub fn code(self) -> u8
+        ensures { result ≡ code_of self }
+    {
+        match self {
+            Status::Done => 0,
+            Status::Refused => 1,
+            Status::AssertFailed => 2,
+            Status::Usage => 3,
+            Status::Spent => 4,
+            Status::Fault => 5,
+            Status::NoMemory => 6,
+        }
+    }
+}
+
+/// Does all that the words ask for: reads the design and the script, writes RTLIL whole, then the trace line by
+/// line, and says how it ended. What it promises is the record `Promises` of specs/Promises.antt.
+///
+/// `steps` counts the turns of the machine that evaluates the design file.
+pub fn run<H: Host, L: Ledger>(
+    alloc: Global,
+    words: &Words,
+    host: &mut H,
+    steps: &mut Steps<L>,
+) -> Status
+    ensures promised { Promises words.now result (H.seen host.old) (H.seen host.new) (H.faults host.old) (H.faults host.new) }
+    ensures counted { steps.old ≤ steps.new }
+{
+    outcomes_are_one();
+    match work(alloc, words, host, steps) {
+        Ok(status) => status,
+        Err(HostStop::NoMemory) => Status::NoMemory,
+        Err(HostStop::Failed) => {
+            let _ = host.warn(fault_text());
+            Status::Fault
+        }
+    }
+}
+
+// All of it but for the warning of a fault.
+fn work<H: Host, L: Ledger>(
+    alloc: Global,
+    words: &Words,
+    host: &mut H,
+    steps: &mut Steps<L>,
+) -> Result<Status, HostStop>
+    ensures done { IfOk result (λ status. Works (plan_of words.now) status (H.seen host.old) (H.seen host.new)) }
+    ensures err { OnErr result (Fails (plan_of words.now) (H.seen host.old) (H.seen host.new)) }
+    ensures cause { HasCause (H.faults host.old) (H.faults host.new) result }
+    ensures counted { steps.old ≤ steps.new }
+{
+    let Some(plan) = plan_of(words.items()) else {
+        host.warn(usage_text())?;
+        return Ok(Status::Usage);
+    };
+    match accept(alloc, host, &plan, steps)? {
+        Verdict::Refused(why) => {
+            let text = refusal(alloc, plan.design, why)?;
+            host.warn(text.as_str())?;
+            Ok(Status::Refused)
+        }
+        Verdict::Spent(_) => {
+            let text = spent(alloc, BUDGET)?;
+            host.warn(text.as_str())?;
+            Ok(Status::Spent)
+        }
+        Verdict::BadLine(line) => {
+            let text = bad_line(alloc, plan.script, line)?;
+            host.warn(text.as_str())?;
+            Ok(Status::Refused)
+        }
+        Verdict::Accepted(accepted) => {
+            perform(alloc, host, &plan, &accepted)?;
+            Ok(Status::Done)
+        }
+    }
+}
