@@ -13,29 +13,24 @@ folder="$(mktemp -d)"
 trap 'rm -rf "$folder"' EXIT
 cd "$folder"
 
-# A component of these members with these assignments.
-component() {
+# A module of these signals with these assignments.
+module() {
     echo "from amaranth import *"
-    echo "from amaranth.lib import wiring"
-    echo "from amaranth.lib.wiring import In, Out"
-    echo "class Top(wiring.Component):"
-    echo "    a: In(8)"
-    echo "$1" | tr ';' '\n' | sed 's/^ */    /'
-    echo "    def elaborate(self, platform):"
-    echo "        m = Module()"
+    echo "m = Module()"
+    echo "a = Signal(8)"
+    echo "$1" | tr ';' '\n' | sed 's/^ *//'
     shift
     for assignment in "$@"; do
-        echo "        m.d.$assignment"
+        echo "m.d.$assignment"
     done
-    echo "        return m"
-    echo "top = Top()"
+    echo "top = m"
 }
 
 # Plays a design, and looks for loops in its RTLIL.
 try() {
     name="$1"
     shift
-    component "$@" >"$name.py"
+    module "$@" >"$name.py"
     printf 'set a 85\nset a 170\nset a 255\n' >"$name.stim"
     $tool "$name.py" "$name.il" "$name.tr" --play "$name.stim" >/dev/null
     yosys -p "read_rtlil $name.il; hierarchy -check -top top; check -assert" >"$name.log" 2>&1 || { cat "$name.log"; exit 1; }
@@ -46,39 +41,39 @@ try() {
     echo "$name: no loop in $(grep -c '^  cell ' "$name.il") cells"
 }
 
-try chain_of_xor "s: Out(8)" \
-    "comb += self.s[0].eq(self.a[0])" \
-    "comb += self.s[1:8].eq(self.s[0:7] ^ self.a[1:8])"
-try chain_of_and "s: Out(8)" \
-    "comb += self.s[0].eq(self.a[0])" \
-    "comb += self.s[1:8].eq(self.s[0:7] & self.a[1:8])"
-try chain_of_or "s: Out(8)" \
-    "comb += self.s[0].eq(self.a[0])" \
-    "comb += self.s[1:8].eq(self.s[0:7] | self.a[1:8])"
-try chain_of_not "s: Out(8)" \
-    "comb += self.s[0].eq(self.a[0])" \
-    "comb += self.s[1:8].eq(~self.s[0:7])"
-try downward "s: Out(8)" \
-    "comb += self.s[7].eq(self.a[7])" \
-    "comb += self.s[0:7].eq(self.s[1:8] ^ self.a[0:7])"
-try through_two_signals "s: Out(8); t: Out(8)" \
-    "comb += self.s[0].eq(self.a[0])" \
-    "comb += self.t.eq(self.s ^ self.a)" \
-    "comb += self.s[1:8].eq(self.t[0:7])"
-try through_four_signals "p: Out(4); q: Out(4); r: Out(4); s: Out(4)" \
-    "comb += self.p[0].eq(self.a[0])" \
-    "comb += self.q.eq(self.p & self.a[0:4])" \
-    "comb += self.r.eq(~self.q)" \
-    "comb += self.s.eq(self.r | self.a[4:8])" \
-    "comb += self.p[1:4].eq(self.s[0:3])"
-try signed_operands "s: Out(signed(8))" \
-    "comb += self.s[0].eq(self.a[0])" \
-    "comb += self.s[1:8].eq(self.s ^ self.a)"
-try beside_a_sum "s: Out(8); y: Out(9)" \
-    "comb += self.s[0].eq(self.a[0])" \
-    "comb += self.s[1:8].eq(self.s[0:7] ^ self.a[1:8])" \
-    "comb += self.y.eq(self.s + self.a)"
-try with_a_register "s: Out(8); q: Out(8)" \
-    "comb += self.s[0].eq(self.q[7])" \
-    "comb += self.s[1:8].eq(self.s[0:7] ^ self.a[1:8])" \
-    "sync += self.q.eq(self.s | self.q)"
+try chain_of_xor "s = Signal(8)" \
+    "comb += s[0].eq(a[0])" \
+    "comb += s[1:8].eq(s[0:7] ^ a[1:8])"
+try chain_of_and "s = Signal(8)" \
+    "comb += s[0].eq(a[0])" \
+    "comb += s[1:8].eq(s[0:7] & a[1:8])"
+try chain_of_or "s = Signal(8)" \
+    "comb += s[0].eq(a[0])" \
+    "comb += s[1:8].eq(s[0:7] | a[1:8])"
+try chain_of_not "s = Signal(8)" \
+    "comb += s[0].eq(a[0])" \
+    "comb += s[1:8].eq(~s[0:7])"
+try downward "s = Signal(8)" \
+    "comb += s[7].eq(a[7])" \
+    "comb += s[0:7].eq(s[1:8] ^ a[0:7])"
+try through_two_signals "s = Signal(8); t = Signal(8)" \
+    "comb += s[0].eq(a[0])" \
+    "comb += t.eq(s ^ a)" \
+    "comb += s[1:8].eq(t[0:7])"
+try through_four_signals "p = Signal(4); q = Signal(4); r = Signal(4); s = Signal(4)" \
+    "comb += p[0].eq(a[0])" \
+    "comb += q.eq(p & a[0:4])" \
+    "comb += r.eq(~q)" \
+    "comb += s.eq(r | a[4:8])" \
+    "comb += p[1:4].eq(s[0:3])"
+try signed_operands "s = Signal(signed(8))" \
+    "comb += s[0].eq(a[0])" \
+    "comb += s[1:8].eq(s ^ a)"
+try beside_a_sum "s = Signal(8); y = Signal(9)" \
+    "comb += s[0].eq(a[0])" \
+    "comb += s[1:8].eq(s[0:7] ^ a[1:8])" \
+    "comb += y.eq(s + a)"
+try with_a_register "s = Signal(8); q = Signal(8)" \
+    "comb += s[0].eq(q[7])" \
+    "comb += s[1:8].eq(s[0:7] ^ a[1:8])" \
+    "sync += q.eq(s | q)"

@@ -1,10 +1,10 @@
 #!/usr/bin/env python3
 """Times the program on files that grow, and prints for each step how much longer it took than its share.
 
-- parse: files up to 1,048,576 bytes of nested and of long lines, which the component form refuses once they are parsed;
-- rank: components up to 16,384 signals in a chain, and two signals of 128 bits with a multiplier each way, judged with a script
+- parse: files up to 1,048,576 bytes of nested and of long lines, which evaluation refuses at their first name;
+- rank: modules up to 16,384 signals in a chain, and two signals of 128 bits with a multiplier each way, judged with a script
   that is refused, so that nothing is simulated;
-- lower: components up to 60,000 expressions, whose RTLIL is written.
+- lower: modules up to 60,000 expressions, whose RTLIL is written.
 
 A last column near 1 says that the time grows as the size does. No part of the gate; AMH_TOOL names another built program.
 """
@@ -16,13 +16,12 @@ import tempfile
 import time
 
 TOOL = os.environ.get("AMH_TOOL") or str(pathlib.Path(__file__).resolve().parent.parent / "amh_tool")
-HEAD = "from amaranth import *\nfrom amaranth.lib import wiring\nfrom amaranth.lib.wiring import In, Out\nclass Top(wiring.Component):\n"
+HEAD = "from amaranth import *\nm = Module()\n"
 
 
-def component(members, assignments):
-    lines = [f" {m}" for m in members] + [" def elaborate(self, platform):", "  m = Module()"]
-    lines += [f"  m.d.comb += {a}" for a in assignments]
-    return HEAD + "\n".join([*lines, "  return m", "top = Top()", ""])
+def module(signals, assignments):
+    lines = [*signals, *(f"m.d.comb += {a}" for a in assignments)]
+    return HEAD + "\n".join([*lines, "top = m", ""])
 
 
 def nested(size):
@@ -38,17 +37,17 @@ def long_line(size):
 
 
 def chain(count):
-    links = ["self.s0.eq(~self.a)"] + [f"self.s{i}.eq(~self.s{i - 1})" for i in range(1, count)]
-    return component(["a: In(1)"] + [f"s{i}: Out(1)" for i in range(count)], links)
+    links = ["s0.eq(~a)"] + [f"s{i}.eq(~s{i - 1})" for i in range(1, count)]
+    return module(["a = Signal()"] + [f"s{i} = Signal()" for i in range(count)], links)
 
 
 def multipliers(_):
-    return component(["a: Out(128)", "b: Out(128)"], ["self.a.eq(self.b[0:64] * self.b[64:128])", "self.b.eq(self.a[0:64] * self.a[64:128])"])
+    return module(["a = Signal(128)", "b = Signal(128)"], ["a.eq(b[0:64] * b[64:128])", "b.eq(a[0:64] * a[64:128])"])
 
 
 def expressions(count):
-    hundred = " ^ ".join(["self.a", "self.b"] * 50 + ["self.a"])
-    return component(["a: In(8)", "b: In(8)", "y: Out(8)"], [f"self.y.eq({hundred})"] * (count // 100))
+    hundred = " ^ ".join(["a", "b"] * 50 + ["a"])
+    return module(["a = Signal(8)", "b = Signal(8)", "y = Signal(8)"], [f"y.eq({hundred})"] * (count // 100))
 
 
 def seconds(folder, design, script):

@@ -1,7 +1,7 @@
 #!/usr/bin/env python3
 """Compares the trace of every operator, at the corners of its shapes, with Yosys and with Python's integers.
 
-For each pair of shapes it writes a component with two inputs and an output for each operator that takes them, plays all
+For each pair of shapes it writes a module with two inputs and an output for each operator that takes them, plays all
 pairs of corners (0, 1, -1, the least and the greatest integer), and has Yosys's `eval` compute the outputs of the written
 RTLIL for the same inputs. Each number of the trace must be that of Python's own integers, modulo 2^128, and that of Yosys.
 Operators are those of operator_corners.py. Skipped where yosys is not installed (Debian's package `yosys`). No part of the gate.
@@ -38,12 +38,10 @@ def shape_text(shape):
 
 
 def design(a, b, operators):
-    lines = ["from amaranth import *", "from amaranth.lib import wiring", "from amaranth.lib.wiring import In, Out", ""]
-    lines += ["class Top(wiring.Component):", f"    a: In({shape_text(a)})", f"    b: In({shape_text(b)})"]
-    lines += [f"    y_{op}: Out(128)" for op in operators]
-    lines += ["", "    def elaborate(self, platform):", "        m = Module()"]
-    lines += [f"        m.d.comb += self.y_{op}.eq({FORMS[op].format('self.a', 'self.b')})" for op in operators]
-    return "\n".join([*lines, "        return m", "", "top = Top()", ""])
+    lines = ["from amaranth import *", "m = Module()", f"a = Signal({shape_text(a)})", f"b = Signal({shape_text(b)})"]
+    lines += [f"y_{op} = Signal(128)" for op in operators]
+    lines += [f"m.d.comb += y_{op}.eq({FORMS[op].format('a', 'b')})" for op in operators]
+    return "\n".join([*lines, "top = m", ""])
 
 
 def rows_of(trace):

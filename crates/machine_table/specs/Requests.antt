@@ -1,4 +1,5 @@
 -- What the requests that came so far have.
+-- Internal: no rule of the language.
 use Rattle.std.specs.Prelude.{ℕ, List, Option, None, Some, slice_get}
 use Rattle.py_values.specs.declared.val.Val.{Val}
 use Rattle.py_frames.specs.declared.request.Request.{Request}

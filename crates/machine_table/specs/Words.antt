@@ -1,4 +1,5 @@
 -- The words for why a program stops: they are printed, and read in answers that refuse. And how a place is printed.
+-- Internal: no rule of the language.
 use Rattle.std.specs.Prelude.{ℕ, List, ◌++◌, codes}
 use Rattle.std.specs.Fmt.{decimal}
 use Rattle.amh_host.specs.declared.place.Place.{Place}

@@ -3,15 +3,13 @@ ghost use Rattle.std.specs.Prelude.{◌≡◌, MatchResult};
 ghost use Rattle.py_frames.specs.declared.request.Cause.{Cause};
 ghost use Rattle.machine_table.specs.Words.{word_of};
 
-use crate::escapes::text_of;
 use crate::requests::Requests;
-use crate::stop::Stop;
 use crate::values::value_of;
-use crate::words::{split_first, words_of};
 use amh_host::Text;
 use py_machine::{Answer, Cause, NamedVal, NamedVals};
 use py_values::Vals;
 use std::alloc::Global;
+use table_text::{Stop, split_first, text_of, words_of};
 
 /// The answer that words stand for, behind these requests.
 pub fn answer_of(alloc: Global, requests: &Requests, spelled: &str) -> Result<Answer, Stop> {

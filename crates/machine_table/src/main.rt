@@ -4,7 +4,7 @@
 //! bench/machine_table.py writes stdin and stdout from the tables of bench/programs.
 //!
 //! A question is `BUDGET|ANSWERS|PROGRAM`: a number of units, the answers behind the first one, with a `;` between
-//! each two, and the program in escapes (escapes.rt). An answer is one of
+//! each two, and the program in escapes (table_text). An answer is one of
 //!
 //! - `give VALUE`, `list VALUE ..`, `text TEXT`, where TEXT is in escapes and has no blank;
 //! - `bind NAME VALUE NAME VALUE ..`, `call VALUE VALUE ..`, with the function first, `through VALUE`;
@@ -23,21 +23,18 @@
 #![tactic(auto)]
 
 mod answers;
-mod escapes;
 mod question;
 mod requests;
 mod running;
 mod said;
 mod shown;
-mod stop;
 mod values;
-mod words;
 
 use question::Question;
 use running::said_of;
 use std::alloc::Global;
 use std::io;
-use stop::Stop;
+use table_text::Stop;
 
 fn main(rt: HostRuntime) -> io::Result<()> {
     let alloc = rt.alloc();

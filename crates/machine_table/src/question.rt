@@ -1,9 +1,7 @@
 // A question of the table.
 
-use crate::escapes::text_of;
-use crate::stop::Stop;
-use crate::words::count;
 use std::alloc::Global;
+use table_text::{Stop, count, text_of};
 
 /// A program, how many units it has, and the answers to what it asks, as the table has them.
 #[derive(Drop)]

@@ -2,10 +2,10 @@
 ghost use Rattle.std.specs.Prelude.{◌≡◌, Some, None, slice_get, MatchResult};
 ghost use Rattle.machine_table.specs.Requests.{value_at};
 
-use crate::stop::Stop;
 use amh_host::Items;
 use py_machine::Request;
 use py_values::Val;
+use table_text::Stop;
 
 /// The requests of a run, in order.
 pub type Requests = Items<Request>;

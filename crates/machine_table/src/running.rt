@@ -8,7 +8,6 @@ use crate::answers::answer_of;
 use crate::question::Question;
 use crate::requests::Requests;
 use crate::said::{end_said, request_said, stop_said};
-use crate::stop::Stop;
 use amh_host::{Budget, Place, Steps};
 use py_lexer::{LexStop, cut_lines};
 use py_machine::{Answer, Machine, Turn};
@@ -18,6 +17,7 @@ use py_values::Frozen;
 use std::alloc::Global;
 use std::marker::Brand;
 use std::sync::ledger::{Blank, Ledger};
+use table_text::Stop;
 
 /// How many bytes a program may have.
 const MOST: usize = 1_048_576;

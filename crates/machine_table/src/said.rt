@@ -3,10 +3,10 @@ ghost use Rattle.std.specs.Prelude.{◌≡◌, ◌++◌, IfOk, codes, string_byt
 ghost use Rattle.machine_table.specs.Words.{word_of, place_said};
 
 use crate::shown::Shown;
-use crate::stop::Stop;
 use py_machine::{Act, Cause, Machine, Request};
 use py_values::{Frozen, Val};
 use std::alloc::Global;
+use table_text::Stop;
 
 /// What is asked, with its place.
 pub fn request_said(

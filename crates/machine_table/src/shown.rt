@@ -1,10 +1,10 @@
 // Values, as text.
 
-use crate::stop::Stop;
 use amh_bits::Int;
 use py_machine::Machine;
 use py_values::{Frozen, ObjId, Val};
 use std::alloc::Global;
+use table_text::Stop;
 
 /// How many values a value may stand in, so that it is shown.
 const DEEPEST: u32 = 7;

@@ -1,9 +1,8 @@
 // Values of answers.
 
 use crate::requests::{Requests, value_at, value_named};
-use crate::stop::Stop;
-use crate::words::{count, integer};
 use py_values::{FuncId, Hw, Val};
+use table_text::{Stop, count, integer};
 
 // The builtins without a name of their own: they stand behind the others among the first functions of each heap.
 const CEIL_LOG2: FuncId = FuncId(17);

@@ -2,7 +2,7 @@
 //!
 //! Each line of standard input is a question, a colon and a text in escapes, and for each the program writes a number and
 //! the answer. bench/syntax_table.py writes stdin and stdout from the tables of bench/lines, which were worked out by
-//! hand from the grammar. How a text is spelled is defined in specs/Escapes.antt; what is said of it is what
+//! hand from the grammar. How a text is spelled is defined in specs/Escapes.antt of table_text; what is said of it is what
 //! `cut_lines`, `words_of`, `read_line`, `read_whole` and `parse` promise.
 //!
 //! The answer to `tree` is the whole tree of the text. A part is `(HEAD PART ..)`. A node begins with the place P of its
@@ -34,20 +34,18 @@
 #![tactic(auto)]
 
 mod answer;
-mod escapes;
 mod expressions;
 mod forms;
 mod nodes;
-mod spelling;
 mod steps;
 mod tree;
 mod words;
 
 use amh_host::NoMemory;
 use answer::{Aspect, Question, answer};
-use escapes::bytes_of;
 use std::alloc::Global;
 use std::io;
+use table_text::bytes_of;
 
 /// How many bytes a text may have.
 const MOST: usize = 1_048_576;

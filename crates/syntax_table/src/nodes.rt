@@ -1,8 +1,8 @@
 // What all nodes of the notation of trees have: brackets, a head, a place, and words.
 
-use crate::spelling::spelled;
 use amh_host::{NoMemory, Place};
 use std::alloc::Global;
+use table_text::spelled;
 
 /// The begin of a part without a place.
 pub fn open(said: &mut String, head: &str) -> Result<(), NoMemory> {

@@ -1,0 +1,108 @@
+#!/usr/bin/env python3
+"""Writes what the program tool_table reads, and what it must write, from the tables in bench/tool.
+
+A table has cases with a line of dashes between each two. A case has parts: `NAME: VALUE` on one line, or `NAME:` and then
+lines indented by four blanks. The parts are
+
+    words      the words of the command; without it `top.py top.il top.tr --play top.stim`
+    design     the lines of top.py; in their place `module` gives those between `m = Module()` and `top = m`
+    bytes      the bytes of top.py in escapes, in place of its lines; `times` repeats them
+    script     the lines of top.stim; without it the file is empty. `script bytes` gives them in escapes
+    fail       a call of the host that is to fail
+    each fault how many calls of each kind there are
+    done       the text that is said; refused, usage, fault, spent: the text that is warned
+    trace      the lines of the trace; `trace lines` how many there are of those of the last case, behind a fault
+    rtlil      `there`, `whole`, `none` or `K lines`; without it `there` where the run is done, else `none`
+
+The answers were worked out by hand; the program is not run here.
+"""
+import pathlib
+
+from syntax_table import in_escapes
+
+TABLES = pathlib.Path(__file__).resolve().parent / "tool"
+CRATE = pathlib.Path(__file__).resolve().parent.parent / "crates" / "tool_table"
+WORDS = "top.py top.il top.tr --play top.stim"
+USAGE = "usage: amh_tool DESIGN IL TRACE [--play FILE] [--top NAME] [--budget N] [--make N]\n"
+CODES = {"done": 0, "refused": 1, "usage": 3, "spent": 4, "fault": 5}
+
+
+def cases_in(path):
+    """The cases of a table, each with its parts."""
+    parts, name = {}, None
+    for line in path.read_text(encoding="utf-8").splitlines() + ["----"]:
+        if line.startswith("----"):
+            if parts:
+                yield {key: value if isinstance(value, str) else value for key, value in parts.items()}
+            parts, name = {}, None
+        elif line.startswith("#") and name is None:
+            continue
+        elif line.startswith("    ") and name is not None:
+            parts[name].append(line[4:])
+        elif line == "" and name is not None:
+            parts[name].append("")
+        elif ":" in line:
+            name, value = line.split(":", 1)
+            if value.strip():
+                parts[name], name = value.strip(), None
+            else:
+                parts[name] = []
+        elif line.strip():
+            raise SystemExit(f"{path}: {line!r} is no part of a case")
+
+
+def lines(part, front=""):
+    """Lines of a part, each behind this front, without the empty ones at its end."""
+    part = list(part)
+    while part and part[-1] == "":
+        part.pop()
+    return "".join(f"{front}{line}\n" if line else "\n" for line in part)
+
+
+def design_of(case):
+    """The bytes of the design in escapes."""
+    if "bytes" in case:
+        return case["bytes"]
+    if "module" in case:
+        text = "from amaranth import *\nm = Module()\n" + lines(case["module"]) + "top = m\n"
+    else:
+        text = lines(case.get("design", []))
+    return in_escapes(text).replace("|", "\\x7C")
+
+
+def question_of(case):
+    times = f"*{case['times']}" if "times" in case else ""
+    script = case.get("script bytes", in_escapes(lines(case.get("script", []))))
+    fields = [case.get("words", WORDS) if case.get("words") != "none" else "", f"top.py{times}={design_of(case)}", f"top.stim={script}"]
+    if "fail" in case:
+        fields.append(f"fail {case['fail']}")
+    if "each fault" in case:
+        fields.append("each fault")
+    return "|".join(fields)
+
+
+def answer_of(case):
+    if "each fault" in case:
+        return case["each fault"]
+    words = case.get("words", WORDS).split()
+    words = [] if words == ["none"] else words
+    status = next(name for name in CODES if name in case)
+    said = case["done"] + "\n" if status == "done" else ""
+    warned = {"done": "", "usage": USAGE, "fault": "host fault\n"}.get(status) if status in ("done", "usage", "fault") else case[status] + "\n"
+    trace = in_escapes(lines(case["trace"])) if "trace" in case else "none"
+    rtlil = case.get("rtlil", "there" if status == "done" else "none")
+    il, tr = (words + ["", "", ""])[1:3]
+    return " | ".join([f"{status} {CODES[status]}", f"said {in_escapes(said)}", f"warned {in_escapes(warned)}", f"{tr} {trace}", f"{il} {rtlil}"])
+
+
+def main():
+    table = [case for path in sorted(TABLES.glob("*.txt")) for case in cases_in(path)]
+    questions = "".join(f"{question_of(case)}\n" for case in table)
+    answers = "".join(f"{number} {answer_of(case)}\n" for number, case in enumerate(table, 1))
+    (CRATE / "stdin").write_text(questions, encoding="utf-8")
+    (CRATE / "stdout").write_text(answers, encoding="utf-8")
+    print(f"{len(table)} runs")
+
+
+if __name__ == "__main__":
+    main()

@@ -1,9 +1,0 @@
-use Rattle.std.proofs.Common.{length}
-use Rattle.syntax_table.proofs.Spellings.{SpellsFrom, Refuted}
-use Rattle.syntax_table.proofs.escapes.bytes_of.Given as goal
-
-abbrev pub invariant-loop-rest : goal.invariant-loop-rest
-invariant-loop-rest l = SpellsFrom l.bytes.items l.rest l.line × Refuted l.rest l.line
-
-abbrev pub decreases-loop-rest : goal.decreases-loop-rest
-decreases-loop-rest l = length l.rest

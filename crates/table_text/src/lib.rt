@@ -1,0 +1,14 @@
+//! How the programs of tables read and write their lines: bytes in escapes, words, and numbers.
+//!
+//! What a line spells is defined in specs/Escapes.antt.
+#![tactic(auto)]
+
+mod escapes;
+mod spelling;
+mod stop;
+mod words;
+
+pub use escapes::{bytes_of, text_of};
+pub use spelling::spelled;
+pub use stop::Stop;
+pub use words::{count, integer, natural, split_first, words_of};
