@@ -1,4 +1,5 @@
 -- Bit vectors: a width, and the bits as a number whose lowest bit is the first.
+-- Source: Amaranth language guide 0.5, Width extension, Bit sequence operators; at most 128 bits: own rule (docs/RULES.md).
 use Rattle.std.specs.Prelude.{ℕ, ◌+◌, ◌*◌, ◌/◌, ◌%◌, ◌^◌, ◌<◌, ◌≤◌, Bool, ℤ}
 use Rattle.amh_bits.specs.Patterns.{pattern, number}
 

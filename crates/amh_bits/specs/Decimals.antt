@@ -1,4 +1,5 @@
 -- Integers as text.
+-- Source: Python library reference, Built-in Functions: str; in traces and scripts: own rule (docs/RULES.md).
 use Rattle.std.specs.Prelude.{ℕ, suc, ℤ, pos, negsuc, List, ◌∷◌}
 use Rattle.std.specs.Fmt.{decimal}
 

@@ -1,4 +1,5 @@
 -- Integers, endless in both directions, and the part of them that the tool keeps.
+-- Source: Python reference 3.2 (integers), 6.7 and 6.9; the range kept, and 0 for a divisor of 0: own rules (docs/RULES.md).
 use Rattle.std.specs.Prelude.{◌≡◌, refl, unsigned_abs, ℕ, zero, suc, ◌/◌, ◌^◌, ◌<◌, ◌≤◌, Bool, true, false, ℤ, pos, negsuc, neg_ℤ, ◌-ℤ◌, ◌*ℤ◌, bit_and, bit_or, bit_xor}
 use Rattle.std.proofs.Common.{arith}
 

@@ -1,4 +1,5 @@
 -- Which calls of a host in memory are to fail.
+-- Internal: no rule of the language.
 use Rattle.std.specs.Prelude.{ℕ, zero, suc, ◌-◌, ◌==◌, ◌&&◌, ◌||◌, Bool, true, false, if◌then◌else◌, nat_lt, List, [], ◌∷◌, map}
 use Rattle.lists.specs.Texts.{text_eq}
 use Rattle.amh_host.specs.declared.host.HostCall.{HostCall}

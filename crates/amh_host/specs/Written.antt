@@ -1,4 +1,5 @@
 -- A file that is made anew and then written.
+-- Internal: no rule of the language.
 use Rattle.std.specs.Prelude.{◌≡◌, ◌⊎◌, ℕ, List, Result, MatchResult}
 use Rattle.amh_host.specs.Seen.{Seen, with_file}
 use Rattle.amh_host.specs.Calls.{AddsFront}

@@ -1,4 +1,5 @@
 -- The names that a source gives, and those that stand in what is written: paths of names, made new by a number.
+-- Source: Python reference 2.3, Identifiers and keywords, by bytes; paths, and names made new by a number: own rule (docs/RULES.md).
 use Rattle.std.specs.Prelude.{◌≡◌, ◌⊎◌, ◌==◌, ◌&&◌, ◌||◌, ◌++◌, nat_le, ℕ, Bool, List, [], ◌∷◌, All, codes, IsTrue}
 use Rattle.std.specs.Fmt.{decimal}
 

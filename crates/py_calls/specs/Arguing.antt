@@ -1,4 +1,5 @@
 -- Words for the arguments of a call.
+-- Internal: no rule of the language.
 use Rattle.std.specs.Prelude.{List, ◌++◌}
 use Rattle.amh_host.specs.declared.place.Place.{Place}
 use Rattle.py_tree.specs.Tree.{Trailer, Call, Arguments, no_argument}

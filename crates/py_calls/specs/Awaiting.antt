@@ -1,4 +1,5 @@
 -- Which functions run under `await` alone.
+-- Internal: no rule of the language.
 use Rattle.std.specs.Prelude.{Bool, false, Option, Some, None}
 use Rattle.py_tree.specs.Steps.{Steps}
 use Rattle.py_values.specs.declared.val.Val.{Val}

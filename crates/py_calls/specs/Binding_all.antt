@@ -1,4 +1,5 @@
 -- Words for names that are bound one after the other, and attributes that are set so.
+-- Internal: no rule of the language.
 use Rattle.std.specs.Prelude.{ℕ, List, [], ◌∷◌, Result, Ok, Err}
 use Rattle.py_values.specs.declared.val.ValueStop.{ValueStop}
 use Rattle.py_values.specs.Heaps.{Made, seen}

@@ -1,4 +1,5 @@
 -- Words for the steps of calls.
+-- Internal: no rule of the language.
 use Rattle.std.specs.Prelude.{Bool, true, false, List, [], ◌∷◌, length, Option, Some, None}
 use Rattle.amh_host.specs.declared.place.Place.{Place}
 use Rattle.py_tree.specs.Steps.{Steps}

@@ -1,4 +1,5 @@
 -- Words for the begin of a function.
+-- Internal: no rule of the language.
 use Rattle.std.specs.Prelude.{ℕ, zero, suc}
 use Rattle.py_tree.specs.Steps.{Steps, Body, Fun}
 use Rattle.py_values.specs.Heaps.{Made}

@@ -1,4 +1,5 @@
 -- Words for arguments that meet parameters, one after the other.
+-- Internal: no rule of the language.
 use Rattle.std.specs.Prelude.{ℕ, Bool, if◌then◌else◌, List, ◌++◌, drop, Option, Some, None}
 use Rattle.py_tree.specs.Steps.{Parameter}
 use Rattle.py_values.specs.declared.val.Val.{Val}

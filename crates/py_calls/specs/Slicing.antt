@@ -1,4 +1,5 @@
 -- Words for the parts of a slice.
+-- Internal: no rule of the language.
 use Rattle.std.specs.Prelude.{List, [], ◌∷◌, Option, Some, None}
 use Rattle.amh_host.specs.declared.place.Place.{Place}
 use Rattle.py_tree.specs.Tree.{Perhaps, Trailer, Slice}

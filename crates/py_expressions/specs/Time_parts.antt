@@ -1,4 +1,5 @@
 -- Quotients on the way to a time.
+-- Internal: no rule of the language.
 use Rattle.std.specs.Prelude.{◌≡◌, ℕ, nat_lt, if◌then◌else◌, ℤ, pos, negsuc, Option, Some, None}
 use Rattle.py_expressions.specs.declared.times.Exponent.{Exponent}
 use Rattle.py_expressions.specs.declared.times.Exponent.TheVariants.{Zeros, Behind}

@@ -1,4 +1,5 @@
 -- Requests and their answers.
+-- Source: this project's own rule (docs/RULES.md).
 use Rattle.std.specs.Prelude.{ℕ, zero, suc, ◌+◌, Bool, true, false, List, [], ◌∷◌, slice_get, Option, Some, None}
 use Rattle.amh_host.specs.declared.place.Place.{Place}
 use Rattle.py_values.specs.declared.val.Val.{Val}

@@ -1,4 +1,5 @@
 -- A node's units, and what it means once they are spent.
+-- Internal: no rule of the language.
 use Rattle.std.specs.Prelude.{◌≡◌, ℕ, ◌+◌, ◌<◌, ◌≤◌, [], pos, option_map, Result, Ok, Err}
 use Rattle.amh_host.specs.declared.place.Place.{Place}
 use Rattle.py_tree.specs.Tree.{Tree, Name, Number, Decimal_time, Quotient, Str, Format, Constant_value, Tuple, Display, Dict, ListOf, DictOf, Trailed, Await, Power, Unary, Not, Binary, Compare, Boolean, Choice}

@@ -1,4 +1,5 @@
 -- What the heap refuses where a name is bound.
+-- Internal: no rule of the language.
 use Rattle.amh_host.specs.declared.place.Place.{Place}
 use Rattle.py_values.specs.declared.val.ValueStop.{ValueStop}
 use Rattle.py_values.specs.declared.val.ValueStop.TheVariants as refusal

@@ -1,4 +1,5 @@
 -- How the frames of calls, and of what trails a primary, go on.
+-- Internal: no rule of the language.
 use Rattle.std.specs.Prelude.{ℕ, zero, suc, List, [], ◌∷◌, ◌++◌, length}
 use Rattle.amh_host.specs.declared.place.Place.{Place}
 use Rattle.py_tree.specs.Seen.{tree}

@@ -1,4 +1,5 @@
 -- What an evaluation does: from a world and a state it comes to something and a state, or it halts.
+-- Source: this project's own rule (docs/RULES.md).
 use Rattle.std.specs.Prelude.{ℕ, ◌+◌, nat_lt, Bool, true, false, if◌then◌else◌, List, Option, Some, None, Result, Ok, Err}
 use Rattle.amh_host.specs.declared.place.Place.{Place}
 use Rattle.py_tree.specs.Steps.{Steps}

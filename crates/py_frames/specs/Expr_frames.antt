@@ -1,4 +1,5 @@
 -- How the frames of expressions go on, in the words of the meaning of expressions.
+-- Internal: no rule of the language.
 use Rattle.std.specs.Prelude.{ℕ, zero, suc, List, [], ◌∷◌, ◌++◌}
 use Rattle.amh_host.specs.declared.place.Place.{Place}
 use Rattle.py_tree.specs.Seen.{tree}

@@ -1,4 +1,5 @@
 -- The parts of expressions that their frames come to: by number, and of the kinds of node that have them.
+-- Internal: no rule of the language.
 use Rattle.std.specs.Prelude.{ℕ, zero, suc, Bool, true, false, List, drop, Option, Some, None}
 use Rattle.amh_host.specs.declared.place.Place.{Place}
 use Rattle.py_tree.specs.declared.expr.Operator.{Operator}

@@ -1,5 +1,6 @@
 -- What an expression means. Each node spends its units where it begins, before its parts; a chain of operators or of
 -- what trails a primary begins all its nodes at its first token.
+-- Source: Python reference 6, Expressions, with 6.16, Evaluation order; units: own rule (docs/RULES.md).
 use Rattle.std.specs.Prelude.{ℕ, zero, suc, ◌+◌, ◌-◌, Bool, true, false, if◌then◌else◌, List, [], ◌∷◌, ◌++◌, pos, Option, Some, None, option_map, Result, Ok, Err}
 use Rattle.amh_host.specs.declared.place.Place.{Place}
 use Rattle.py_tree.specs.declared.name.Piece.{Piece}

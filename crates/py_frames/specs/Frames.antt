@@ -1,4 +1,5 @@
 -- A list of frames, and what a turn of the machine owes.
+-- Internal: no rule of the language.
 use Rattle.std.specs.Prelude.{◌≡◌, ℕ, ◌<◌, List, [], ◌∷◌, Option, Some, None, Result, Ok, Err, ⊤}
 use Rattle.amh_host.specs.declared.place.Place.{Place}
 use Rattle.py_tree.specs.Seen.{tree}

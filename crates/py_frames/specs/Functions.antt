@@ -1,4 +1,5 @@
 -- The function of a `def` statement, by the place of the statement; and how arguments meet parameters.
+-- Source: Python reference 6.3.4, Calls, and 8.7, Function definitions.
 use Rattle.std.specs.Prelude.{ℕ, ◌==◌, ◌&&◌, Bool, true, false, if◌then◌else◌, List, [], ◌∷◌, ◌++◌, Option, Some, None}
 use Rattle.lists.specs.Texts.{text_eq}
 use Rattle.amh_host.specs.declared.place.Place.{Place}

@@ -1,4 +1,5 @@
 -- The names that are a function's, a class body's or a comprehension's own: those that its code binds.
+-- Source: Python reference 4.2.1, Binding of names.
 use Rattle.std.specs.Prelude.{ℕ, List, [], ◌∷◌, ◌++◌, map, Option, Some, None}
 use Rattle.py_tree.specs.Tree.{Tree, Name, Tuple, Trees, none, some, Perhaps, absent, present}
 use Rattle.py_tree.specs.Steps.{Step, Pass, Break, Continue, Return, Assert, Raise, ImportAll, Import, Assign, Annotate, Augment, Evaluate, If, While, For, With, Def, Class, Steps, last, next, Branches, no_branch, branch, Otherwise, nothing_else, otherwise, Body, Fun, Import_name, Parameter, Named, Star}

@@ -1,4 +1,5 @@
 -- The parts of a node by their number, as a walk comes to them one after the other.
+-- Internal: no rule of the language.
 use Rattle.std.specs.Prelude.{ℕ, zero, suc}
 use Rattle.amh_host.specs.declared.place.Place.{Place}
 use Rattle.py_tree.specs.declared.expr.Operator.{Operator}

@@ -1,4 +1,5 @@
 -- The table of a program's functions, with the names that are their own.
+-- Internal: no rule of the language.
 use Rattle.std.specs.Prelude.{◌≡◌, ℕ, List, [], ◌∷◌, ◌++◌, map}
 use Rattle.py_tree.specs.Programs.{steps_of, body_of}
 use Rattle.py_tree.specs.Steps.{Step, If, While, For, With, Def, Class, Steps, last, next, Branches, no_branch, branch, Otherwise, nothing_else, otherwise, Body, Fun}

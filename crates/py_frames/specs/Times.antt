@@ -1,4 +1,5 @@
 -- Times: seconds as whole femtoseconds, rounded down to an even number.
+-- Source: this project's own rule (docs/RULES.md).
 use Rattle.std.specs.Prelude.{ℕ, zero, suc, ◌*◌, ◌/◌, ◌-◌, ◌%◌, ◌^◌, nat_lt, if◌then◌else◌, ℤ, pos, negsuc, Option, Some, None}
 use Rattle.py_tree.specs.declared.number.Decimal.{Decimal}
 use Rattle.py_tree.specs.declared.number.Amount.{Amount}

@@ -1,4 +1,5 @@
 -- What calls tell that are a part of a turn: a truth, and a name that is bound.
+-- Internal: no rule of the language.
 use Rattle.std.specs.Prelude.{◌≡◌, ◌+◌, Bool, Option, Some, None, Result, Ok, Err, ⊤}
 use Rattle.amh_host.specs.declared.place.Place.{Place}
 use Rattle.py_tree.specs.declared.expr.Expr.{Expr}

@@ -1,4 +1,5 @@
 -- Words for the steps along what trails a primary.
+-- Internal: no rule of the language.
 use Rattle.std.specs.Prelude.{Bool, Option, Some, None}
 use Rattle.amh_host.specs.declared.place.Place.{Place}
 use Rattle.py_tree.specs.Tree.{Tree, Trailers, no_trailer, trailer, Trailer, Arguments, no_argument, argument, Argument, Positional, Starred, Keyword}

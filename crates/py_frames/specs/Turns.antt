@@ -1,4 +1,5 @@
 -- When turns end: a request waits, or no frame waits for what came.
+-- Internal: no rule of the language.
 use Rattle.std.specs.Prelude.{◌≡◌, Bool, true, false, List, [], ◌∷◌, Result, Ok, Err, ⊤}
 use Rattle.py_frames.specs.declared.state.Halt.{Halt}
 use Rattle.py_frames.specs.declared.frame.Frame.{Frame}

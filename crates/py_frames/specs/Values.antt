@@ -1,4 +1,5 @@
 -- What is done with values, once they are there: operators, truth, indices, attributes and calls.
+-- Source: Python reference 6.3, Primaries, 6.4, 3.2 (methods), 3.3.1 (__init__); requests for things: own rule (docs/RULES.md).
 use Rattle.std.specs.Prelude.{ℕ, zero, suc, ◌+◌, ◌==◌, ◌&&◌, ◌||◌, Bool, true, false, if◌then◌else◌, List, [], ◌∷◌, ◌++◌, map, length, Option, Some, None, codes}
 use Rattle.lists.specs.Texts.{text_eq}
 use Rattle.amh_host.specs.declared.place.Place.{Place}

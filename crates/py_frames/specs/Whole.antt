@@ -1,4 +1,5 @@
 -- A whole program: what it asks after a list of answers, or how it ends, and at what cost.
+-- Source: Python reference 9.1, Complete Python programs; requests, units and the depth of calls: own rules (docs/RULES.md).
 use Rattle.std.specs.Prelude.{ℕ, ◌+◌, false, List, [], ◌∷◌, ◌++◌, map, slice_get, Option, Some, None, codes}
 use Rattle.amh_host.specs.declared.place.Place.{Place}
 use Rattle.py_tree.specs.Steps.{Steps}

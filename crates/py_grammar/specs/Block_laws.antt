@@ -1,4 +1,5 @@
 -- The laws that tie the reader of files to their grammar.
+-- Internal: no rule of the language.
 use Rattle.std.specs.Prelude.{◌≡◌, List, ◌++◌}
 use Rattle.py_tree.specs.Steps.{Steps}
 use Rattle.py_grammar.specs.Blocks.{Line, IsProgram, IsFront, IsRefusedLine}

@@ -1,5 +1,6 @@
 -- The grammar of blocks: which logical lines stand for which statements. Lines may also be cut off, so that they are the
 -- front of a block: then the head at their end may still want its block.
+-- Source: Python reference 2.1.8, Indentation, 8, Compound statements, and 9.2, File input; the refused line: own rule (docs/RULES.md).
 use Rattle.std.specs.Prelude.{◌≡◌, ◌<◌, ◌⊎◌, ℕ, zero, suc, Bool, true, false, not, ◌&&◌, ◌||◌, IsTrue, List, [], ◌∷◌, ◌++◌, Option, Some, None}
 use Rattle.amh_host.specs.declared.place.Place.{Place}
 use Rattle.py_tree.specs.Tree.{Tree}

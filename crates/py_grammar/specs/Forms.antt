@@ -1,5 +1,6 @@
 -- The words of which a grammar is made: what it is to be one thing after another, one thing or another, and so on.
 -- Each is a relation between the words of a text and what they stand for.
+-- Source: Python reference 1.2, Notation.
 use Rattle.std.specs.Prelude.{◌≡◌, ◌⊎◌, ℕ, Bool, List, [], ◌∷◌, ◌++◌, Option, Some, None, IsTrue}
 use Rattle.amh_host.specs.declared.place.Place.{Place}
 use Rattle.py_grammar.specs.declared.word.Word.{Word}

@@ -1,6 +1,7 @@
 -- The grammar of expressions: which words stand for which tree, each rule as it stands in the language's reference.
 -- What stands inside a bracket is one bracket deeper, and so is each operand of `not`, of a sign before one operand,
 -- of `**` and of `if else`; so a rule takes the rules of one bracket deeper, and `Within` counts how many there may be.
+-- Source: Python reference 6, Expressions, and 10, Full Grammar specification; a part of them, and the depth: own rule (docs/RULES.md).
 use Rattle.std.specs.Prelude.{◌≡◌, ◌==◌, ℕ, zero, suc, Bool, List, Option, Some, None, codes}
 use Rattle.amh_host.specs.declared.place.Place.{Place}
 use Rattle.py_tree.specs.declared.expr.Operator.{Operator}

@@ -1,4 +1,5 @@
 -- The laws that tie the reader of lines to their grammar.
+-- Internal: no rule of the language.
 use Rattle.std.specs.Prelude.{◌≡◌, ℕ, List, Some}
 use Rattle.py_grammar.specs.declared.word.Word.{Word}
 use Rattle.py_grammar.specs.Shapes.{LineForm}

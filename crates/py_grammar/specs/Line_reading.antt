@@ -1,4 +1,5 @@
 -- The reader of logical lines: the words that come first tell which statement it is, so nothing is read twice.
+-- Internal: no rule of the language.
 use Rattle.std.specs.Prelude.{◌≡◌, ℕ, suc, ◌-◌, ◌&&◌, ◌||◌, Bool, true, false, not, is_some, if◌then◌else◌, length, List, [], ◌∷◌, ◌++◌, take, map, Option, Some, None, codes}
 use Rattle.amh_host.specs.declared.place.Place.{Place}
 use Rattle.py_tree.specs.declared.expr.Operator.{Operator}

@@ -1,4 +1,5 @@
 -- What readers are made of: each takes what it reads off the front of some words and leaves the rest.
+-- Internal: no rule of the language.
 use Rattle.std.specs.Prelude.{◌≡◌, ℕ, zero, suc, Bool, true, false, if◌then◌else◌, length, List, [], ◌∷◌, ◌++◌, Option, Some, None, Result, Ok, Err}
 use Rattle.amh_host.specs.declared.place.Place.{Place}
 use Rattle.py_grammar.specs.declared.word.Word.{Word}

@@ -1,4 +1,5 @@
 -- The reader of expressions, by precedence: the words that come next tell each choice, so nothing is read twice.
+-- Internal: no rule of the language.
 use Rattle.std.specs.Prelude.{nat_lt, if◌then◌else◌, ◌≡◌, ◌==◌, ◌||◌, ◌&&◌, is_some, not, ℕ, zero, suc, Bool, true, false, List, [], ◌∷◌, Option, Some, None, codes}
 use Rattle.lists.specs.Texts.{text_eq}
 use Rattle.amh_host.specs.declared.place.Place.{Place}

@@ -1,5 +1,6 @@
 -- What an expression's words stand for: its tree, the place where its text begins, and how deep its brackets nest.
 -- The text of an expression in brackets begins at the bracket, and its tree at its own first token.
+-- Source: Python reference 6.2, 6.3.4, 6.15 and 7.2 (targets); places, times and the depth of brackets: own rules (docs/RULES.md).
 use Rattle.std.specs.Prelude.{ℕ, suc, max, Bool, true, nat_lt, List, [], ◌∷◌, ◌++◌, Option, Some, None, fold, is_some, ◌||◌, ◌&&◌, not, false, if◌then◌else◌}
 use Rattle.amh_host.specs.declared.place.Place.{Place}
 use Rattle.py_tree.specs.declared.name.Piece.{Piece}

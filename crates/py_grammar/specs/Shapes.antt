@@ -1,4 +1,5 @@
 -- What the words of a logical line stand for: a simple statement, or the head of a compound one.
+-- Source: Python reference 7, Simple statements, and 8, Compound statements; for parameters 8.7, Function definitions.
 use Rattle.std.specs.Prelude.{◌≡◌, ℕ, Bool, true, false, not, ◌&&◌, ◌||◌, is_some, is_none, if◌then◌else◌, List, [], ◌∷◌, map, Option, Some, None, codes}
 use Rattle.std.specs.List.{list_any}
 use Rattle.lists.specs.Texts.{text_eq}

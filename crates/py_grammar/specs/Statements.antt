@@ -1,6 +1,7 @@
 -- The grammar of logical lines: which words stand for which simple statement or head of a compound one, each rule as it
 -- stands in the language's reference. Expressions stand in so many brackets at most, and those of parameters and of the
 -- arguments of a class in one more.
+-- Source: Python reference 7, Simple statements, 8, Compound statements, and 10; a part of them: own rule (docs/RULES.md).
 use Rattle.std.specs.Prelude.{◌≡◌, ℕ, suc, Bool, List, [], Option, Some, None, codes}
 use Rattle.amh_host.specs.declared.place.Place.{Place}
 use Rattle.py_tree.specs.declared.expr.Operator.{Operator}

@@ -1,4 +1,5 @@
 -- What the texts of signs and keywords stand for.
+-- Source: Python reference 6.17, Operator precedence; for comparisons 6.10.
 use Rattle.std.specs.Prelude.{ℕ, Bool, true, false, zero, suc, if◌then◌else◌, Option, Some, None, List, [], ◌∷◌, codes}
 use Rattle.lists.specs.Texts.{text_eq}
 use Rattle.py_tree.specs.declared.expr.Constant.{Constant}

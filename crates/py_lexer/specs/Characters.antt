@@ -1,4 +1,5 @@
 -- The characters of a text, the ends of its lines, and places in it.
+-- Source: Python reference 2.1.2, Physical lines; that a lone CR ends none, and places: own rules (docs/RULES.md).
 use Rattle.std.specs.Prelude.{ℕ, suc, ◌+◌, ◌==◌, ◌&&◌, nat_lt, Bool, List, [], ◌∷◌, if◌then◌else◌, slice_index}
 use Rattle.std.specs.Char.{len_utf8}
 use Rattle.amh_host.specs.declared.place.Place.{Place}

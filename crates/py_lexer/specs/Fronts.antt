@@ -1,4 +1,5 @@
 -- What a front of a text keeps to.
+-- Internal: no rule of the language.
 use Rattle.std.specs.Prelude.{ℕ, ◌<◌, ◌≤◌}
 use Rattle.py_lexer.specs.declared.piece.Front.{Front}
 use Rattle.py_lexer.specs.declared.piece.Piece.{Piece}

@@ -1,4 +1,5 @@
 -- What cutting a text gives, beside what the definitions say.
+-- Internal: no rule of the language.
 use Rattle.std.specs.Prelude.{◌≡◌, List, Result, Ok, Err}
 use Rattle.amh_host.specs.declared.place.Place.{Place}
 use Rattle.py_lexer.specs.declared.line.Line.{Line}

@@ -1,4 +1,5 @@
 -- The forms of tokens, and what may stand between them, as rules.
+-- Source: Python reference 2.1.2, 2.1.3, 2.1.5, 2.1.9, and 2.3 to 2.6 (tokens); a part of them: own rule (docs/RULES.md).
 use Rattle.std.specs.Prelude.{◌≡◌, ◌≢◌, ℕ, ◌+◌, ◌<◌, ◌≤◌, ◌^◌, ◌⊎◌, Bool, true, false, IsTrue, List, [], ◌∷◌, ◌++◌, length, codes, replicate, slice_index}
 use Rattle.std.specs.List.{list_all}
 use Rattle.unicode_ident.specs.Ident.{is_xid_continue}

@@ -1,4 +1,5 @@
 -- The logical lines that the pieces of a text make, or the place of its first fault.
+-- Source: Python reference 2.1.1, Logical lines, and 2.1.5 to 2.1.8 (joining to indents); the fault told: own rule (docs/RULES.md).
 use Rattle.std.specs.Prelude.{ℕ, ◌+◌, ◌-◌, ◌==◌, ◌&&◌, Bool, true, false, List, [], ◌∷◌, ◌++◌, take, length, Option, None, Some, Result, Ok, Err, if◌then◌else◌, slice_get}
 use Rattle.amh_host.specs.declared.place.Place.{Place}
 use Rattle.py_lexer.specs.declared.token.Token.{Token}

@@ -1,4 +1,5 @@
 -- The longest token.
+-- Source: Python reference 2.2, Other tokens.
 use Rattle.std.specs.Prelude.{◌≡◌, ℕ, ◌≤◌, List, ◌++◌, length}
 use Rattle.py_lexer.specs.declared.token.TokenForm.{TokenForm}
 use Rattle.py_lexer.specs.Grammar.{IsToken}

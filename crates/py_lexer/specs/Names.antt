@@ -1,4 +1,5 @@
 -- Names and keywords.
+-- Source: Python reference 2.3, Identifiers and keywords; Unicode UAX #31, #15; what is refused: own rule (docs/RULES.md).
 use Rattle.std.specs.Prelude.{ℕ, suc, ◌==◌, ◌||◌, Bool, List, [], ◌∷◌, length, take_while, bytes_eq, codes, Option, None, Some, if◌then◌else◌}
 use Rattle.std.specs.List.{list_any}
 use Rattle.unicode_ident.specs.Ident.{is_xid_start, is_xid_continue}

@@ -1,4 +1,5 @@
 -- Whole numbers and decimals.
+-- Source: Python reference 2.4.5, Integer literals, and 2.4.6, Floating point literals; their limits: own rule (docs/RULES.md).
 use Rattle.std.specs.Prelude.{ℕ, suc, ◌+◌, ◌*◌, ◌^◌, ◌==◌, ◌&&◌, ◌||◌, nat_lt, nat_le, Bool, List, [], ◌∷◌, length, take, drop, take_while, if◌then◌else◌, slice_index}
 use Rattle.std.specs.Char.{digit_value}
 use Rattle.py_lexer.specs.declared.piece.Front.{Front}

@@ -1,4 +1,5 @@
 -- A text as its pieces, one behind the other: spaces, comments, line ends and tokens.
+-- Source: Python reference 2.1.2, 2.1.3, 2.1.5, 2.1.9 (line ends, comments, joints, blanks), and 2.2, Other tokens.
 use Rattle.std.specs.Prelude.{ℕ, zero, suc, ◌+◌, ◌-◌, ◌==◌, ◌&&◌, nat_lt, true, false, List, [], ◌∷◌, take, drop, length, Option, None, Some, if◌then◌else◌, slice_index}
 use Rattle.py_lexer.specs.Characters.{line_end, ends_line, line_width, next, past}
 use Rattle.py_lexer.specs.Names.{starts_name, name_width, word_form}

@@ -1,4 +1,5 @@
 -- Operators and delimiters.
+-- Source: Python reference 2.5, Operators, and 2.6, Delimiters; those left out: own rule (docs/RULES.md).
 use Rattle.std.specs.Prelude.{ℕ, ◌==◌, ◌&&◌, ◌||◌, Bool, List, codes, Option, None, Some, if◌then◌else◌}
 use Rattle.std.specs.List.{list_any}
 use Rattle.py_lexer.specs.declared.piece.Bracket.{Bracket}

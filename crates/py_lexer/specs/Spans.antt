@@ -1,4 +1,5 @@
 -- What each line and each token of a text keeps to.
+-- Internal: no rule of the language.
 use Rattle.std.specs.Prelude.{◌≡◌, ℕ, ◌<◌, ◌≤◌, List, [], ◌∷◌, All}
 use Rattle.std.specs.Str.{IsCharBoundary}
 use Rattle.py_lexer.specs.declared.token.Token.{Token}

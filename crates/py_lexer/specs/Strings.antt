@@ -1,4 +1,5 @@
 -- Strings and format strings.
+-- Source: Python reference 2.4.1, String and Bytes literals, 2.4.3, Formatted string literals; a part of them: own rule (docs/RULES.md).
 use Rattle.std.specs.Prelude.{ℕ, zero, suc, ◌+◌, ◌-◌, ◌==◌, ◌&&◌, ◌||◌, Bool, true, false, List, [], ◌∷◌, take, drop, codes, Option, None, Some, if◌then◌else◌, slice_index}
 use Rattle.py_lexer.specs.Characters.{line_end, ends_line}
 use Rattle.py_lexer.specs.Names.{starts_name, name_width, word_form}

@@ -1,4 +1,5 @@
 -- A text as its tokens and what stands between them.
+-- Source: Python reference 2.1.9, Whitespace between tokens, and 2.2, Other tokens.
 use Rattle.std.specs.Prelude.{ℕ, List, [], ◌∷◌, ◌++◌}
 use Rattle.py_lexer.specs.declared.token.Token.{Token}
 use Rattle.py_lexer.specs.declared.token.TokenForm.{TokenForm}

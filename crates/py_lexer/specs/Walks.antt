@@ -1,4 +1,5 @@
 -- What a walk over a text owes.
+-- Internal: no rule of the language.
 use Rattle.std.specs.Prelude.{ℕ, ◌+◌, ◌*◌, ◌≤◌, List, [], Result, length}
 use Rattle.amh_host.specs.declared.place.Place.{Place}
 use Rattle.py_lexer.specs.declared.line.Line.{Line}

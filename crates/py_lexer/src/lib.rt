@@ -26,6 +26,3 @@ mod walk;
 pub use line::{LexStop, Line, Lines};
 pub use token::{Token, TokenForm, Tokens};
 pub use walk::cut_lines;
-
-#[cfg(test)]
-mod tests;

@@ -1,4 +1,5 @@
 -- Answers about all of some words: what they stand for, or that they stand for nothing.
+-- Internal: no rule of the language.
 use Rattle.std.specs.Prelude.{Result, Ok, Err}
 use Rattle.py_grammar.specs.declared.word.Stop.{Stop}
 use Rattle.py_grammar.specs.declared.word.Stop.TheVariants.{Unread, NoMemory}

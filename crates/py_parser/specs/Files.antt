@@ -1,4 +1,5 @@
 -- What contracts see of the lines of a file in memory, and of what is read of them.
+-- Internal: no rule of the language.
 use Rattle.std.specs.Prelude.{◌≡◌, ◌<◌, ◌+◌, ℕ, zero, suc, List, [], ◌∷◌, map, drop, length, Option, Some, None, Result, Ok, Err}
 use Rattle.std.specs.List.{slice_get}
 use Rattle.py_tree.specs.Programs.{program_of}

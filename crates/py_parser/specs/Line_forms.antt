@@ -1,4 +1,5 @@
 -- What contracts see of a line in memory.
+-- Internal: no rule of the language.
 use Rattle.std.specs.Prelude.{ℕ, List, [], ◌∷◌, ◌++◌, map, option_map}
 use Rattle.amh_host.specs.declared.place.Place.{Place}
 use Rattle.py_tree.specs.Tree.{Tree, perhaps}

@@ -1,4 +1,5 @@
 -- The program of a text whose logical lines are known.
+-- Source: Python reference 9.2, File input; the refused line and its place: own rule (docs/RULES.md).
 use Rattle.std.specs.Prelude.{◌≡◌, ℕ, List, map, slice_get, Some, Result, Ok, Err}
 use Rattle.amh_host.specs.declared.place.Place.{Place}
 use Rattle.py_lexer.specs.declared.line.Line.{Line as Cut_line}

@@ -1,4 +1,5 @@
 -- What contracts see of the parts that readers make.
+-- Internal: no rule of the language.
 use Rattle.std.specs.Prelude.{map}
 use Rattle.py_tree.specs.Seen.{tree, each_of}
 use Rattle.py_parser.specs.declared.phrase.Phrase.{Phrase}

@@ -1,4 +1,5 @@
 -- What the words of tokens keep of the tokens' own grammar.
+-- Internal: no rule of the language.
 use Rattle.std.specs.Prelude.{◌≡◌, ℕ, List}
 use Rattle.py_lexer.specs.Grammar.{IsNumber}
 use Rattle.py_grammar.specs.declared.word.Mark.TheVariants as mark

@@ -1,4 +1,5 @@
 -- The words of a line: what each of its tokens stands for.
+-- Source: Python reference 2.4, Literals: 2.4.1 to 2.4.3 strings, 2.4.5 and 2.4.6 numbers; their limits: own rule (docs/RULES.md).
 use Rattle.std.specs.Prelude.{ℕ, zero, suc, max, ◌+◌, ◌-◌, ◌^◌, ◌==◌, ◌&&◌, ◌||◌, not, nat_lt, nat_le, Bool, ℤ, pos, ◌-ℤ◌, List, [], ◌∷◌, ◌++◌, map, take, drop, take_while, length, slice_index, Option, Some, None, if◌then◌else◌}
 use Rattle.std.specs.Str.{is_utf8}
 use Rattle.amh_host.specs.declared.place.Place.{Place}

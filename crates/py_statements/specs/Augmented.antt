@@ -1,4 +1,5 @@
 -- Augmented assignments: their parts in memory, and what the last of what trails a target is changed by.
+-- Internal: no rule of the language.
 use Rattle.std.specs.Prelude.{◌≡◌, Bool, true, false, [], ◌∷◌, Option, Some, None, Result, Ok, Err, ⊤}
 use Rattle.amh_host.specs.declared.place.Place.{Place}
 use Rattle.py_tree.specs.Seen.{tree}

@@ -1,4 +1,5 @@
 -- Parts of definitions: the parameters that are evaluated, and the ends of classes.
+-- Internal: no rule of the language.
 use Rattle.std.specs.Prelude.{ℕ, suc, List, [], ◌∷◌, Bool, true, false, Option, Some, None, Result}
 use Rattle.amh_host.specs.declared.place.Place.{Place}
 use Rattle.py_tree.specs.Programs.{steps_of}

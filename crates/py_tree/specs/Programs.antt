@@ -1,4 +1,5 @@
 -- What the contracts see of statements in memory: their trees.
+-- Internal: no rule of the language.
 use Rattle.std.specs.Prelude.{ℕ, List, [], ◌∷◌, map, Option, Some, None, option_map}
 use Rattle.amh_host.specs.declared.place.Place.{Place}
 use Rattle.py_tree.specs.declared.stmt.Stmt.{Stmt, Stmt-F, fold-Stmt}

@@ -1,4 +1,5 @@
 -- What the contracts see of an expression in memory: its tree.
+-- Internal: no rule of the language.
 use Rattle.std.specs.Prelude.{ℕ, List, [], ◌∷◌, Option, Some, None, map}
 use Rattle.amh_host.specs.declared.place.Place.{Place}
 use Rattle.py_tree.specs.declared.expr.Operator.{Operator}

@@ -1,4 +1,5 @@
 -- The tree of a program, without where it lies in memory.
+-- Source: Python reference 7, Simple statements, and 8, Compound statements.
 use Rattle.std.specs.Prelude.{ℕ, Bool, List, [], ◌∷◌, Option, Some, None}
 use Rattle.amh_host.specs.declared.place.Place.{Place}
 use Rattle.py_tree.specs.declared.expr.Operator.{Operator}

@@ -1,4 +1,5 @@
 -- The tree of an expression, without where it lies in memory.
+-- Source: Python reference 6, Expressions; times and chains as one node: own rule (docs/RULES.md).
 use Rattle.std.specs.Prelude.{ℕ, List, [], ◌∷◌, Option, Some, None}
 use Rattle.amh_host.specs.declared.place.Place.{Place}
 use Rattle.py_tree.specs.declared.name.Piece.{Piece}

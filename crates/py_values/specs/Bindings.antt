@@ -1,4 +1,5 @@
 -- Names, each with its value.
+-- Source: Python reference 4.2.1, Binding of names.
 use Rattle.std.specs.Prelude.{ℕ, Bool, if◌then◌else◌, List, [], ◌∷◌, map, String, string_bytes, Option, Some, None}
 use Rattle.std.specs.List.{list_any}
 use Rattle.lists.specs.Texts.{text_eq}

@@ -1,4 +1,5 @@
 -- What each builtin, method, index and slice gives.
+-- Source: Python library reference, Built-in Functions and Built-in Types; amaranth.utils.
 use Rattle.std.specs.Prelude.{List, Result, Ok, Err}
 use Rattle.py_values.specs.declared.val.Val.{Val}
 use Rattle.py_values.specs.declared.val.ValueStop.{ValueStop}

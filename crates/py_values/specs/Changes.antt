@@ -1,4 +1,5 @@
 -- Lists that grow and change in place.
+-- Source: Python library reference, Built-in Types: Mutable Sequence Types, Mapping Types; freezing, counts: own rule (docs/RULES.md).
 use Rattle.std.specs.Prelude.{ℕ, suc, ℤ, pos, negsuc, ◌/◌, ◌+◌, ◌-◌, ◌||◌, nat_lt, if◌then◌else◌, Bool, List, [], ◌∷◌, ◌++◌, length, slice_set, Option, Some, None, Result, Ok, Err}
 use Rattle.py_values.specs.declared.val.Val.{Val}
 use Rattle.py_values.specs.declared.val.ValueStop.{ValueStop}

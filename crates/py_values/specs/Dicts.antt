@@ -1,4 +1,5 @@
 -- Dicts: making them, and their methods.
+-- Source: Python library reference, Built-in Types: Mapping Types; keys, counts, and lists in place of views: own rule (docs/RULES.md).
 use Rattle.std.specs.Prelude.{ℕ, suc, ◌+◌, ◌/◌, ◌&&◌, ◌||◌, nat_lt, Bool, true, false, if◌then◌else◌, List, [], ◌∷◌, ◌++◌, length, slice_get, slice_set, Option, Some, None, Result, Ok, Err}
 use Rattle.py_values.specs.declared.val.Val.{Val}
 use Rattle.py_values.specs.declared.val.Val.TheVariants as val

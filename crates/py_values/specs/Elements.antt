@@ -1,4 +1,5 @@
 -- What a builtin goes over: its elements, one of them, and how many there are.
+-- Source: Python library reference, Built-in Types: Iterator Types; strings have none, and the limit: own rule (docs/RULES.md).
 use Rattle.std.specs.Prelude.{ℕ, ◌/◌, ◌==◌, nat_lt, Bool, false, if◌then◌else◌, List, [], ◌∷◌, length, map, slice_get, Option, Some, None, Result, Ok, Err}
 use Rattle.std.specs.Str.{chars}
 use Rattle.std.specs.Option.{option_map}

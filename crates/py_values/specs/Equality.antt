@@ -1,4 +1,5 @@
 -- Equality: whether two are one thing, then their lengths, then their elements from the first one on.
+-- Source: Python reference 6.10.1, Value comparisons; cost, depth, and what has no equality: own rules (docs/RULES.md).
 use Rattle.std.specs.Prelude.{ℕ, zero, suc, ◌==◌, Bool, true, false, if◌then◌else◌, List, [], ◌∷◌, length, ℤ}
 use Rattle.std.specs.Ordering.{int_eq}
 use Rattle.lists.specs.Texts.{text_eq}

@@ -1,4 +1,5 @@
 -- What machines made: strings, rows, functions and scopes by number.
+-- Internal: no rule of the language.
 use Rattle.std.specs.Prelude.{ℕ, ◌-◌, nat_lt, if◌then◌else◌, List, [], slice_get, length, unwrap_or, Option, Some, None}
 use Rattle.py_values.specs.declared.val.Val.{Val}
 use Rattle.py_values.specs.declared.func.Func.{Func}

@@ -1,4 +1,5 @@
 -- An index, a slice, and an assignment to an index.
+-- Source: Python reference 6.3.2, Subscriptions, 6.3.3, Slicings; library reference, Common Sequence Operations.
 use Rattle.std.specs.Prelude.{ℕ, suc, if◌then◌else◌, ℤ, pos, negsuc, ◌-ℤ◌, List, [], ◌∷◌, length, slice_get, filter_map, Option, Some, None, Result, Ok, Err, encode_utf8, encode_utf8_all}
 use Rattle.std.specs.Str.{chars}
 use Rattle.std.specs.Option.{option_map, option_and_then}

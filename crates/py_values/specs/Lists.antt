@@ -1,4 +1,5 @@
 -- The methods of lists.
+-- Source: Python library reference, Built-in Types: Mutable Sequence Types; counts: own rule (docs/RULES.md).
 use Rattle.std.specs.Prelude.{ℕ, suc, ◌+◌, ◌-◌, ◌||◌, min, nat_lt, Bool, if◌then◌else◌, ℤ, pos, negsuc, List, [], ◌∷◌, ◌++◌, length, slice_get, slice_set, insert, remove, Option, Some, None, Result, Ok, Err}
 use Rattle.py_values.specs.declared.val.Val.{Val}
 use Rattle.py_values.specs.declared.val.Val.TheVariants as val

@@ -1,4 +1,5 @@
 -- Names and what they are bound to.
+-- Source: Python reference 4.2.2, Resolution of names; freezing: own rule (docs/RULES.md).
 use Rattle.std.specs.Prelude.{ℕ, zero, suc, ◌+◌, ◌-◌, nat_lt, if◌then◌else◌, Bool, true, false, List, [], ◌∷◌, ◌++◌, length, slice_get, slice_set, Option, Some, None, Result, Ok, Err}
 use Rattle.std.specs.Str.{chars}
 use Rattle.py_values.specs.declared.val.Val.{Val}

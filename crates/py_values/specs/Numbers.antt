@@ -1,4 +1,5 @@
 -- Operators on integers and booleans, as in Python.
+-- Source: Python reference 6.5 to 6.10, operators on integers; the range of integers: own rule (docs/RULES.md).
 use Rattle.std.specs.Prelude.{ℕ, zero, suc, ◌%◌, ◌^◌, ◌==◌, ◌&&◌, ◌||◌, nat_lt, not, Bool, true, false, if◌then◌else◌, ℤ, pos, negsuc, neg_ℤ, ◌+ℤ◌, ◌-ℤ◌, ◌*ℤ◌, int_lt, unsigned_abs, Option, Some, None, Result, Ok, Err}
 use Rattle.std.specs.Ordering.{int_eq}
 use Rattle.amh_bits.specs.Integers.{with_sign, sign_of, int_and, int_or, int_xor, int_not, floor_quotient, floor_div, floor_rem}

@@ -1,4 +1,5 @@
 -- Classes and objects: their attributes.
+-- Source: Python reference 3.2 (custom classes, class instances), 6.3.1, Attribute references; one base, counts: own rule (docs/RULES.md).
 use Rattle.std.specs.Prelude.{ℕ, zero, suc, ◌+◌, ◌-◌, ◌||◌, nat_lt, Bool, false, if◌then◌else◌, List, [], ◌∷◌, ◌++◌, length, map, slice_get, slice_set, Option, Some, None, Result, Ok, Err}
 use Rattle.std.specs.Str.{chars}
 use Rattle.std.specs.List.{list_any}

@@ -1,4 +1,5 @@
 -- What each operator gives, and at what cost.
+-- Source: Python reference 6.5 to 6.11, operators; cost, and where `is` is defined: own rules (docs/RULES.md).
 use Rattle.std.specs.Prelude.{◌&&◌, ◌||◌, not, Bool, true, false, Option, Some, None, Result, Ok, Err}
 use Rattle.py_values.specs.declared.val.Val.{Val}
 use Rattle.py_values.specs.declared.val.Val.TheVariants as val

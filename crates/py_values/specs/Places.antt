@@ -1,4 +1,5 @@
 -- Where new values stand, and the counts that they may not pass.
+-- Source: this project's own rule (docs/RULES.md).
 use Rattle.std.specs.Prelude.{ℕ, ◌+◌, ◌||◌, nat_lt, Bool, if◌then◌else◌, List, [], ◌∷◌, ◌++◌, length, Result, Ok, Err}
 use Rattle.std.specs.Str.{chars}
 use Rattle.py_values.specs.declared.val.Val.{Val}

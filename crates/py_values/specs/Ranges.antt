@@ -1,4 +1,5 @@
 -- Ranges: from start on by steps, before stop.
+-- Source: Python library reference, Built-in Types: Ranges.
 use Rattle.std.specs.Prelude.{ℕ, zero, suc, ◌&&◌, not, Bool, true, false, ℤ, pos, negsuc, int_lt, List, Option, Some, None, slice_get, unwrap_or}
 use Rattle.std.specs.Ordering.{int_eq}
 use Rattle.amh_bits.specs.Integers.{floor_rem}

@@ -1,4 +1,5 @@
 -- What comes out of a call, and at what cost; first as if nothing bounded the cost, and then under a budget.
+-- Source: this project's own rule (docs/RULES.md).
 use Rattle.std.specs.Prelude.{◌≡◌, ℕ, ◌+◌, ◌≤◌, ◌<◌, Option, Some, None, Result, Ok, Err, ⊤}
 use Rattle.py_values.specs.declared.val.ValueStop.{ValueStop}
 use Rattle.py_values.specs.declared.val.ValueStop.TheVariants.{Raised, Width, Limit, Spent, NoMemory}

@@ -1,4 +1,5 @@
 -- Builtins that give a number, a boolean, a string or None.
+-- Source: Python library reference, Built-in Functions; amaranth.utils; which arguments raise: own rule (docs/RULES.md).
 use Rattle.std.specs.Prelude.{ℕ, zero, suc, ◌+◌, ◌^◌, nat_lt, max, Bool, true, false, if◌then◌else◌, List, [], ◌∷◌, ℤ, pos, negsuc, int_lt, unsigned_abs, Option, Some, None, is_some, unwrap_or, Result, Ok, Err, fold}
 use Rattle.std.specs.List.{list_all, best_of}
 use Rattle.amh_bits.specs.Decimals.{int_text}

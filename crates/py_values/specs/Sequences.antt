@@ -1,4 +1,5 @@
 -- `range`, `len`, `list`, `tuple`, `reversed`, `enumerate` and `zip`.
+-- Source: Python library reference, Built-in Functions; lists in place of iterators: own rule (docs/RULES.md).
 use Rattle.std.specs.Prelude.{ℕ, zero, suc, ◌+◌, min, Bool, true, false, if◌then◌else◌, ℤ, pos, ◌+ℤ◌, List, [], ◌∷◌, ◌++◌, length, map, reverse, unwrap_or, Option, Some, None, Result, Ok, Err}
 use Rattle.std.specs.List.{list_all}
 use Rattle.py_values.specs.declared.val.Val.{Val}

@@ -1,4 +1,5 @@
 -- `+` and `*`, which join and repeat strings, lists and tuples as well.
+-- Source: Python reference 6.7, Binary arithmetic operations; library reference, Common Sequence Operations.
 use Rattle.std.specs.Prelude.{ℕ, zero, suc, ◌*◌, nat_lt, if◌then◌else◌, List, [], ◌∷◌, ◌++◌, length, ℤ, pos, negsuc, Option, Some, None, Result, Ok, Err}
 use Rattle.py_values.specs.declared.val.Val.{Val}
 use Rattle.py_values.specs.declared.val.Val.TheVariants as val

@@ -1,4 +1,5 @@
 -- Truth.
+-- Source: Python library reference, Built-in Types: Truth Value Testing; times and things: own rule (docs/RULES.md).
 use Rattle.std.specs.Prelude.{ℕ, not, Bool, true, false, List, [], ◌∷◌, Option, Some, None}
 use Rattle.py_values.specs.declared.val.Val.{Val}
 use Rattle.py_values.specs.declared.val.Val.TheVariants as val

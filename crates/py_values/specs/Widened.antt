@@ -1,4 +1,5 @@
 -- An integer that may have left the range, as a value.
+-- Internal: no rule of the language.
 use Rattle.std.specs.Prelude.{ℤ, Result, Ok, Err}
 use Rattle.amh_bits.specs.declared.int.TooWide.{TooWide}
 use Rattle.py_values.specs.declared.val.Val.{Val}

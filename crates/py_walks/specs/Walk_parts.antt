@@ -1,4 +1,5 @@
 -- The parts of comprehensions and of targets, as the code reads them.
+-- Internal: no rule of the language.
 use Rattle.std.specs.Prelude.{◌≡◌, ℕ, ◌+◌, ◌-◌, Bool, true, false, List, [], ◌∷◌, Option, Some, None, option_map, Result, Ok, Err, ⊤}
 use Rattle.amh_host.specs.declared.place.Place.{Place}
 use Rattle.py_tree.specs.Seen.{tree}

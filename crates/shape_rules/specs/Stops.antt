@@ -1,4 +1,5 @@
 -- Which shapes an operator takes, and why it stops at others.
+-- Source: Amaranth language guide 0.5, Bitwise operators (a shift amount is unsigned); at most 128 bits: own rule (docs/RULES.md).
 use Rattle.std.specs.Prelude.{◌≡◌, ℕ, ◌<◌, ◌≤◌, max, Bool, true, false, ◌&&◌, Result, MatchResult}
 use Rattle.shape_rules.specs.Forms.{Form}
 use Rattle.shape_rules.specs.Operators.{form_of, work_form}
