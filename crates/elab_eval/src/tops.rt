@@ -63,8 +63,7 @@ fn class_calling(heap: &Heap, frozen: &Frozen, o: ObjId, class: Val) -> Option<C
     }
 }
 
-/// The first item of a row, which of an object is its class.
-pub(crate) fn first_in(row: &[Val]) -> Val
+fn first_in(row: &[Val]) -> Val
     ensures { result ≡ first_in row.now }
 {
     match row {
