@@ -1,7 +1,6 @@
 -- An answer, by the table of shapes and values or by this crate.
-use Rattle.std.proofs.Common.{◌≡◌, ℕ, refl, ap, ◌∙◌, sym, subst, List, [], ◌∷◌, ◌++◌, length, Option, Some, None, Result, Ok, Err, append-nil, arith}
+use Rattle.std.proofs.Common.{◌≡◌, refl, ap, ◌∙◌, sym, subst, List, [], ◌++◌, length, Option, Some, None, Result, Ok, Err, append-nil}
 use Rattle.std.specs.Prelude.{OnOk}
-use Rattle.std.specs.List.{AllByRecursion}
 use Rattle.lists.specs.declared.items.NoMemory.{NoMemory}
 use Rattle.py_values.specs.Heaps.{Seen}
 use Rattle.py_frames.specs.declared.request.Answer.{Answer}
@@ -14,14 +13,13 @@ use Rattle.amh_values.specs.declared.acts.Acted.TheVariants as acted_as
 use Rattle.amh_values.specs.declared.plan.Plan.{Plan}
 use Rattle.amh_values.specs.declared.thing.Thing.{Thing}
 use Rattle.amh_values.specs.Acts.{acted, Acts}
-use Rattle.amh_values.specs.Held.{IsHeld, AreHeld}
+use Rattle.amh_values.specs.Held.{AreHeld}
 use Rattle.elab_eval.specs.declared.store.Elaboration.{Elaboration}
 use Rattle.elab_eval.specs.Stores.{Stored, Held, Answered}
 use Rattle.elab_eval.specs.Held.{held_of, Gives}
 use Rattle.elab_eval.specs.Sound.{IsSound}
-use Rattle.elab_eval.specs.Table.{prim, own_answered, either_answered, plan_answered, with_plan}
+use Rattle.elab_eval.specs.Table.{prim, own_answered, either_answered, with_plan}
 use Rattle.elab_eval.proofs.GrownLaws.{pool_grown}
-use Rattle.elab_eval.proofs.SoundLaws.{own_sound}
 
 -- a held pool and store
 abbrev pub held_with : Pooled → Stored → List Thing → Held
@@ -51,7 +49,7 @@ pub planned_sound : (s : Seen) (h : Held) (r : Request) (a : Acted) (q : Pooled)
 planned_sound s h r a q ts acts held sound = by_plan (acted s h.pool h.store.things r) acts
   where
     with_things : (k : Held) → IsSound k → AreHeld (length k.pool.exprs) ts → IsSound (record k { store = record k.store { things = ts } })
-    with_things k t g = record { names = t.names; kept = t.kept; modules = t.modules; ports = t.ports; machines = t.machines; things = g }
+    with_things k t g = record { names = t.names; kept = t.kept; modules = t.modules; ports = t.ports; things = g }
 
     same_pool : q ≡ h.pool → IsSound (held_with q h.store ts)
     same_pool e = subst (λ p. IsSound (held_with p h.store ts)) (sym e) (with_things h sound (subst (λ (p : Pooled). AreHeld (length p.exprs) ts) e held))

@@ -16,7 +16,7 @@ use Rattle.py_frames.specs.declared.request.Cause.TheVariants.{Raised, Width}
 use Rattle.py_frames.specs.declared.request.NamedVal.{NamedVal}
 use Rattle.design_ir.specs.declared.port.Port.{Port}
 use Rattle.design_ir.specs.declared.signal.Sig.{Sig}
-use Rattle.clock_domains.specs.declared.top.TopPorts.TheVariants.{Members, Held as Held_by}
+use Rattle.clock_domains.specs.declared.top.TopPorts.TheVariants.{Members}
 use Rattle.elab_eval.specs.declared.members.NamedMember.{NamedMember}
 use Rattle.elab_eval.specs.Calls.{Called, called}
 use Rattle.elab_eval.specs.Stores.{Answered, nothing_held}
@@ -26,7 +26,7 @@ use Rattle.elab_eval.specs.Members.{member_called}
 use Rattle.elab_eval.specs.Components.{members_in, class_members}
 use Rattle.elab_eval.specs.ComponentClasses.{class_answered}
 use Rattle.elab_eval.specs.Interfaces.{init_answered}
-use Rattle.elab_eval.specs.ComponentTops.{object_ports}
+use Rattle.elab_eval.specs.ComponentTops.{component_ports}
 
 thing : ℕ → Val
 thing n = val.Hw (record { 0 = n })
@@ -151,12 +151,12 @@ top_bound : (with_top.answer ≡ answer.Bind (bound (codes "a") (thing 7) ∷ bo
 unfolding thing class object bit with_wiring with_in with_out with_component with_a with_b with_y gate_names gate_vals with_gate rows with_top bound bit_signal members_in
 top_bound = (refl, refl)
 
-top_ports : object_ports with_top.held.store (record { 0 = 1 }) ≡ Some (Members gate_ports)
+top_ports : component_ports with_top.held.store (record { 0 = 1 }) ≡ Some (Members gate_ports)
 unfolding thing class object bit with_wiring with_in with_out with_component with_a with_b with_y gate_names gate_vals with_gate rows with_top port gate_ports members_in
 top_ports = refl
 
 -- before its `__init__` a component has none, and is no top
-no_ports : object_ports with_gate.held.store (record { 0 = 1 }) ≡ None
+no_ports : component_ports with_gate.held.store (record { 0 = 1 }) ≡ None
 unfolding thing class object bit with_wiring with_in with_out with_component with_a with_b with_y gate_names gate_vals with_gate rows
 no_ports = refl
 

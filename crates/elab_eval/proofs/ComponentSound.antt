@@ -16,11 +16,9 @@ use Rattle.design_ir.specs.declared.signal.Sig.{Sig}
 use Rattle.design_ir.specs.declared.expr.Expr.{Expr}
 use Rattle.design_ir.specs.declared.expr.Expr.TheVariants as expr
 use Rattle.design_ir.specs.PoolRules.{signal_added}
-use Rattle.clock_domains.specs.declared.top.TopPorts.{TopPorts}
-use Rattle.clock_domains.specs.Resolvable.{ArePorts, AreTopPorts}
+use Rattle.clock_domains.specs.Resolvable.{ArePorts}
 use Rattle.amh_values.specs.declared.thing.Thing.TheVariants as thing
 use Rattle.elab_eval.specs.declared.kept.HdlName.{HdlName}
-use Rattle.elab_eval.specs.declared.kept.Kept.{Kept}
 use Rattle.elab_eval.specs.declared.kept.Kept.TheVariants as kept
 use Rattle.elab_eval.specs.declared.members.NamedMember.{NamedMember}
 use Rattle.elab_eval.specs.declared.interfaces.Interface.{Interface}
@@ -33,12 +31,9 @@ use Rattle.elab_eval.specs.Members.{member_shaped, member_said, member_placed, m
 use Rattle.elab_eval.specs.ComponentClasses.{component_made, component_base, annotated, class_over, class_answered}
 use Rattle.elab_eval.specs.Classes.{class_made, base_called}
 use Rattle.elab_eval.specs.Interfaces.{are_named, are_members, member_signal, with_member, member_bound, no_interface, interface_made, interface_given, members_given, component_called, component_class, init_as, init_of, init_answered, signature_name}
-use Rattle.clock_domains.specs.declared.top.TopPorts.TheVariants.{Loose}
-use Rattle.elab_eval.specs.Components.{ports_at}
-use Rattle.elab_eval.specs.Elaborates.{ports_of}
 use Rattle.elab_eval.specs.Sound.{IsKept, IsSound}
 use Rattle.elab_eval.proofs.GrownLaws.{all_and, pool_grown, things_grown, keeping_sound}
-use Rattle.elab_eval.proofs.PortLaws.{and_split, name_stands, all_put, all_found, ports_stay, port_more, ports_resolve}
+use Rattle.elab_eval.proofs.PortLaws.{and_split, name_stands, all_put, ports_stay, port_more}
 
 -- ---- names and members
 
@@ -65,7 +60,7 @@ member_sound s is_out c h t = placed_sound s is_out c.placed (member_init c.keyw
 -- ---- classes: no act on one changes what is kept of pools, things or modules
 
 made_sound : (class : Val) (base : Option ObjId) (ms : Option (List NamedMember)) (h : Held) → IsSound h → IsSound (component_made class base ms h).held
-made_sound (val.Class c) base (Some ms) h s = record { names = s.names; things = s.things; kept = s.kept; modules = s.modules; ports = s.ports; machines = s.machines }
+made_sound (val.Class c) base (Some ms) h s = record { names = s.names; things = s.things; kept = s.kept; modules = s.modules; ports = s.ports }
 made_sound (val.Class c) base None h s = s
 made_sound val.None base ms h s = s
 made_sound (val.Bool b) base ms h s = s
@@ -169,14 +164,3 @@ of_sound seen (val.Hw x) vals names h other s = other
 -- the family of other objects keeps it too
 pub init_sound : (seen : Seen) (vals : List Val) (names : List (List ℕ)) (h : Held) → IsSound (base_called vals names h).held → IsSound h → IsSound (init_answered seen vals names h).held
 init_sound seen vals names h other s = of_sound seen (first_or val.None vals) vals names h other s
-
--- ---- the top
-
--- the ports of the top are ports of the pool
-pub top_stands : (h : Held) (o : Option ObjId) (ports : TopPorts) → IsSound h → ports_of h.store o ≡ Some ports → AreTopPorts h.pool ports
-top_stands h None ports s e = subst (AreTopPorts h.pool) (some_same e) tt
-  where
-    some_same : Some Loose ≡ Some ports → Loose ≡ ports
-    some_same e = cc
-top_stands h (Some o) ports s e =
-    ports_resolve h.pool (ports_at h.store.components.objects o.0) ports (λ ps found. all_found (ArePorts h.pool) _ h.store.components.objects ps s.ports found) e

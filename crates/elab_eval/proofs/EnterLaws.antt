@@ -1,5 +1,5 @@
 -- What is asked where a block is entered follows from what is held.
-use Rattle.std.proofs.Common.{◌≡◌, ℕ, ◌<◌, refl, sym, ap, ◌∙◌, Bool, true, false, if◌then◌else◌, List, [], ◌∷◌, length, Option, Some, None, IfSome, subst}
+use Rattle.std.proofs.Common.{◌≡◌, ℕ, ◌<◌, refl, Bool, true, false, if◌then◌else◌, length, Option, Some, None, IfSome, subst}
 use Rattle.std.specs.Prelude.{slice_get}
 use Rattle.design_ir.specs.declared.ids.ExprId.{ExprId}
 use Rattle.design_ir.specs.Pools.{Pooled}

@@ -1,5 +1,5 @@
 -- Modules that were told more, and how many statements they then have.
-use Rattle.std.proofs.Common.{◌≡◌, ℕ, zero, suc, ◌+◌, ◌<◌, ◌≤◌, refl, ap, ◌∙◌, sym, Bool, true, false, if◌then◌else◌, List, [], ◌∷◌, ◌++◌, length, Option, Some, None, arith, nat_lt}
+use Rattle.std.proofs.Common.{◌≡◌, ℕ, zero, suc, ◌+◌, ◌<◌, ◌≤◌, refl, ap, sym, true, false, List, [], ◌∷◌, ◌++◌, length, Option, Some, None, arith, nat_lt}
 use Rattle.std.specs.Prelude.{slice_get, slice_set, slice_index_or}
 use Rattle.std.proofs.lemmas.Bool.Decides.{nat_tests}
 use Rattle.py_frames.specs.declared.request.Cause.TheVariants.{Raised, Limit}
@@ -14,7 +14,7 @@ use Rattle.elab_eval.specs.Stores.{Stored, Held}
 use Rattle.elab_eval.specs.Kept.{IsStore}
 use Rattle.elab_eval.specs.Blocks.{stop_cause, store_told, with_entered, entering_by, entering, leaving_by, leaving}
 use Rattle.elab_eval.specs.Counts.{statement_count}
-use Rattle.elab_eval.specs.Sides.{built_with, store_with_statement, statement_refusal, statement_put, statement_told}
+use Rattle.elab_eval.specs.Sides.{store_with_statement, statement_told}
 
 pub at_get : (bs : List Built) (m : ℕ) (b : Built) → m < length bs → b ≡ slice_index_or bs m b → slice_get bs m ≡ Some b
 at_get [] m b h e = absurd (omega (arith, h))

@@ -1,32 +1,13 @@
 -- What is held stays sound when it grows.
-use Rattle.std.proofs.Common.{◌≡◌, ℕ, zero, suc, ◌+◌, ◌-◌, ◌<◌, ◌≤◌, refl, ap, ◌∙◌, sym, subst, Bool, true, false, List, [], ◌∷◌, ◌++◌, length, map, Option, Some, None, Result, Ok, Err, ℤ, arith, true≢false, is_some, append-nil, option_map, nat_lt}
-use Rattle.std.specs.Prelude.{if◌then◌else◌, slice_get, slice_set, codes, All, IsTrue}
-use Rattle.std.specs.List.{AllByRecursion, list_any, list_all}
-use Rattle.std.proofs.lemmas.Bool.{and_parts}
+use Rattle.std.proofs.Common.{◌≡◌, ℕ, zero, suc, ◌≤◌, ap, ◌∙◌, sym, subst, List, [], ◌∷◌, ◌++◌, length, Some, arith}
+use Rattle.std.specs.Prelude.{slice_get, slice_set}
+use Rattle.std.specs.List.{AllByRecursion}
 use Rattle.std.proofs.lemmas.List.{length-append}
-use Rattle.std.proofs.lemmas.List.Elements.{All-nil, All-cons}
-use Rattle.lists.specs.Names.{IsName, starts_name, continues_name}
-use Rattle.lists.specs.Texts.{text_eq}
-use Rattle.amh_host.specs.declared.place.Place.{Place}
-use Rattle.shape_rules.specs.Forms.{Form}
-use Rattle.py_values.specs.declared.val.Val.{Val}
-use Rattle.py_values.specs.declared.val.Val.TheVariants as val
-use Rattle.py_values.specs.Heaps.{Seen, text_at}
-use Rattle.py_values.specs.Numbers.{number_of}
-use Rattle.py_frames.specs.declared.request.Act.{Act}
-use Rattle.py_frames.specs.declared.request.Act.TheVariants as act
-use Rattle.py_frames.specs.declared.request.Answer.{Answer}
-use Rattle.py_frames.specs.declared.request.Answer.TheVariants as answer
-use Rattle.py_frames.specs.declared.request.Cause.{Cause}
-use Rattle.py_frames.specs.declared.request.Cause.TheVariants.{Raised, Limit}
-use Rattle.py_frames.specs.declared.request.NamedVal.{NamedVal}
-use Rattle.py_frames.specs.declared.request.Request.{Request}
+use Rattle.lists.specs.Names.{IsName}
 use Rattle.design_ir.specs.declared.signal.Sig.{Sig}
 use Rattle.design_ir.specs.declared.ids.ExprId.{ExprId}
 use Rattle.design_ir.specs.declared.expr.Expr.{Expr}
-use Rattle.design_ir.specs.declared.expr.Expr.TheVariants as expr
 use Rattle.design_ir.specs.Pools.{Pooled}
-use Rattle.design_ir.specs.Targets.{is_target}
 use Rattle.module_dsl.specs.declared.step.Step.{Step}
 use Rattle.module_dsl.specs.declared.step.Step.TheVariants.{Assign, Enter, Leave}
 use Rattle.module_dsl.specs.declared.step.Opening.{Opening}
@@ -34,44 +15,16 @@ use Rattle.module_dsl.specs.declared.step.Opening.TheVariants as opening
 use Rattle.module_dsl.specs.Builders.{Built}
 use Rattle.elab_eval.specs.declared.kept.Begin.{Begin}
 use Rattle.elab_eval.specs.declared.kept.Begin.TheVariants as begin
-use Rattle.clock_domains.specs.Resolvable.{IsNamedSide}
-use Rattle.amh_values.specs.declared.operand.Operand.{Operand}
-use Rattle.amh_values.specs.declared.operand.Operand.TheVariants as operand
 use Rattle.amh_values.specs.declared.thing.Thing.{Thing}
 use Rattle.amh_values.specs.declared.thing.Thing.TheVariants as thing
-use Rattle.amh_values.specs.declared.thing.ThingName.{ThingName}
-use Rattle.amh_values.specs.declared.thing.Method.TheVariants as method
 use Rattle.amh_values.specs.Held.{IsHeld, AreHeld}
-use Rattle.amh_values.specs.Things.{thing_of, held_expr, name_called}
-use Rattle.amh_values.specs.Operands.{operand_of, held_operand, number_operand}
-use Rattle.amh_values.specs.Meant.{operand_meant, expr_meant}
-use Rattle.amh_values.specs.Plans.{grown_by}
-use Rattle.elab_eval.specs.declared.kept.HdlName.{HdlName}
-use Rattle.elab_eval.specs.declared.kept.HdlName.TheVariants as hdl
 use Rattle.elab_eval.specs.declared.kept.Kept.{Kept}
 use Rattle.elab_eval.specs.declared.kept.Kept.TheVariants as kept_as
-use Rattle.elab_eval.specs.declared.kept.DomainName.{DomainName}
-use Rattle.elab_eval.specs.declared.kept.DomainName.TheVariants as domain
-use Rattle.elab_eval.specs.declared.kept.Equation.{Equation}
 use Rattle.elab_eval.specs.declared.kept.Top.{Top}
-use Rattle.elab_eval.specs.declared.tops.Calling.{Calling}
-use Rattle.elab_eval.specs.declared.signals.SignalArguments.{SignalArguments}
-use Rattle.elab_eval.specs.Names.{is_name}
-use Rattle.elab_eval.specs.Counts.{statement_count}
-use Rattle.elab_eval.specs.Stores.{Stored, Held, Answered, refused, kept_given, kept_of}
-use Rattle.elab_eval.specs.Calls.{Called, called}
-use Rattle.elab_eval.specs.Imports.{is_hdl, is_utils, own_named, star_names, hdl_thing, hdl_imported, bound_answer, all_bound, imported, import_answered}
-use Rattle.elab_eval.specs.Signals.{with_module, without_arguments, module_called, formed, call_name, signal_arguments, signal_name, signal_init, signal_reset_less, signal_form, signal_of, signal_passes, with_signal, signal_given, signal_shaped, signal_said, signal_from}
-use Rattle.elab_eval.specs.Equations.{equation_given, equation_made, equated}
-use Rattle.elab_eval.specs.Sides.{side_of, domain_named, domain_given, index_name, is_domain_of, domain_stored, equations_in, deepest, statements_added}
-use Rattle.elab_eval.specs.Classes.{is_base, is_keyword, class_made, base_called}
-use Rattle.elab_eval.specs.Tops.{global, object_in, first_object, elaborate_of, module_of, top_taken, body_ended, elaborate_ended}
-use Rattle.elab_eval.specs.Table.{kept_called, equated_by, called_by, call_answered, attribute_of, attribute_answered, attribute_stored, store_answered, index_of, index_answered, index_stored, index_store_answered, added, operator_answered, own_answered, only}
-use Rattle.elab_eval.specs.Table as table
-use Rattle.elab_eval.specs.Sound.{IsAssigned, IsEquation, IsBegin, IsKept, IsOpening, IsTold, IsBuilt, IsMachine, IsSound}
-use Rattle.elab_eval.specs.declared.state_machines.OwnMachine.{OwnMachine}
+use Rattle.elab_eval.specs.Stores.{Held, kept_given}
+use Rattle.elab_eval.specs.Sound.{IsAssigned, IsBegin, IsKept, IsOpening, IsTold, IsBuilt, IsSound}
 use Rattle.elab_eval.proofs.Pools.{IsGrown, target_stays, there_stays}
-use Rattle.elab_eval.proofs.Modules.{all_map, all_each}
+use Rattle.elab_eval.proofs.Modules.{all_each}
 use Rattle.elab_eval.proofs.PortLaws.{objects_stay}
 
 -- ---- lists
@@ -98,7 +51,7 @@ begin_stays p q g (begin.Case n) h = tt
 begin_stays p q g begin.Default h = tt
 begin_stays p q g begin.Misplaced h = tt
 
-pub kept_stays : (p q : Pooled) → IsGrown p q → (k : Kept) → IsKept p k → IsKept q k
+kept_stays : (p q : Pooled) → IsGrown p q → (k : Kept) → IsKept p k → IsKept q k
 kept_stays p q g (kept_as.Statement x) h = assigned_stays p q x.target x.value g h
 kept_stays p q g (kept_as.Name n) h = tt
 kept_stays p q g (kept_as.Module m) h = tt
@@ -108,7 +61,6 @@ kept_stays p q g (kept_as.Member m) h = tt
 kept_stays p q g (kept_as.Signature n) h = tt
 kept_stays p q g (kept_as.BlockName m n) h = tt
 kept_stays p q g (kept_as.Block m b) h = begin_stays p q g b h
-kept_stays p q g (kept_as.OfMachine x) h = tt
 
 opening_stays : (p q : Pooled) → IsGrown p q → (o : Opening) → IsOpening p o → IsOpening q o
 opening_stays p q g (opening.If e) h = there_stays p q e.0 g h
@@ -128,6 +80,9 @@ built_stays p q g b h = record { steps = all_each (IsTold p) (IsTold q) b.steps 
 held_stays : (m n : ℕ) → m ≤ n → (t : Thing) → IsHeld m t → IsHeld n t
 held_stays m n le (thing.Value e) h = omega (arith, h, le)
 held_stays m n le (thing.Method x e y) h = omega (arith, h, le)
+held_stays m n le (thing.Numbered x e) h = omega (arith, h, le)
+held_stays m n le (thing.Enumeration x) h = tt
+held_stays m n le (thing.Member x) h = h
 held_stays m n le (thing.Name x) h = tt
 held_stays m n le (thing.Shape x) h = tt
 held_stays m n le (thing.Array x) h = tt
@@ -135,23 +90,6 @@ held_stays m n le (thing.Kept x) h = tt
 
 grown_length : (p q : Pooled) → IsGrown p q → length p.exprs ≤ length q.exprs
 grown_length p q g = omega (arith, ap length g.exprs, length-append p.exprs g.more)
-
-get_stays : (es more : List Expr) (k : ℕ) (e : Expr) → slice_get es k ≡ Some e → slice_get (es ++ more) k ≡ Some e
-get_stays [] more k e h = absurd cc
-get_stays (x ∷ es) more zero e h = h
-get_stays (x ∷ es) more (suc k) e h = get_stays es more k e h
-
-placed_below : (es : List Expr) (k : ℕ) (e : Expr) → slice_get es k ≡ Some e → k < length es
-placed_below [] k e h = absurd cc
-placed_below (x ∷ es) zero e h = omega arith
-placed_below (x ∷ es) (suc k) e h = omega (arith, placed_below es k e h)
-
-pub machine_stays : (p q : Pooled) → IsGrown p q → (x : OwnMachine) → IsMachine p x → IsMachine q x
-machine_stays p q g x h = record {
-  register = ap (λ es. slice_get es x.machine.register.0) g.exprs ∙ get_stays p.exprs g.more x.machine.register.0 _ h.register;
-  target = target_stays p q x.machine.register.0 g (placed_below p.exprs x.machine.register.0 _ h.register) ∙ h.target;
-  side = h.side;
-}
 
 -- what was held stands under a pool that grew by such signals and such expressions
 pub pool_grown : (h : Held) (q : Pooled) (xs : List Sig) (es : List Expr) → IsSound h → q.signals ≡ h.pool.signals ++ xs → q.exprs ≡ h.pool.exprs ++ es
@@ -163,7 +101,6 @@ pool_grown h q xs es s e1 e2 names =
       kept = all_each (IsKept h.pool) (IsKept q) h.store.kept (kept_stays h.pool q g) s.kept;
       modules = all_each (IsBuilt h.pool) (IsBuilt q) h.store.modules (built_stays h.pool q g) s.modules;
       ports = objects_stay h.pool q h.store.components.objects (omega (arith, ap length e1, length-append h.pool.signals xs)) s.ports;
-      machines = all_each (IsMachine h.pool) (IsMachine q) h.store.machines (machine_stays h.pool q g) s.machines;
     }
 
 -- things that are sound are put behind the others
@@ -173,7 +110,6 @@ things_grown h ts s held = record {
   kept = s.kept;
   modules = s.modules;
   ports = s.ports;
-  machines = s.machines;
   things = all_and (IsHeld (length h.pool.exprs)) h.store.things ts s.things held;
 }
 
@@ -183,7 +119,6 @@ kept_grown h k s held = record {
   things = s.things;
   modules = s.modules;
   ports = s.ports;
-  machines = s.machines;
   kept = all_and (IsKept h.pool) h.store.kept (k ∷ []) s.kept (held, tt);
 }
 
@@ -201,7 +136,7 @@ module_built q (x ∷ bs) zero b h e = let same : x ≡ b = cc in subst (IsBuilt
 module_built q (x ∷ bs) (suc m) b h e = module_built q bs m b h.1 e
 
 pub with_top_sound : (h : Held) (t : Top) → IsSound h → IsSound (record h { store = record h.store { top = t } })
-with_top_sound h t s = record { names = s.names; things = s.things; kept = s.kept; modules = s.modules; ports = s.ports; machines = s.machines }
+with_top_sound h t s = record { names = s.names; things = s.things; kept = s.kept; modules = s.modules; ports = s.ports }
 
 -- ---- a new thing of this crate
 
@@ -210,16 +145,6 @@ keeping_sound h k s held = record {
   names = s.names;
   modules = s.modules;
   ports = s.ports;
-  machines = s.machines;
   things = all_and (IsHeld (length h.pool.exprs)) h.store.things (thing.Kept (length h.store.kept) ∷ []) s.things (tt, tt);
   kept = all_and (IsKept h.pool) h.store.kept (k ∷ []) s.kept (held, tt);
 }
-
--- a name that has the form of one
-pub name_is : (name : List ℕ) → is_name name ≡ true → IsName name
-name_is [] e = absurd (true≢false (sym e))
-name_is (b ∷ bs) e = let parts = and_parts (starts_name b) (list_all continues_name bs) e in record { first = b; rest = bs; whole = refl; starts = parts.0; continues = all_pass bs parts.1 }
-  where
-    all_pass : (bs : List ℕ) → list_all continues_name bs ≡ true → All (λ b. IsTrue (continues_name b)) bs
-    all_pass [] e = All-nil (λ b. IsTrue (continues_name b))
-    all_pass (b ∷ bs) e = let parts = and_parts (continues_name b) (list_all continues_name bs) e in All-cons (λ b. IsTrue (continues_name b)) b bs parts.0 (all_pass bs parts.1)

@@ -7,9 +7,9 @@ pub mod GivenLaws
 pub mod GrownLaws
 pub mod LikeSamples
 pub mod ListLaws
-pub mod MachineLaws
-pub mod MachineSound
 pub mod Modules
+pub mod ObjectLaws
+pub mod ObjectSamples
 pub mod Pools
 pub mod PortLaws
 pub mod RunLaws

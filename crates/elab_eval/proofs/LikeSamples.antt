@@ -1,5 +1,5 @@
 -- Samples of `Signal.like`, worked out: beside the signal a, of 3 bits with a sign, which begins at 2 and is not reset.
-use Rattle.std.specs.Prelude.{◌≡◌, refl, ℕ, true, false, List, [], ◌∷◌, ◌++◌, pos, negsuc, codes}
+use Rattle.std.specs.Prelude.{◌≡◌, refl, ℕ, true, false, List, [], ◌∷◌, pos, negsuc, codes}
 use Rattle.shape_rules.specs.Forms.{unsigned, signed_form}
 use Rattle.design_ir.specs.declared.signal.Sig.{Sig}
 use Rattle.design_ir.specs.declared.expr.Expr.TheVariants as expr

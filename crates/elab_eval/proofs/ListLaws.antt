@@ -1,5 +1,5 @@
 -- Lists that are gone through side by side: globals, keywords, and the names of a star.
-use Rattle.std.proofs.Common.{◌≡◌, ℕ, zero, suc, ◌+◌, ◌<◌, ◌≤◌, refl, ap, ◌∙◌, sym, subst, Bool, true, false, List, [], ◌∷◌, ◌++◌, length, map, drop, Option, Some, None, arith, add-one}
+use Rattle.std.proofs.Common.{◌≡◌, ℕ, zero, suc, ◌+◌, ◌<◌, refl, ap, ◌∙◌, sym, subst, Bool, false, List, [], ◌∷◌, ◌++◌, length, map, drop, Option, Some, None, arith, add-one}
 use Rattle.std.specs.Prelude.{slice_get, slice_index_or, if◌then◌else◌}
 use Rattle.lists.specs.Texts.{text_eq}
 use Rattle.py_values.specs.declared.val.Val.{Val}
@@ -9,7 +9,7 @@ use Rattle.py_frames.specs.declared.request.Answer.TheVariants as answer
 use Rattle.py_frames.specs.declared.request.NamedVal.{NamedVal}
 use Rattle.elab_eval.specs.declared.signals.SignalArguments.{SignalArguments}
 use Rattle.elab_eval.specs.Stores.{Held, Answered}
-use Rattle.elab_eval.specs.Imports.{hdl_imported, all_bound, bound_answer, star_names}
+use Rattle.elab_eval.specs.Imports.{hdl_imported, all_bound, bound_answer}
 use Rattle.elab_eval.specs.Signals.{with_keywords}
 use Rattle.elab_eval.specs.Tops.{global}
 

@@ -1,25 +1,18 @@
 -- A module whose statements stand is one that can be resolved.
-use Rattle.std.specs.Prelude.{◌≡◌, refl, ℕ, ◌<◌, ⊤, Bool, true, false, not, IsTrue, List, [], ◌∷◌, ◌++◌, map, length, nat_eq, slice_get, Option, Some, None, zero, suc}
+use Rattle.std.specs.Prelude.{◌≡◌, refl, ℕ, ◌<◌, Bool, true, false, not, List, [], ◌∷◌, map, length, slice_get, Option, Some, None, zero, suc}
 use Rattle.std.specs.List.{AllByRecursion, IsDistinct, filter}
-use Rattle.std.proofs.Common.{sym, ◌∙◌, ap, arith, subst, cond}
-use Rattle.lists.specs.Names.{IsName}
+use Rattle.std.proofs.Common.{sym, ◌∙◌, subst, cond}
 use Rattle.design_ir.specs.declared.ids.ExprId.{ExprId}
-use Rattle.design_ir.specs.declared.signal.Sig.{Sig}
 use Rattle.design_ir.specs.declared.process.Process.{Process}
 use Rattle.design_ir.specs.declared.process.Side.{Side}
 use Rattle.design_ir.specs.declared.process.Side.TheVariants.{Comb, Clocked}
 use Rattle.design_ir.specs.Pools.{Pooled}
-use Rattle.design_ir.specs.Trees.{Statement, assign, choose, Block, done, next}
-use Rattle.design_ir.specs.Guards.{Guarded, guarded, guarded_in, block_exprs}
-use Rattle.design_ir.specs.Targets.{is_target}
 use Rattle.module_dsl.specs.Sided as dsl
 use Rattle.module_dsl.specs.Sided.{givens, sides_of, process_of, processes_of}
 use Rattle.module_dsl.specs.Blocks.{Given, Entries, entries_of}
 use Rattle.module_dsl.specs.Builders.{Built, built_blocks, fragment_of}
-use Rattle.clock_domains.specs.declared.top.TopPorts.{TopPorts}
-use Rattle.clock_domains.specs.Resolvable.{IsNamedSide, IsPlain, IsSideOf, IsSingle, AreTopPorts, IsResolvable, same_side}
+use Rattle.clock_domains.specs.Resolvable.{IsNamedSide, IsPlain, IsSideOf, IsSingle, same_side}
 use Rattle.elab_eval.specs.Sound.{IsNoReset, IsBuilt}
-use Rattle.py_values.specs.declared.val.ObjId.{ObjId}
 use Rattle.elab_eval.specs.Stores.{Stored}
 use Rattle.elab_eval.specs.Elaborates.{module_in, root_module}
 use Rattle.elab_eval.proofs.Pools.{no_resets}

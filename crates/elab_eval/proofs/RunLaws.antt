@@ -1,8 +1,8 @@
 -- One answer more: what it brings, by what the machine promises and what the table answers.
-use Rattle.std.proofs.Common.{◌≡◌, ℕ, ◌+◌, ◌-◌, ◌<◌, ◌≤◌, refl, ap, ◌∙◌, sym, subst, List, [], ◌∷◌, ◌++◌, length, Some, None, Result, Ok, Err, inl, inr, arith}
+use Rattle.std.proofs.Common.{◌≡◌, ℕ, ◌+◌, ◌-◌, ◌<◌, refl, ap, ◌∙◌, sym, subst, List, [], ◌∷◌, ◌++◌, length, Some, Result, Ok, Err, inl, inr, arith}
 use Rattle.py_tree.specs.Steps.{Steps}
 use Rattle.py_values.specs.declared.val.Val.{Val}
-use Rattle.py_values.specs.Heaps.{Made, seen, nothing}
+use Rattle.py_values.specs.Heaps.{seen, nothing}
 use Rattle.py_frames.specs.declared.request.Answer.{Answer}
 use Rattle.py_frames.specs.declared.request.Answer.TheVariants as answer
 use Rattle.py_frames.specs.declared.request.Request.{Request}
@@ -15,10 +15,10 @@ use Rattle.py_frames.specs.declared.state.State.{State}
 use Rattle.py_frames.specs.declared.state.Halt.TheVariants as halt
 use Rattle.py_frames.specs.Doing.{Halts, Done}
 use Rattle.py_frames.specs.Frames.{stops_as}
-use Rattle.py_frames.specs.Whole.{ask_program, first_state}
+use Rattle.py_frames.specs.Whole.{ask_program}
 use Rattle.py_machine.specs.declared.machine.Machine.{Machine}
 use Rattle.py_machine.specs.declared.machine.Stage.TheVariants as stage
-use Rattle.py_machine.specs.Lives.{Stands, StandsAs, IsAsked, IsEnded, IsStopped, Resumed, Brings, KeepsBudget, again, life}
+use Rattle.py_machine.specs.Lives.{Stands, StandsAs, IsAsked, IsEnded, IsStopped, Resumed, KeepsBudget, again}
 use Rattle.elab_eval.specs.declared.running.Elaborated.{Elaborated}
 use Rattle.elab_eval.specs.declared.refusal.ElabStop.{ElabStop}
 use Rattle.elab_eval.specs.declared.refusal.ElabStop.TheVariants as stop
@@ -26,11 +26,11 @@ use Rattle.elab_eval.specs.Stores.{Held, Answered, nothing_held}
 use Rattle.elab_eval.specs.Sound.{IsSound}
 use Rattle.elab_eval.specs.Table.{prim}
 use Rattle.elab_eval.specs.Reaches.{Reaches, begins, goes_on, world}
-use Rattle.elab_eval.specs.Elaborates.{Found, Elaborates, Comes, design_of, cause_stop, stop_of, found_of, IsFound, IsElaborated}
+use Rattle.elab_eval.specs.Elaborates.{Found, Comes, design_of, cause_stop, stop_of, found_of, IsFound, IsElaborated}
 use Rattle.elab_eval.specs.Running.{IsRunning, HasEnded, Steps_to}
 
 nothing_sound : IsSound nothing_held
-nothing_sound = record { names = tt; things = tt; kept = tt; modules = tt; ports = tt; machines = tt }
+nothing_sound = record { names = tt; things = tt; kept = tt; modules = tt; ports = tt }
 
 -- before the first answer
 pub begun : (program : Steps) (budget : ℕ) (m : Machine) (h : Held) → Stands program nothing [] m → m.stage ≡ stage.Before → m.going.state.used ≡ 0 → h ≡ nothing_held → 0 < budget → IsRunning program budget m h answer.Begin budget

@@ -1,5 +1,5 @@
 -- Statements that are collected from lists in one another.
-use Rattle.std.proofs.Common.{◌≡◌, ℕ, zero, suc, ◌+◌, ◌-◌, ◌<◌, ◌≤◌, refl, ap, ◌∙◌, sym, subst, Bool, true, false, List, [], ◌∷◌, ◌++◌, length, map, drop, Option, Some, None, arith, append_assoc, append-nil, option_map, is_some, true≢false, add-one}
+use Rattle.std.proofs.Common.{◌≡◌, ℕ, zero, suc, ◌+◌, ◌-◌, ◌<◌, ◌≤◌, refl, ap, ◌∙◌, sym, subst, Bool, true, false, List, [], ◌∷◌, ◌++◌, length, drop, Option, Some, None, arith, append_assoc, append-nil, option_map, is_some, true≢false, add-one}
 use Rattle.std.specs.Prelude.{option_and_then, slice_index_or, slice_get}
 use Rattle.std.specs.List.{AllByRecursion}
 use Rattle.std.proofs.Math.Seq.{drop-cons}
@@ -125,7 +125,6 @@ module _ (q : Pooled) (store : Stored) (kept : AllByRecursion (IsKept q) store.k
       by_kept (Some (kept_as.Signature n)) f e = absurd (true≢false (ap is_some (sym e)))
       by_kept (Some (kept_as.BlockName m n)) f e = absurd (true≢false (ap is_some (sym e)))
       by_kept (Some (kept_as.Block m b)) f e = absurd (true≢false (ap is_some (sym e)))
-      by_kept (Some (kept_as.OfMachine x)) f e = absurd (true≢false (ap is_some (sym e)))
 
   all_append : (xs ys : List Equation) → AllByRecursion (IsEquation q) xs → AllByRecursion (IsEquation q) ys → AllByRecursion (IsEquation q) (xs ++ ys)
   all_append [] ys h g = g

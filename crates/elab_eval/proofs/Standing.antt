@@ -1,12 +1,11 @@
 -- What a module was told stands in its blocks, and so in the statements of each side.
-use Rattle.std.specs.Prelude.{◌≡◌, refl, ℕ, ◌<◌, ⊤, Bool, true, false, IsTrue, if◌then◌else◌, List, [], ◌∷◌, ◌++◌, map, length, fold}
+use Rattle.std.specs.Prelude.{◌≡◌, ◌<◌, ⊤, Bool, true, false, IsTrue, if◌then◌else◌, List, [], ◌∷◌, ◌++◌, length, fold}
 use Rattle.std.specs.List.{AllByRecursion}
-use Rattle.std.proofs.Common.{sym, ◌∙◌, ap}
 use Rattle.std.proofs.lemmas.Bool.{false≢true}
 use Rattle.design_ir.specs.declared.ids.ExprId.{ExprId}
 use Rattle.design_ir.specs.declared.process.Side.{Side}
 use Rattle.design_ir.specs.Pools.{Pooled}
-use Rattle.design_ir.specs.Trees.{Statement, assign, choose, Choices, arm, Block, done, next}
+use Rattle.design_ir.specs.Trees.{Statement, assign, choose, next}
 use Rattle.design_ir.specs.Guards.{Guard, Guarded, guarded, guarded_in, guarded_arms, block_exprs, choices_exprs, statement_exprs}
 use Rattle.design_ir.specs.Targets.{is_target}
 use Rattle.module_dsl.specs.declared.step.Step.{Step}
@@ -15,7 +14,7 @@ use Rattle.module_dsl.specs.declared.step.Opening.{Opening}
 use Rattle.module_dsl.specs.declared.step.Opening.TheVariants as opening
 use Rattle.module_dsl.specs.declared.step.OpenBlock.{OpenBlock}
 use Rattle.module_dsl.specs.declared.step.OpenBlock.TheVariants as inside
-use Rattle.module_dsl.specs.Blocks.{Given, Entries, nothing, given, choice, Branches, none, branch, joined, and_branch, ended, Open, Blocks, content, with_content, branches_with, whole, entries_of, opened, case_in, case_opened, entered, left, left_in, left_from, after, begun, blocks_of, in_switch, is_switch}
+use Rattle.module_dsl.specs.Blocks.{Given, Entries, nothing, given, choice, Branches, none, branch, joined, and_branch, ended, Open, Blocks, content, with_content, branches_with, whole, entries_of, opened, case_in, case_opened, entered, left_in, left_from, after, begun, blocks_of, in_switch, is_switch}
 use Rattle.module_dsl.specs.Sided.{same_side, givens, givens_in, has_side, block_for, choices_for}
 use Rattle.module_dsl.specs.Builders.{subject_in, subject_of}
 use Rattle.clock_domains.specs.Resolvable.{IsNamedSide}

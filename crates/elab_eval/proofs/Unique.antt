@@ -1,10 +1,9 @@
 -- A program has one outcome: which answers it gets is decided, one after the other.
-use Rattle.std.proofs.Common.{◌≡◌, ℕ, zero, suc, ◌+◌, ◌-◌, ◌<◌, refl, ap, ◌∙◌, sym, subst, List, [], ◌∷◌, ◌++◌, Option, Some, None, Result, Ok, Err, inl, inr, arith, ◌⊎◌, is_some, true, false, true≢false}
+use Rattle.std.proofs.Common.{◌≡◌, ℕ, zero, suc, ◌+◌, ◌-◌, ◌<◌, refl, ap, ◌∙◌, sym, subst, List, [], ◌∷◌, ◌++◌, Option, Some, None, Result, Err, inl, inr, arith, is_some, true≢false}
 use Rattle.std.proofs.lemmas.Bool.{cases_order}
 use Rattle.py_tree.specs.Steps.{Steps}
 use Rattle.py_frames.specs.declared.request.Answer.{Answer}
 use Rattle.py_frames.specs.declared.request.Answer.TheVariants as answer
-use Rattle.py_frames.specs.declared.request.Request.{Request}
 use Rattle.py_frames.specs.declared.request.Stop.{Stop}
 use Rattle.py_frames.specs.declared.state.State.{State}
 use Rattle.py_frames.specs.declared.state.Got.{Got}
@@ -16,7 +15,7 @@ use Rattle.py_frames.specs.Whole.{ask_program}
 use Rattle.elab_eval.specs.declared.refusal.ElabStop.{ElabStop}
 use Rattle.elab_eval.specs.Stores.{Held, nothing_held}
 use Rattle.elab_eval.specs.Reaches.{Reaches, begins, goes_on, world, answered}
-use Rattle.elab_eval.specs.Elaborates.{Found, Ends, Stops, Elaborates, OneOutcome, design_of, stop_of}
+use Rattle.elab_eval.specs.Elaborates.{Found, Ends, Stops, OneOutcome, design_of, stop_of}
 
 -- ---- what is reached behind so many answers more than the first
 

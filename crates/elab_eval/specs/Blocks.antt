@@ -1,6 +1,6 @@
 -- The blocks of a module: `m.If(c)`, `m.Elif(c)`, `m.Else()`, `m.Switch(v)`, `m.Case(p1, p2)` and `m.Default()`, which `with`
 -- enters and leaves. (Amaranth language guide 0.5, "Control blocks".)
-use Rattle.std.specs.Prelude.{ℕ, Bool, true, false, if◌then◌else◌, List, [], ◌∷◌, ◌++◌, length, slice_get, slice_set, Option, Some, None, option_map, Result, Ok, Err, codes}
+use Rattle.std.specs.Prelude.{ℕ, if◌then◌else◌, List, [], ◌∷◌, ◌++◌, length, slice_get, slice_set, Option, Some, None, option_map, Result, Ok, Err, codes}
 use Rattle.lists.specs.Texts.{text_eq}
 use Rattle.py_values.specs.declared.val.Val.{Val}
 use Rattle.py_values.specs.declared.val.Val.TheVariants as val
@@ -27,7 +27,6 @@ use Rattle.elab_eval.specs.declared.kept.Begin.TheVariants as begin
 use Rattle.elab_eval.specs.declared.kept.Kept.{Kept}
 use Rattle.elab_eval.specs.declared.kept.Kept.TheVariants as kept
 use Rattle.elab_eval.specs.Calls.{Called}
-use Rattle.elab_eval.specs.OpenMachines.{in_machine}
 use Rattle.elab_eval.specs.Stores.{Stored, Held, Answered, refused, given, kept_given}
 
 -- ---- names
@@ -146,14 +145,9 @@ abbrev pub entered_at : ℕ → Option Built → Option Block → Held → Answe
 entered_at m b None h = refused Raised h
 entered_at m b (Some x) h = passed (entering m b x h)
 
--- directly in an `FSM` stand states alone
-abbrev pub block_begun : ℕ → Begin → Held → Answered
-block_begun m b h =
-    if in_machine m h.store.machines then refused Raised h else entered_at m (slice_get h.store.modules m) (block_of h.store.patterns b) h
-
 -- a block that was called; anything else raises
 abbrev pub block_entered : Option Kept → Held → Answered
-block_entered (Some (kept.Block m b)) h = block_begun m b h
+block_entered (Some (kept.Block m b)) h = entered_at m (slice_get h.store.modules m) (block_of h.store.patterns b) h
 block_entered k h = refused Raised h
 
 -- ---- leaving

@@ -1,6 +1,6 @@
 -- The ports of a component that is the top. (Amaranth standard library reference 0.5, "Interfaces and connections", "Components": the members of
 -- its signature. That a component without one is refused is this project's own rule.)
-use Rattle.std.specs.Prelude.{ℕ, List, Option, Some, None}
+use Rattle.std.specs.Prelude.{List, Option, Some, None}
 use Rattle.py_values.specs.declared.val.ObjId.{ObjId}
 use Rattle.design_ir.specs.declared.port.Port.{Port}
 use Rattle.clock_domains.specs.declared.top.TopPorts.{TopPorts}
@@ -13,6 +13,5 @@ abbrev pub made_ports : Option (List Port) → Option TopPorts
 made_ports None = None
 made_ports (Some ports) = Some (Members ports)
 
--- Of a component its members. Another object has none yet: those that its attributes give come later.
-abbrev pub object_ports : Stored → ObjId → Option TopPorts
-object_ports s o = made_ports (ports_at s.components.objects o.0)
+abbrev pub component_ports : Stored → ObjId → Option TopPorts
+component_ports s o = made_ports (ports_at s.components.objects o.0)

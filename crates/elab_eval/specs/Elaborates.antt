@@ -1,14 +1,11 @@
 -- What a program is elaborated to within a budget: a design, or why there is none; and at what cost.
-use Rattle.std.specs.Prelude.{◌≡◌, ◌⊎◌, ℕ, ◌-◌, ◌==◌, not, Bool, true, false, if◌then◌else◌, ⊤, List, [], ◌∷◌, ◌++◌, map, fold, slice_get, Option, Some, None, option_and_then, Result, Ok, Err}
+use Rattle.std.specs.Prelude.{◌≡◌, ◌⊎◌, ℕ, ◌-◌, if◌then◌else◌, ⊤, List, [], slice_get, Option, Some, None, Result, Ok, Err}
 use Rattle.std.specs.List.{list_any}
 use Rattle.amh_host.specs.declared.place.Place.{Place}
 use Rattle.amh_host.specs.declared.place.Kind.TheVariants as kind
 use Rattle.py_tree.specs.Steps.{Steps}
-use Rattle.py_values.specs.declared.val.Val.{Val}
-use Rattle.py_values.specs.declared.val.Val.TheVariants as val
 use Rattle.py_values.specs.declared.val.ObjId.{ObjId}
-use Rattle.py_values.specs.Heaps.{Made, Seen, seen, nothing, text_at, row_at}
-use Rattle.py_values.specs.Objects.{attributes}
+use Rattle.py_values.specs.Heaps.{Made, Seen, seen, nothing}
 use Rattle.py_frames.specs.declared.request.Answer.{Answer}
 use Rattle.py_frames.specs.declared.request.Cause.{Cause}
 use Rattle.py_frames.specs.declared.request.Cause.TheVariants as cause
@@ -18,22 +15,18 @@ use Rattle.py_frames.specs.declared.state.Got.{Got}
 use Rattle.py_frames.specs.Doing.{Done}
 use Rattle.py_frames.specs.Frames.{stops_as}
 use Rattle.py_frames.specs.Whole.{ask_program}
-use Rattle.design_ir.specs.declared.expr.Expr.{Expr}
-use Rattle.design_ir.specs.declared.expr.Expr.TheVariants as expr
-use Rattle.design_ir.specs.declared.ids.ExprId.{ExprId}
-use Rattle.design_ir.specs.Circuits.{Circuit, is_among}
+use Rattle.design_ir.specs.Circuits.{Circuit}
 use Rattle.module_dsl.specs.Blocks.{is_outermost}
 use Rattle.module_dsl.specs.Builders.{Built, built_blocks, fragment_of}
 use Rattle.clock_domains.specs.declared.top.TopPorts.{TopPorts}
 use Rattle.clock_domains.specs.declared.top.TopPorts.TheVariants.{Loose}
 use Rattle.clock_domains.specs.declared.stop.ResolveStop.{ResolveStop}
 use Rattle.clock_domains.specs.declared.stop.ResolveStop.TheVariants as unresolved
-use Rattle.clock_domains.specs.Resolved.{resolved, port_of, file_start}
-use Rattle.amh_values.specs.Things.{thing_of, held_expr}
+use Rattle.clock_domains.specs.Resolved.{resolved, file_start}
 use Rattle.elab_eval.specs.declared.running.Elaborated.{Elaborated}
 use Rattle.elab_eval.specs.declared.refusal.ElabStop.{ElabStop}
 use Rattle.elab_eval.specs.declared.refusal.ElabStop.TheVariants.{Refused, Spent, NoMemory}
-use Rattle.elab_eval.specs.ComponentTops.{object_ports}
+use Rattle.elab_eval.specs.ObjectTops.{object_ports}
 use Rattle.elab_eval.specs.Stores.{Stored, Held}
 use Rattle.elab_eval.specs.Sound.{is_reset}
 use Rattle.elab_eval.specs.Reaches.{Reaches, world}
@@ -41,12 +34,12 @@ use Rattle.elab_eval.specs.Reaches.{Reaches, world}
 -- ---- the ports of the top
 
 -- those of a module are found in its statements
-abbrev pub ports_of : Stored → Option ObjId → Option TopPorts
-ports_of s None = Some Loose
-ports_of s (Some o) = object_ports s o
+abbrev pub ports_of : Seen → Held → Option ObjId → Option TopPorts
+ports_of s h None = Some Loose
+ports_of s h (Some o) = object_ports s h o
 
-abbrev pub top_ports : Stored → Option TopPorts
-top_ports s = ports_of s s.top.object
+abbrev pub top_ports : Seen → Held → Option TopPorts
+top_ports s h = ports_of s h h.store.top.object
 
 -- ---- the design
 
@@ -71,7 +64,7 @@ abbrev pub found_with : Held → Made → Result Circuit ResolveStop → Result 
 found_with h heap (Ok c) = Ok (record { circuit = c; store = without_modules h.store; frozen = heap })
 found_with h heap (Err stop) = Err (unresolved_stop stop)
 
--- an object without ports is no top
+-- a component whose ports were not made is no top
 abbrev pub found_by : Held → Made → Built → Option TopPorts → Result Found ElabStop
 found_by h heap b None = Err (Refused kind.Raised file_start)
 found_by h heap b (Some ports) = found_with h heap (resolved h.pool (fragment_of b) ports)
@@ -79,7 +72,7 @@ found_by h heap b (Some ports) = found_with h heap (resolved h.pool (fragment_of
 -- a module of which a block is open raises
 abbrev pub module_found : Held → Made → Option Built → Result Found ElabStop
 module_found h heap None = Err (Refused kind.Raised file_start)
-module_found h heap (Some b) = if is_outermost (built_blocks b).around then found_by h heap b (top_ports h.store) else Err (Refused kind.Raised file_start)
+module_found h heap (Some b) = if is_outermost (built_blocks b).around then found_by h heap b (top_ports (seen nothing heap) h) else Err (Refused kind.Raised file_start)
 
 abbrev pub module_in : List Built → Option ℕ → Option Built
 module_in bs None = None
@@ -107,14 +100,6 @@ cause_stop cause.Spent p = Spent p
 abbrev pub stop_of : Stop → ElabStop
 stop_of x = cause_stop x.cause x.place
 
--- a refusal that the table told elsewhere than at the request, as that of a state that was never entered
-abbrev pub told_place : Option Place → Cause → Place → Place
-told_place (Some p) cause.Raised q = p
-told_place told why q = q
-
-abbrev pub told_at : Option Place → Stop → Stop
-told_at told x = record x { place = told_place told x.cause x.place }
-
 -- ---- outcomes
 
 -- behind answers that are reached a program ended, and what is then held gives this
@@ -135,7 +120,7 @@ pub record Stops (program : Steps) (budget : ℕ) (found : Result Found ElabStop
   pub reached : Reaches program budget given held
   pub stop : Stop
   pub stops : stops_as (ask_program program (world budget given)) ≡ Some (stop, used)
-  pub found_is : found ≡ Err (stop_of (told_at held.store.told stop))
+  pub found_is : found ≡ Err (stop_of stop)
 
 -- what a program is elaborated to, and how many units it used
 abbrev pub Elaborates : Steps → ℕ → Result Found ElabStop → ℕ → Type 0

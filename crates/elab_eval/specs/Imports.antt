@@ -2,7 +2,6 @@
 -- modules and names are refused is this project's own rule.)
 use Rattle.std.specs.Prelude.{ℕ, ◌||◌, Bool, if◌then◌else◌, List, [], ◌∷◌, ◌++◌, Option, Some, None, codes}
 use Rattle.lists.specs.Texts.{text_eq}
-use Rattle.py_values.specs.declared.val.Val.{Val}
 use Rattle.py_values.specs.declared.val.Val.TheVariants as val
 use Rattle.py_frames.specs.declared.request.Answer.{Answer}
 use Rattle.py_frames.specs.declared.request.Answer.TheVariants as answer
@@ -10,11 +9,11 @@ use Rattle.py_frames.specs.declared.request.Cause.TheVariants.{Raised}
 use Rattle.py_frames.specs.declared.request.NamedVal.{NamedVal}
 use Rattle.amh_values.specs.declared.thing.Thing.TheVariants as thing
 use Rattle.amh_values.specs.declared.thing.ThingName.{ThingName}
-use Rattle.amh_values.specs.Things.{name_called}
+use Rattle.amh_values.specs.Things.{name_called, base_called}
 use Rattle.elab_eval.specs.declared.kept.HdlName.{HdlName}
 use Rattle.elab_eval.specs.declared.kept.HdlName.TheVariants as hdl
 use Rattle.elab_eval.specs.declared.kept.Kept.TheVariants as kept
-use Rattle.elab_eval.specs.Libraries.{library_named, library_given}
+use Rattle.elab_eval.specs.Libraries.{is_enum, library_named, library_given, base_given}
 use Rattle.elab_eval.specs.Stores.{Held, Answered, refused, given, thing_given, kept_given}
 
 -- ---- `amaranth` and `amaranth.hdl`
@@ -71,7 +70,8 @@ utility_imported name h =
 abbrev pub imported : List ℕ → List ℕ → Held → Answered
 imported path name h =
     if is_hdl path then (if text_eq name (codes "*") then all_bound [] star_names h else hdl_imported name h)
-    else (if is_utils path then utility_imported name h else library_given (library_named path name) h)
+    else (if is_utils path then utility_imported name h
+    else (if is_enum path then base_given (base_called name) h else library_given (library_named path name) h))
 
 -- a request names the module and then the name
 abbrev pub import_answered : List (List ℕ) → Held → Answered

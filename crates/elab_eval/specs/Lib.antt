@@ -14,10 +14,8 @@ pub mod Interfaces
 pub mod Kept
 pub mod Libraries
 pub mod Members
-pub mod Moves
 pub mod Names
-pub mod OpenMachines
-pub mod StateMachines
+pub mod ObjectTops
 pub mod Puts
 pub mod Reaches
 pub mod Running

@@ -1,12 +1,14 @@
--- The modules below `amaranth.lib`. (Amaranth standard library reference 0.5, "Interfaces and connections". That other modules and names are
+-- The modules below `amaranth.lib`. (Amaranth standard library reference 0.5, "Interfaces and connections" and "Enumerations". That other modules and names are
 -- refused is this project's own rule.)
 use Rattle.std.specs.Prelude.{ℕ, Bool, if◌then◌else◌, List, Option, Some, None, codes}
 use Rattle.lists.specs.Texts.{text_eq}
 use Rattle.py_frames.specs.declared.request.Cause.TheVariants.{Raised}
+use Rattle.amh_values.specs.declared.thing.Thing.TheVariants as thing
+use Rattle.amh_values.specs.declared.thing.ThingName.{ThingName}
 use Rattle.elab_eval.specs.declared.kept.HdlName.{HdlName}
 use Rattle.elab_eval.specs.declared.kept.HdlName.TheVariants as hdl
 use Rattle.elab_eval.specs.declared.kept.Kept.TheVariants as kept
-use Rattle.elab_eval.specs.Stores.{Held, Answered, refused, kept_given}
+use Rattle.elab_eval.specs.Stores.{Held, Answered, refused, thing_given, kept_given}
 
 -- `amaranth.lib.wiring`
 abbrev pub wiring_named : List ℕ → Option HdlName
@@ -16,7 +18,7 @@ wiring_named n =
 
 -- `amaranth.lib`, whose names are modules
 abbrev pub module_named : List ℕ → Option HdlName
-module_named n = if text_eq n (codes "wiring") then Some hdl.Wiring else None
+module_named n = if text_eq n (codes "wiring") then Some hdl.Wiring else (if text_eq n (codes "enum") then Some hdl.Enumerations else None)
 
 abbrev pub is_library : List ℕ → Bool
 is_library path = text_eq path (codes "amaranth.lib")
@@ -24,9 +26,17 @@ is_library path = text_eq path (codes "amaranth.lib")
 abbrev pub is_wiring : List ℕ → Bool
 is_wiring path = text_eq path (codes "amaranth.lib.wiring")
 
+abbrev pub is_enum : List ℕ → Bool
+is_enum path = text_eq path (codes "amaranth.lib.enum")
+
 abbrev pub library_named : (path name : List ℕ) → Option HdlName
 library_named path name = if is_library path then module_named name else (if is_wiring path then wiring_named name else None)
 
 abbrev pub library_given : Option HdlName → Held → Answered
 library_given (Some n) h = kept_given (kept.Name n) h
 library_given None h = refused Raised h
+
+-- `amaranth.lib.enum`, whose names are of amh_values
+abbrev pub base_given : Option ThingName → Held → Answered
+base_given (Some n) h = thing_given (thing.Name n) h
+base_given None h = refused Raised h

@@ -1,5 +1,5 @@
 -- `Module()` and `Signal(shape=1, *, name=None, init=0, reset_less=False)`. (Amaranth language guide 0.5, "Modules", "Signals".)
-use Rattle.std.specs.Prelude.{ℕ, nat_le, ◌||◌, if◌then◌else◌, Bool, true, false, List, [], ◌∷◌, ◌++◌, length, ℤ, pos, Option, Some, None, Result, Ok, Err, codes, option_and_then, is_some}
+use Rattle.std.specs.Prelude.{ℕ, nat_le, ◌||◌, if◌then◌else◌, Bool, false, List, [], ◌∷◌, ◌++◌, length, ℤ, pos, Option, Some, None, Result, Ok, Err, codes, option_and_then, is_some}
 use Rattle.lists.specs.Texts.{text_eq}
 use Rattle.amh_bits.specs.Patterns.{wrap}
 use Rattle.shape_rules.specs.Forms.{Form, unsigned}
@@ -12,7 +12,6 @@ use Rattle.py_frames.specs.declared.request.Cause.{Cause}
 use Rattle.py_frames.specs.declared.request.Cause.TheVariants.{Raised, Limit}
 use Rattle.design_ir.specs.declared.signal.Sig.{Sig}
 use Rattle.design_ir.specs.declared.expr.Expr.TheVariants as expr
-use Rattle.design_ir.specs.declared.refusal.PoolStop.{PoolStop}
 use Rattle.design_ir.specs.PoolRules.{signal_refusal, signal_added, expr_added}
 use Rattle.amh_values.specs.declared.thing.Thing.TheVariants as thing
 use Rattle.amh_values.specs.Meant.{shape_meant}

@@ -16,7 +16,6 @@ use Rattle.py_frames.specs.declared.request.Answer.TheVariants as answer
 use Rattle.py_frames.specs.declared.request.Cause.TheVariants.{Raised}
 use Rattle.elab_eval.specs.declared.kept.Kept.{Kept}
 use Rattle.elab_eval.specs.declared.kept.Kept.TheVariants as kept
-use Rattle.elab_eval.specs.declared.kept.Top.{Top}
 use Rattle.elab_eval.specs.declared.tops.Calling.{Calling}
 use Rattle.elab_eval.specs.Stores.{Stored, Held, Answered, refused, given, kept_of}
 

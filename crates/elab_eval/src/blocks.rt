@@ -205,9 +205,6 @@ impl Elaboration {
     {
         match self.store.kept_of(*x) {
             Some(Kept::Block { of, begin }) => {
-                if self.store.in_machine(of) {
-                    return self.refuse(Cause::Raised);
-                }
                 let block = self.store.block_of(self.alloc, begin)?;
                 self.enter_at(of as usize, block)
             }

@@ -1,7 +1,6 @@
 // The ports of a component that is the top.
 ghost use Rattle.std.specs.Prelude.{◌≡◌, IfOk};
-ghost use Rattle.elab_eval.specs.ComponentTops.{object_ports};
-ghost use Rattle.elab_eval.specs.Elaborates.{top_ports};
+ghost use Rattle.elab_eval.specs.ComponentTops.{component_ports};
 
 use crate::interfaces::copied_text;
 use crate::store::Store;
@@ -32,27 +31,17 @@ fn copied_ports(alloc: Global, ports: &[Port]) -> Result<Ports, NoMemory>
 }
 
 impl Store {
-    /// The ports of an object that is the top: those that were made for it as a component.
-    pub(crate) fn object_ports(
+    /// The ports of a component that is the top: those that were made for it.
+    pub(crate) fn component_ports(
         &self,
         alloc: Global,
         object: ObjId,
     ) -> Result<Option<TopPorts>, NoMemory>
-        ensures { IfOk result (λ ports. ports ≡ object_ports self.now object) }
+        ensures { IfOk result (λ ports. ports ≡ component_ports self.now object) }
     {
         match self.components.ports(object.0) {
             Some(ports) => Ok(Some(TopPorts::Members(copied_ports(alloc, ports.as_slice())?))),
             None => Ok(None),
-        }
-    }
-
-    /// The ports of the top, where it has some.
-    pub(crate) fn top_ports(&self, alloc: Global) -> Result<Option<TopPorts>, NoMemory>
-        ensures { IfOk result (λ ports. ports ≡ top_ports self.now) }
-    {
-        match self.top.object {
-            None => Ok(Some(TopPorts::Loose)),
-            Some(object) => self.object_ports(alloc, object),
         }
     }
 }

@@ -1,6 +1,7 @@
 // The end: what is held becomes a design.
 ghost use Rattle.std.specs.Prelude.{◌≡◌, ◌<◌, length, Some, None};
 ghost use Rattle.std.specs.List.{list_any};
+ghost use Rattle.py_values.specs.Heaps.{nothing};
 ghost use Rattle.amh_host.specs.declared.place.Kind.TheVariants.{Raised};
 ghost use Rattle.clock_domains.specs.Resolved.{file_start};
 ghost use Rattle.elab_eval.specs.declared.refusal.ElabStop.TheVariants.{Refused};
@@ -16,6 +17,7 @@ use clock_domains::{ResolveStop, resolve};
 use design_ir::{Expr, ExprId, Exprs, Pool};
 use module_dsl::{BuildStop, Builder, one_process_each};
 use py_machine::Machine;
+use py_values::Frozen;
 use std::alloc::Global;
 
 fn is_reset(e: &Expr) -> bool
@@ -85,8 +87,6 @@ impl Store {
             statements: _,
             top,
             components,
-            machines,
-            told,
         } = self;
         let root = module_in(modules, top.root);
         let rest = Store {
@@ -97,8 +97,6 @@ impl Store {
             statements: 0,
             top,
             components,
-            machines,
-            told,
         };
         (root, rest)
     }
@@ -106,17 +104,19 @@ impl Store {
 
 impl Elaboration {
     /// What is held at the end of a program, as a design.
-    pub(crate) fn finish(self, machine: Machine) -> Result<Elaborated, ElabStop>
-        requires { IsSound (held_of self) }
+    pub(crate) fn finish(self, machine: Machine, frozen: &Frozen) -> Result<Elaborated, ElabStop>
+        requires sound { IsSound (held_of self) }
+        requires frozen { frozen.now ≡ nothing }
         ensures { IsFound result (design_of (held_of self) machine.going.state.heap) }
     {
-        let Elaboration { alloc, pool, store } = self;
-        if has_reset(&pool) {
+        if has_reset(&self.pool) {
             return Err(raised());
         }
-        let Ok(ports) = store.top_ports(alloc) else {
+        let Ok(ports) = self.top_ports(&machine.going.state.heap, frozen) else {
             return Err(ElabStop::NoMemory);
         };
+        let Elaboration { alloc, pool, store } = self;
+        pool.known();
         let (root, store) = store.part(alloc);
         let Some(root) = root else {
             return Err(raised());

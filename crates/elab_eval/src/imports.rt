@@ -6,7 +6,7 @@ ghost use Rattle.elab_eval.specs.Imports.{is_hdl, is_utils, own_named, star_name
 ghost use Rattle.elab_eval.specs.Held.{held_of, Gives};
 
 use crate::kept::{HdlName, Kept};
-use crate::libraries::library_named;
+use crate::libraries::{is_enum, library_named};
 use crate::names::is_text;
 use crate::store::Elaboration;
 use amh_host::Text;
@@ -114,6 +114,8 @@ impl Elaboration {
             }
         } else if is_utils(path) {
             self.import_utility(name)
+        } else if is_enum(path) {
+            self.give_base(name)
         } else {
             self.give_library(library_named(path, name))
         }

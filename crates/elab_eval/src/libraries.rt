@@ -1,6 +1,7 @@
 // The modules below `amaranth.lib`.
-ghost use Rattle.std.specs.Prelude.{◌≡◌, codes};
-ghost use Rattle.elab_eval.specs.Libraries.{is_library, is_wiring, wiring_named, module_named, library_named, library_given};
+ghost use Rattle.std.specs.Prelude.{◌≡◌, is_some, codes};
+ghost use Rattle.elab_eval.specs.Libraries.{is_library, is_wiring, is_enum, base_given, wiring_named, module_named, library_named, library_given};
+ghost use Rattle.amh_values.specs.Things.{base_called};
 ghost use Rattle.elab_eval.specs.Held.{held_of, Gives};
 
 use crate::kept::{HdlName, Kept};
@@ -29,6 +30,8 @@ fn module_named(name: &str) -> Option<HdlName>
 {
     if is_text(name, "wiring") {
         Some(HdlName::Wiring)
+    } else if is_text(name, "enum") {
+        Some(HdlName::Enumerations)
     } else {
         None
     }
@@ -44,6 +47,19 @@ fn is_wiring(path: &str) -> bool
     ensures { result ≡ is_wiring path.now }
 {
     is_text(path, "amaranth.lib.wiring")
+}
+
+pub(crate) fn is_enum(path: &str) -> bool
+    ensures { result ≡ is_enum path.now }
+{
+    is_text(path, "amaranth.lib.enum")
+}
+
+// Whether a name is one over which a class makes an enumeration.
+fn is_base_name(name: &str) -> bool
+    ensures { result ≡ is_some (base_called name.now) }
+{
+    is_text(name, "Enum") || is_text(name, "IntEnum")
 }
 
 /// A name of a module below `amaranth`.
@@ -68,5 +84,16 @@ impl Elaboration {
             Some(name) => self.give_kept(Kept::Name(name)),
             None => self.refuse(Cause::Raised),
         }
+    }
+
+    /// A name of `amaranth.lib.enum`.
+    pub(crate) fn give_base(&mut self, name: &str) -> Result<Answer, NoMemory>
+        ensures { Gives result self.new (base_given (base_called name.now) (held_of self.old)) }
+    {
+        if !is_base_name(name) {
+            return self.refuse(Cause::Raised);
+        }
+        let v = self.store.base(name)?;
+        self.give(v)
     }
 }

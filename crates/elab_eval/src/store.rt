@@ -3,21 +3,19 @@ ghost use Rattle.std.specs.Prelude.{◌≡◌, ◌++◌, ◌∷◌, [], length, 
 ghost use Rattle.py_values.specs.Heaps.{seen};
 ghost use Rattle.py_values.specs.declared.val.Val.TheVariants as val;
 ghost use Rattle.amh_values.specs.declared.thing.Thing.TheVariants as thing;
-ghost use Rattle.amh_values.specs.Things.{name_called, thing_of};
+ghost use Rattle.amh_values.specs.Things.{name_called, thing_of, base_called};
 ghost use Rattle.elab_eval.specs.Table.{equated_by};
 ghost use Rattle.amh_values.specs.Meant.{shape_meant, expr_meant, Gives as Meant};
 ghost use Rattle.amh_values.specs.Held.{AreHeld};
 ghost use Rattle.elab_eval.specs.Signals.{store_and_module};
 ghost use Rattle.elab_eval.specs.Components.{no_components};
-ghost use Rattle.elab_eval.specs.Stores.{nothing_held, no_top, kept_of, store_with, store_keeping, kept_given, given, refused, refused_at};
+ghost use Rattle.elab_eval.specs.Stores.{nothing_held, no_top, kept_of, store_with, store_keeping, kept_given, given, refused};
 ghost use Rattle.elab_eval.specs.Tops.{with_root, with_object, module_of};
 ghost use Rattle.elab_eval.specs.Held.{held_of, Gives};
 
 use crate::components::Components;
 use crate::kept::{Kept, Top};
-use crate::state_machines::OwnMachine;
 use crate::tops::first_object;
-use amh_host::Place;
 use amh_values::{Method, PlanStop, Thing, Values, expr_meant, shape_meant};
 use design_ir::{ExprId, Patterns, Pool};
 use lists::NoMemory;
@@ -39,8 +37,6 @@ pub struct Store {
     pub(crate) statements: u32,
     pub(crate) top: Top,
     pub(crate) components: Components,
-    pub(crate) machines: Vec<OwnMachine>,
-    pub(crate) told: Option<Place>,
 }
 
 impl Model for Store {
@@ -50,7 +46,7 @@ impl Model for Store {
 
     ghost Value = { Stored };
 
-    ghost view = { λ a. record { things = a.things; kept = a.kept.items; modules = a.modules.items; patterns = a.patterns.items; top = a.top; components = a.components; machines = a.machines.items; told = a.told } };
+    ghost view = { λ a. record { things = a.things; kept = a.kept.items; modules = a.modules.items; patterns = a.patterns.items; top = a.top; components = a.components } };
 
     ghost invariant = { λ a. IsStore a.statements a.modules.items a.patterns.items };
 }
@@ -58,7 +54,7 @@ impl Model for Store {
 impl Store {
     /// Nothing yet, which takes no memory.
     fn new(alloc: Global) -> Store
-        ensures { result ≡ record { things = []; kept = []; modules = []; patterns = []; top = no_top; components = no_components; machines = []; told = None } }
+        ensures { result ≡ record { things = []; kept = []; modules = []; patterns = []; top = no_top; components = no_components } }
     {
         Store {
             things: Values::new(alloc),
@@ -71,8 +67,6 @@ impl Store {
                 root: None,
             },
             components: Components::new(alloc),
-            machines: Vec::new(alloc),
-            told: None,
         }
     }
 
@@ -95,6 +89,15 @@ impl Store {
         ensures { IfOk result (λ v. (v ≡ val.Hw (record { 0 = length self.old.things })) × (Some self.new ≡ option_map (λ n. store_with (thing.Name n) self.old) (name_called name.now))) }
     {
         let hw = self.things.name(name)?;
+        Ok(Val::Hw(hw))
+    }
+
+    /// A name over which a class makes an enumeration, as a thing.
+    pub(crate) fn base(&mut self, name: &str) -> Result<Val, NoMemory>
+        requires { IsSome (base_called name.now) }
+        ensures { IfOk result (λ v. (v ≡ val.Hw (record { 0 = length self.old.things })) × (Some self.new ≡ option_map (λ n. store_with (thing.Name n) self.old) (base_called name.now))) }
+    {
+        let hw = self.things.base(name)?;
         Ok(Val::Hw(hw))
     }
 
@@ -122,7 +125,7 @@ impl Store {
     pub(crate) fn hold(&mut self, e: ExprId) -> Result<Val, NoMemory>
         ensures { IfOk result (λ v. (v ≡ val.Hw (record { 0 = length self.old.things })) × (self.new ≡ store_with (thing.Value e) self.old)) }
     {
-        let hw = self.things.hold(e)?;
+        let hw = self.things.hold(e, None)?;
         Ok(Val::Hw(hw))
     }
 
@@ -152,13 +155,6 @@ impl Store {
     {
         self.top.object = first_object(self.top.object, v);
         self.top.root = None;
-    }
-
-    // Where a refusal is told.
-    fn tell_at(&mut self, place: Place)
-        ensures { self.new ≡ record self.old { told = Some place } }
-    {
-        self.told = Some(place);
     }
 
     /// The value whose method `eq` a value of the program is, as its expression.
@@ -236,14 +232,6 @@ impl Elaboration {
     pub(crate) fn refuse(&mut self, why: Cause) -> Result<Answer, NoMemory>
         ensures { Gives result self.new (refused why (held_of self.old)) }
     {
-        Ok(Answer::Refuse(why))
-    }
-
-    /// A refusal that is told at another place than the request's.
-    pub(crate) fn refuse_at(&mut self, place: Place, why: Cause) -> Result<Answer, NoMemory>
-        ensures { Gives result self.new (refused_at place why (held_of self.old)) }
-    {
-        self.store.tell_at(place);
         Ok(Answer::Refuse(why))
     }
 

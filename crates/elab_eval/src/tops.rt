@@ -63,7 +63,8 @@ fn class_calling(heap: &Heap, frozen: &Frozen, o: ObjId, class: Val) -> Option<C
     }
 }
 
-fn first_in(row: &[Val]) -> Val
+/// The first item of a row, which of an object is its class.
+pub(crate) fn first_in(row: &[Val]) -> Val
     ensures { result ≡ first_in row.now }
 {
     match row {

@@ -1,25 +1,20 @@
 -- The machine's own block is the innermost one.
-use Rattle.std.proofs.Common.{◌≡◌, Bool, true, false, List, [], ◌∷◌, ◌++◌, Some, None, refl, ap, not, if◌then◌else◌}
-use Rattle.std.proofs.lemmas.List.Sums.{fold-append}
+use Rattle.std.proofs.Common.{◌≡◌, Bool, true, false, List, [], ◌∷◌, Some, None, refl, ap, not, if◌then◌else◌}
 use Rattle.design_ir.specs.declared.ids.ExprId.{ExprId}
 use Rattle.design_ir.specs.declared.expr.Pattern.{Pattern}
 use Rattle.design_ir.specs.declared.expr.Expr.TheVariants.{Matches}
 use Rattle.design_ir.specs.Pools.{Pooled}
 use Rattle.design_ir.specs.PoolRules.{expr_added}
 use Rattle.module_dsl.specs.declared.refusal.BuildStop.TheVariants.{Limit}
-use Rattle.module_dsl.specs.declared.step.Step.{Step}
 use Rattle.module_dsl.specs.declared.step.Step.TheVariants as step
 use Rattle.module_dsl.specs.declared.step.OpenBlock.{OpenBlock}
 use Rattle.module_dsl.specs.declared.step.OpenBlock.TheVariants as inside
 use Rattle.module_dsl.specs.declared.step.Block.TheVariants as block
-use Rattle.module_dsl.specs.Blocks.{Entries, Branches, Open, Blocks, after, begun, blocks_of, left_in, left_from, branches_with, content, case_opened, case_in, in_switch, is_switch, is_outermost}
+use Rattle.module_dsl.specs.Blocks.{Entries, Branches, Open, Blocks, left_in, left_from, branches_with, content, case_opened, case_in, in_switch, is_switch, is_outermost}
 use Rattle.module_dsl.specs.Builders.{Built, built_blocks, and_entered, and_left, subject_of, subject_in, enter_refusal, order_where, pool_with, condition_made}
+use Rattle.module_dsl.proofs.BuilderLaws.{blocks_of-push}
 use Rattle.fsm_lowering.specs.Calls.{is_full}
 use Rattle.fsm_lowering.specs.Machines.{open_switch, switch_block, open_case, case_block}
-
-pub blocks_of-push : (steps : List Step) (x : Step) → blocks_of (steps ++ x ∷ []) ≡ after (blocks_of steps) x
-unfolding blocks_of
-blocks_of-push steps x = fold-append after begun steps (x ∷ [])
 
 -- ---- what is known of the innermost block
 

@@ -1,5 +1,5 @@
 -- What the choice over the register means.
-use Rattle.std.proofs.Common.{◌≡◌, ℕ, ◌-◌, ◌^◌, ◌==◌, ◌<◌, ◌≤◌, ◌||◌, Bool, true, false, if◌then◌else◌, List, [], ◌∷◌, slice_get, Some, ℤ, bit_and, refl, ap, ◌∙◌, arith, zero, suc, pow_mono}
+use Rattle.std.proofs.Common.{slice_index_or, pos, ◌≡◌, ℕ, ◌-◌, ◌^◌, ◌==◌, ◌<◌, ◌≤◌, ◌||◌, Bool, true, false, if◌then◌else◌, List, [], ◌∷◌, slice_get, Some, ℤ, bit_and, refl, ap, ◌∙◌, arith, zero, suc, pow_mono}
 use Rattle.std.specs.List.{AllByRecursion}
 use Rattle.std.proofs.lemmas.Nat.{and_mask, and_comm}
 use Rattle.std.proofs.Math.Nat.{mod-eq_of_lt}
@@ -54,3 +54,9 @@ one_state q env side m (x ∷ xs) cur pool there has =
     turned : (b : Bool) → first_active q env side (branches_of xs) cur ≡ carried_out_in q env side (register_number q env m) xs cur → (if (if b then false else true) then first_active q env side (branches_of xs) cur else carried_out q env side x.body cur) ≡ (if b then carried_out q env side x.body cur else carried_out_in q env side (register_number q env m) xs cur)
     turned true same = refl
     turned false same = same
+
+pub register_number-signal : (q : Pooled) (env : List ℤ) (m : Machine) (n : ℕ) → IsPool q → HasRegister q m → slice_index_or env m.signal.0 (pos 0) ≡ pos n → n < 2 ^ (signal_form q.signals m.signal.0).width → register_number q env m ≡ n
+register_number-signal q env m n pool there is few =
+    let value : num q env m.register.0 ≡ pos n = num_is q env m.register.0 (expr.Sig m.signal) pool there ∙ is in
+    let shape : form q m.register.0 ≡ signal_form q.signals m.signal.0 = form_is q m.register.0 (expr.Sig m.signal) pool there in
+    rw (value, shape) (mod-eq_of_lt few)

@@ -7,10 +7,10 @@ use Rattle.module_dsl.specs.declared.step.Opening.TheVariants as opening
 use Rattle.module_dsl.specs.declared.step.OpenBlock.TheVariants.{Switch, Case}
 use Rattle.module_dsl.specs.Blocks.{Entries, nothing, Branches, none, and_branch, Open, Blocks, blocks_of, content, ended, case_opened, left_in}
 use Rattle.module_dsl.specs.Builders.{Built, built_blocks, and_left}
+use Rattle.module_dsl.proofs.BuilderLaws.{blocks_of-push}
 use Rattle.fsm_lowering.specs.Machines.{Machine}
 use Rattle.fsm_lowering.specs.Calls.{is_begun, with_choice}
 use Rattle.fsm_lowering.specs.Laws.{MakesOneChoice}
-use Rattle.fsm_lowering.proofs.InPlace.{blocks_of-push}
 
 begins : (q : Pooled) (m : Machine) (b : Built) → is_begun m ≡ false → (built_blocks (with_choice q m b)).around ≡ record { before = content (built_blocks b); branches = none; block = Switch m.register } ∷ (built_blocks b).around
 begins q m b e = rw e (ap (λ (bs : Blocks). bs.around) (blocks_of-push b.steps (step.Enter (opening.Switch m.register))))

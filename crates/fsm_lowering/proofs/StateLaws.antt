@@ -1,20 +1,22 @@
 -- What holds of the states of a machine.
-use Rattle.std.proofs.Common.{◌≡◌, ℕ, zero, suc, ◌<◌, ◌≤◌, nat_lt, Bool, true, false, if◌then◌else◌, ◌||◌, ◌&&◌, ◌↔◌, List, [], ◌∷◌, ◌++◌, map, length, Option, Some, None, unwrap_or, MatchOption, IsSome, IsTrue, refl, sym, ap, ◌∙◌, subst, arith, length-append, lit<, slice_get}
+use Rattle.std.proofs.Common.{◌^◌, ◌≡◌, ℕ, zero, suc, ◌<◌, ◌≤◌, nat_lt, Bool, true, false, if◌then◌else◌, ◌||◌, ◌&&◌, ◌↔◌, List, [], ◌∷◌, ◌++◌, map, length, Option, Some, None, unwrap_or, MatchOption, IsSome, IsTrue, refl, sym, ap, ◌∙◌, subst, arith, length-append, lit<, slice_get}
 use Rattle.std.specs.List.{AllByRecursion, IsDistinct, list_any}
 use Rattle.std.specs.Cmp.{IsEquivalence}
 use Rattle.std.proofs.lemmas.List.{length-map}
 use Rattle.std.proofs.lemmas.Bool.{false≢true, ltb-true, ltb-false}
 use Rattle.std.proofs.lemmas.Map.Keys.{IsDistinct-push, IsDistinct-head, IsDistinct-tail}
+use Rattle.design_ir.proofs.Growth.{all_append}
 use Rattle.design_ir.proofs.Elements.{some_is}
 use Rattle.lists.specs.Texts.{text_eq}
 use Rattle.lists.proofs.TextLaws.{text_eq_true, text_eq_same}
 use Rattle.amh_host.specs.declared.place.Place.{Place}
 use Rattle.design_ir.specs.declared.ids.ExprId.{ExprId}
 use Rattle.fsm_lowering.specs.declared.states.State.{State}
-use Rattle.fsm_lowering.specs.States.{is_known, is_entered, number_of, condition_in, first_unentered, unentered, mentioned, held_as, entered_as}
+use Rattle.fsm_lowering.specs.States.{range_width, is_known, is_entered, number_of, condition_in, first_unentered, unentered, mentioned, held_as, entered_as}
 use Rattle.fsm_lowering.specs.declared.refusal.FsmStop.TheVariants.{UndefinedState}
 use Rattle.fsm_lowering.specs.Calls.{option_is, undefined_state, undefined_init, first_among}
 use Rattle.fsm_lowering.specs.Machines.{AreStates}
+use Rattle.fsm_lowering.proofs.Widths.{range_width-has}
 
 -- ---- texts
 
@@ -65,16 +67,13 @@ number_of-entered (s ∷ states) name h = go (text_eq s.name name) h (number_of-
 
 -- ---- what is kept
 
-all_push : {A : Type 0} (P : A → Type 0) (xs : List A) (x : A) → AllByRecursion P xs → P x → AllByRecursion P (xs ++ x ∷ [])
-all_push P [] x h p = (p, tt)
-all_push P (y ∷ xs) x h p = (h.0, all_push P xs x h.1 p)
+-- a state that was entered has a condition
+abbrev Has : State → Type 0
+Has s = s.entered ≡ true → IsSome s.condition
 
 all_map : {A B : Type 0} (P : A → Type 0) (Q : B → Type 0) (f : A → B) → ((x : A) → P x → Q (f x)) → (xs : List A) → AllByRecursion P xs → AllByRecursion Q (map f xs)
 all_map P Q f each [] h = tt
 all_map P Q f each (x ∷ xs) h = (each x h.0, all_map P Q f each xs h.1)
-
-names_of : List State → List (List ℕ)
-names_of states = map (λ (s : State). s.name) states
 
 none_named : (states : List State) (name : List ℕ) → is_known states name ≡ false → list_any (text_eq name) (map (λ (s : State). s.name) states) ≡ false
 none_named [] name h = refl
@@ -89,11 +88,12 @@ names_push : (states : List State) (s : State) → map (λ (s : State). s.name) 
 names_push [] s = refl
 names_push (t ∷ states) s = ap (λ ns. t.name ∷ ns) (names_push states s)
 
-Begun : List State → Option ℕ → Type 0
+-- without a first state none was entered, and else it is among them
+abbrev Begun : List State → Option ℕ → Type 0
 Begun states first = MatchOption first (AllByRecursion (λ (s : State). s.entered ≡ false) states) (λ n. n < length states)
 
-begun_push : (states : List State) (first : Option ℕ) (name : List ℕ) (place : Place) → MatchOption first (AllByRecursion (λ (s : State). s.entered ≡ false) states) (λ n. n < length states) → MatchOption first (AllByRecursion (λ (s : State). s.entered ≡ false) (states ++ unentered name place ∷ [])) (λ n. n < length (states ++ unentered name place ∷ []))
-begun_push states None name place h = all_push (λ (s : State). s.entered ≡ false) states (unentered name place) h refl
+begun_push : (states : List State) (first : Option ℕ) (name : List ℕ) (place : Place) → Begun states first → Begun (states ++ unentered name place ∷ []) first
+begun_push states None name place h = all_append (λ (s : State). s.entered ≡ false) states (unentered name place) h refl
 begun_push states (Some n) name place h = simp length-append (omega (arith, h))
 
 pub AreStates-none : AreStates [] None
@@ -106,7 +106,7 @@ AreStates-push states first name place room new are = record {
   few = simp length-append (omega (arith, room));
   distinct = rw (names_push states (unentered name place)) (IsDistinct-push text_eq_equiv (map (λ (s : State). s.name) states) name are.distinct (none_named states name new));
   begun = begun_push states first name place are.begun;
-  conditions = all_push (λ (s : State). s.entered ≡ true → IsSome s.condition) states (unentered name place) are.conditions (λ e. absurd (false≢true e));
+  conditions = all_append Has states (unentered name place) are.conditions (λ e. absurd (false≢true e));
 }
 
 pub unknown-number_of : (states : List State) (name : List ℕ) → is_known states name ≡ false → length states ≤ number_of states name
@@ -162,9 +162,6 @@ entered_name name e s = go (text_eq s.name name)
     go true = refl
     go false = refl
 
-Has : State → Type 0
-Has s = s.entered ≡ true → IsSome s.condition
-
 held_has : (name : List ℕ) (e : ExprId) (s : State) → (s.entered ≡ true → IsSome s.condition) → (held_as name e s).entered ≡ true → IsSome (held_as name e s).condition
 held_has name e s h = go (text_eq s.name name)
   where
@@ -186,7 +183,7 @@ held_unentered name e s h = go (text_eq s.name name)
     go true = h
     go false = h
 
-begun_held : (states : List State) (first : Option ℕ) (name : List ℕ) (e : ExprId) → MatchOption first (AllByRecursion (λ (s : State). s.entered ≡ false) states) (λ n. n < length states) → MatchOption first (AllByRecursion (λ (s : State). s.entered ≡ false) (map (held_as name e) states)) (λ n. n < length (map (held_as name e) states))
+begun_held : (states : List State) (first : Option ℕ) (name : List ℕ) (e : ExprId) → Begun states first → Begun (map (held_as name e) states) first
 begun_held states None name e h = all_map (λ (s : State). s.entered ≡ false) (λ (s : State). s.entered ≡ false) (held_as name e) (held_unentered name e) states h
 begun_held states (Some n) name e h = rw length-map h
 
@@ -195,7 +192,7 @@ AreStates-held states first name e are = record {
   few = rw length-map are.few;
   distinct = rw (names_same (held_as name e) (held_name name e) states) are.distinct;
   begun = begun_held states first name e are.begun;
-  conditions = all_map (λ (s : State). s.entered ≡ true → IsSome s.condition) (λ (s : State). s.entered ≡ true → IsSome s.condition) (held_as name e) (held_has name e) states are.conditions;
+  conditions = all_map Has Has (held_as name e) (held_has name e) states are.conditions;
 }
 
 pub AreStates-entered : (states : List State) (first : Option ℕ) (name : List ℕ) (e : ExprId) (n : ℕ) → n < length states → AreStates states first → AreStates (map (entered_as name e) states) (Some n)
@@ -203,12 +200,12 @@ AreStates-entered states first name e n among are = record {
   few = rw length-map are.few;
   distinct = rw (names_same (entered_as name e) (entered_name name e) states) are.distinct;
   begun = rw length-map among;
-  conditions = all_map (λ (s : State). s.entered ≡ true → IsSome s.condition) (λ (s : State). s.entered ≡ true → IsSome s.condition) (entered_as name e) (entered_has name e) states are.conditions;
+  conditions = all_map Has Has (entered_as name e) (entered_has name e) states are.conditions;
 }
 
 -- ---- what is held
 
-pub condition_in-exactly : (states : List State) (name : List ℕ) → AllByRecursion (λ (s : State). s.entered ≡ true → IsSome s.condition) states → IsSome (condition_in states name) ↔ IsTrue (is_entered states name)
+pub condition_in-exactly : (states : List State) (name : List ℕ) → AllByRecursion Has states → IsSome (condition_in states name) ↔ IsTrue (is_entered states name)
 condition_in-exactly [] name h = (λ e. absurd (false≢true e), λ e. absurd (false≢true e))
 condition_in-exactly (s ∷ states) name h = go (text_eq s.name name) s.entered h.0 (condition_in-exactly states name h.1)
   where
@@ -259,3 +256,16 @@ number_of-place [] k s d at = cc
 number_of-place (t ∷ states) zero s d at = let same : t ≡ s = some_is t s at in rw (ap (λ (u : State). text_eq u.name s.name) same ∙ text_eq_same s.name) refl
 number_of-place (t ∷ states) (suc k) s d at =
     rw (named_first states k s t.name (IsDistinct-head text_eq t.name (map (λ (u : State). u.name) states) d) at) (ap suc (number_of-place states k s (IsDistinct-tail text_eq t.name (map (λ (u : State). u.name) states) d) at))
+
+known-below : (states : List State) (name : List ℕ) → is_known states name ≡ true → number_of states name < length states
+known-below states name known = go (nat_lt (number_of states name) (length states)) refl
+  where
+    go : (b : Bool) → nat_lt (number_of states name) (length states) ≡ b → number_of states name < length states
+    go true e = ltb-true (number_of states name) (length states) e
+    go false e = absurd (false≢true (sym (number_of-unknown states name (ltb-false (number_of states name) (length states) e)) ∙ known))
+
+pub number_of-fits : (states : List State) (first : Option ℕ) (name : List ℕ) → AreStates states first → is_known states name ≡ true → number_of states name < 2 ^ range_width (length states)
+number_of-fits states first name are known =
+    let below = known-below states name known in
+    let room = range_width-has (length states) are.few in
+    omega (arith, below, room)

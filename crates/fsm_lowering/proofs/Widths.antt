@@ -1,8 +1,9 @@
 -- The width of the range of so many states.
 use Rattle.std.proofs.Common.{◌≡◌, ℕ, zero, suc, ◌+◌, ◌*◌, ◌%◌, ◌^◌, ◌<◌, ◌≤◌, Bool, true, false, if◌then◌else◌, refl, subst, arith}
-use Rattle.std.proofs.lemmas.Bool.{leb-true, le-leb, lt-leb}
+use Rattle.std.proofs.lemmas.Bool.{leb-true, leb-false, le-leb, lt-leb}
 use Rattle.std.proofs.lemmas.Nat.{one_shl}
 use Rattle.std.proofs.Math.Dec.{leb}
+use Rattle.design_ir.specs.Designs.{IsAddressWidth}
 use Rattle.fsm_lowering.specs.States.{least_width, range_width}
 
 -- a width that does not have so many numbers is passed over
@@ -44,3 +45,22 @@ range_width-few c = least_width-most 8 0 c
 -- each state's number has a place in the range
 pub range_width-has : (c : ℕ) → c < 257 → c ≤ 2 ^ range_width c
 range_width-has c few = least_width-has 8 0 c (omega arith)
+
+below-other : (w v c : ℕ) → w ≤ v → 2 ^ w < c → c ≤ 2 ^ v → w + 1 ≤ v
+below-other w v c le more h = go (leb v w) refl
+  where
+    go : (b : Bool) → leb v w ≡ b → w + 1 ≤ v
+    go true e = absurd (let same : v ≡ w = (let low : v ≤ w = leb-true v w e in omega (arith, low, le)) in let again : c ≤ 2 ^ w = subst (λ (x : ℕ). c ≤ 2 ^ x) same h in omega (arith, more, again))
+    go false e = let high : w < v = leb-false v w e in omega (arith, high)
+
+least_width-least : (k w c v : ℕ) → w ≤ v → c ≤ 2 ^ v → least_width k w c ≤ v
+unfolding least_width
+least_width-least zero w c v le h = le
+least_width-least (suc k) w c v le h = go (leb c (2 ^ w)) refl (λ more. least_width-least k (w + 1) c v (below-other w v c le more h) h)
+  where
+    go : (b : Bool) → leb c (2 ^ w) ≡ b → (2 ^ w < c → least_width k (w + 1) c ≤ v) → (if b then w else least_width k (w + 1) c) ≤ v
+    go true e more = le
+    go false e more = more (leb-false c (2 ^ w) e)
+
+pub range_width-least : (count : ℕ) → count < 257 → IsAddressWidth count (range_width count)
+range_width-least count few = record { enough = range_width-has count few; least = λ w h. least_width-least 8 0 count w (omega arith) h }

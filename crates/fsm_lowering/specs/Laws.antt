@@ -1,5 +1,6 @@
 -- What holds of every state machine.
-use Rattle.std.specs.Prelude.{◌≡◌, ℕ, ◌==◌, ◌≢◌, true, false, if◌then◌else◌, List, [], ◌∷◌, length, ℤ, Option, Some, slice_get}
+-- Internal: no rule of the language.
+use Rattle.std.specs.Prelude.{◌<◌, ◌^◌, pos, slice_index_or, ◌≡◌, ℕ, ◌==◌, ◌≢◌, true, false, if◌then◌else◌, List, [], ◌∷◌, length, ℤ, Option, Some, slice_get}
 use Rattle.std.specs.List.{AllByRecursion}
 use Rattle.amh_bits.specs.Patterns.{pattern}
 use Rattle.shape_rules.specs.Forms.{Form}
@@ -10,13 +11,14 @@ use Rattle.design_ir.specs.declared.process.Side.{Side}
 use Rattle.design_ir.specs.Pools.{Pooled}
 use Rattle.design_ir.specs.PoolRules.{IsPool, signal_added, expr_added}
 use Rattle.design_ir.specs.Settling.{IsUnsettled, is_signal, is_match, names_place, signal_settled}
-use Rattle.design_ir.specs.Values.{form, num}
+use Rattle.design_ir.specs.Values.{form, num, signal_form}
+use Rattle.design_ir.specs.Designs.{IsAddressWidth}
 use Rattle.module_dsl.specs.declared.step.OpenBlock.TheVariants.{Switch, Case}
 use Rattle.module_dsl.specs.Blocks.{Entries, nothing, Branches, none, branch, and_branch, Open, content, ended}
 use Rattle.module_dsl.specs.Builders.{Built, built_blocks, and_left}
 use Rattle.module_dsl.specs.Sided.{carried_out, first_active}
 use Rattle.fsm_lowering.specs.declared.states.State.{State}
-use Rattle.fsm_lowering.specs.States.{number_of}
+use Rattle.fsm_lowering.specs.States.{is_known, number_of, range_width}
 use Rattle.fsm_lowering.specs.Machines.{Machine, AreStates, HasRegister, in_state, state_number}
 use Rattle.fsm_lowering.specs.Calls.{is_begun, with_choice, with_case, with_end}
 
@@ -25,6 +27,13 @@ use Rattle.fsm_lowering.specs.Calls.{is_begun, with_choice, with_case, with_end}
 -- state k has the number k, so no two states have one number
 abbrev pub StatesAreNumbered : Type 0
 StatesAreNumbered = (states : List State) (first : Option ℕ) (k : ℕ) (s : State) → AreStates states first → slice_get states k ≡ Some s → number_of states s.name ≡ k
+
+-- and each number is of the register's shape, which is the least that has them all
+abbrev pub NumbersFit : Type 0
+NumbersFit = (states : List State) (first : Option ℕ) (name : List ℕ) → AreStates states first → is_known states name ≡ true → number_of states name < 2 ^ range_width (length states)
+
+abbrev pub WidthsAreLeast : Type 0
+WidthsAreLeast = (count : ℕ) → count < 257 → IsAddressWidth count (range_width count)
 
 -- ---- the register while it has no shape
 
@@ -84,6 +93,11 @@ branches_of (x ∷ xs) = branch x.condition x.body (branches_of xs)
 -- the number in the register
 abbrev pub register_number : Pooled → List ℤ → Machine → ℕ
 register_number q env m = pattern (form q m.register.0).width (num q env m.register.0)
+
+-- where the signal has a number of its shape, this is the number
+abbrev pub RegisterIsTheSignal : Type 0
+RegisterIsTheSignal =
+    (q : Pooled) (env : List ℤ) (m : Machine) (n : ℕ) → IsPool q → HasRegister q m → slice_index_or env m.signal.0 (pos 0) ≡ pos n → n < 2 ^ (signal_form q.signals m.signal.0).width → register_number q env m ≡ n
 
 -- the statements of the state with this number, and none where there is none
 abbrev pub carried_out_in : Pooled → List ℤ → Side → ℕ → List Entered → List ℤ → List ℤ

@@ -1,4 +1,5 @@
--- A state machine of a module, and the expressions that it makes.
+-- A state machine of a module, and the expressions that it makes. (Amaranth guide, Finite state machines: the state is a
+-- register of the machine's domain, and `ongoing` tells whether the machine is in a state.)
 use Rattle.std.specs.Prelude.{◌≡◌, ℕ, ◌+◌, ◌-◌, ◌^◌, ◌<◌, true, false, List, [], ◌∷◌, map, length, Option, Some, None, slice_get, pos, MatchOption, IsSome}
 use Rattle.std.specs.List.{AllByRecursion, IsDistinct}
 use Rattle.lists.specs.Texts.{text_eq}

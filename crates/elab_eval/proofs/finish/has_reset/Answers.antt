@@ -1,5 +1,5 @@
-use Rattle.elab_eval.proofs.Pools.{reset_next, reset_here, reset_nowhere}
-use Rattle.std.proofs.Common.{arith, sym, ◌∙◌}
+use Rattle.elab_eval.proofs.Pools.{reset_next, reset_here}
+use Rattle.std.proofs.Common.{sym, ◌∙◌}
 use Rattle.std.specs.List.{list_any}
 use Rattle.elab_eval.specs.Sound.{is_reset}
 use Rattle.elab_eval.proofs.finish.has_reset.Goals as goal

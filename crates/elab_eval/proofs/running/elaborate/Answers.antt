@@ -1,7 +1,4 @@
-use Rattle.std.proofs.Common.{◌≡◌, sym, ◌∙◌, ap, subst}
 use Rattle.py_tree.specs.Programs.{program_of}
-use Rattle.py_values.specs.Heaps.{Made, nothing}
-use Rattle.py_machine.specs.Lives.{Stands}
 use Rattle.elab_eval.specs.Held.{held_of}
 use Rattle.elab_eval.proofs.RunLaws.{begun, elaborated}
 use Rattle.elab_eval.proofs.running.elaborate.Goals as goal

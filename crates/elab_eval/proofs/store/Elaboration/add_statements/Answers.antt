@@ -1,4 +1,4 @@
-use Rattle.std.proofs.Common.{rules, ◌≡◌, sym, ◌∙◌, ap, subst}
+use Rattle.std.proofs.Common.{rules, sym, subst}
 use Rattle.std.specs.List.{AllByRecursion}
 use Rattle.py_values.specs.Heaps.{seen}
 use Rattle.elab_eval.specs.Sound.{IsEquation}

@@ -1,4 +1,4 @@
-use Rattle.std.proofs.Common.{◌≡◌, sym, ◌∙◌, ap, subst}
+use Rattle.std.proofs.Common.{sym, ◌∙◌, ap, subst}
 use Rattle.py_values.specs.Heaps.{Seen, seen}
 use Rattle.amh_values.specs.Acts.{acted, Acts}
 use Rattle.elab_eval.specs.Stores.{Stored, Held, Answered}

@@ -3,12 +3,13 @@ use Rattle.std.specs.List.{AllByRecursion}
 use Rattle.clock_domains.specs.Resolvable.{IsSingle}
 use Rattle.module_dsl.specs.Blocks.{entries_of}
 use Rattle.module_dsl.specs.Builders.{built_blocks}
+use Rattle.py_values.specs.Heaps.{seen}
 use Rattle.elab_eval.specs.Sound.{IsNoReset}
 use Rattle.elab_eval.specs.Elaborates.{root_module}
 use Rattle.elab_eval.specs.Held.{held_of}
 use Rattle.elab_eval.proofs.Pools.{none_found}
 use Rattle.elab_eval.proofs.Modules.{single, root_built}
-use Rattle.elab_eval.proofs.ComponentSound.{top_stands}
+use Rattle.elab_eval.proofs.ObjectLaws.{top_stands}
 use Rattle.elab_eval.proofs.store.Elaboration.finish.Goals as goal
 
 pub resolve-requires : goal.resolve-requires
@@ -17,7 +18,7 @@ resolve-requires c =
     let plain : AllByRecursion IsNoReset c.args.self.pool.exprs = none_found c.args.self.pool.exprs (sym c.has_reset.ensures ∙ c.if-has_reset.false) in
     record {
       single = subst (λ f. IsSingle c.args.self.pool f) (sym c.in-Ok-finish.ensures.made.1)
-          (single c.args.self.pool plain c.in-Some.root (root_built c.args.self.pool c.args.self.store c.in-Some.root c.requires.modules root) (c.one_process_each.ensures (entries_of (built_blocks c.in-Some.root))));
-      names = c.requires.names;
-      ports = top_stands (held_of c.args.self) c.args.self.store.top.object c.in-Some-ports.ports c.requires (sym c.in-Ok.ensures ∙ c.in-Some-ports.is);
+          (single c.args.self.pool plain c.in-Some.root (root_built c.args.self.pool c.args.self.store c.in-Some.root c.requires.sound.modules root) (c.one_process_each.ensures (entries_of (built_blocks c.in-Some.root))));
+      names = c.requires.sound.names;
+      ports = top_stands (seen c.args.frozen.now c.args.machine.going.state.heap) (held_of c.args.self) c.args.self.store.top.object c.in-Some-ports.ports c.requires.sound c.known.ensures (sym c.in-Ok.ensures ∙ c.in-Some-ports.is);
     }

@@ -1,4 +1,4 @@
-use Rattle.std.proofs.Common.{◌≡◌, ◌+◌, sym, ◌∙◌, ap, subst, [], ◌∷◌, List, ℕ, map, string_bytes, arith}
+use Rattle.std.proofs.Common.{◌≡◌, sym, ◌∙◌, subst, [], ◌∷◌, List, ℕ, string_bytes, arith}
 use Rattle.elab_eval.specs.Imports.{imported, import_answered}
 use Rattle.elab_eval.specs.Held.{held_of, Gives}
 use Rattle.elab_eval.proofs.ListLaws.{two_names}

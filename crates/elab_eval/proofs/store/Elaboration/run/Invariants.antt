@@ -1,4 +1,4 @@
-use Rattle.std.proofs.Common.{◌≤◌, ◌-◌, ◌^◌, ◌<◌}
+use Rattle.std.proofs.Common.{◌≤◌, ◌-◌, ◌^◌}
 use Rattle.py_tree.specs.Programs.{program_of}
 use Rattle.py_machine.specs.Lives.{IsOf}
 use Rattle.elab_eval.specs.Running.{IsRunning}

@@ -1,6 +1,6 @@
-use Rattle.std.proofs.Common.{Err, ◌≡◌, ◌+◌, sym, ◌∙◌, ap, subst}
+use Rattle.std.proofs.Common.{Err, ◌≡◌, sym, subst}
 use Rattle.py_tree.specs.Programs.{program_of}
-use Rattle.py_values.specs.Heaps.{Made, seen, nothing}
+use Rattle.py_values.specs.Heaps.{Made, seen}
 use Rattle.py_frames.specs.declared.request.Turn.TheVariants as turn
 use Rattle.py_machine.specs.Lives.{Resumed, again}
 use Rattle.elab_eval.specs.Stores.{Held}

@@ -1,9 +1,8 @@
-use Rattle.std.proofs.Common.{rules, ◌≡◌, ◌<◌, sym, ◌∙◌, ap, Option, Some, None, Bool, true, false, arith}
+use Rattle.std.proofs.Common.{rules, ◌≡◌, sym, ◌∙◌, ap, arith}
 use Rattle.std.specs.Option.{option_copied}
 use Rattle.py_values.specs.Heaps.{seen}
-use Rattle.elab_eval.specs.declared.kept.Equation.{Equation}
 use Rattle.elab_eval.specs.Stores.{kept_of}
-use Rattle.elab_eval.specs.Sides.{equation_of, row_of_list, equations_in}
+use Rattle.elab_eval.specs.Sides.{equation_of}
 use Rattle.elab_eval.proofs.SideLaws.{one_equation, no_list, no_room, told_none, told_one, row_stops, row_done}
 use Rattle.elab_eval.proofs.store.Store.+collect.Goals as goal
 

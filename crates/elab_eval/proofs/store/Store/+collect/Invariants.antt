@@ -1,4 +1,4 @@
-use Rattle.std.proofs.Common.{◌≡◌, ◌-◌, drop, ◌++◌, option_map, Option, Some}
+use Rattle.std.proofs.Common.{◌≡◌, ◌-◌, drop, ◌++◌, option_map}
 use Rattle.py_values.specs.Heaps.{seen}
 use Rattle.elab_eval.specs.Sides.{equations_in, joined_all}
 use Rattle.elab_eval.proofs.store.Store.+collect.Given as goal

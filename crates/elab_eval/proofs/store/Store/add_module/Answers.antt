@@ -1,4 +1,4 @@
-use Rattle.std.proofs.Common.{◌≡◌, ◌+◌, [], refl, sym, ap, ◌∙◌, arith}
+use Rattle.std.proofs.Common.{◌≡◌, [], ap, ◌∙◌, arith}
 use Rattle.module_dsl.specs.Builders.{Built, built_count}
 use Rattle.elab_eval.specs.Counts.{statement_count}
 use Rattle.elab_eval.proofs.GivenLaws.{count_and, count_none}

@@ -1,14 +1,12 @@
-use Rattle.std.proofs.Common.{◌≡◌, ◌+◌, ◌<◌, ◌≤◌, refl, sym, ap, ◌∙◌, true, false, length, Option, Some, None, arith, List}
-use Rattle.std.specs.Prelude.{slice_get, slice_set, slice_index_or}
-use Rattle.py_frames.specs.declared.request.Cause.{Cause}
+use Rattle.std.proofs.Common.{◌≡◌, ◌+◌, ◌<◌, sym, ap, ◌∙◌, true, false, length, Some, None, arith, List}
+use Rattle.std.specs.Prelude.{slice_get, slice_set}
 use Rattle.py_frames.specs.declared.request.Cause.TheVariants.{Raised, Limit}
 use Rattle.module_dsl.specs.Blocks.{in_switch}
 use Rattle.module_dsl.specs.Builders.{Built, built_blocks, built_count, and_given}
 use Rattle.elab_eval.specs.declared.store.Store.TheInside.{Inside}
 use Rattle.elab_eval.specs.Counts.{statement_count}
 use Rattle.elab_eval.specs.Stores.{Stored}
-use Rattle.elab_eval.specs.Sides.{side_of, built_with, store_with_statement, statement_told}
-use Rattle.elab_eval.specs.Kept.{IsStore}
+use Rattle.elab_eval.specs.Sides.{built_with, store_with_statement, statement_told}
 use Rattle.elab_eval.proofs.GivenLaws.{at_get, set_same, count_set, told-misplaced, told-over, told-given}
 use Rattle.elab_eval.proofs.store.Store.put.Goals as goal
 use Rattle.elab_eval.proofs.store.Store.put.Goals.{then-added-gt65536-via-then-added-gt65536, then-added-gt65536-via-else-added-gt65536+then-self-added}
@@ -19,7 +17,7 @@ returns-then-in_switch c =
     let b : Built = c.index_mut-builder.result.now in
     let d = c.args.name in
     let q = c.args.q.now in
-    let held : List Built → Stored = λ (bs : List Built). record { things = inside.things; kept = inside.kept.items; modules = bs; patterns = inside.patterns.items; top = inside.top; components = inside.components; machines = inside.machines.items; told = inside.told } in
+    let held : List Built → Stored = λ (bs : List Built). record { things = inside.things; kept = inside.kept.items; modules = bs; patterns = inside.patterns.items; top = inside.top; components = inside.components } in
     let at : slice_get inside.modules.items c.args.of ≡ Some b = at_get inside.modules.items c.args.of b (omega (arith, c.if-of-len.false, c.len.ensures, inside.modules.ok.0)) c.index_mut-builder.ensures.value in
     let i : in_switch (built_blocks b).around ≡ true = sym c.in_switch.ensures ∙ c.if-in_switch.true in
     ap (λ bs. (held bs, Some Raised)) (set_same inside.modules.items c.args.of b c.index_mut-builder.ensures.value)
@@ -31,8 +29,8 @@ returns-then-added-gt65536 c =
     let b : Built = c.index_mut-builder.result.now in
     let d = c.args.name in
     let q = c.args.q.now in
-    let held : List Built → Stored = λ (bs : List Built). record { things = inside.things; kept = inside.kept.items; modules = bs; patterns = inside.patterns.items; top = inside.top; components = inside.components; machines = inside.machines.items; told = inside.told } in
-    let seen : Inside → Stored = λ (x : Inside). record { things = x.things; kept = x.kept.items; modules = x.modules.items; patterns = x.patterns.items; top = x.top; components = x.components; machines = x.machines.items; told = x.told } in
+    let held : List Built → Stored = λ (bs : List Built). record { things = inside.things; kept = inside.kept.items; modules = bs; patterns = inside.patterns.items; top = inside.top; components = inside.components } in
+    let seen : Inside → Stored = λ (x : Inside). record { things = x.things; kept = x.kept.items; modules = x.modules.items; patterns = x.patterns.items; top = x.top; components = x.components } in
     let below : c.args.of < length inside.modules.items = omega (arith, c.if-of-len.false, c.len.ensures, inside.modules.ok.0) in
     let at : slice_get inside.modules.items c.args.of ≡ Some b = at_get inside.modules.items c.args.of b below c.index_mut-builder.ensures.value in
     let i : in_switch (built_blocks b).around ≡ false = sym c.in_switch.ensures ∙ c.if-in_switch.false in
@@ -71,7 +69,7 @@ returns-in-Ok c =
     let b : Built = c.index_mut-builder.result.now in
     let d = c.args.name in
     let q = c.args.q.now in
-    let held : List Built → Stored = λ (bs : List Built). record { things = inside.things; kept = inside.kept.items; modules = bs; patterns = inside.patterns.items; top = inside.top; components = inside.components; machines = inside.machines.items; told = inside.told } in
+    let held : List Built → Stored = λ (bs : List Built). record { things = inside.things; kept = inside.kept.items; modules = bs; patterns = inside.patterns.items; top = inside.top; components = inside.components } in
     let below : c.args.of < length inside.modules.items = omega (arith, c.if-of-len.false, c.len.ensures, inside.modules.ok.0) in
     let at : slice_get inside.modules.items c.args.of ≡ Some b = at_get inside.modules.items c.args.of b below c.index_mut-builder.ensures.value in
     let i : in_switch (built_blocks b).around ≡ false = sym c.in_switch.ensures ∙ c.if-in_switch.false in

@@ -1,5 +1,5 @@
 use Rattle.std.proofs.Common.{refl, sym, ap, ◌∙◌, arith}
-use Rattle.elab_eval.proofs.ToldLaws.{told-next, told-stops, told-done}
+use Rattle.elab_eval.proofs.ToldLaws.{told-next, told-done}
 use Rattle.elab_eval.proofs.store.Store.put_all.Goals as goal
 
 pub loop-q-preserved : goal.loop-q-preserved
