@@ -10,29 +10,29 @@ use Rattle.design_ir.specs.declared.expr.Expr.TheVariants.{Cast}
 use Rattle.design_ir.specs.Pools.{Pooled}
 use Rattle.design_ir.specs.Values.{form}
 use Rattle.py_values.specs.declared.val.Val.{Val}
-use Rattle.amh_values.specs.declared.thing.Thing.{Thing}
-use Rattle.amh_values.specs.declared.thing.Thing.TheVariants as thing
+use Rattle.amh_things.specs.declared.thing.Thing.{Thing}
+use Rattle.amh_things.specs.declared.thing.Thing.TheVariants as thing
 use Rattle.py_frames.specs.declared.request.Cause.TheVariants as cause
-use Rattle.amh_values.specs.declared.thing.Method.{Method}
-use Rattle.amh_values.specs.declared.thing.Method.TheVariants as method
-use Rattle.amh_values.specs.declared.plan.Plan.{Plan}
-use Rattle.amh_values.specs.declared.plan.PlanStop.{PlanStop}
-use Rattle.amh_values.specs.declared.operand.Operand.TheVariants.{Held}
-use Rattle.amh_values.specs.Plans.{forms, ends_of, value_made, thing_made, value_given, IsPlanned, AreDrafted, IsDrafted, MakesThings}
-use Rattle.amh_values.specs.Held.{AreHeld}
-use Rattle.amh_values.specs.Indices.{width_given, measured}
+use Rattle.amh_things.specs.declared.thing.Method.{Method}
+use Rattle.amh_things.specs.declared.thing.Method.TheVariants as method
+use Rattle.amh_things.specs.declared.plan.Plan.{Plan}
+use Rattle.amh_things.specs.declared.plan.PlanStop.{PlanStop}
+use Rattle.amh_things.specs.declared.operand.Operand.TheVariants.{Held}
+use Rattle.amh_things.specs.Plans.{forms, ends_of, value_made, thing_made, value_given, IsPlanned, AreDrafted, IsDrafted, MakesThings}
+use Rattle.amh_things.specs.Held.{AreHeld}
+use Rattle.value_acts.specs.Indices.{width_given, measured}
 use Rattle.py_values.specs.declared.val.Val.TheVariants as val
 use Rattle.py_values.specs.declared.val.Hw.{Hw}
-use Rattle.amh_values.specs.Ends.{Ends}
+use Rattle.amh_things.specs.Ends.{Ends}
 use Rattle.std.specs.Option.{option_and_then}
 use Rattle.data_layouts.specs.Enumerations.{Enumerated, number_named}
-use Rattle.amh_values.specs.Things.{held_expr, method_named, shown_enumeration}
-use Rattle.amh_values.specs.Members.{member_of, member_given}
+use Rattle.amh_things.specs.Things.{held_expr, method_named, shown_enumeration}
+use Rattle.amh_things.specs.Members.{member_of, member_given}
 use Rattle.amh_values.specs.Attributes.{method_made, thing_attribute, attributed}
 use Rattle.amh_values.specs.Calls.{signed_made, method_plan}
-use Rattle.amh_values.proofs.Drafts.{forms_length, form_is, narrow, width_of_form, value_drafted, none_drafted}
-use Rattle.amh_values.proofs.PutLaws.{held_expr_below}
-use Rattle.amh_values.proofs.OperatorLaws.{unary_made_drafted}
+use Rattle.amh_things.proofs.Drafts.{forms_length, form_is, narrow, width_of_form, value_drafted, none_drafted}
+use Rattle.amh_things.proofs.PutLaws.{held_expr_below}
+use Rattle.value_acts.proofs.OperatorLaws.{unary_made_drafted}
 
 positive : (n : ℕ) → (n == 0) ≡ false → 1 ≤ n
 positive n h = grind (arith, nat_tests)

@@ -7,14 +7,14 @@ use Rattle.py_values.specs.declared.val.Val.{Val}
 use Rattle.py_values.specs.declared.val.Val.TheVariants as val
 use Rattle.py_frames.specs.declared.request.Cause.{Cause}
 use Rattle.py_frames.specs.declared.request.Cause.TheVariants.{Raised}
-use Rattle.amh_values.specs.declared.thing.Thing.{Thing}
-use Rattle.amh_values.specs.declared.thing.Thing.TheVariants as thing
-use Rattle.amh_values.specs.declared.thing.Method.{Method}
-use Rattle.amh_values.specs.Ends.{Ends}
-use Rattle.amh_values.specs.declared.plan.Plan.{Plan}
-use Rattle.amh_values.specs.Things.{held_expr, method_named, shown_enumeration}
-use Rattle.amh_values.specs.Members.{member_named}
-use Rattle.amh_values.specs.Plans.{thing_made}
+use Rattle.amh_things.specs.declared.thing.Thing.{Thing}
+use Rattle.amh_things.specs.declared.thing.Thing.TheVariants as thing
+use Rattle.amh_things.specs.declared.thing.Method.{Method}
+use Rattle.amh_things.specs.Ends.{Ends}
+use Rattle.amh_things.specs.declared.plan.Plan.{Plan}
+use Rattle.amh_things.specs.Things.{held_expr, method_named, shown_enumeration}
+use Rattle.amh_things.specs.Members.{member_named}
+use Rattle.amh_things.specs.Plans.{thing_made}
 
 abbrev pub method_made : Ends → Hw → Option ExprId → Option Method → Result Plan Cause
 method_made ends h (Some e) (Some m) = Ok (thing_made ends (thing.Method h e m))

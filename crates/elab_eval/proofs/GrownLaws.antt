@@ -15,9 +15,9 @@ use Rattle.module_dsl.specs.declared.step.Opening.TheVariants as opening
 use Rattle.module_dsl.specs.Builders.{Built}
 use Rattle.elab_eval.specs.declared.kept.Begin.{Begin}
 use Rattle.elab_eval.specs.declared.kept.Begin.TheVariants as begin
-use Rattle.amh_values.specs.declared.thing.Thing.{Thing}
-use Rattle.amh_values.specs.declared.thing.Thing.TheVariants as thing
-use Rattle.amh_values.specs.Held.{IsHeld, AreHeld}
+use Rattle.amh_things.specs.declared.thing.Thing.{Thing}
+use Rattle.amh_things.specs.declared.thing.Thing.TheVariants as thing
+use Rattle.amh_things.specs.Held.{IsHeld, AreHeld}
 use Rattle.elab_eval.specs.declared.kept.Kept.{Kept}
 use Rattle.elab_eval.specs.declared.kept.Kept.TheVariants as kept_as
 use Rattle.elab_eval.specs.declared.kept.Top.{Top}
