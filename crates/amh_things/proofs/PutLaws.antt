@@ -17,7 +17,7 @@ use Rattle.amh_things.specs.declared.thing.Thing.{Thing}
 use Rattle.amh_things.specs.declared.thing.Thing.TheVariants as thing
 use Rattle.amh_things.specs.declared.thing.Method.{Method}
 use Rattle.amh_things.specs.declared.thing.Member.{Member}
-use Rattle.amh_things.specs.Things.{held_expr, held_method, shown_member}
+use Rattle.amh_things.specs.Things.{bare_expr, held_expr, held_method, shown_member}
 use Rattle.amh_things.specs.Held.{IsNumber, IsHeld, AreHeld}
 use Rattle.amh_things.proofs.Drafts.{forms_length}
 
@@ -60,6 +60,8 @@ pub held_expr_below : (n : ℕ) (things : List Thing) (i : ℕ) (e : ExprId) →
 held_expr_below n [] i e h is = cc
 held_expr_below n (thing.Value x ∷ xs) zero e h is = let same : x ≡ e = cc in rw (← same) h.0
 held_expr_below n (thing.Numbered of x ∷ xs) zero e h is = let same : x ≡ e = cc in rw (← same) h.0
+held_expr_below n (thing.View of x ∷ xs) zero e h is = let same : x ≡ e = cc in rw (← same) h.0
+held_expr_below n (thing.Layout x ∷ xs) zero e h is = cc
 held_expr_below n (thing.Enumeration x ∷ xs) zero e h is = cc
 held_expr_below n (thing.Member x ∷ xs) zero e h is = cc
 held_expr_below n (thing.Name x ∷ xs) zero e h is = cc
@@ -69,10 +71,27 @@ held_expr_below n (thing.Method of x m ∷ xs) zero e h is = cc
 held_expr_below n (thing.Kept x ∷ xs) zero e h is = cc
 held_expr_below n (x ∷ xs) (suc i) e h is = held_expr_below n xs i e h.1 is
 
+pub bare_expr_below : (n : ℕ) (things : List Thing) (i : ℕ) (e : ExprId) → AreHeld n things → bare_expr (slice_get things i) ≡ Some e → e.0 < n
+bare_expr_below n [] i e h is = cc
+bare_expr_below n (thing.Value x ∷ xs) zero e h is = let same : x ≡ e = cc in rw (← same) h.0
+bare_expr_below n (thing.Numbered of x ∷ xs) zero e h is = let same : x ≡ e = cc in rw (← same) h.0
+bare_expr_below n (thing.View of x ∷ xs) zero e h is = cc
+bare_expr_below n (thing.Layout x ∷ xs) zero e h is = cc
+bare_expr_below n (thing.Enumeration x ∷ xs) zero e h is = cc
+bare_expr_below n (thing.Member x ∷ xs) zero e h is = cc
+bare_expr_below n (thing.Name x ∷ xs) zero e h is = cc
+bare_expr_below n (thing.Shape x ∷ xs) zero e h is = cc
+bare_expr_below n (thing.Array x ∷ xs) zero e h is = cc
+bare_expr_below n (thing.Method of x m ∷ xs) zero e h is = cc
+bare_expr_below n (thing.Kept x ∷ xs) zero e h is = cc
+bare_expr_below n (x ∷ xs) (suc i) e h is = bare_expr_below n xs i e h.1 is
+
 pub held_method_below : (n : ℕ) (things : List Thing) (i : ℕ) (r : ExprId × Method) → AreHeld n things → held_method (slice_get things i) ≡ Some r → r.0.0 < n
 held_method_below n [] i r h is = cc
 held_method_below n (thing.Value x ∷ xs) zero r h is = cc
 held_method_below n (thing.Numbered of x ∷ xs) zero r h is = cc
+held_method_below n (thing.View of x ∷ xs) zero r h is = cc
+held_method_below n (thing.Layout x ∷ xs) zero r h is = cc
 held_method_below n (thing.Enumeration x ∷ xs) zero r h is = cc
 held_method_below n (thing.Member x ∷ xs) zero r h is = cc
 held_method_below n (thing.Name x ∷ xs) zero r h is = cc
@@ -88,6 +107,8 @@ member_number n [] i m h is = cc
 member_number n (thing.Member x ∷ xs) zero m h is = let same : x ≡ m = cc in rw (← same) h.0
 member_number n (thing.Value x ∷ xs) zero m h is = cc
 member_number n (thing.Numbered of x ∷ xs) zero m h is = cc
+member_number n (thing.View of x ∷ xs) zero m h is = cc
+member_number n (thing.Layout x ∷ xs) zero m h is = cc
 member_number n (thing.Enumeration x ∷ xs) zero m h is = cc
 member_number n (thing.Name x ∷ xs) zero m h is = cc
 member_number n (thing.Shape x ∷ xs) zero m h is = cc
@@ -100,6 +121,8 @@ held_longer : (n k : ℕ) (t : Thing) → IsHeld n t → IsHeld (n + k) t
 held_longer n k (thing.Value e) h = omega (arith, h)
 held_longer n k (thing.Method of e m) h = omega (arith, h)
 held_longer n k (thing.Numbered of e) h = omega (arith, h)
+held_longer n k (thing.View of e) h = omega (arith, h)
+held_longer n k (thing.Layout x) h = tt
 held_longer n k (thing.Enumeration x) h = tt
 held_longer n k (thing.Member m) h = h
 held_longer n k (thing.Name x) h = tt

@@ -15,6 +15,7 @@ IsNumber m = IsForm m.shape.width m.shape.signed × IsOf m.shape.signed m.shape.
 abbrev pub IsHeld : ℕ → Thing → Type 0
 IsHeld n (thing.Value e) = e.0 < n
 IsHeld n (thing.Numbered h e) = e.0 < n
+IsHeld n (thing.View h e) = e.0 < n
 IsHeld n (thing.Method h e m) = e.0 < n
 IsHeld n (thing.Member m) = IsNumber m
 IsHeld n t = ⊤

@@ -99,10 +99,6 @@ abbrev pub numbering : List Thing → Option Val → Option Hw
 numbering things (Some (val.Hw h)) = numbering_at things h
 numbering things v = None
 
-abbrev pub numbering_held : List Thing → Option Hw → Option Hw
-numbering_held things None = None
-numbering_held things (Some h) = numbering_at things h
-
 -- the enumeration whose shape an expression has as this thing
 abbrev pub numbered_by : ExprId → Thing → Option Hw
 numbered_by e (thing.Numbered h x) = if x.0 == e.0 then Some h else None

@@ -16,6 +16,8 @@ use Rattle.py_frames.specs.declared.request.Cause.{Cause}
 use Rattle.py_frames.specs.declared.request.Cause.TheVariants.{Raised, Width, Limit}
 use Rattle.amh_things.specs.declared.thing.Thing.{Thing}
 use Rattle.amh_things.specs.declared.thing.Thing.TheVariants as thing
+use Rattle.amh_things.specs.declared.thing.Reading.{Reading}
+use Rattle.amh_things.specs.Things.{read_as}
 use Rattle.amh_things.specs.Ends.{Ends}
 use Rattle.amh_things.specs.Held.{AreHeld}
 use Rattle.amh_things.specs.declared.plan.Plan.{Plan}
@@ -37,6 +39,14 @@ abbrev pub valued_made : Ends → Option Hw → List Expr → Expr → Plan
 valued_made ends of before e = record {
   exprs = before ++ e ∷ [];
   things = valued of (record { 0 = ends.exprs + length before }) ∷ [];
+  answer = answer.Give (val.Hw (record { 0 = ends.things }));
+}
+
+-- a value by what it is read as, over these expressions, which come before it
+abbrev pub read_made : Ends → Reading → List Expr → Expr → Plan
+read_made ends r before e = record {
+  exprs = before ++ e ∷ [];
+  things = read_as r (record { 0 = ends.exprs + length before }) ∷ [];
   answer = answer.Give (val.Hw (record { 0 = ends.things }));
 }
 

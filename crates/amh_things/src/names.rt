@@ -1,6 +1,6 @@
 // The names that are called, and the methods of values, by their spelling.
 ghost use Rattle.std.specs.Prelude.{◌≡◌};
-ghost use Rattle.amh_things.specs.Things.{name_called, base_called, method_named, method_with};
+ghost use Rattle.amh_things.specs.Things.{name_called, base_called, layout_named, method_named, method_with};
 
 use crate::texts::is_text;
 use crate::thing::{Method, ThingName};
@@ -13,6 +13,23 @@ pub fn base_called(name: &str) -> Option<ThingName>
         Some(ThingName::Enum)
     } else if is_text(name, "IntEnum") {
         Some(ThingName::IntEnum)
+    } else {
+        None
+    }
+}
+
+/// The name of a layout that is spelled so.
+pub fn layout_named(name: &str) -> Option<ThingName>
+    ensures { result ≡ layout_named name.now }
+{
+    if is_text(name, "Struct") {
+        Some(ThingName::Struct)
+    } else if is_text(name, "StructLayout") {
+        Some(ThingName::StructLayout)
+    } else if is_text(name, "UnionLayout") {
+        Some(ThingName::UnionLayout)
+    } else if is_text(name, "ArrayLayout") {
+        Some(ThingName::ArrayLayout)
     } else {
         None
     }

@@ -1,10 +1,11 @@
 // What an act makes and answers, before anything is done.
 ghost use Rattle.std.specs.Prelude.{◌≡◌, ◌+◌, ◌≤◌, ◌<◌, ◌^◌, length, [], Ok};
 ghost use Rattle.amh_things.specs.Ends.{AreEnds};
-ghost use Rattle.amh_things.specs.Plans.{IsPlanned, valued, value_made, valued_made, thing_made, value_given};
+ghost use Rattle.amh_things.specs.Plans.{IsPlanned, valued, value_made, valued_made, read_made, thing_made, value_given};
+ghost use Rattle.amh_things.specs.Things.{read_as};
 
 use crate::queue::Queue;
-use crate::thing::Thing;
+use crate::thing::{Reading, Thing};
 use design_ir::{Expr, ExprId};
 use lists::NoMemory;
 use py_frames::request::{Answer, Cause};
@@ -81,6 +82,33 @@ impl Ends {
         self.valued(alloc, None, exprs, e)
     }
 
+    /// A value by what it is read as, over these expressions.
+    pub fn read(
+        self,
+        alloc: Global,
+        reading: Reading,
+        exprs: Queue<Expr>,
+        e: Expr,
+    ) -> Result<Plan, PlanStop>
+        requires { length exprs ≤ 262144 }
+        ensures { IsPlanned result (Ok (read_made self reading exprs e)) }
+    {
+        let mut exprs = exprs;
+        let id = ExprId(self.exprs() + exprs.len() as u32);
+        let Ok(()) = exprs.push(e) else {
+            return Err(PlanStop::NoMemory);
+        };
+        let mut things = Queue::new(alloc);
+        let Ok(()) = things.push(read_as(reading, id)) else {
+            return Err(PlanStop::NoMemory);
+        };
+        Ok(Plan {
+            exprs,
+            things,
+            answer: Answer::Give(Val::Hw(Hw(self.things()))),
+        })
+    }
+
     /// A value over these expressions, of the shape of an enumeration where one is given.
     pub fn valued(
         self,
@@ -121,6 +149,17 @@ impl Ends {
             things,
             answer: Answer::Give(Val::Hw(Hw(self.things()))),
         })
+    }
+}
+
+/// The value of an expression, as what it is read as.
+pub fn read_as(reading: Reading, value: ExprId) -> Thing
+    ensures { result ≡ read_as reading value }
+{
+    match reading {
+        Reading::Plain => Thing::Value(value),
+        Reading::Numbered(of) => Thing::Numbered { of, value },
+        Reading::Viewed(of) => Thing::View { of, value },
     }
 }
 

@@ -1,12 +1,13 @@
 // Things: what a program may hold of the hardware, beside the values of Python.
 
 use amh_bits::Int;
-use data_layouts::EnumShape;
+use amh_host::Items;
+use data_layouts::{EnumShape, Layout};
 use design_ir::ExprId;
 use py_values::{Hw, Vals};
 use shape_rules::Shape;
 
-/// A name of Amaranth that is called to make a shape, a value or an array, or over which a class makes an enumeration.
+/// A name of Amaranth that is called to make a shape, a value, an array or a layout, or over which a class makes an enumeration or a layout.
 #[derive(Clone, Copy, Debug, PartialEq, Eq, Drop)]
 pub enum ThingName {
     Const,
@@ -18,9 +19,13 @@ pub enum ThingName {
     Signed,
     Enum,
     IntEnum,
+    Struct,
+    StructLayout,
+    UnionLayout,
+    ArrayLayout,
 }
 
-/// A method of a value.
+/// A method of a value, or of a view.
 #[derive(Clone, Copy, Debug, PartialEq, Eq, Drop)]
 pub enum Method {
     Bool,
@@ -35,6 +40,8 @@ pub enum Method {
     BitSelect,
     WordSelect,
     Matches,
+    /// Of a view alone.
+    AsValue,
 }
 
 /// A member of an enumeration.
@@ -49,7 +56,27 @@ pub struct Member {
     pub is_integer: bool,
 }
 
-/// A thing of the store. Layouts and views come with layouts.
+/// What the bits of a value are read as: a number of its shape, a number of an enumeration, or the fields of a layout.
+#[derive(Clone, Copy, Debug, PartialEq, Eq, Drop)]
+pub enum Reading {
+    Plain,
+    Numbered(Hw),
+    Viewed(Hw),
+}
+
+/// What the fields of a layout are read as, one after the other.
+pub type Readings = Items<Reading>;
+
+/// A layout, and what each of its fields is read as.
+#[derive(Drop)]
+pub struct LayoutThing {
+    pub layout: Layout,
+    pub readings: Readings,
+    /// Whether the fields are the items of an array, which are reached by index alone.
+    pub is_array: bool,
+}
+
+/// A thing of the store.
 #[derive(Drop)]
 pub enum Thing {
     /// A name that is called.
@@ -66,6 +93,12 @@ pub enum Thing {
     /// An enumeration.
     Enumeration(EnumShape),
     Member(Member),
+    Layout(LayoutThing),
+    /// The value of an expression, whose bits are the fields of the layout at `of`.
+    View {
+        of: Hw,
+        value: ExprId,
+    },
     /// An array: its elements may be any values of the program.
     Array(Vals),
     /// A method of the value that stands at `of`, which is that of the expression.

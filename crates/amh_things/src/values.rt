@@ -1,15 +1,16 @@
 // The list of things.
 ghost use Rattle.std.specs.Prelude.{◌≡◌, ◌++◌, ◌∷◌, [], length, IfOk, OnErr, IsSome, slice_get, option_map, option_and_then, unwrap_or};
 ghost use Rattle.std.specs.Option.{option_copied};
+ghost use Rattle.shape_rules.specs.Forms.{unsigned};
 ghost use Rattle.amh_things.specs.declared.thing.Thing.TheVariants as thing;
-ghost use Rattle.amh_things.specs.Things.{kept_number, held_expr, shown_shape, shown_enumeration, shown_member, held_method, shown_name, shown_array, eq_target, name_called, base_called};
-ghost use Rattle.amh_things.specs.Members.{numbering_held, numbering_at, member_of, enumeration_of};
-ghost use Rattle.amh_things.specs.Plans.{valued};
+ghost use Rattle.amh_things.specs.Things.{kept_number, bare_expr, held_expr, shown_shape, shown_enumeration, shown_member, shown_layout, shown_view, held_method, shown_name, shown_array, eq_target, name_called, base_called, layout_named, reading_at, reading_held, read_as};
+ghost use Rattle.amh_things.specs.declared.thing.Reading.TheVariants as reading;
+ghost use Rattle.amh_things.specs.Members.{numbering_at, member_of, enumeration_of};
 
 use crate::members::{behind, enumeration_of, member_place};
-use crate::names::{base_called, name_called};
-use crate::plan::valued;
-use crate::thing::{Member, Method, Thing, ThingName};
+use crate::names::{base_called, layout_named, name_called};
+use crate::plan::read_as;
+use crate::thing::{LayoutThing, Member, Method, Reading, Thing, ThingName};
 use amh_bits::Int;
 use data_layouts::EnumShape;
 use design_ir::ExprId;
@@ -57,13 +58,14 @@ impl Values {
         self.put(Thing::Kept(number))
     }
 
-    /// The value of an expression, as a thing. Where the shape by which it was made is an enumeration, it is a value of that.
+    /// The value of an expression, as a thing. Where the shape by which it was made is an enumeration, it is a value of that, and where it is a
+    /// layout, a view of it.
     pub fn hold(&mut self, e: ExprId, shape: Option<Hw>) -> Result<Hw, NoMemory>
-        ensures held { IfOk result (λ hw. (hw ≡ record { 0 = length self.old }) × (self.new ≡ self.old ++ valued (numbering_held self.old shape) e ∷ [])) }
+        ensures held { IfOk result (λ hw. (hw ≡ record { 0 = length self.old }) × (self.new ≡ self.old ++ read_as (reading_held self.old shape) e ∷ [])) }
         ensures full { OnErr result (self.new ≡ self.old) }
     {
-        let of = self.numbering(shape);
-        self.put(valued(of, e))
+        let reading = self.reading_held(shape);
+        self.put(read_as(reading, e))
     }
 
     /// A name that is called, as a thing: `Const`, `C`, `Cat`, `Mux`, `Array`, `unsigned` or `signed`.
@@ -83,6 +85,16 @@ impl Values {
         ensures full { OnErr result (self.new ≡ self.old) }
     {
         let name = base_called(name).unwrap();
+        self.put(Thing::Name(name))
+    }
+
+    /// A name of a layout, as a thing: `Struct`, `StructLayout`, `UnionLayout` or `ArrayLayout`.
+    pub fn layout_name(&mut self, name: &str) -> Result<Hw, NoMemory>
+        requires { IsSome (layout_named name.now) }
+        ensures named { IfOk result (λ hw. (hw ≡ record { 0 = length self.old }) × (Some self.new ≡ option_map (λ n. self.old ++ thing.Name n ∷ []) (layout_named name.now))) }
+        ensures full { OnErr result (self.new ≡ self.old) }
+    {
+        let name = layout_named(name).unwrap();
         self.put(Thing::Name(name))
     }
 
@@ -110,9 +122,9 @@ impl Values {
         }
     }
 
-    /// The expression that the thing stands for, where it is a value.
-    pub fn expr(&self, hw: Hw) -> Option<ExprId>
-        ensures { result ≡ held_expr (slice_get self.now hw.0) }
+    /// The expression that the thing stands for, where it is a value and no view.
+    pub fn bare(&self, hw: Hw) -> Option<ExprId>
+        ensures { result ≡ bare_expr (slice_get self.now hw.0) }
     {
         match self.thing(hw) {
             Some(Thing::Value(e)) => Some(*e),
@@ -121,13 +133,26 @@ impl Values {
         }
     }
 
-    /// The shape that the thing is, where it is one: that of an enumeration too.
+    /// The expression that the thing stands for where a value is wanted: of a view it is the value under it.
+    pub fn expr(&self, hw: Hw) -> Option<ExprId>
+        ensures { result ≡ held_expr (slice_get self.now hw.0) }
+    {
+        match self.thing(hw) {
+            Some(Thing::Value(e)) => Some(*e),
+            Some(Thing::Numbered { value, .. }) => Some(*value),
+            Some(Thing::View { value, .. }) => Some(*value),
+            _ => None,
+        }
+    }
+
+    /// The shape that the thing is, where it is one: that of an enumeration too, and the bits of a layout.
     pub fn shape(&self, hw: Hw) -> Option<Shape>
         ensures { result ≡ shown_shape (slice_get self.now hw.0) }
     {
         match self.thing(hw) {
             Some(Thing::Shape(shape)) => Some(*shape),
             Some(Thing::Enumeration(e)) => Some(e.shape()),
+            Some(Thing::Layout(l)) => Some(bits(l)),
             _ => None,
         }
     }
@@ -170,6 +195,46 @@ impl Values {
         }
     }
 
+    /// The layout that the thing is.
+    pub fn layout(&self, hw: Hw) -> Option<&LayoutThing>
+        ensures { option_copied result ≡ shown_layout (slice_get self.now hw.0) }
+    {
+        match self.thing(hw) {
+            Some(Thing::Layout(l)) => Some(l),
+            _ => None,
+        }
+    }
+
+    /// The layout and the expression of a view, where the thing is one.
+    pub fn view(&self, hw: Hw) -> Option<(Hw, ExprId)>
+        ensures { result ≡ shown_view (slice_get self.now hw.0) }
+    {
+        match self.thing(hw) {
+            Some(Thing::View { of, value }) => Some((*of, *value)),
+            _ => None,
+        }
+    }
+
+    /// What a value is read as whose shape is given by this thing.
+    pub fn reading(&self, hw: Hw) -> Reading
+        ensures { result ≡ reading_at self.now hw }
+    {
+        match self.thing(hw) {
+            Some(Thing::Enumeration(_)) => Reading::Numbered(hw),
+            Some(Thing::Layout(_)) => Reading::Viewed(hw),
+            _ => Reading::Plain,
+        }
+    }
+
+    fn reading_held(&self, shape: Option<Hw>) -> Reading
+        ensures { result ≡ reading_held self.now shape }
+    {
+        match shape {
+            Some(hw) => self.reading(hw),
+            None => Reading::Plain,
+        }
+    }
+
     /// The enumeration that the thing is.
     pub fn shown_enumeration(&self, hw: Hw) -> Option<&EnumShape>
         ensures { option_map (λ e. e.now) result ≡ shown_enumeration (slice_get self.now hw.0) }
@@ -187,15 +252,6 @@ impl Values {
         match self.thing(hw) {
             Some(Thing::Enumeration(_)) => Some(hw),
             _ => None,
-        }
-    }
-
-    fn numbering(&self, shape: Option<Hw>) -> Option<Hw>
-        ensures { result ≡ numbering_held self.now shape }
-    {
-        match shape {
-            Some(hw) => self.numbering_at(hw),
-            None => None,
         }
     }
 
@@ -258,5 +314,15 @@ impl Values {
             Ok(()) => Ok(Hw(number as u32)),
             Err(_) => Err(NoMemory),
         }
+    }
+}
+
+// A layout as a shape: its bits, without a sign.
+fn bits(l: &LayoutThing) -> Shape
+    ensures { result ≡ unsigned l.now.layout.width }
+{
+    Shape {
+        width: l.layout.width(),
+        signed: false,
     }
 }

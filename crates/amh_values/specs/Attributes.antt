@@ -12,7 +12,7 @@ use Rattle.amh_things.specs.declared.thing.Thing.TheVariants as thing
 use Rattle.amh_things.specs.declared.thing.Method.{Method}
 use Rattle.amh_things.specs.Ends.{Ends}
 use Rattle.amh_things.specs.declared.plan.Plan.{Plan}
-use Rattle.amh_things.specs.Things.{held_expr, method_named, shown_enumeration}
+use Rattle.amh_things.specs.Things.{bare_expr, method_named, shown_enumeration}
 use Rattle.amh_things.specs.Members.{member_named}
 use Rattle.amh_things.specs.Plans.{thing_made}
 
@@ -23,7 +23,7 @@ method_made ends h (Some e) None = Err Raised
 
 abbrev pub thing_attribute : Ends → List Thing → Hw → Option Enumerated → List ℕ → Result Plan Cause
 thing_attribute ends things h (Some e) n = member_named things h e n
-thing_attribute ends things h None n = method_made ends h (held_expr (slice_get things h.0)) (method_named n)
+thing_attribute ends things h None n = method_made ends h (bare_expr (slice_get things h.0)) (method_named n)
 
 abbrev pub attributed : Ends → List Thing → List Val → List ℕ → Result Plan Cause
 attributed ends things (val.Hw h ∷ []) n = thing_attribute ends things h (shown_enumeration (slice_get things h.0)) n

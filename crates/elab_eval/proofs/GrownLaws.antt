@@ -81,6 +81,8 @@ held_stays : (m n : ℕ) → m ≤ n → (t : Thing) → IsHeld m t → IsHeld n
 held_stays m n le (thing.Value e) h = omega (arith, h, le)
 held_stays m n le (thing.Method x e y) h = omega (arith, h, le)
 held_stays m n le (thing.Numbered x e) h = omega (arith, h, le)
+held_stays m n le (thing.View x e) h = omega (arith, h, le)
+held_stays m n le (thing.Layout x) h = tt
 held_stays m n le (thing.Enumeration x) h = tt
 held_stays m n le (thing.Member x) h = h
 held_stays m n le (thing.Name x) h = tt

@@ -26,7 +26,7 @@ use Rattle.amh_things.specs.declared.plan.PlanStop.{PlanStop}
 use Rattle.amh_things.specs.Held.{AreHeld}
 use Rattle.amh_things.specs.Plans.{forms, ends_of, value_made, IsPlanned, IsDrafted}
 use Rattle.value_acts.specs.Indices.{bit, bits_below, ids_from, bit_made, run_made, bits_made, cut_made, is_by_one, bits_between, IsPlace, values_made, value_indexed, thing_indexed}
-use Rattle.amh_things.specs.Things.{held_expr}
+use Rattle.amh_things.specs.Things.{bare_expr}
 use Rattle.value_acts.proofs.SliceLaws.{run_within, bits_few, bits_are_below}
 use Rattle.std.specs.Ordering.{int_eq}
 use Rattle.amh_things.proofs.Drafts.{forms_length, form_is, narrow, width_of_form, value_drafted}
@@ -34,9 +34,11 @@ use Rattle.amh_things.proofs.Drafts.{forms_length, form_is, narrow, width_of_for
 -- ---- what is indexed
 
 -- a value of whatever shape is indexed by its bits
-pub indexed_value : (p : Pooled) (things : List Thing) (t : Option Thing) (e : ExprId) (vals : List Val) → held_expr t ≡ Some e → thing_indexed p things t vals ≡ value_indexed (ends_of p things) e (form p e.0).width vals
+pub indexed_value : (p : Pooled) (things : List Thing) (t : Option Thing) (e : ExprId) (vals : List Val) → bare_expr t ≡ Some e → thing_indexed p things t vals ≡ value_indexed (ends_of p things) e (form p e.0).width vals
 indexed_value p things (Some (thing.Value x)) e vals is = let same : x ≡ e = cc in rw (← same) refl
 indexed_value p things (Some (thing.Numbered h x)) e vals is = let same : x ≡ e = cc in rw (← same) refl
+indexed_value p things (Some (thing.View h x)) e vals is = cc
+indexed_value p things (Some (thing.Layout x)) e vals is = cc
 indexed_value p things (Some (thing.Enumeration x)) e vals is = cc
 indexed_value p things (Some (thing.Member x)) e vals is = cc
 indexed_value p things (Some (thing.Name x)) e vals is = cc

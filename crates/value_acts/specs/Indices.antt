@@ -22,7 +22,7 @@ use Rattle.amh_things.specs.declared.thing.Thing.{Thing}
 use Rattle.amh_things.specs.declared.thing.Thing.TheVariants as thing
 use Rattle.amh_things.specs.Ends.{Ends}
 use Rattle.amh_things.specs.declared.plan.Plan.{Plan}
-use Rattle.amh_things.specs.Things.{held_expr}
+use Rattle.amh_things.specs.Things.{bare_expr}
 use Rattle.value_acts.specs.Arrays.{array_indexed}
 use Rattle.amh_things.specs.Plans.{ends_of, value_made, value_given}
 
@@ -96,7 +96,7 @@ width_given p None = Err Raised
 width_given p (Some e) = Ok (value_given (val.Int (pos (form p e.0).width)))
 
 abbrev pub measured : Pooled → List Thing → List Val → Result Plan Cause
-measured p things (val.Hw h ∷ []) = width_given p (held_expr (slice_get things h.0))
+measured p things (val.Hw h ∷ []) = width_given p (bare_expr (slice_get things h.0))
 measured p things vals = Err Raised
 
 -- ---- iteration over the bits of a value, the lowest first; an array has elements by index alone
@@ -114,7 +114,7 @@ bits_given p things None = Err Raised
 bits_given p things (Some e) = Ok (values_made (ends_of p things) (map (bit e) (bits_below (form p e.0).width)))
 
 abbrev pub iterated : Pooled → List Thing → List Val → Result Plan Cause
-iterated p things (val.Hw h ∷ []) = bits_given p things (held_expr (slice_get things h.0))
+iterated p things (val.Hw h ∷ []) = bits_given p things (bare_expr (slice_get things h.0))
 iterated p things vals = Err Raised
 
 -- ---- where a slice of so many bits begins and ends: behind the last bit at most, or before the first one where it goes back

@@ -9,7 +9,7 @@ ghost use Rattle.py_values.specs.Changes.{index_place};
 ghost use Rattle.py_values.specs.Numbers.{number_of};
 ghost use Rattle.value_acts.specs.Indices.{bits_below, bits_between, is_by_one, IsPlace, bit, ids_from, bit_made, cut_made, run_made, bits_made, value_indexed, thing_indexed, indexed, measured, values_made, bits_given, iterated};
 ghost use Rattle.amh_things.specs.Plans.{ends_of, IsPlanned, IsDrafted};
-ghost use Rattle.amh_things.specs.Things.{held_expr};
+ghost use Rattle.amh_things.specs.Things.{bare_expr};
 ghost use Rattle.amh_things.specs.Held.{AreHeld};
 
 use crate::arrays::array_indexed;
@@ -39,7 +39,7 @@ pub fn measured<P: Exprs>(
     ensures drafted { IfOk result (IsDrafted (P.pooled pool.now)) }
 {
     match vals {
-        [Val::Hw(hw)] => match values.expr(*hw) {
+        [Val::Hw(hw)] => match values.bare(*hw) {
             Some(e) => {
                 let width = pool.shape(e).width;
                 Ok(value_given(alloc, Val::Int(Int::of_u128(width as u128))))
@@ -256,7 +256,7 @@ fn thing_indexed<P: Exprs>(
     ensures planned { IsPlanned result (thing_indexed (P.pooled pool.now) values.now (slice_get values.now hw.0) vals.now) }
     ensures drafted { IfOk result (IsDrafted (P.pooled pool.now)) }
 {
-    if let Some(e) = values.expr(hw) {
+    if let Some(e) = values.bare(hw) {
         return value_indexed(alloc, pool, values, ends, e, vals);
     }
     match values.array(hw) {
@@ -357,10 +357,10 @@ fn held_bits<P: Exprs>(
 ) -> Result<Plan, PlanStop>
     requires held { AreHeld (length (P.pooled pool.now).exprs) values.now }
     requires ends { ends ≡ ends_of (P.pooled pool.now) values.now }
-    ensures planned { IsPlanned result (bits_given (P.pooled pool.now) values.now (held_expr (slice_get values.now hw.0))) }
+    ensures planned { IsPlanned result (bits_given (P.pooled pool.now) values.now (bare_expr (slice_get values.now hw.0))) }
     ensures drafted { IfOk result (IsDrafted (P.pooled pool.now)) }
 {
-    match values.expr(hw) {
+    match values.bare(hw) {
         Some(e) => {
             let shape = pool.shape(e);
             note_form(shape);

@@ -2,11 +2,11 @@ use Rattle.std.proofs.Common.{sym, subst}
 use Rattle.std.specs.Prelude.{slice_get}
 use Rattle.amh_things.specs.Plans.{IsPlanned}
 use Rattle.value_acts.proofs.IndexLaws.{indexed_value}
-use Rattle.amh_things.proofs.PutLaws.{held_expr_below}
+use Rattle.amh_things.proofs.PutLaws.{bare_expr_below}
 use Rattle.value_acts.proofs.indices.thing_indexed.Goals as goal
 
 pub value_indexed-requires-clause-there : goal.value_indexed-requires-clause-there
-value_indexed-requires-clause-there g c = held_expr_below _ c.args.values.now c.args.hw.0 _ c.requires.held (sym c.in-Some.ensures)
+value_indexed-requires-clause-there g c = bare_expr_below _ c.args.values.now c.args.hw.0 _ c.requires.held (sym c.in-Some.ensures)
 
 pub returns-in-Some-clause-planned : goal.returns-in-Some-clause-planned
 returns-in-Some-clause-planned g c =
