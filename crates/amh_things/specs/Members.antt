@@ -1,7 +1,7 @@
 -- Members of enumerations, and values of an enumeration's shape. Python library reference, "enum": a name with a number that stands already is
 -- another name of the first member, members of `Enum` are equal where they are the same, and those of `IntEnum` as integers are. That a member
 -- counts as a constant of its enumeration's shape where a value is wanted is Amaranth's (standard library reference 0.5, "Enumerations").
-use Rattle.std.specs.Prelude.{ℕ, ◌+◌, ◌==◌, ◌&&◌, ◌||◌, not, Bool, true, false, if◌then◌else◌, ℤ, List, [], ◌∷◌, drop, slice_get, Option, Some, None, option_map, Result, Ok, Err, codes}
+use Rattle.std.specs.Prelude.{ℕ, ◌+◌, ◌==◌, ◌&&◌, ◌||◌, not, Bool, false, if◌then◌else◌, ℤ, List, [], ◌∷◌, drop, slice_get, Option, Some, None, option_map, Result, Ok, Err, codes}
 use Rattle.std.specs.Option.{option_and_then}
 use Rattle.std.specs.List.{position}
 use Rattle.std.specs.Ordering.{int_eq}
