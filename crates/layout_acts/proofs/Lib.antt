@@ -1,1 +1,2 @@
 pub mod EnumerationLaws
+pub mod StructLaws

@@ -1,1 +1,5 @@
 pub mod Enumerations
+pub mod Names
+pub mod Layouts
+pub mod StructClasses
+

@@ -5,3 +5,6 @@
 #![tactic(auto)]
 
 pub mod enumerations;
+pub mod layouts;
+pub mod names;
+pub mod struct_classes;
