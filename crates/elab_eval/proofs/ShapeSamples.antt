@@ -4,13 +4,9 @@
 --     class Cmd(Struct):           thing 2
 --         op: Op
 --         val: signed(4)
-use Rattle.std.specs.Prelude.{◌≡◌, refl, ℕ, Bool, true, false, List, [], ◌∷◌, pos, Some, None, Ok, codes}
+use Rattle.std.specs.Prelude.{◌≡◌, refl, ℕ, Bool, true, false, List, [], ◌∷◌, pos, Some, None, codes}
 use Rattle.shape_rules.specs.Forms.{unsigned, signed_form}
-use Rattle.data_layouts.specs.declared.enumeration.NumberedName.{NumberedName}
-use Rattle.data_layouts.specs.declared.field.Field.{Field}
 use Rattle.design_ir.specs.declared.signal.Sig.{Sig}
-use Rattle.design_ir.specs.declared.expr.Expr.TheVariants as expr
-use Rattle.design_ir.specs.declared.expr.Pattern.{Pattern}
 use Rattle.design_ir.specs.Values.{form}
 use Rattle.py_values.specs.declared.val.Val.{Val}
 use Rattle.py_values.specs.declared.val.Val.TheVariants as val
@@ -23,7 +19,6 @@ use Rattle.amh_things.specs.declared.thing.ThingName.TheVariants as name
 use Rattle.amh_things.specs.declared.thing.Reading.{Reading}
 use Rattle.amh_things.specs.declared.thing.Reading.TheVariants as reading
 use Rattle.elab_eval.specs.declared.kept.HdlName.TheVariants as hdl
-use Rattle.elab_eval.specs.declared.kept.Kept.{Kept}
 use Rattle.elab_eval.specs.declared.kept.Kept.TheVariants as kept
 use Rattle.elab_eval.specs.declared.kept.BlockName.TheVariants as named
 use Rattle.elab_eval.specs.declared.kept.Begin.TheVariants as begin
