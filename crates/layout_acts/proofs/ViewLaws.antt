@@ -1,5 +1,5 @@
 -- The expressions of fields and of items are such that a pool takes them.
-use Rattle.std.specs.Prelude.{◌≡◌, refl, ℕ, zero, suc, ◌+◌, ◌<◌, ◌≤◌, ◌||◌, ◌==◌, nat_lt, nat_le, Bool, true, false, if◌then◌else◌, List, [], ◌∷◌, ◌++◌, length, slice_index_or, slice_get, Option, Some, None, Result, Ok, Err, IfOk, IfSome}
+use Rattle.std.specs.Prelude.{◌≡◌, refl, ℕ, ◌+◌, ◌<◌, ◌≤◌, ◌||◌, ◌==◌, nat_lt, nat_le, Bool, true, false, if◌then◌else◌, List, [], ◌∷◌, ◌++◌, length, slice_index_or, slice_get, Option, Some, None, Result, Ok, Err, IfOk, IfSome}
 use Rattle.std.specs.List.{list_any, AllByRecursion}
 use Rattle.std.proofs.Common.{sym, subst, ap, ◌∙◌, arith, length-append, append-nil, append_assoc}
 use Rattle.std.proofs.Math.ListN.{get_or-append}
@@ -11,7 +11,7 @@ use Rattle.data_layouts.specs.declared.field.Field.{Field}
 use Rattle.design_ir.specs.declared.ids.ExprId.{ExprId}
 use Rattle.design_ir.specs.declared.signal.Sig.{Sig}
 use Rattle.design_ir.specs.declared.expr.Expr.{Expr}
-use Rattle.design_ir.specs.declared.expr.Expr.TheVariants.{Const, Slice, Cast, Pick}
+use Rattle.design_ir.specs.declared.expr.Expr.TheVariants.{Slice, Cast, Pick}
 use Rattle.design_ir.specs.Pools.{Pooled}
 use Rattle.design_ir.specs.PoolRules.{AreExprs, IsExpr}
 use Rattle.design_ir.specs.Named.{AllBelow}
@@ -28,10 +28,10 @@ use Rattle.amh_things.specs.declared.plan.Plan.{Plan}
 use Rattle.amh_things.specs.declared.plan.PlanStop.{PlanStop}
 use Rattle.amh_things.specs.Held.{AreHeld}
 use Rattle.amh_things.specs.Operands.{operand_form, IsOperand}
-use Rattle.amh_things.specs.Plans.{forms, ends_of, read_made, IsPlanned, IsDrafted}
+use Rattle.amh_things.specs.Plans.{forms, ends_of, IsPlanned, IsDrafted}
 use Rattle.amh_things.specs.Things.{read_as}
 use Rattle.layout_acts.specs.declared.fields.FieldRead.{FieldRead}
-use Rattle.layout_acts.specs.Views.{field_exprs, field_id, field_count, field_plan, field_read, field_with, item_exprs, item_ids, item_plan, is_outside, is_unpickable, picked_where, view_plan, viewed}
+use Rattle.layout_acts.specs.Views.{field_exprs, field_id, field_count, field_plan, field_read, field_with, item_exprs, item_ids, item_plan, is_outside, is_unpickable, view_plan, viewed}
 use Rattle.amh_things.proofs.Drafts.{forms_length, form_is, narrow, width_of_form}
 
 -- ---- the shapes of a field's expressions

@@ -1,7 +1,7 @@
 -- Views: the value under a layout, and its fields. Amaranth standard library reference 0.5, "Data structures", data views: `view.NAME`, `view["NAME"]`,
 -- `view[i]` of an array, `view.as_value()`, `view.eq(x)`, and `layout(target)`. That an index past the end takes the last item, and that `layout(target)`
 -- is for a value of the same width alone, are own rules.
-use Rattle.std.specs.Prelude.{ℕ, ◌+◌, ◌==◌, ◌||◌, nat_le, nat_lt, Bool, true, false, if◌then◌else◌, ℤ, List, [], ◌∷◌, ◌++◌, length, position, slice_get, Option, Some, None, Result, Ok, Err, codes}
+use Rattle.std.specs.Prelude.{ℕ, ◌+◌, ◌==◌, ◌||◌, nat_le, nat_lt, Bool, true, if◌then◌else◌, ℤ, List, [], ◌∷◌, ◌++◌, length, position, slice_get, Option, Some, None, Result, Ok, Err, codes}
 use Rattle.std.specs.List.{list_any}
 use Rattle.std.specs.Option.{option_and_then}
 use Rattle.lists.specs.Texts.{text_eq}
