@@ -26,7 +26,7 @@ use Rattle.py_values.specs.declared.val.Hw.{Hw}
 use Rattle.amh_things.specs.Ends.{Ends}
 use Rattle.std.specs.Option.{option_and_then}
 use Rattle.data_layouts.specs.Enumerations.{Enumerated, number_named}
-use Rattle.amh_things.specs.Things.{bare_expr, held_expr, method_named, shown_enumeration, shown_view}
+use Rattle.amh_things.specs.Things.{bare_expr, held_expr, method_named, shown_view}
 use Rattle.amh_things.specs.Members.{member_of, member_given}
 use Rattle.amh_values.specs.Attributes.{method_made, thing_attribute}
 use Rattle.amh_values.specs.Calls.{signed_made, method_plan}

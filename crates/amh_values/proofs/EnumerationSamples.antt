@@ -4,7 +4,6 @@ use Rattle.shape_rules.specs.Forms.{Form, unsigned, signed_form}
 use Rattle.shape_rules.specs.declared.op.Op.TheVariants as op
 use Rattle.data_layouts.specs.declared.enumeration.NumberedName.{NumberedName}
 use Rattle.data_layouts.specs.Enumerations.{is_of}
-use Rattle.design_ir.specs.declared.signal.Sig.{Sig}
 use Rattle.design_ir.specs.declared.expr.Expr.TheVariants as expr
 use Rattle.design_ir.specs.Pools.{Pooled}
 use Rattle.design_ir.specs.Values.{form}

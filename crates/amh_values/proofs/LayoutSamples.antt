@@ -1,10 +1,9 @@
 -- Samples of layouts and views, computed.
-use Rattle.std.specs.Prelude.{◌≡◌, refl, ℕ, true, false, List, [], ◌∷◌, pos, negsuc, Some, None, Ok, Err, codes}
+use Rattle.std.specs.Prelude.{◌≡◌, refl, ℕ, true, false, List, [], ◌∷◌, pos, negsuc, Ok, Err, codes}
 use Rattle.std.specs.Fmt.{digits}
 use Rattle.shape_rules.specs.Forms.{Form, unsigned, signed_form}
 use Rattle.data_layouts.specs.declared.field.Field.{Field}
 use Rattle.design_ir.specs.declared.signal.Sig.{Sig}
-use Rattle.design_ir.specs.declared.expr.Expr.{Expr}
 use Rattle.design_ir.specs.declared.expr.Expr.TheVariants as expr
 use Rattle.design_ir.specs.Pools.{Pooled}
 use Rattle.design_ir.specs.Values.{form}
@@ -16,7 +15,6 @@ use Rattle.py_frames.specs.declared.request.Answer.TheVariants as answer
 use Rattle.py_frames.specs.declared.request.Cause.TheVariants as cause
 use Rattle.amh_things.specs.declared.thing.LayoutThing.{LayoutThing}
 use Rattle.amh_things.specs.declared.thing.Method.TheVariants as method
-use Rattle.amh_things.specs.declared.thing.Reading.{Reading}
 use Rattle.amh_things.specs.declared.thing.Reading.TheVariants as reading
 use Rattle.amh_things.specs.declared.thing.Thing.{Thing}
 use Rattle.amh_things.specs.declared.thing.Thing.TheVariants as thing

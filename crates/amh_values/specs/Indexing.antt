@@ -1,5 +1,5 @@
 -- An index of a thing: of a view its fields, of a value its bits, of an array its elements.
-use Rattle.std.specs.Prelude.{ℕ, List, [], ◌∷◌, slice_get, Option, Some, None, Result, Err}
+use Rattle.std.specs.Prelude.{List, ◌∷◌, slice_get, Option, Some, None, Result, Err}
 use Rattle.design_ir.specs.declared.ids.ExprId.{ExprId}
 use Rattle.design_ir.specs.Pools.{Pooled}
 use Rattle.py_values.specs.Heaps.{Seen}

@@ -223,7 +223,6 @@ all_inside width item (x ∷ xs) h =
     let both = is_false (is_outside width item x) (list_any (is_outside width item) xs) h in
     (inside width (x.low + item) both.0, all_inside width item xs both.1)
 
-
 pub items_picked_drafted : (p : Pooled) (things : List Thing) (e i : ExprId) (l : LayoutThing) (first : FieldRead) (r : Result Plan PlanStop) → e.0 < length p.exprs → i.0 < length p.exprs
     → (form p i.0).signed ≡ false → IsForm first.shape.width first.shape.signed → Some first ≡ field_read l 0 → is_unpickable (form p e.0).width first.shape.width l.layout.fields ≡ false
     → IsPlanned r (Ok (item_plan (ends_of p things) e first.shape first.reading i l.layout.fields)) → IfOk r (IsDrafted p)

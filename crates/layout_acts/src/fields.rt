@@ -24,7 +24,10 @@ pub struct FieldRead {
 pub(crate) fn field_read(l: &LayoutThing, i: usize) -> Option<FieldRead>
     ensures { result ≡ field_read l.now i }
 {
-    match (l.layout.fields().as_slice().get(i), l.readings.as_slice().get(i)) {
+    match (
+        l.layout.fields().as_slice().get(i),
+        l.readings.as_slice().get(i),
+    ) {
         (Some(f), Some(r)) => Some(FieldRead {
             low: f.low,
             shape: f.shape,

@@ -196,9 +196,12 @@ fn item_plan(
     ensures { IsPlanned result (Ok (item_plan ends e first.shape first.reading index fields.now)) }
 {
     match item_exprs(alloc, e, first.shape, ends.exprs(), fields) {
-        Ok(Items { exprs, ids }) => {
-            let pick = Expr::Pick { index, items: ids };
-            ends.read(alloc, first.reading, exprs, pick)
+        Ok(items) => {
+            let pick = Expr::Pick {
+                index,
+                items: items.ids,
+            };
+            ends.read(alloc, first.reading, items.exprs, pick)
         }
         Err(_) => Err(PlanStop::NoMemory),
     }
