@@ -1,4 +1,4 @@
-// Calls of things: names, and the methods of a value.
+// Calls of things: names, layouts, and the methods of a value or a view.
 ghost use Rattle.std.specs.Prelude.{◌≡◌, ◌<◌, length, drop, map, slice_get, string_bytes, IfOk};
 ghost use Rattle.shape_rules.specs.Forms.{unsigned};
 ghost use Rattle.design_ir.specs.Values.{form};
@@ -16,6 +16,8 @@ use amh_things::shown::Shown;
 use amh_things::thing::{Method, Thing, ThingName};
 use amh_things::values::Values;
 use design_ir::{Expr, ExprId, Exprs};
+use layout_acts::layouts::{self, LayoutKind, members_called};
+use layout_acts::views::layout_called;
 use py_frames::request::Request;
 use py_values::{Hw, Val};
 use shape_rules::{Op, Shape};
@@ -67,6 +69,7 @@ fn method_plan(
         Method::AsSigned => signed_made(alloc, ends, e, shape.width),
         Method::AsUnsigned => unsigned_made(alloc, ends, e),
         Method::Shape => ends.thing(alloc, Thing::Shape(shape)),
+        Method::AsValue => ends.thing(alloc, Thing::Value(e)),
         _ => Err(raised()),
     }
 }
@@ -137,6 +140,11 @@ fn any_name_called<P: Exprs>(
     match name {
         ThingName::Cat => cat_called(alloc, pool, values, &given.shown, ends, &given.arguments),
         ThingName::Array => array_called(alloc, ends, &given.shown, &given.arguments),
+        ThingName::StructLayout => {
+            members_called(alloc, values, ends, LayoutKind::Structure, given)
+        }
+        ThingName::UnionLayout => members_called(alloc, values, ends, LayoutKind::Union, given),
+        ThingName::ArrayLayout => layouts::array_called(alloc, values, ends, given),
         _ => name_called(alloc, pool, values, ends, name, given),
     }
 }
@@ -152,11 +160,14 @@ fn thing_called<P: Exprs>(
 ) -> Result<Plan, PlanStop>
     requires held { AreHeld (length (P.pooled pool.now).exprs) values.now }
     requires ends { ends ≡ ends_of (P.pooled pool.now) values.now }
-    ensures planned { IsPlanned result (thing_called (seen given.now.shown.frozen.now given.now.shown.heap.now) (P.pooled pool.now) values.now (slice_get values.now hw.0) given.now.arguments) }
+    ensures planned { IsPlanned result (thing_called (seen given.now.shown.frozen.now given.now.shown.heap.now) (P.pooled pool.now) values.now hw (slice_get values.now hw.0) given.now.arguments) }
     ensures drafted { IfOk result (IsDrafted (P.pooled pool.now)) }
 {
     if let Some(of) = values.method(hw) {
         return method_called(alloc, pool, values, ends, of, given);
+    }
+    if let Some(l) = values.shown_layout(hw) {
+        return layout_called(alloc, pool, values, ends, (hw, l), &given.arguments);
     }
     match values.named(hw) {
         Some(name) => any_name_called(alloc, pool, values, ends, name, given),

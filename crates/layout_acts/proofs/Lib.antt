@@ -1,2 +1,3 @@
 pub mod EnumerationLaws
 pub mod StructLaws
+pub mod ViewLaws

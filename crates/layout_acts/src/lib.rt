@@ -5,6 +5,8 @@
 #![tactic(auto)]
 
 pub mod enumerations;
+mod fields;
 pub mod layouts;
 pub mod names;
 pub mod struct_classes;
+pub mod views;

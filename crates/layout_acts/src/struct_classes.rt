@@ -36,11 +36,7 @@ fn push_annotation(
 }
 
 // The annotations of a class, in order; none where it has something else.
-fn annotations(
-    alloc: Global,
-    vals: &[Val],
-    names: &[String],
-) -> Result<Option<NamedVals>, NoMemory>
+fn annotations(alloc: Global, vals: &[Val], names: &[String]) -> Result<Option<NamedVals>, NoMemory>
     ensures { IfOk result (λ ms. ms ≡ annotations vals.now (map string_bytes names.now)) }
 {
     let mut members = NamedVals::new(alloc);
