@@ -1,3 +1,4 @@
 pub mod EnumerationLaws
 pub mod StructLaws
 pub mod ViewLaws
+pub mod ReadLaws

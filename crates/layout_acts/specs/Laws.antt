@@ -1,0 +1,30 @@
+-- What the fields of a view are: laws of the definitions.
+use Rattle.std.specs.Prelude.{◌≡◌, ℕ, ◌+◌, ◌^◌, ℤ, pos, List, ◌∷◌, ◌++◌, length, map, unsigned_abs}
+use Rattle.amh_bits.specs.Integers.{floor_quotient}
+use Rattle.amh_bits.specs.Patterns.{wrap}
+use Rattle.shape_rules.specs.Forms.{Form}
+use Rattle.data_layouts.specs.declared.field.Field.{Field}
+use Rattle.design_ir.specs.declared.ids.ExprId.{ExprId}
+use Rattle.design_ir.specs.declared.expr.Expr.{Expr}
+use Rattle.design_ir.specs.declared.expr.Expr.TheVariants.{Pick}
+use Rattle.design_ir.specs.Pools.{Pooled}
+use Rattle.design_ir.specs.PoolRules.{IsPool}
+use Rattle.design_ir.specs.Values.{num, picked}
+use Rattle.layout_acts.specs.Views.{field_exprs, field_id, item_exprs, item_ids}
+
+-- the number of a shape that the bits of another number are from one bit on
+abbrev pub read_from : ℕ → Form → ℤ → ℤ
+read_from low f n = wrap f.signed f.width (floor_quotient n (2 ^ low))
+
+-- where the expressions of a field stand in a pool, whatever comes before and behind them, the last one has the number that the bits of the value
+-- are from the field's lowest one on, read by the field's shape
+abbrev pub FieldsAreRead : Type 0
+FieldsAreRead = (p : Pooled) (env : List ℤ) (before after : List Expr) (e : ExprId) (low : ℕ) (f : Form) → IsPool p → p.exprs ≡ before ++ (field_exprs e low f (length before) ++ after)
+    → num p env (field_id f (length before)).0 ≡ read_from low f (num p env e.0)
+
+-- where the items of an array stand in a pool, and behind them the choice of one by an index, that has the number of the item at the index; past the
+-- end it has that of the last item
+abbrev pub ItemsAreChosen : Type 0
+ItemsAreChosen = (p : Pooled) (env : List ℤ) (before after : List Expr) (e i : ExprId) (f : Form) (xs : List Field) → IsPool p
+    → p.exprs ≡ before ++ (item_exprs e f (length before) xs ++ (Pick i (item_ids f (length before) xs) ∷ after))
+    → num p env (length before + length (item_exprs e f (length before) xs)) ≡ picked (pos 0) (map (λ (x : Field). read_from x.low f (num p env e.0)) xs) (unsigned_abs (num p env i.0))
