@@ -2,3 +2,4 @@ pub mod EnumerationLaws
 pub mod StructLaws
 pub mod ViewLaws
 pub mod ReadLaws
+pub mod WithinLaws

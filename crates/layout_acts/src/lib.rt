@@ -14,4 +14,4 @@ pub mod names;
 pub mod struct_classes;
 pub mod views;
 
-pub use laws::{fields_are_read, items_are_chosen};
+pub use laws::{fields_are_read, fields_lie_within, items_are_chosen, items_lie_within};
