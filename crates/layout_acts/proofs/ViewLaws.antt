@@ -257,5 +257,11 @@ viewed_drafted p things h width (Some x) (Ok plan) is made =
     let is_plan = by_width p plan (view_plan (ends_of p things) h x) ((operand_form x).width == width) made in
     rw (← is_plan) (view_drafted p things h x is)
 
-pub fits : (n m : ℕ) → nat_le n m ≡ true → n ≤ m
-fits n m h = grind (arith, nat_tests)
+-- what a test of widths says, of the widths that were tested
+pub fits : (low item width a b : ℕ) → true ≡ nat_le (low + a) b → a ≡ item → b ≡ width → low + item ≤ width
+fits low item width a b h ha hb =
+    let within : low + a ≤ b = below (low + a) b (sym h) in
+    omega (arith, within, ha, hb)
+  where
+    below : (n m : ℕ) → nat_le n m ≡ true → n ≤ m
+    below n m e = grind (arith, nat_tests)

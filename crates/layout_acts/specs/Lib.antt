@@ -3,3 +3,4 @@ pub mod Names
 pub mod Layouts
 pub mod StructClasses
 pub mod Views
+pub mod Laws
