@@ -11,6 +11,8 @@ lines indented by four blanks. The parts are
     fail       a call of the host that is to fail
     each fault how many calls of each kind there are
     done       the text that is said; refused, usage, fault, spent: the text that is warned
+    KIND each  lines that are refused with this kind, each alone at the end of the design, at the place before which it has `@`; a line
+               that stands further in belongs to the one before it
     trace      the lines of the trace; `trace lines` how many there are of those of the last case, behind a fault
     rtlil      `there`, `whole`, `none` or `K lines`; without it `there` where the run is done, else `none`
 
@@ -49,6 +51,35 @@ def cases_in(path):
                 parts[name] = []
         elif line.strip():
             raise SystemExit(f"{path}: {line!r} is no part of a case")
+
+
+def pieces_of(part):
+    """The pieces of a part, each its lines: one that stands further in belongs to the one before it."""
+    pieces = []
+    for line in part:
+        if line.startswith(" "):
+            pieces[-1].append(line)
+        elif line:
+            pieces.append([line])
+    return pieces
+
+
+def refused_with(case, kind, piece):
+    """The run of a case that is refused with this kind, where the piece at its end has the mark."""
+    form, above = ("module", 2) if "module" in case else ("design", 0)
+    head = lines(case[form]).splitlines()
+    row, col = next((row, line.index("@")) for row, line in enumerate(piece) if "@" in line)
+    return {form: head + [line.replace("@", "") for line in piece], "refused": f"top.py:{above + len(head) + row + 1}:{col + 1}: {kind}"}
+
+
+def expanded(case):
+    """The runs of a case: itself where it has an answer, and one for each piece that is refused."""
+    if any(status in case for status in CODES) or "each fault" in case:
+        yield {name: part for name, part in case.items() if not name.endswith(" each")}
+    for name, part in case.items():
+        if name.endswith(" each"):
+            for piece in pieces_of(part):
+                yield refused_with(case, name.removesuffix(" each"), piece)
 
 
 def lines(part, front=""):
@@ -96,7 +127,7 @@ def answer_of(case):
 
 
 def main():
-    table = [case for path in sorted(TABLES.glob("*.txt")) for case in cases_in(path)]
+    table = [run for path in sorted(TABLES.glob("*.txt")) for case in cases_in(path) for run in expanded(case)]
     questions = "".join(f"{question_of(case)}\n" for case in table)
     answers = "".join(f"{number} {answer_of(case)}\n" for number, case in enumerate(table, 1))
     (CRATE / "stdin").write_text(questions, encoding="utf-8")
