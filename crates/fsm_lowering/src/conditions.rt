@@ -60,7 +60,7 @@ pub fn made(pool: &mut Pool, e: Expr) -> Result<ExprId, FsmStop>
 /// A choice over this begins in the module.
 pub fn begin_switch(pool: &mut Pool, b: &mut Builder, subject: ExprId) -> Result<(), FsmStop>
     ensures begun { IfOk result (λ _. (in_switch (built_blocks b.old).around ≡ false) × (b.new ≡ and_entered pool.old b.old (Block.Switch subject)) × (open_switch (built_blocks b.new).around ≡ Some subject)) }
-    ensures count { OnOk result (built_count b.new ≡ built_count b.old) }
+    ensures count { built_count b.new ≡ built_count b.old }
     ensures refused { IfErr result (λ stop. IsOwed (stop_where FsmStop.Order (in_switch (built_blocks b.old).around) None) stop × (b.new ≡ b.old)) }
     ensures pool { pool.new ≡ pool.old }
 {
@@ -82,7 +82,7 @@ pub fn begin_case(
     requires in_place { open_switch (built_blocks b.old).around ≡ Some register }
     requires askable { IsAskable pool.old (Expr.Matches register patterns) }
     ensures begun { IfOk result (λ _. (is_full pool.old ≡ false) × (b.new ≡ and_entered pool.old b.old (Block.Case patterns)) × (pool.new ≡ expr_added pool.old (Expr.Matches register patterns)) × (open_case (built_blocks b.new).around ≡ Some register)) }
-    ensures count { OnOk result (built_count b.new ≡ built_count b.old) }
+    ensures count { built_count b.new ≡ built_count b.old }
     ensures refused { IfErr result (λ stop. IsOwed (stop_where FsmStop.Limit (is_full pool.old) None) stop × IsAtMost pool.old (Expr.Matches register patterns) pool.new) }
 {
     match b.enter(pool, Block::Case(patterns)) {
@@ -118,7 +118,7 @@ pub fn assign(
 /// The innermost block of the module ends.
 pub fn leave(b: &mut Builder) -> Result<(), FsmStop>
     ensures left { IfOk result (λ _. (leave_refusal b.old ≡ None) × (b.new ≡ and_left b.old)) }
-    ensures count { OnOk result (built_count b.new ≡ built_count b.old) }
+    ensures count { built_count b.new ≡ built_count b.old }
     ensures refused { IfErr result (λ stop. IsOwed (told (leave_refusal b.old)) stop × (b.new ≡ b.old)) }
 {
     match b.leave() {

@@ -104,7 +104,7 @@ impl Fsm {
         requires in_place { IsAtChoice self.old b.old }
         ensures begun { IfOk result (λ _. (state_refusal pool.old self.old b.old name.now ≡ None) × (self.new ≡ and_state self.old name.now place (record { 0 = length pool.old.exprs })) × (b.new ≡ with_case pool.old self.old b.old name.now) × (pool.new ≡ expr_added pool.old (in_state self.old (number_of self.old.states name.now)))) }
         ensures in_place { IfOk result (λ _. open_case (built_blocks b.new).around ≡ Some self.new.register) }
-        ensures count { OnOk result (built_count b.new ≡ built_count b.old) }
+        ensures count { built_count b.new ≡ built_count b.old }
         ensures refused { IfErr result (λ stop. IsOwed (state_refusal pool.old self.old b.old name.now) stop) }
         ensures unchanged { IfErr result (λ stop. Unless stop ((self.new ≡ self.old) × (b.new ≡ b.old) × (pool.new ≡ pool.old))) }
         ensures pool { IfErr result (λ _. IsAtMost pool.old (in_state self.old (number_of self.old.states name.now)) pool.new) }
@@ -134,7 +134,7 @@ impl Fsm {
         requires in_place { IsAtCase self.old b.old }
         ensures ended { IfOk result (λ _. (end_refusal self.old ≡ None) × (self.new ≡ and_ended self.old) × (b.new ≡ and_left b.old)) }
         ensures in_place { IfOk result (λ _. open_switch (built_blocks b.new).around ≡ Some self.new.register) }
-        ensures count { OnOk result (built_count b.new ≡ built_count b.old) }
+        ensures count { built_count b.new ≡ built_count b.old }
         ensures refused { IfErr result (λ stop. IsOwed (end_refusal self.old) stop × (self.new ≡ self.old) × (b.new ≡ b.old)) }
     {
         if !self.stage.is_within() {
@@ -159,20 +159,20 @@ impl Fsm {
         ensures given { IfOk result (λ _. (next_refusal pool.old self.old b.old name.now place ≡ None) × (self.new ≡ and_mention self.old name.now place) × (b.new ≡ with_next pool.old self.old b.old place) × (pool.new ≡ expr_added pool.old (state_number (number_of self.old.states name.now)))) }
         ensures refused { IfErr result (λ stop. IsOwed (next_refusal pool.old self.old b.old name.now place) stop) }
         ensures unchanged { IfErr result (λ stop. Unless stop ((self.new ≡ self.old) × (b.new ≡ b.old) × (pool.new ≡ pool.old))) }
+        ensures module { IfErr result (λ _. b.new ≡ b.old) }
         ensures pool { IfErr result (λ _. IsAtMost pool.old (state_number (number_of self.old.states name.now)) pool.new) }
     {
-        if !self.stage.is_within() {
+        if !self.stage.is_within() || b.in_switch() {
             return Err(FsmStop::Order);
         }
         let number = number_of(self.states.as_slice(), name);
-        // the statement first: where the module does not take it, no expression is made
-        let value = ExprId(pool.count());
-        assign(pool, b, &self.side, self.register, value, place)?;
         if number >= 256 {
             return Err(FsmStop::Limit);
         }
-        made(pool, state_number(number))?;
+        let value = made(pool, state_number(number))?;
         mention(self.alloc, &mut self.states, name, place)?;
+        // the statement last: where it is refused the module is as it was
+        assign(pool, b, &self.side, self.register, value, place)?;
         Ok(())
     }
 
@@ -208,7 +208,7 @@ impl Fsm {
         requires unsettled { IsUnsettled pool.old self.old.signal.0 }
         requires in_place { IsAtChoice self.old b.old }
         ensures finished { IfOk result (λ _. (finish_refusal pool.old self.old ≡ None) × (self.new ≡ and_finished self.old) × (b.new ≡ with_end self.old b.old) × (pool.new ≡ with_shape pool.old self.old)) }
-        ensures count { OnOk result (built_count b.new ≡ built_count b.old) }
+        ensures count { built_count b.new ≡ built_count b.old }
         ensures refused { IfErr result (λ stop. IsOwed (finish_refusal pool.old self.old) stop) }
         ensures unchanged { IfErr result (λ stop. UnlessMemory stop ((pool.new ≡ pool.old) × ((self.new ≡ self.old) × (b.new ≡ b.old)))) }
     {
@@ -318,7 +318,7 @@ impl Fsm {
     fn begin_choice(&self, pool: &mut Pool, b: &mut Builder) -> Result<(), FsmStop>
         requires { is_begun self.now ≡ true → open_switch (built_blocks b.old).around ≡ Some self.now.register }
         ensures begun { IfOk result (λ _. (has_no_place self.now b.old ≡ false) × (b.new ≡ with_choice pool.old self.now b.old) × (open_switch (built_blocks b.new).around ≡ Some self.now.register)) }
-        ensures count { OnOk result (built_count b.new ≡ built_count b.old) }
+        ensures count { built_count b.new ≡ built_count b.old }
         ensures refused { IfErr result (λ stop. IsOwed (stop_where FsmStop.Order (has_no_place self.now b.old) None) stop × (b.new ≡ b.old)) }
         ensures pool { pool.new ≡ pool.old }
     {
