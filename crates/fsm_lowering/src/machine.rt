@@ -66,8 +66,12 @@ impl Fsm {
         ensures made { IfOk result (λ m. (new_refusal pool.old ≡ None) × (m ≡ machine_at pool.old domain.now (option_copied init.entry) place) × (pool.new ≡ with_register pool.old name.now)) }
         ensures register { IfOk result (λ m. HasRegister pool.new m × IsUnsettled pool.new m.signal.0) }
         ensures refused { IfErr result (λ stop. IsOwed (new_refusal pool.old) stop) }
+        ensures unchanged { IfErr result (λ stop. UnlessMemory stop (pool.new ≡ pool.old)) }
         ensures pool { IfErr result (λ _. (pool.new ≡ pool.old) ⊎ (pool.new ≡ with_signal pool.old name.now)) }
     {
+        if pool.count() >= 262_144 {
+            return Err(FsmStop::Limit);
+        }
         let side = Side::Clocked(copied(alloc, domain)?);
         let init = match init {
             None => None,
