@@ -18,6 +18,7 @@ mod finish;
 mod imports;
 mod interfaces;
 mod kept;
+mod machine_moves;
 mod laws;
 mod libraries;
 mod likes;
@@ -28,12 +29,17 @@ mod refusal;
 mod running;
 mod sides;
 mod signals;
+mod state_machines;
 mod store;
 mod tops;
 
-pub use kept::{Begin, BlockName, DomainName, Equation, HdlName, Kept, Top};
+pub use kept::{
+    Begin, BlockName, DomainName, Equation, HdlName, Kept, MachineCall, MachinePart, StateCall, Top,
+};
+pub use machine_moves::Action;
 pub use laws::outcome_is_one;
 pub use members::{ComponentClass, Member, Members, NamedMember};
 pub use refusal::ElabStop;
 pub use running::{Elaborated, elaborate};
+pub use state_machines::{MachineArguments, OwnMachine};
 pub use store::Store;
