@@ -10,29 +10,29 @@ use Rattle.design_ir.specs.declared.expr.Expr.TheVariants.{Cast}
 use Rattle.design_ir.specs.Pools.{Pooled}
 use Rattle.design_ir.specs.Values.{form}
 use Rattle.py_values.specs.declared.val.Val.{Val}
-use Rattle.amh_values.specs.declared.thing.Thing.{Thing}
-use Rattle.amh_values.specs.declared.thing.Thing.TheVariants as thing
+use Rattle.amh_things.specs.declared.thing.Thing.{Thing}
+use Rattle.amh_things.specs.declared.thing.Thing.TheVariants as thing
 use Rattle.py_frames.specs.declared.request.Cause.TheVariants as cause
-use Rattle.amh_values.specs.declared.thing.Method.{Method}
-use Rattle.amh_values.specs.declared.thing.Method.TheVariants as method
-use Rattle.amh_values.specs.declared.plan.Plan.{Plan}
-use Rattle.amh_values.specs.declared.plan.PlanStop.{PlanStop}
-use Rattle.amh_values.specs.declared.operand.Operand.TheVariants.{Held}
-use Rattle.amh_values.specs.Plans.{forms, ends_of, value_made, thing_made, value_given, IsPlanned, AreDrafted, IsDrafted, MakesThings}
-use Rattle.amh_values.specs.Held.{AreHeld}
-use Rattle.amh_values.specs.Indices.{width_given, measured}
+use Rattle.amh_things.specs.declared.thing.Method.{Method}
+use Rattle.amh_things.specs.declared.thing.Method.TheVariants as method
+use Rattle.amh_things.specs.declared.plan.Plan.{Plan}
+use Rattle.amh_things.specs.declared.plan.PlanStop.{PlanStop}
+use Rattle.amh_things.specs.declared.operand.Operand.TheVariants.{Held}
+use Rattle.amh_things.specs.Plans.{forms, ends_of, value_made, thing_made, value_given, IsPlanned, AreDrafted, IsDrafted, MakesThings}
+use Rattle.amh_things.specs.Held.{AreHeld}
+use Rattle.value_acts.specs.Indices.{width_given, measured}
 use Rattle.py_values.specs.declared.val.Val.TheVariants as val
 use Rattle.py_values.specs.declared.val.Hw.{Hw}
-use Rattle.amh_values.specs.Ends.{Ends}
+use Rattle.amh_things.specs.Ends.{Ends}
 use Rattle.std.specs.Option.{option_and_then}
 use Rattle.data_layouts.specs.Enumerations.{Enumerated, number_named}
-use Rattle.amh_values.specs.Things.{held_expr, method_named, shown_enumeration}
-use Rattle.amh_values.specs.Members.{member_of, member_given}
+use Rattle.amh_things.specs.Things.{bare_expr, method_named, shown_enumeration}
+use Rattle.amh_things.specs.Members.{member_of, member_given}
 use Rattle.amh_values.specs.Attributes.{method_made, thing_attribute, attributed}
 use Rattle.amh_values.specs.Calls.{signed_made, method_plan}
-use Rattle.amh_values.proofs.Drafts.{forms_length, form_is, narrow, width_of_form, value_drafted, none_drafted}
-use Rattle.amh_values.proofs.PutLaws.{held_expr_below}
-use Rattle.amh_values.proofs.OperatorLaws.{unary_made_drafted}
+use Rattle.amh_things.proofs.Drafts.{forms_length, form_is, narrow, width_of_form, value_drafted, none_drafted}
+use Rattle.amh_things.proofs.PutLaws.{bare_expr_below}
+use Rattle.value_acts.proofs.OperatorLaws.{unary_made_drafted}
 
 positive : (n : ℕ) → (n == 0) ≡ false → 1 ≤ n
 positive n h = grind (arith, nat_tests)
@@ -85,6 +85,7 @@ module _ (p : Pooled) (things : List Thing) (e : ExprId) (f : Form) (there : e.0
   plain_drafted method.BitSelect plan made = cc
   plain_drafted method.WordSelect plan made = cc
   plain_drafted method.Matches plan made = cc
+  plain_drafted method.AsValue plan made = cc
 
   -- what comes out of a method
   pub method_drafted : (r : Result Plan PlanStop) (m : Method) → IsPlanned r (method_plan (ends_of p things) e f m) → IfOk r (IsDrafted p)
@@ -110,7 +111,7 @@ module _ (p : Pooled) (ends : Ends) (things : List Thing) (held : AreHeld (lengt
   thing_attribute_drafted : (h : Hw) (e : Option Enumerated) (n : List ℕ) (plan : Plan) → thing_attribute ends things h e n ≡ Ok plan → IsDrafted p plan
   thing_attribute_drafted h (Some e) n plan made = member_given_drafted (option_and_then (member_of things h) (number_named n e.members)) plan made
   thing_attribute_drafted h None n plan made =
-      method_made_drafted h (held_expr (slice_get things h.0)) (method_named n) plan (λ x. held_expr_below (length p.exprs) things h.0 x held) made
+      method_made_drafted h (bare_expr (slice_get things h.0)) (method_named n) plan (λ x. bare_expr_below (length p.exprs) things h.0 x held) made
 
   attributed_drafted : (vals : List Val) (n : List ℕ) (plan : Plan) → attributed ends things vals n ≡ Ok plan → IsDrafted p plan
   attributed_drafted (val.Hw h ∷ []) n plan made =
@@ -130,7 +131,7 @@ width_drafted p (Some e) plan made =
     rw (← is_plan) (none_drafted p (value_given (val.Int (pos (form p e.0).width))) refl tt)
 
 measured_drafted : (p : Pooled) (things : List Thing) (vals : List Val) (plan : Plan) → measured p things vals ≡ Ok plan → IsDrafted p plan
-measured_drafted p things (val.Hw h ∷ []) plan made = width_drafted p (held_expr (slice_get things h.0)) plan made
+measured_drafted p things (val.Hw h ∷ []) plan made = width_drafted p (bare_expr (slice_get things h.0)) plan made
 measured_drafted p things vals plan made = cc
 
 pub length_drafted : (p : Pooled) (r : Result Plan PlanStop) (things : List Thing) (vals : List Val) → IsPlanned r (measured p things vals) → IfOk r (IsDrafted p)

@@ -14,17 +14,17 @@ use Rattle.py_values.specs.declared.val.Val.{Val}
 use Rattle.py_values.specs.declared.val.Val.TheVariants as val
 use Rattle.py_frames.specs.declared.request.Answer.TheVariants as answer
 use Rattle.py_frames.specs.declared.request.Cause.TheVariants as cause
-use Rattle.amh_values.specs.declared.thing.Thing.{Thing}
-use Rattle.amh_values.specs.declared.thing.Thing.TheVariants as thing
-use Rattle.amh_values.specs.declared.thing.ThingName.TheVariants as name
-use Rattle.amh_values.specs.Ends.{Ends}
-use Rattle.amh_values.specs.Plans.{value_given}
-use Rattle.amh_values.specs.Members.{member_of, plain, compared, enumeration_of}
-use Rattle.amh_values.specs.Enumerations.{numbers_shape, class_made}
+use Rattle.amh_things.specs.declared.thing.Thing.{Thing}
+use Rattle.amh_things.specs.declared.thing.Thing.TheVariants as thing
+use Rattle.amh_things.specs.declared.thing.ThingName.TheVariants as name
+use Rattle.amh_things.specs.Ends.{Ends}
+use Rattle.amh_things.specs.Plans.{value_given}
+use Rattle.amh_things.specs.Members.{member_of, plain, compared, enumeration_of}
+use Rattle.layout_acts.specs.Enumerations.{numbers_shape, class_made}
 use Rattle.amh_values.specs.Attributes.{attributed}
-use Rattle.amh_values.specs.Meant.{shape_meant}
-use Rattle.amh_values.specs.Names.{number_constant}
-use Rattle.amh_values.specs.Operators.{operated}
+use Rattle.amh_things.specs.Meant.{shape_meant}
+use Rattle.value_acts.specs.Names.{number_constant}
+use Rattle.value_acts.specs.Operators.{operated}
 
 empty : Seen
 empty = seen nothing nothing

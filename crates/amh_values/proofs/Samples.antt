@@ -10,23 +10,23 @@ use Rattle.py_values.specs.declared.val.Val.TheVariants as val
 use Rattle.py_frames.specs.declared.request.Act.TheVariants as act
 use Rattle.py_frames.specs.declared.request.Answer.TheVariants as answer
 use Rattle.py_frames.specs.declared.request.Cause.TheVariants as cause
-use Rattle.amh_values.specs.declared.thing.Thing.{Thing}
-use Rattle.amh_values.specs.declared.thing.Thing.TheVariants as thing
-use Rattle.amh_values.specs.declared.thing.Method.TheVariants as method
+use Rattle.amh_things.specs.declared.thing.Thing.{Thing}
+use Rattle.amh_things.specs.declared.thing.Thing.TheVariants as thing
+use Rattle.amh_things.specs.declared.thing.Method.TheVariants as method
 use Rattle.design_ir.specs.Values.{form}
-use Rattle.amh_values.specs.Operands.{constant_form}
+use Rattle.amh_things.specs.Operands.{constant_form}
 use Rattle.py_values.specs.Scalars.{first_from}
-use Rattle.amh_values.specs.Operators.{binary_operator, unary_operator, operated}
+use Rattle.value_acts.specs.Operators.{binary_operator, unary_operator, operated}
 use Rattle.amh_values.specs.Attributes.{attributed}
-use Rattle.amh_values.specs.Arguments.{Arguments, fits}
-use Rattle.amh_values.specs.Names.{constant_called, mux_called}
-use Rattle.amh_values.specs.Joins.{cat_called}
-use Rattle.amh_values.specs.Arrays.{array_called}
+use Rattle.amh_things.specs.Arguments.{Arguments, fits}
+use Rattle.value_acts.specs.Names.{constant_called, mux_called}
+use Rattle.value_acts.specs.Joins.{cat_called}
+use Rattle.value_acts.specs.Arrays.{array_called}
 use Rattle.py_values.specs.Heaps.{Seen, seen, nothing}
-use Rattle.amh_values.specs.Selections.{replicate_called, select_called}
-use Rattle.amh_values.specs.Indices.{indexed, measured}
+use Rattle.value_acts.specs.Selections.{replicate_called, select_called}
+use Rattle.value_acts.specs.Indices.{indexed, measured}
 use Rattle.py_values.specs.Spans.{numbers_from}
-use Rattle.amh_values.specs.Meant.{shape_meant}
+use Rattle.amh_things.specs.Meant.{shape_meant}
 use Rattle.amh_values.specs.Acts.{is_other}
 
 -- ---- constants: 0 has one bit, 5 has three, -1 has one with a sign, and -5 four

@@ -12,17 +12,17 @@ use Rattle.py_frames.specs.declared.request.Request.{Request}
 use Rattle.py_frames.specs.declared.request.Answer.TheVariants as answer
 use Rattle.py_frames.specs.declared.request.Cause.{Cause}
 use Rattle.py_frames.specs.declared.request.Cause.TheVariants.{Raised}
-use Rattle.amh_values.specs.declared.thing.Thing.{Thing}
-use Rattle.amh_values.specs.declared.plan.Plan.{Plan}
+use Rattle.amh_things.specs.declared.thing.Thing.{Thing}
+use Rattle.amh_things.specs.declared.plan.Plan.{Plan}
 use Rattle.amh_values.specs.declared.acts.Acted.{Acted}
 use Rattle.amh_values.specs.declared.acts.Acted.TheVariants as acted_as
-use Rattle.amh_values.specs.Things.{thing_of, kept_number, eq_target}
-use Rattle.amh_values.specs.Plans.{ends_of, limited, grown_by}
-use Rattle.amh_values.specs.Operators.{operated}
+use Rattle.amh_things.specs.Things.{thing_of, kept_number, eq_target}
+use Rattle.amh_things.specs.Plans.{ends_of, limited, grown_by}
+use Rattle.value_acts.specs.Operators.{operated}
 use Rattle.amh_values.specs.Attributes.{attributed}
 use Rattle.amh_values.specs.Calls.{called}
-use Rattle.amh_values.specs.Indices.{indexed, measured, iterated}
-use Rattle.amh_values.specs.Enumerations.{class_made}
+use Rattle.value_acts.specs.Indices.{indexed, measured, iterated}
+use Rattle.layout_acts.specs.Enumerations.{class_made}
 
 -- ---- what is of the crate above
 

@@ -7,14 +7,14 @@ use Rattle.py_values.specs.declared.val.Val.{Val}
 use Rattle.py_values.specs.declared.val.Val.TheVariants as val
 use Rattle.py_frames.specs.declared.request.Cause.{Cause}
 use Rattle.py_frames.specs.declared.request.Cause.TheVariants.{Raised}
-use Rattle.amh_values.specs.declared.thing.Thing.{Thing}
-use Rattle.amh_values.specs.declared.thing.Thing.TheVariants as thing
-use Rattle.amh_values.specs.declared.thing.Method.{Method}
-use Rattle.amh_values.specs.Ends.{Ends}
-use Rattle.amh_values.specs.declared.plan.Plan.{Plan}
-use Rattle.amh_values.specs.Things.{held_expr, method_named, shown_enumeration}
-use Rattle.amh_values.specs.Members.{member_named}
-use Rattle.amh_values.specs.Plans.{thing_made}
+use Rattle.amh_things.specs.declared.thing.Thing.{Thing}
+use Rattle.amh_things.specs.declared.thing.Thing.TheVariants as thing
+use Rattle.amh_things.specs.declared.thing.Method.{Method}
+use Rattle.amh_things.specs.Ends.{Ends}
+use Rattle.amh_things.specs.declared.plan.Plan.{Plan}
+use Rattle.amh_things.specs.Things.{bare_expr, method_named, shown_enumeration}
+use Rattle.amh_things.specs.Members.{member_named}
+use Rattle.amh_things.specs.Plans.{thing_made}
 
 abbrev pub method_made : Ends → Hw → Option ExprId → Option Method → Result Plan Cause
 method_made ends h (Some e) (Some m) = Ok (thing_made ends (thing.Method h e m))
@@ -23,7 +23,7 @@ method_made ends h (Some e) None = Err Raised
 
 abbrev pub thing_attribute : Ends → List Thing → Hw → Option Enumerated → List ℕ → Result Plan Cause
 thing_attribute ends things h (Some e) n = member_named things h e n
-thing_attribute ends things h None n = method_made ends h (held_expr (slice_get things h.0)) (method_named n)
+thing_attribute ends things h None n = method_made ends h (bare_expr (slice_get things h.0)) (method_named n)
 
 abbrev pub attributed : Ends → List Thing → List Val → List ℕ → Result Plan Cause
 attributed ends things (val.Hw h ∷ []) n = thing_attribute ends things h (shown_enumeration (slice_get things h.0)) n

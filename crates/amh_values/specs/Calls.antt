@@ -11,23 +11,23 @@ use Rattle.py_values.specs.declared.val.Val.{Val}
 use Rattle.py_values.specs.declared.val.Val.TheVariants as val
 use Rattle.py_frames.specs.declared.request.Cause.{Cause}
 use Rattle.py_frames.specs.declared.request.Cause.TheVariants.{Raised}
-use Rattle.amh_values.specs.declared.thing.Thing.{Thing}
-use Rattle.amh_values.specs.declared.thing.Thing.TheVariants as thing
-use Rattle.amh_values.specs.declared.thing.Method.{Method}
-use Rattle.amh_values.specs.declared.thing.Method.TheVariants as method
-use Rattle.amh_values.specs.declared.operand.Operand.TheVariants.{Held}
-use Rattle.amh_values.specs.Ends.{Ends}
-use Rattle.amh_values.specs.declared.plan.Plan.{Plan}
-use Rattle.amh_values.specs.Plans.{ends_of, value_made, thing_made}
-use Rattle.amh_values.specs.Operators.{unary_made}
-use Rattle.amh_values.specs.Arguments.{Arguments, arguments_of, fits}
-use Rattle.amh_values.specs.Names.{name_called}
-use Rattle.amh_values.specs.Joins.{cat_called}
-use Rattle.amh_values.specs.Arrays.{array_called}
-use Rattle.amh_values.specs.declared.thing.ThingName.{ThingName}
-use Rattle.amh_values.specs.declared.thing.ThingName.TheVariants as name
-use Rattle.amh_values.specs.Selections.{replicate_called, select_called}
-use Rattle.amh_values.specs.Matching.{matches_called}
+use Rattle.amh_things.specs.declared.thing.Thing.{Thing}
+use Rattle.amh_things.specs.declared.thing.Thing.TheVariants as thing
+use Rattle.amh_things.specs.declared.thing.Method.{Method}
+use Rattle.amh_things.specs.declared.thing.Method.TheVariants as method
+use Rattle.amh_things.specs.declared.operand.Operand.TheVariants.{Held}
+use Rattle.amh_things.specs.Ends.{Ends}
+use Rattle.amh_things.specs.declared.plan.Plan.{Plan}
+use Rattle.amh_things.specs.Plans.{ends_of, value_made, thing_made}
+use Rattle.value_acts.specs.Operators.{unary_made}
+use Rattle.amh_things.specs.Arguments.{Arguments, arguments_of, fits}
+use Rattle.value_acts.specs.Names.{name_called}
+use Rattle.value_acts.specs.Joins.{cat_called}
+use Rattle.value_acts.specs.Arrays.{array_called}
+use Rattle.amh_things.specs.declared.thing.ThingName.{ThingName}
+use Rattle.amh_things.specs.declared.thing.ThingName.TheVariants as name
+use Rattle.value_acts.specs.Selections.{replicate_called, select_called}
+use Rattle.value_acts.specs.Matching.{matches_called}
 
 -- ---- methods of a value without arguments
 

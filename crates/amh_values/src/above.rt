@@ -2,9 +2,9 @@
 ghost use Rattle.std.specs.Prelude.{◌≡◌, is_some};
 ghost use Rattle.std.specs.List.{list_any};
 ghost use Rattle.amh_values.specs.Acts.{asks_above, is_class, is_object, is_kept, is_above, is_other};
-ghost use Rattle.amh_values.specs.Things.{eq_target, thing_of};
+ghost use Rattle.amh_things.specs.Things.{eq_target, thing_of};
 
-use crate::values::Values;
+use amh_things::values::Values;
 use py_frames::request::Act;
 use py_values::Val;
 

@@ -2,11 +2,11 @@
 ghost use Rattle.std.specs.Prelude.{length, IfOk, OnOk};
 ghost use Rattle.py_values.specs.Heaps.{seen};
 ghost use Rattle.amh_values.specs.Acts.{acted, Acts};
-ghost use Rattle.amh_values.specs.Held.{AreHeld};
+ghost use Rattle.amh_things.specs.Held.{AreHeld};
 
 use crate::answering::answered;
-use crate::shown::Shown;
-use crate::values::Values;
+use amh_things::shown::Shown;
+use amh_things::values::Values;
 use design_ir::Exprs;
 use lists::NoMemory;
 use py_frames::request::{Answer, Request};

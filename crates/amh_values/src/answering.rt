@@ -1,26 +1,26 @@
 // The table of acts.
 ghost use Rattle.std.specs.Prelude.{◌≡◌, ◌++◌, ◌+◌, ◌≤◌, length, map, IfOk, OnOk, string_bytes, nat_lt, Err, None, Some};
 ghost use Rattle.py_values.specs.Heaps.{seen};
-ghost use Rattle.amh_values.specs.declared.plan.Plan.{Plan};
+ghost use Rattle.amh_things.specs.declared.plan.Plan.{Plan};
 ghost use Rattle.amh_values.specs.Acts.{first_name, planned, acted, Acts};
-ghost use Rattle.amh_values.specs.Held.{AreHeld};
-ghost use Rattle.amh_values.specs.Plans.{ends_of, passes, limited, grown_by, IsPlanned, IsDrafted};
+ghost use Rattle.amh_things.specs.Held.{AreHeld};
+ghost use Rattle.amh_things.specs.Plans.{ends_of, passes, limited, grown_by, IsPlanned, IsDrafted};
 
 use crate::above::is_other;
 use crate::acts::Acted;
 use crate::attributes::attributed;
 use crate::calls::called;
-use crate::enumerations::class_made;
-use crate::indices::{indexed, iterated, measured};
-use crate::operators::operated;
-use crate::plan::{Ends, Plan, PlanStop, raised};
-use crate::putting::{ends_of, put_exprs, put_things};
-use crate::shown::Shown;
-use crate::values::Values;
+use amh_things::plan::{Ends, Plan, PlanStop, raised};
+use amh_things::putting::{ends_of, put_exprs, put_things};
+use amh_things::shown::Shown;
+use amh_things::values::Values;
 use design_ir::Exprs;
+use layout_acts::enumerations::class_made;
 use lists::NoMemory;
 use py_frames::request::{Act, Answer, Cause, Request};
 use std::alloc::Global;
+use value_acts::indices::{indexed, iterated, measured};
+use value_acts::operators::operated;
 
 // The sign of an operator, or the name of an attribute.
 fn first_name(names: &[String]) -> &str

@@ -1,14 +1,14 @@
 // Attributes of things.
 ghost use Rattle.std.specs.Prelude.{◌≡◌, slice_get};
 ghost use Rattle.amh_values.specs.Attributes.{method_made, thing_attribute, attributed};
-ghost use Rattle.amh_values.specs.Members.{member_named};
-ghost use Rattle.amh_values.specs.Plans.{IsPlanned};
-ghost use Rattle.amh_values.specs.Things.{held_expr, method_named, shown_enumeration};
+ghost use Rattle.amh_things.specs.Members.{member_named};
+ghost use Rattle.amh_things.specs.Plans.{IsPlanned};
+ghost use Rattle.amh_things.specs.Things.{bare_expr, method_named, shown_enumeration};
 
-use crate::names::method_named;
-use crate::plan::{Ends, Plan, PlanStop, raised, value_given};
-use crate::thing::Thing;
-use crate::values::Values;
+use amh_things::names::method_named;
+use amh_things::plan::{Ends, Plan, PlanStop, raised, value_given};
+use amh_things::thing::Thing;
+use amh_things::values::Values;
 use data_layouts::EnumShape;
 use py_values::{Hw, Val};
 use std::alloc::Global;
@@ -21,9 +21,9 @@ fn method_made(
     of: Hw,
     name: &str,
 ) -> Result<Plan, PlanStop>
-    ensures { IsPlanned result (method_made ends of (held_expr (slice_get values.now of.0)) (method_named name.now)) }
+    ensures { IsPlanned result (method_made ends of (bare_expr (slice_get values.now of.0)) (method_named name.now)) }
 {
-    match (values.expr(of), method_named(name)) {
+    match (values.bare(of), method_named(name)) {
         (Some(value), Some(method)) => ends.thing(alloc, Thing::Method { of, value, method }),
         _ => Err(raised()),
     }

@@ -4,28 +4,28 @@ ghost use Rattle.shape_rules.specs.Forms.{unsigned};
 ghost use Rattle.design_ir.specs.Values.{form};
 ghost use Rattle.py_values.specs.Heaps.{seen};
 ghost use Rattle.amh_values.specs.Calls.{signed_made, method_plan, plain_called, method_called, any_name_called, thing_called, called};
-ghost use Rattle.amh_values.specs.Plans.{ends_of, value_made, IsPlanned, IsDrafted};
-ghost use Rattle.amh_values.specs.Held.{AreHeld};
+ghost use Rattle.amh_things.specs.Plans.{ends_of, value_made, IsPlanned, IsDrafted};
+ghost use Rattle.amh_things.specs.Held.{AreHeld};
 
-use crate::arguments::Arguments;
-use crate::arrays::array_called;
-use crate::given::Given;
-use crate::joins::cat_called;
-use crate::matching::matches_called;
-use crate::name_calls::name_called;
-use crate::operand::{Operand, note_form};
-use crate::operators::unary_made;
-use crate::plan::{Ends, Plan, PlanStop, raised};
-use crate::queue::Queue;
-use crate::selections::{replicate_called, select_called};
-use crate::shown::Shown;
-use crate::thing::{Method, Thing, ThingName};
-use crate::values::Values;
+use amh_things::arguments::Arguments;
+use amh_things::given::Given;
+use amh_things::operand::{Operand, note_form};
+use amh_things::plan::{Ends, Plan, PlanStop, raised};
+use amh_things::queue::Queue;
+use amh_things::shown::Shown;
+use amh_things::thing::{Method, Thing, ThingName};
+use amh_things::values::Values;
 use design_ir::{Expr, ExprId, Exprs};
 use py_frames::request::Request;
 use py_values::{Hw, Val};
 use shape_rules::{Op, Shape};
 use std::alloc::Global;
+use value_acts::arrays::array_called;
+use value_acts::joins::cat_called;
+use value_acts::matching::matches_called;
+use value_acts::name_calls::name_called;
+use value_acts::operators::unary_made;
+use value_acts::selections::{replicate_called, select_called};
 
 // The bits of a value read with a sign.
 fn signed_made(alloc: Global, ends: Ends, e: ExprId, width: u8) -> Result<Plan, PlanStop>

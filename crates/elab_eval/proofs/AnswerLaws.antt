@@ -10,10 +10,10 @@ use Rattle.py_frames.specs.declared.request.Request.{Request}
 use Rattle.design_ir.specs.Pools.{Pooled}
 use Rattle.amh_values.specs.declared.acts.Acted.{Acted}
 use Rattle.amh_values.specs.declared.acts.Acted.TheVariants as acted_as
-use Rattle.amh_values.specs.declared.plan.Plan.{Plan}
-use Rattle.amh_values.specs.declared.thing.Thing.{Thing}
+use Rattle.amh_things.specs.declared.plan.Plan.{Plan}
+use Rattle.amh_things.specs.declared.thing.Thing.{Thing}
 use Rattle.amh_values.specs.Acts.{acted, Acts}
-use Rattle.amh_values.specs.Held.{AreHeld}
+use Rattle.amh_things.specs.Held.{AreHeld}
 use Rattle.elab_eval.specs.declared.store.Elaboration.{Elaboration}
 use Rattle.elab_eval.specs.Stores.{Stored, Held, Answered}
 use Rattle.elab_eval.specs.Held.{held_of, Gives}

@@ -17,7 +17,7 @@ use Rattle.design_ir.specs.declared.expr.Expr.{Expr}
 use Rattle.design_ir.specs.declared.expr.Expr.TheVariants as expr
 use Rattle.design_ir.specs.PoolRules.{signal_added}
 use Rattle.clock_domains.specs.Resolvable.{ArePorts}
-use Rattle.amh_values.specs.declared.thing.Thing.TheVariants as thing
+use Rattle.amh_things.specs.declared.thing.Thing.TheVariants as thing
 use Rattle.elab_eval.specs.declared.kept.HdlName.{HdlName}
 use Rattle.elab_eval.specs.declared.kept.Kept.TheVariants as kept
 use Rattle.elab_eval.specs.declared.members.NamedMember.{NamedMember}

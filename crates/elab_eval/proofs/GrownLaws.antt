@@ -17,9 +17,9 @@ use Rattle.module_dsl.specs.declared.step.Opening.TheVariants as opening
 use Rattle.module_dsl.specs.Builders.{Built}
 use Rattle.elab_eval.specs.declared.kept.Begin.{Begin}
 use Rattle.elab_eval.specs.declared.kept.Begin.TheVariants as begin
-use Rattle.amh_values.specs.declared.thing.Thing.{Thing}
-use Rattle.amh_values.specs.declared.thing.Thing.TheVariants as thing
-use Rattle.amh_values.specs.Held.{IsHeld, AreHeld}
+use Rattle.amh_things.specs.declared.thing.Thing.{Thing}
+use Rattle.amh_things.specs.declared.thing.Thing.TheVariants as thing
+use Rattle.amh_things.specs.Held.{IsHeld, AreHeld}
 use Rattle.elab_eval.specs.declared.kept.Kept.{Kept}
 use Rattle.elab_eval.specs.declared.kept.Kept.TheVariants as kept_as
 use Rattle.elab_eval.specs.declared.kept.Top.{Top}
@@ -86,6 +86,8 @@ held_stays : (m n : ℕ) → m ≤ n → (t : Thing) → IsHeld m t → IsHeld n
 held_stays m n le (thing.Value e) h = omega (arith, h, le)
 held_stays m n le (thing.Method x e y) h = omega (arith, h, le)
 held_stays m n le (thing.Numbered x e) h = omega (arith, h, le)
+held_stays m n le (thing.View x e) h = omega (arith, h, le)
+held_stays m n le (thing.Layout x) h = tt
 held_stays m n le (thing.Enumeration x) h = tt
 held_stays m n le (thing.Member x) h = h
 held_stays m n le (thing.Name x) h = tt

@@ -31,8 +31,8 @@ use Rattle.fsm_lowering.specs.declared.refusal.FsmStop.TheVariants as stop
 use Rattle.fsm_lowering.specs.States.{number_of, range_width}
 use Rattle.fsm_lowering.specs.Machines.{Machine, HasRegister, in_state, state_number, no_bits}
 use Rattle.fsm_lowering.specs.Calls.{new_refusal, with_register, machine_at, is_begun, state_refusal, and_state, with_choice, with_case, end_refusal, and_ended, next_stop, and_mention, with_next, ongoing_refusal, and_asked, finish_refusal, and_finished, with_end, with_shape, settled_at, first_number}
-use Rattle.amh_values.specs.declared.thing.Thing.TheVariants as thing
-use Rattle.amh_values.specs.Held.{IsHeld}
+use Rattle.amh_things.specs.declared.thing.Thing.TheVariants as thing
+use Rattle.amh_things.specs.Held.{IsHeld}
 use Rattle.elab_eval.specs.declared.kept.MachinePart.{MachinePart}
 use Rattle.elab_eval.specs.declared.kept.MachinePart.TheVariants as part
 use Rattle.elab_eval.specs.declared.kept.MachineCall.{MachineCall}

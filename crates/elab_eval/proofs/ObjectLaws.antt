@@ -28,7 +28,7 @@ use Rattle.clock_domains.specs.declared.top.TopPorts.{TopPorts}
 use Rattle.clock_domains.specs.declared.top.TopPorts.TheVariants as ports
 use Rattle.clock_domains.specs.Resolved.{port_of}
 use Rattle.clock_domains.specs.Resolvable.{IsPortOf, ArePorts, AreTopPorts}
-use Rattle.amh_values.specs.Things.{thing_of, held_expr}
+use Rattle.amh_things.specs.Things.{thing_of, held_expr}
 use Rattle.elab_eval.specs.Stores.{Held}
 use Rattle.elab_eval.specs.Components.{ports_at}
 use Rattle.elab_eval.specs.ComponentTops.{component_ports}

@@ -7,7 +7,7 @@ use Rattle.py_values.specs.declared.val.Val.{Val}
 use Rattle.py_values.specs.Heaps.{Seen}
 use Rattle.elab_eval.specs.declared.kept.Equation.{Equation}
 use Rattle.design_ir.specs.Pools.{Pooled}
-use Rattle.amh_values.specs.Things.{thing_of, kept_number}
+use Rattle.amh_things.specs.Things.{thing_of, kept_number}
 use Rattle.elab_eval.specs.declared.kept.Kept.{Kept}
 use Rattle.elab_eval.specs.declared.kept.Kept.TheVariants as kept_as
 use Rattle.elab_eval.specs.Sound.{IsKept, IsEquation}

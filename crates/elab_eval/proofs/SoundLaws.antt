@@ -35,19 +35,19 @@ use Rattle.module_dsl.specs.declared.step.Block.{Block}
 use Rattle.module_dsl.specs.declared.step.Block.TheVariants as dsl
 use Rattle.module_dsl.specs.Blocks.{Blocks}
 use Rattle.module_dsl.specs.Builders.{Built, built_blocks, always, condition_made, subject_of, opening_of, pool_with, enter_refusal, leave_refusal, and_entered, and_left}
-use Rattle.amh_values.specs.Patterns.{patterns_meant}
+use Rattle.amh_things.specs.Patterns.{patterns_meant}
 use Rattle.clock_domains.specs.Resolvable.{IsNamedSide}
-use Rattle.amh_values.specs.declared.operand.Operand.{Operand}
-use Rattle.amh_values.specs.declared.operand.Operand.TheVariants as operand
-use Rattle.amh_values.specs.declared.thing.Thing.{Thing}
-use Rattle.amh_values.specs.declared.thing.Thing.TheVariants as thing
-use Rattle.amh_values.specs.declared.thing.ThingName.{ThingName}
-use Rattle.amh_values.specs.declared.thing.Method.TheVariants as method
-use Rattle.amh_values.specs.Held.{IsHeld, AreHeld}
-use Rattle.amh_values.specs.Things.{thing_of, held_expr, shown_member, name_called, base_called as base_named}
-use Rattle.amh_values.specs.Operands.{operand_of, thing_operand, held_operand, member_operand, number_operand}
-use Rattle.amh_values.specs.Meant.{operand_meant, expr_meant}
-use Rattle.amh_values.specs.Plans.{grown_by}
+use Rattle.amh_things.specs.declared.operand.Operand.{Operand}
+use Rattle.amh_things.specs.declared.operand.Operand.TheVariants as operand
+use Rattle.amh_things.specs.declared.thing.Thing.{Thing}
+use Rattle.amh_things.specs.declared.thing.Thing.TheVariants as thing
+use Rattle.amh_things.specs.declared.thing.ThingName.{ThingName}
+use Rattle.amh_things.specs.declared.thing.Method.TheVariants as method
+use Rattle.amh_things.specs.Held.{IsHeld, AreHeld}
+use Rattle.amh_things.specs.Things.{thing_of, held_expr, shown_member, name_called, base_called as base_named}
+use Rattle.amh_things.specs.Operands.{operand_of, thing_operand, held_operand, member_operand, number_operand}
+use Rattle.amh_things.specs.Meant.{operand_meant, expr_meant}
+use Rattle.amh_things.specs.Plans.{grown_by}
 use Rattle.elab_eval.specs.declared.kept.HdlName.{HdlName}
 use Rattle.elab_eval.specs.declared.kept.HdlName.TheVariants as hdl
 use Rattle.elab_eval.specs.declared.kept.Kept.{Kept}
@@ -76,7 +76,7 @@ use Rattle.elab_eval.specs.Table as table
 use Rattle.elab_eval.specs.Libraries.{is_enum, library_named, wiring_named, base_given}
 use Rattle.elab_eval.specs.Table.{name_attribute}
 use Rattle.elab_eval.specs.Likes.{liked, like_placed, like_arguments, like_init, like_form, own_reset_less, liked_signal}
-use Rattle.amh_values.specs.Meant.{form_meant}
+use Rattle.amh_things.specs.Meant.{form_meant}
 use Rattle.elab_eval.specs.Sound.{IsEquation, IsBegin, IsKept, IsOpening, IsTold, IsBuilt, IsSound}
 use Rattle.elab_eval.proofs.Pools.{IsGrown, target_stays, there_stays}
 use Rattle.elab_eval.proofs.SideLaws.{equations_stand, kept_stands}

@@ -17,9 +17,9 @@ use Rattle.module_dsl.specs.declared.step.Block.{Block}
 use Rattle.module_dsl.specs.declared.step.Block.TheVariants as dsl
 use Rattle.module_dsl.specs.Blocks.{in_switch}
 use Rattle.module_dsl.specs.Builders.{Built, built_blocks, subject_of, condition_made, enter_refusal, and_entered, pool_with, leave_refusal, and_left}
-use Rattle.amh_values.specs.Meant.{expr_meant}
-use Rattle.amh_values.specs.Patterns.{patterns_meant}
-use Rattle.amh_values.specs.Plans.{grown_by}
+use Rattle.amh_things.specs.Meant.{expr_meant}
+use Rattle.amh_things.specs.Patterns.{patterns_meant}
+use Rattle.amh_things.specs.Plans.{grown_by}
 use Rattle.elab_eval.specs.declared.kept.BlockName.{BlockName}
 use Rattle.elab_eval.specs.declared.kept.BlockName.TheVariants as named
 use Rattle.elab_eval.specs.declared.kept.Begin.{Begin}

@@ -7,8 +7,8 @@ use Rattle.py_frames.specs.declared.request.Cause.TheVariants.{Raised}
 use Rattle.design_ir.specs.declared.ids.ExprId.{ExprId}
 use Rattle.design_ir.specs.declared.expr.Expr.{Expr}
 use Rattle.design_ir.specs.Targets.{is_target}
-use Rattle.amh_values.specs.Meant.{expr_meant}
-use Rattle.amh_values.specs.Plans.{grown_by}
+use Rattle.amh_things.specs.Meant.{expr_meant}
+use Rattle.amh_things.specs.Plans.{grown_by}
 use Rattle.elab_eval.specs.declared.kept.Kept.TheVariants as kept
 use Rattle.elab_eval.specs.Stores.{Held, Answered, refused, kept_given}
 

@@ -5,7 +5,7 @@ use Rattle.design_ir.specs.declared.expr.Pattern.{Pattern}
 use Rattle.module_dsl.specs.declared.step.Block.{Block}
 use Rattle.module_dsl.specs.declared.step.Block.TheVariants as dsl
 use Rattle.module_dsl.specs.Builders.{Built}
-use Rattle.amh_values.specs.Patterns.{AreWithin}
+use Rattle.amh_things.specs.Patterns.{AreWithin}
 use Rattle.elab_eval.specs.Counts.{statement_count}
 
 -- its statements are counted, and each pattern sets bits alone that it looks at

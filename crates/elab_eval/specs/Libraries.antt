@@ -3,8 +3,8 @@
 use Rattle.std.specs.Prelude.{ℕ, Bool, if◌then◌else◌, List, Option, Some, None, codes}
 use Rattle.lists.specs.Texts.{text_eq}
 use Rattle.py_frames.specs.declared.request.Cause.TheVariants.{Raised}
-use Rattle.amh_values.specs.declared.thing.Thing.TheVariants as thing
-use Rattle.amh_values.specs.declared.thing.ThingName.{ThingName}
+use Rattle.amh_things.specs.declared.thing.Thing.TheVariants as thing
+use Rattle.amh_things.specs.declared.thing.ThingName.{ThingName}
 use Rattle.elab_eval.specs.declared.kept.HdlName.{HdlName}
 use Rattle.elab_eval.specs.declared.kept.HdlName.TheVariants as hdl
 use Rattle.elab_eval.specs.declared.kept.Kept.TheVariants as kept

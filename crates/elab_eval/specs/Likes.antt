@@ -15,8 +15,8 @@ use Rattle.design_ir.specs.declared.signal.Sig.{Sig}
 use Rattle.design_ir.specs.declared.expr.Expr.{Expr}
 use Rattle.design_ir.specs.declared.expr.Expr.TheVariants as expr
 use Rattle.design_ir.specs.Pools.{Pooled}
-use Rattle.amh_values.specs.Things.{thing_of, held_expr}
-use Rattle.amh_values.specs.Meant.{form_meant}
+use Rattle.amh_things.specs.Things.{thing_of, held_expr}
+use Rattle.amh_things.specs.Meant.{form_meant}
 use Rattle.elab_eval.specs.declared.kept.HdlName.TheVariants as hdl
 use Rattle.elab_eval.specs.declared.kept.Kept.TheVariants as kept
 use Rattle.elab_eval.specs.declared.signals.SignalArguments.{SignalArguments}

@@ -9,7 +9,7 @@ use Rattle.py_values.specs.Heaps.{Seen}
 use Rattle.py_values.specs.Numbers.{number_of}
 use Rattle.py_frames.specs.declared.request.Cause.{Cause}
 use Rattle.py_frames.specs.declared.request.Cause.TheVariants.{Raised}
-use Rattle.amh_values.specs.Meant.{shape_meant}
+use Rattle.amh_things.specs.Meant.{shape_meant}
 use Rattle.elab_eval.specs.declared.kept.Kept.TheVariants as kept
 use Rattle.elab_eval.specs.Calls.{Called}
 use Rattle.elab_eval.specs.Stores.{Held, Answered, refused, kept_given}

@@ -1,7 +1,7 @@
 -- A signal that is put into the pool, for the code.
 use Rattle.std.specs.Prelude.{◌≡◌, true, false, length, Option, Some, None}
 use Rattle.design_ir.specs.declared.signal.Sig.{Sig}
-use Rattle.amh_values.specs.declared.thing.Thing.TheVariants as thing
+use Rattle.amh_things.specs.declared.thing.Thing.TheVariants as thing
 use Rattle.elab_eval.specs.declared.interfaces.NewSignal.{NewSignal}
 use Rattle.elab_eval.specs.Signals.{signal_passes, with_signal}
 use Rattle.elab_eval.specs.Stores.{Held, next_thing, with_thing}

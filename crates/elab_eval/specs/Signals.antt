@@ -13,8 +13,8 @@ use Rattle.py_frames.specs.declared.request.Cause.TheVariants.{Raised, Limit}
 use Rattle.design_ir.specs.declared.signal.Sig.{Sig}
 use Rattle.design_ir.specs.declared.expr.Expr.TheVariants as expr
 use Rattle.design_ir.specs.PoolRules.{signal_refusal, signal_added, expr_added}
-use Rattle.amh_values.specs.declared.thing.Thing.TheVariants as thing
-use Rattle.amh_values.specs.Meant.{shape_meant}
+use Rattle.amh_things.specs.declared.thing.Thing.TheVariants as thing
+use Rattle.amh_things.specs.Meant.{shape_meant}
 use Rattle.elab_eval.specs.declared.signals.SignalArguments.{SignalArguments}
 use Rattle.elab_eval.specs.declared.kept.Kept.TheVariants as kept
 use Rattle.elab_eval.specs.Names.{is_name}

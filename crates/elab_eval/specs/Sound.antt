@@ -17,7 +17,7 @@ use Rattle.module_dsl.specs.Builders.{Built}
 use Rattle.elab_eval.specs.declared.kept.Begin.{Begin}
 use Rattle.elab_eval.specs.declared.kept.Begin.TheVariants as begin
 use Rattle.clock_domains.specs.Resolvable.{IsNamedSide, ArePorts}
-use Rattle.amh_values.specs.Held.{AreHeld}
+use Rattle.amh_things.specs.Held.{AreHeld}
 use Rattle.elab_eval.specs.declared.kept.Equation.{Equation}
 use Rattle.elab_eval.specs.declared.kept.Kept.{Kept}
 use Rattle.elab_eval.specs.declared.kept.Kept.TheVariants as kept

@@ -26,7 +26,7 @@ use Rattle.fsm_lowering.specs.declared.refusal.FsmStop.TheVariants as stop
 use Rattle.fsm_lowering.specs.States.{number_of}
 use Rattle.fsm_lowering.specs.Machines.{Machine, in_state, state_number}
 use Rattle.fsm_lowering.specs.Calls.{new_refusal, with_register, machine_at, is_begun, state_refusal, and_state, with_case, end_refusal, and_ended, next_stop, and_mention, with_next, ongoing_refusal, and_asked, finish_refusal, and_finished, with_end, with_shape}
-use Rattle.amh_values.specs.declared.thing.Thing.TheVariants as thing
+use Rattle.amh_things.specs.declared.thing.Thing.TheVariants as thing
 use Rattle.elab_eval.specs.declared.kept.MachinePart.{MachinePart}
 use Rattle.elab_eval.specs.declared.kept.MachinePart.TheVariants as part
 use Rattle.elab_eval.specs.declared.kept.MachineCall.{MachineCall}

@@ -3,8 +3,8 @@ ghost use Rattle.std.specs.Prelude.{◌≡◌, ◌<◌, length, Some, None, IfOk
 ghost use Rattle.module_dsl.specs.declared.step.Block.TheVariants as dsl;
 ghost use Rattle.py_values.specs.Heaps.{seen};
 ghost use Rattle.design_ir.specs.Values.{form};
-ghost use Rattle.amh_values.specs.Meant.{expr_meant};
-ghost use Rattle.amh_values.specs.Patterns.{patterns_meant, AreWithin};
+ghost use Rattle.amh_things.specs.Meant.{expr_meant};
+ghost use Rattle.amh_things.specs.Patterns.{patterns_meant, AreWithin};
 ghost use Rattle.std.specs.Prelude.{Option as Stopped};
 ghost use Rattle.module_dsl.specs.declared.refusal.BuildStop.{BuildStop};
 ghost use Rattle.module_dsl.specs.Builders.{IsOwed};

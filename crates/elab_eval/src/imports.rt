@@ -1,7 +1,7 @@
 // Imports.
 ghost use Rattle.std.specs.Prelude.{◌≡◌, ◌<◌, length, slice_get, is_some, Some, IfOk, [], codes};
 ghost use Rattle.lists.specs.Texts.{text_eq};
-ghost use Rattle.amh_values.specs.Things.{name_called};
+ghost use Rattle.amh_things.specs.Things.{name_called};
 ghost use Rattle.elab_eval.specs.Imports.{is_hdl, is_utils, own_named, star_names, hdl_imported, all_bound, utility_imported, imported, import_answered};
 ghost use Rattle.elab_eval.specs.Held.{held_of, Gives};
 

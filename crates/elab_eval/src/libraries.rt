@@ -1,7 +1,7 @@
 // The modules below `amaranth.lib`.
 ghost use Rattle.std.specs.Prelude.{◌≡◌, is_some, codes};
 ghost use Rattle.elab_eval.specs.Libraries.{is_library, is_wiring, is_enum, base_given, wiring_named, module_named, library_named, library_given};
-ghost use Rattle.amh_values.specs.Things.{base_called};
+ghost use Rattle.amh_things.specs.Things.{base_called};
 ghost use Rattle.elab_eval.specs.Held.{held_of, Gives};
 
 use crate::kept::{HdlName, Kept};

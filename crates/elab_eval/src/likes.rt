@@ -3,7 +3,7 @@ ghost use Rattle.std.specs.Prelude.{◌≡◌, ◌<◌, length, map, slice_get, 
 ghost use Rattle.std.specs.List.{list_all};
 ghost use Rattle.std.specs.Option.{option_copied};
 ghost use Rattle.py_values.specs.Heaps.{seen};
-ghost use Rattle.amh_values.specs.Meant.{form_meant};
+ghost use Rattle.amh_things.specs.Meant.{form_meant};
 ghost use Rattle.elab_eval.specs.Seen.{called_of};
 ghost use Rattle.elab_eval.specs.Likes.{like_given, is_like_keyword, like_arguments, signal_in, liked_signal, own_init, own_reset_less, like_init, like_called};
 ghost use Rattle.elab_eval.specs.Sound.{IsSound};

@@ -5,7 +5,7 @@ ghost use Rattle.py_values.specs.Heaps.{seen};
 ghost use Rattle.py_values.specs.Objects.{attributes};
 ghost use Rattle.design_ir.specs.declared.ids.SigId.{SigId};
 ghost use Rattle.clock_domains.specs.Resolved.{port_of};
-ghost use Rattle.amh_values.specs.Held.{AreHeld};
+ghost use Rattle.amh_things.specs.Held.{AreHeld};
 ghost use Rattle.elab_eval.specs.ObjectTops.{signal_in, held_signal, is_private, has_public_name, attribute_signal, attribute_signals, before_others, signal_ports, held_ports, object_ports};
 ghost use Rattle.elab_eval.specs.Elaborates.{top_ports};
 ghost use Rattle.elab_eval.specs.Held.{held_of};

@@ -5,7 +5,7 @@ ghost use Rattle.py_values.specs.Heaps.{nothing, seen};
 ghost use Rattle.py_frames.specs.declared.request.Answer.TheVariants.{Begin};
 ghost use Rattle.py_machine.specs.Lives.{IsOf};
 ghost use Rattle.amh_values.specs.Acts.{acted, Acts};
-ghost use Rattle.amh_values.specs.Held.{AreHeld};
+ghost use Rattle.amh_things.specs.Held.{AreHeld};
 ghost use Rattle.elab_eval.specs.Elaborates.{IsElaborated, stop_of, told_at};
 ghost use Rattle.elab_eval.specs.Running.{IsRunning, Steps_to, Runs_to};
 ghost use Rattle.elab_eval.specs.Table.{prim};

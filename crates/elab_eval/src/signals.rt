@@ -5,7 +5,7 @@ ghost use Rattle.py_values.specs.Heaps.{seen};
 ghost use Rattle.py_values.specs.Numbers.{number_of};
 ghost use Rattle.design_ir.specs.declared.expr.Expr.TheVariants as expr;
 ghost use Rattle.design_ir.specs.PoolRules.{expr_added};
-ghost use Rattle.amh_values.specs.declared.thing.Thing.TheVariants as thing;
+ghost use Rattle.amh_things.specs.declared.thing.Thing.TheVariants as thing;
 ghost use Rattle.elab_eval.specs.Stores.{thing_given};
 ghost use Rattle.elab_eval.specs.Seen.{called_of};
 ghost use Rattle.elab_eval.specs.Signals.{module_called, with_module, no_arguments, once, formed, with_keyword, with_keywords, placed_arguments, signal_arguments, call_name, signal_name, signal_init, signal_reset_less, signal_passes, signal_of, signal_given, signal_shaped, signal_said, signal_form, signal_from, signal_called};

@@ -2,11 +2,11 @@
 ghost use Rattle.std.specs.Prelude.{◌≡◌, ◌++◌, ◌∷◌, [], length, IfOk, OnErr, Some, None, IsSome, option_map, slice_get};
 ghost use Rattle.py_values.specs.Heaps.{seen};
 ghost use Rattle.py_values.specs.declared.val.Val.TheVariants as val;
-ghost use Rattle.amh_values.specs.declared.thing.Thing.TheVariants as thing;
-ghost use Rattle.amh_values.specs.Things.{name_called, thing_of, base_called};
+ghost use Rattle.amh_things.specs.declared.thing.Thing.TheVariants as thing;
+ghost use Rattle.amh_things.specs.Things.{name_called, thing_of, base_called};
 ghost use Rattle.elab_eval.specs.Table.{equated_by};
-ghost use Rattle.amh_values.specs.Meant.{shape_meant, expr_meant, Gives as Meant};
-ghost use Rattle.amh_values.specs.Held.{AreHeld};
+ghost use Rattle.amh_things.specs.Meant.{shape_meant, expr_meant, Gives as Meant};
+ghost use Rattle.amh_things.specs.Held.{AreHeld};
 ghost use Rattle.elab_eval.specs.Signals.{store_and_module};
 ghost use Rattle.elab_eval.specs.Components.{no_components};
 ghost use Rattle.elab_eval.specs.Stores.{nothing_held, no_top, kept_of, store_with, store_keeping, kept_given, given, refused, refused_at};

@@ -1,5 +1,5 @@
 use Rattle.std.proofs.Common.{sym}
-use Rattle.amh_values.proofs.PutLaws.{held_method_below}
+use Rattle.amh_things.proofs.PutLaws.{held_method_below}
 use Rattle.amh_values.proofs.calls.thing_called.Goals as goal
 
 pub method_called-requires-clause-there : goal.method_called-requires-clause-there

@@ -1,0 +1,11 @@
+pub mod Things
+pub mod Ends
+pub mod Held
+pub mod Operands
+pub mod Plans
+pub mod Members
+pub mod Arguments
+pub mod Ranges
+pub mod Meant
+pub mod Patterns
+pub mod Laws

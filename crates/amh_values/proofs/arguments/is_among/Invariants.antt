@@ -1,6 +1,0 @@
-use Rattle.std.proofs.Common.{◌≡◌, map, drop}
-use Rattle.amh_values.specs.Arguments.{is_among}
-use Rattle.amh_values.proofs.arguments.is_among.Given as goal
-
-abbrev pub invariant-loop-name : goal.invariant-loop-name
-invariant-loop-name l = is_among (map (λ p. p.now) (drop l.name-index l.names)) l.key ≡ is_among (map (λ p. p.now) l.names) l.key

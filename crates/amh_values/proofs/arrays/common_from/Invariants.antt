@@ -1,6 +1,0 @@
-use Rattle.std.proofs.Common.{◌≡◌, drop}
-use Rattle.amh_values.specs.Arrays.{common_from}
-use Rattle.amh_values.proofs.arrays.common_from.Given as goal
-
-abbrev pub invariant-loop-x : goal.invariant-loop-x
-invariant-loop-x l = common_from l.all (drop l.x-index l.xs) ≡ common_from l.fn.shape l.xs

@@ -1,6 +1,0 @@
-use Rattle.std.proofs.Common.{◌≡◌, ◌++◌, drop, map}
-use Rattle.amh_values.specs.Members.{plain}
-use Rattle.amh_values.proofs.comparing.all_plain.Given as goal
-
-abbrev pub invariant-loop-v : goal.invariant-loop-v
-invariant-loop-v l = l.all ++ map (plain l.values) (drop l.v-index l.vals) ≡ map (plain l.values) l.vals

@@ -1,8 +1,0 @@
-use Rattle.std.proofs.Common.{◌≡◌, drop}
-use Rattle.std.specs.List.{list_any}
-use Rattle.amh_bits.specs.Integers.{sign_of}
-use Rattle.amh_values.specs.Enumerations.{numbers_of}
-use Rattle.amh_values.proofs.enumerations.is_any_negative.Given as goal
-
-abbrev pub invariant-loop-m : goal.invariant-loop-m
-invariant-loop-m l = list_any sign_of (numbers_of (drop l.m-index l.members)) ≡ list_any sign_of (numbers_of l.members)

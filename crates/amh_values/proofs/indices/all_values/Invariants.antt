@@ -1,7 +1,0 @@
-use Rattle.std.proofs.Common.{◌≡◌, map}
-use Rattle.amh_values.specs.declared.thing.Thing.TheVariants as thing
-use Rattle.amh_values.specs.Indices.{ids_from}
-use Rattle.amh_values.proofs.indices.all_values.Given as goal
-
-abbrev pub invariant-loop-k : goal.invariant-loop-k
-invariant-loop-k l = l.all ≡ map thing.Value (ids_from l.next l.k)

@@ -1,6 +1,0 @@
-use Rattle.std.proofs.Common.{sym}
-use Rattle.amh_values.proofs.IndexLaws.{ids_more}
-use Rattle.amh_values.proofs.indices.ids_from.Goals as goal
-
-pub loop-k-preserved : goal.loop-k-preserved
-loop-k-preserved c = rw (c.in-Ok.ensures.ok, c.loop-k.invariant) (sym (ids_more c.args.next c.loop-k.k))

@@ -1,6 +1,0 @@
-use Rattle.std.proofs.Common.{◌≡◌, ◌+◌, ◌≤◌, drop}
-use Rattle.amh_values.specs.Joins.{bits_of_all}
-use Rattle.amh_values.proofs.joins.few_bits.Given as goal
-
-abbrev pub invariant-loop-x : goal.invariant-loop-x
-invariant-loop-x l = (l.bits + bits_of_all (drop l.x-index l.xs) ≡ bits_of_all l.xs) × (l.bits ≤ 128)

@@ -1,5 +1,0 @@
-use Rattle.amh_values.proofs.MeaningLaws.{texts_matched}
-use Rattle.amh_values.proofs.laws.texts_match.Goals as goal
-
-pub returns : goal.returns
-returns c = texts_matched

@@ -1,9 +1,0 @@
-use Rattle.std.proofs.Common.{sym}
-use Rattle.amh_values.proofs.SliceLaws.{slice_get-bits, slice_get-bits_past}
-use Rattle.amh_values.proofs.slices.bit_of.Goals as goal
-
-pub returns-then-n-width : goal.returns-then-n-width
-returns-then-n-width c = sym (slice_get-bits c.args.width c.args.n c.if-n-width.true)
-
-pub returns-else-n-width : goal.returns-else-n-width
-returns-else-n-width c = sym (slice_get-bits_past c.args.width c.args.n c.if-n-width.false)
