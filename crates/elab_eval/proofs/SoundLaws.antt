@@ -25,6 +25,7 @@ use Rattle.design_ir.specs.declared.signal.Sig.{Sig}
 use Rattle.design_ir.specs.declared.ids.ExprId.{ExprId}
 use Rattle.design_ir.specs.declared.expr.Expr.{Expr}
 use Rattle.design_ir.specs.declared.expr.Expr.TheVariants as expr
+use Rattle.design_ir.specs.PoolRules.{IsPool}
 use Rattle.design_ir.specs.Pools.{Pooled}
 use Rattle.design_ir.specs.Targets.{is_target}
 use Rattle.design_ir.specs.declared.expr.Pattern.{Pattern}
@@ -254,6 +255,7 @@ operand_there p ts (val.Hw h) y held e = by_thing (slice_get ts h.0) refl e
     by_thing None at_h e = absurd (true≢false (ap is_some (sym e)))
     by_thing (Some (thing.Value d)) at_h e = let same : held_operand p d ≡ y = cc in subst (there_of p) same (thing_at (length p.exprs) ts h.0 (thing.Value d) held at_h)
     by_thing (Some (thing.Numbered x d)) at_h e = let same : held_operand p d ≡ y = cc in subst (there_of p) same (thing_at (length p.exprs) ts h.0 (thing.Numbered x d) held at_h)
+    by_thing (Some (thing.View x d)) at_h e = let same : held_operand p d ≡ y = cc in subst (there_of p) same (thing_at (length p.exprs) ts h.0 (thing.View x d) held at_h)
     by_thing (Some (thing.Member m)) at_h e = let same : member_operand m ≡ y = cc in subst (there_of p) same tt
     by_thing (Some t) at_h e = absurd (true≢false (ap is_some (sym e)))
 operand_there p ts v y held e = of_number (number_of v) e
