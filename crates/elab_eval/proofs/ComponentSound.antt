@@ -112,6 +112,7 @@ module _ (o : ObjId) (all : List NamedMember) where
     things = all_and _ h.store.things (thing.Kept (length h.store.kept) ∷ []) s.things (tt, tt);
     kept = all_and (IsKept h.pool) h.store.kept (kept.Signature (length h.store.components.signatures) ∷ []) s.kept (tt, tt);
     modules = s.modules;
+    machines = s.machines;
     ports = all_put (ArePorts h.pool) h.store.components.objects o.0 x.ports s.ports ports;
   }
   interface_sound before x (m ∷ ms) h s ports named =

@@ -1,32 +1,41 @@
 -- The walk over a pool before a register gets its shape.
-use Rattle.std.specs.Prelude.{◌≡◌, refl, ℕ, zero, suc, ◌+◌, ◌≤◌, ◌&&◌, ◌||◌, ◌==◌, not, ◌<◌, Bool, true, false, List, [], ◌∷◌, length, slice_get, slice_set, slice_index_or, Option, Some, None, Result, Ok, Err, drop}
+use Rattle.std.specs.Prelude.{◌≡◌, ◌≢◌, refl, ℕ, zero, suc, ◌+◌, ◌≤◌, ◌&&◌, ◌||◌, ◌==◌, not, ◌<◌, Bool, true, false, List, [], ◌∷◌, ◌++◌, length, slice_get, slice_set, slice_index_or, is_some, nat_lt, Option, Some, None, Result, Ok, Err, drop}
 use Rattle.std.proofs.Common.{sym, ◌∙◌, ap, arith, subst, eqb-true, true≢false, inl, inr}
 use Rattle.std.specs.List.{list_any, list_all}
 use Rattle.std.proofs.lemmas.Bool.{cases_order}
 use Rattle.std.proofs.lemmas.Bool.Decides.{nat_tests}
 use Rattle.design_ir.specs.declared.ids.ExprId.{ExprId}
 use Rattle.design_ir.specs.Named.{named, AllBelow}
-use Rattle.design_ir.proofs.Equations.{standing}
+use Rattle.design_ir.specs.PoolRules.{AreExprs, IsExpr}
+use Rattle.shape_rules.specs.Forms.{Form, unsigned}
+use Rattle.design_ir.specs.declared.signal.Sig.{Sig}
+use Rattle.std.proofs.lemmas.List.{length-append}
 use Rattle.elab_eval.specs.Sound.{IsFront}
 use Rattle.std.proofs.lemmas.Bool.{and_parts}
 use Rattle.py_values.proofs.ObjectLaws.{drop_at}
 use Rattle.design_ir.specs.declared.expr.Expr.{Expr}
 use Rattle.design_ir.specs.Pools.{Pooled}
-use Rattle.design_ir.specs.Values.{signal_form}
+use Rattle.design_ir.specs.Values.{signal_form, form_step}
 use Rattle.design_ir.specs.PoolRules.{IsPool}
 use Rattle.design_ir.specs.Settling.{IsUnsettled, is_signal, is_match, names_place}
-use Rattle.fsm_lowering.specs.Machines.{Machine, HasRegister}
+use Rattle.fsm_lowering.specs.Machines.{Machine, HasRegister, state_number, in_state}
 use Rattle.py_values.specs.declared.val.Val.{Val}
 use Rattle.elab_eval.specs.declared.state_machines.MachineArguments.{MachineArguments}
 use Rattle.elab_eval.specs.declared.state_machines.OwnMachine.{OwnMachine}
 use Rattle.amh_host.specs.declared.place.Place.{Place}
 use Rattle.py_frames.specs.declared.request.Cause.TheVariants.{Raised}
-use Rattle.module_dsl.specs.Builders.{Built}
+use Rattle.module_dsl.specs.Builders.{Built, built_blocks}
 use Rattle.fsm_lowering.specs.declared.refusal.FsmStop.{FsmStop}
-use Rattle.elab_eval.specs.Stores.{Held, refused}
+use Rattle.elab_eval.specs.Stores.{Stored, Held, refused}
+use Rattle.elab_eval.specs.Counts.{statement_count}
+use Rattle.module_dsl.specs.Blocks.{in_switch}
+use Rattle.design_ir.specs.PoolRules.{expr_added}
+use Rattle.fsm_lowering.specs.declared.refusal.FsmStop.TheVariants as stop
+use Rattle.fsm_lowering.specs.States.{is_within, number_of}
+use Rattle.fsm_lowering.specs.Calls.{next_stop, stop_where, is_too_many, is_full, and_mention, with_next, ongoing_refusal, and_asked, IsOwed, UnlessMemory}
 use Rattle.elab_eval.specs.OpenMachines.{innermost}
-use Rattle.elab_eval.specs.StateMachines.{is_apart, is_unsettled, machine_keywords, Moved, Move, with_moved, move_answer, own_moved, moved, stop_told}
-use Rattle.elab_eval.specs.Moves.{IsMoved, moved_as, told_after}
+use Rattle.elab_eval.specs.StateMachines.{is_apart, is_unsettled, machine_keywords, Moved, Move, with_moved, move_answer, own_moved, moved, stop_told, is_placed, chain_ended, store_begun, next_goes, asked_of}
+use Rattle.elab_eval.specs.Moves.{IsMoved, moved_as, told_after, asked_after}
 use Rattle.elab_eval.proofs.Pools.{signal_there}
 
 pub apart_next : (x : Machine) (es : List Expr) (i : ℕ) (e : Expr) (whole : Bool) → slice_get es i ≡ Some e → is_apart x e ≡ true → list_all (is_apart x) (drop i es) ≡ whole → list_all (is_apart x) (drop (i + 1) es) ≡ whole
@@ -60,6 +69,22 @@ none_named n j (a ∷ ids) h le = let apart : (a.0 == j) ≡ false = below-not a
     below-not : (n m : ℕ) → n < m → (n == m) ≡ false
     below-not n m lt = grind (arith, nat_tests)
 
+-- an expression of a pool names those before it
+names_below : (sigs : List Sig) (known : List Form) (es : List Expr) (k : ℕ) (e : Expr) → AreExprs sigs known es → slice_get es k ≡ Some e → AllBelow (length known + k) (named e)
+names_below sigs known [] k e h at = absurd cc
+names_below sigs known (x ∷ es) zero e h at =
+    let same : x ≡ e = cc in
+    subst (λ z. AllBelow (length known + 0) (named z)) same (subst (λ n. AllBelow n (named x)) (omega arith) h.0.names)
+names_below sigs known (x ∷ es) (suc k) e h at =
+    let more = form_step sigs (λ j. slice_index_or known j (unsigned 0)) x in
+    subst (λ n. AllBelow n (named e)) (omega (arith, length-append known (more ∷ []))) (names_below sigs (known ++ more ∷ []) es k e h.1 at)
+
+names_before : (q : Pooled) (k : ℕ) (e : Expr) → IsPool q → slice_get q.exprs k ≡ Some e → AllBelow k (named e)
+names_before q k e rules at =
+    let none : List Form = [] in
+    let same : length none + k ≡ k = omega arith in
+    subst (λ n. AllBelow n (named e)) same (names_below q.signals none q.exprs k e rules.exprs at)
+
 -- the test says what settling asks
 pub unsettled_is : (q : Pooled) (x : Machine) → IsPool q → HasRegister q x → IsFront q x → is_unsettled q x ≡ true → IsUnsettled q x.signal.0
 unsettled_is q x rules has front h =
@@ -84,9 +109,9 @@ unsettled_is q x rules has front h =
     matched : list_all (is_apart x) (drop (x.register.0 + 1) q.exprs) ≡ true → (k : ℕ) (e : Expr) → slice_get q.exprs k ≡ Some e → names_place e x.register.0 ≡ true → is_match e ≡ true
     matched all k e at names =
         elim (cases_order k x.register.0) [
-          | inl same ↦ absurd (true≢false (sym names ∙ none_named k x.register.0 (named e) (standing q k e rules at).askable.names (omega (arith, same))))
+          | inl same ↦ absurd (true≢false (sym names ∙ none_named k x.register.0 (named e) (names_before q k e rules at) (omega (arith, same))))
           | inr apart ↦ elim apart [
-            | inl less ↦ absurd (true≢false (sym names ∙ none_named k x.register.0 (named e) (standing q k e rules at).askable.names (omega (arith, less))))
+            | inl less ↦ absurd (true≢false (sym names ∙ none_named k x.register.0 (named e) (names_before q k e rules at) (omega (arith, less))))
             | inr more ↦ or_not (is_match e) (names_place e x.register.0) (and_parts (not (is_signal x.signal.0 e)) (is_match e || not (names_place e x.register.0)) (behind_at x q.exprs (x.register.0 + 1) k e all (omega (arith, more)) at)).1 names
           ]
         ]
@@ -146,3 +171,84 @@ module _ (f : Move) (k m : ℕ) (p : Place) (h : Held) (x : OwnMachine) (b : Bui
   pub moves-acted : (why : Option FsmStop) (y : Moved) → IsMoved why (f h.pool x.machine b) (moved_as h.pool x.machine b) y → moved f m p h ≡ told_after why p (with_moved k x m y h)
   moves-acted None y e = by_result (Ok y) e
   moves-acted (Some why) y e = by_result (Err why) e.0 ∙ ap (stop_told p why) (sym (ap (λ z. with_moved k x m z h) e.1 ∙ unmoved))
+
+-- ---- a machine begins
+
+placed_some : (m : ℕ) (o : Option Built) (xs : List OwnMachine) → is_placed m o xs ≡ true → is_some o ≡ true
+placed_some m None xs h = absurd cc
+placed_some m (Some b) xs h = refl
+
+some_below : {A : Type 0} (xs : List A) (k : ℕ) → is_some (slice_get xs k) ≡ true → k < length xs
+some_below [] k h = absurd cc
+some_below (x ∷ xs) zero h = omega arith
+some_below (x ∷ xs) (suc k) h = omega (arith, some_below xs k h)
+
+-- the module of a machine that may begin is there
+pub placed_there : (m : ℕ) (bs : List Built) (xs : List OwnMachine) → is_placed m (slice_get bs m) xs ≡ true → m < length bs
+placed_there m bs xs h = some_below bs m (placed_some m (slice_get bs m) xs h)
+
+pub begun-given : (m : ℕ) (x : Machine) (s : Stored) (b c : Built) → slice_get s.modules m ≡ Some b → c ≡ chain_ended x.register b → store_begun m x s ≡ record s { machines = s.machines ++ record { of = m; machine = x } ∷ []; modules = slice_set s.modules m c }
+begun-given m x s b c at e = rw (at, e) refl
+
+-- ---- `m.next`
+
+above : (n : ℕ) → 65536 < n → nat_lt 65536 n ≡ true
+above n h = grind (arith, nat_tests)
+
+within : (n : ℕ) → n ≤ 65536 → nat_lt 65536 n ≡ false
+within n h = grind (arith, nat_tests)
+
+pub next-outside : (q : Pooled) (x : Machine) (b : Built) (name : List ℕ) → next_stop q x b name ≡ None → in_switch (built_blocks b).around ≡ false
+next-outside q x b name e = by_test (is_within x.stage) (in_switch (built_blocks b).around) e
+  where
+    by_test : (w i : Bool) → stop_where stop.Order (not w || i) (stop_where stop.Limit (is_too_many x name || is_full q) None) ≡ None → i ≡ false
+    by_test w false e = refl
+    by_test true true e = absurd cc
+    by_test false true e = absurd cc
+
+module _ (m : ℕ) (h : Held) (name : List ℕ) (p : Place) (q : Pooled) (x : Machine) (b : Built) where
+  pub goes-stopped : (why : FsmStop) → next_stop q x b name ≡ Some why → next_goes m h name p q x b ≡ Err why
+  goes-stopped why e = rw e refl
+
+  pub goes-over : (n : ℕ) → next_stop q x b name ≡ None → statement_count (slice_set h.store.modules m (with_next q x b p)) ≡ n → 65536 < n → next_goes m h name p q x b ≡ Err stop.Limit
+  goes-over n e count over = rw (e, count, above n over) refl
+
+  pub goes-given : (n : ℕ) (q' : Pooled) (x' : Machine) (b' : Built) → next_stop q x b name ≡ None → statement_count (slice_set h.store.modules m (with_next q x b p)) ≡ n → n ≤ 65536
+      → x' ≡ and_mention x name p → b' ≡ with_next q x b p → q' ≡ expr_added q (state_number (number_of x.states name)) → next_goes m h name p q x b ≡ Ok (moved_as q' x' b')
+  goes-given n q' x' b' e count few e1 e2 e3 = rw (e, count, within n few, e1, e2, e3) refl
+
+-- ---- `ongoing`
+
+pub asked-nowhere : (k : ℕ) (h : Held) (name : List ℕ) (p : Place) → length h.store.machines ≤ k → asked_of k (slice_get h.store.machines k) name p h ≡ refused Raised h
+asked-nowhere k h name p past = rw (past_place h.store.machines k past) refl
+
+module _ (k : ℕ) (h : Held) (name : List ℕ) (p : Place) (x : OwnMachine) (own : slice_get h.store.machines k ≡ Some x) (q : Pooled) (y : Machine) where
+  pub asked-made : ongoing_refusal h.pool x.machine name ≡ None → y ≡ and_asked x.machine name p (record { 0 = length h.pool.exprs }) → q ≡ expr_added h.pool (in_state x.machine (number_of x.machine.states name))
+      → asked_of k (slice_get h.store.machines k) name p h ≡ asked_after None p (record { 0 = length h.pool.exprs }) (record { pool = q; store = record h.store { machines = slice_set h.store.machines k (record x { machine = y }) } })
+  asked-made none e1 e2 = rw (own, none, e1, e2) refl
+
+  pub asked-refused : (why : FsmStop) → ongoing_refusal h.pool x.machine name ≡ Some why → y ≡ x.machine → q ≡ h.pool
+      → asked_of k (slice_get h.store.machines k) name p h ≡ asked_after (Some why) p (record { 0 = length h.pool.exprs }) (record { pool = q; store = record h.store { machines = slice_set h.store.machines k (record x { machine = y }) } })
+  asked-refused why some e1 e2 =
+      told ∙ ap (stop_told p why) (sym (ap (λ z. held h.pool (slice_set h.store.machines k (record x { machine = z }))) e1 ∙ ap (held h.pool) (same_set h.store.machines k x own)) ∙ ap (λ r. held r (slice_set h.store.machines k (record x { machine = y }))) (sym e2))
+    where
+      held : Pooled → List OwnMachine → Held
+      held r ms = record { pool = r; store = record h.store { machines = ms } }
+
+      told : asked_of k (slice_get h.store.machines k) name p h ≡ stop_told p why h
+      told = rw (own, some) refl
+
+-- a refusal that is told is the one that is owed, and leaves all as it was
+pub owed_is : (o : Option FsmStop) (why : FsmStop) → IsOwed o why → why ≢ stop.NoMemory → o ≡ Some why
+owed_is o (stop.UndefinedState p) h ne = h
+owed_is o stop.Repeated h ne = h
+owed_is o stop.Order h ne = h
+owed_is o stop.Limit h ne = h
+owed_is o stop.NoMemory h ne = absurd (ne refl)
+
+pub unless_is : (P : Type 0) (why : FsmStop) → UnlessMemory why P → why ≢ stop.NoMemory → P
+unless_is P (stop.UndefinedState p) h ne = h
+unless_is P stop.Repeated h ne = h
+unless_is P stop.Order h ne = h
+unless_is P stop.Limit h ne = h
+unless_is P stop.NoMemory h ne = absurd (ne refl)

@@ -1,6 +1,6 @@
 -- What is held stays sound by what state machines do.
 use Rattle.std.proofs.Common.{◌≡◌, ℕ, zero, suc, ◌+◌, ◌<◌, ◌≤◌, refl, ap, ◌∙◌, sym, subst, Bool, true, false, List, [], ◌∷◌, ◌++◌, length, Option, Some, None, Result, Ok, Err, ℤ, arith, true≢false, is_some, append-nil}
-use Rattle.std.specs.Prelude.{if◌then◌else◌, get_or, pos, slice_get, slice_set, codes, ◌&&◌, ◌||◌, not}
+use Rattle.std.specs.Prelude.{◌==◌, if◌then◌else◌, get_or, pos, slice_get, slice_set, codes, ◌&&◌, ◌||◌, not}
 use Rattle.std.specs.List.{AllByRecursion, list_all}
 use Rattle.std.proofs.lemmas.Bool.{and_parts}
 use Rattle.std.proofs.lemmas.List.{length-append}
@@ -207,15 +207,12 @@ begun_sound m name init p h rules t named =
       kept = u.kept;
       modules = chain_sound q m (record { 0 = length h.pool.exprs }) (slice_get h.store.modules m) h.store.modules (omega (arith, length-append h.pool.exprs (expr.Sig (record { 0 = length h.pool.signals }) ∷ []))) (λ b e. module_built q h.store.modules m b u.modules e) u.modules;
       ports = u.ports;
-      machines = all_and (IsMachine q) h.store.machines (record { of = m; machine = machine_at h.pool (codes "sync") init p } ∷ []) u.machines (
-        record {
-          register = get_last h.pool.exprs (expr.Sig (record { 0 = length h.pool.signals }));
-          target = target_last (signal_added h.pool (no_bits (name ++ codes "_state"))) (record { 0 = length h.pool.signals });
-          side = name_is (codes "sync") refl;
-          front = λ k e lt at. fresh_signal h.pool k e rules (put_before h.pool.exprs (expr.Sig (record { 0 = length h.pool.signals })) k e lt at);
-        },
-        tt,
-      );
+      machines = all_and (IsMachine q) h.store.machines (record { of = m; machine = machine_at h.pool (codes "sync") init p } ∷ []) u.machines (record {
+        register = get_last h.pool.exprs (expr.Sig (record { 0 = length h.pool.signals }));
+        target = target_last (signal_added h.pool (no_bits (name ++ codes "_state"))) (record { 0 = length h.pool.signals });
+        side = name_is (codes "sync") refl;
+        front = λ k e lt at. fresh_signal h.pool k e rules (put_before h.pool.exprs (expr.Sig (record { 0 = length h.pool.signals })) k e lt at);
+      }, tt);
     }
 
 made_sound : (m : ℕ) (name : List ℕ) (init : Option (List ℕ)) (p : Place) (h : Held) → IsPool h.pool → IsSound h → is_name name ≡ true → IsSound (machine_made m name init p h).held
@@ -265,7 +262,7 @@ unfolding SoundMove
 end_state_sound h t x b y own built e =
     let same = made_if (is_at_case x.machine b) (end_refusal x.machine) _ y e in
     let P : Moved → Type 0 = λ z. IsSound (record h { pool = z.pool }) × (IsMachine z.pool (record x { machine = z.machine }) × IsBuilt z.pool z.built) in
-    subst P same (t, record { register = own.register; target = own.target; side = own.side; front = own.front }, told_more h.pool b Leave built tt)
+    subst P same (t, (record { register = own.register; target = own.target; side = own.side; front = own.front }, told_more h.pool b Leave built tt))
 
 state_sound : (h : Held) (name : List ℕ) (p : Place) → IsSound h → SoundMove h (state_begins name p)
 unfolding SoundMove
@@ -278,7 +275,7 @@ state_sound h name p t x b y own built e =
     let stays = machine_stays h.pool q g x own in
     let there : x.machine.register.0 < length h.pool.exprs = below h.pool.exprs x.machine.register.0 _ own.register in
     let choice : IsBuilt h.pool (with_choice h.pool x.machine b) = by_begun (is_begun x.machine) there in
-    subst P same (grown_one h made t, record { register = stays.register; target = stays.target; side = stays.side; front = stays.front }, told_more q (with_choice h.pool x.machine b) (Enter (opening.Case (record { 0 = length h.pool.exprs }))) (built_stays h.pool q g (with_choice h.pool x.machine b) choice) (omega (arith, length-append h.pool.exprs (made ∷ []))))
+    subst P same (grown_one h made t, (record { register = stays.register; target = stays.target; side = stays.side; front = stays.front }, told_more q (with_choice h.pool x.machine b) (Enter (opening.Case (record { 0 = length h.pool.exprs }))) (built_stays h.pool q g (with_choice h.pool x.machine b) choice) (omega (arith, length-append h.pool.exprs (made ∷ [])))))
   where
     by_begun : (c : Bool) → x.machine.register.0 < length h.pool.exprs → IsBuilt h.pool (if c then b else and_step b (Enter (opening.Switch x.machine.register)))
     by_begun true l = built
@@ -295,15 +292,12 @@ next_move_sound h m name p t x b y own built e =
     let stays = machine_stays h.pool q g x own in
     subst P same (
       grown_one h made t,
-      record { register = stays.register; target = stays.target; side = stays.side; front = stays.front },
-      told_more q b (Assign x.machine.side x.machine.register (record { 0 = length h.pool.exprs }) p) (built_stays h.pool q g b built) (
-        own.side,
-        record {
-          target_there = below q.exprs x.machine.register.0 _ stays.register;
-          value_there = omega (arith, length-append h.pool.exprs (made ∷ []));
-          is_target = stays.target;
-        },
-      ),
+      (record { register = stays.register; target = stays.target; side = stays.side; front = stays.front },
+      told_more q b (Assign x.machine.side x.machine.register (record { 0 = length h.pool.exprs }) p) (built_stays h.pool q g b built) (own.side, record {
+        target_there = below q.exprs x.machine.register.0 _ stays.register;
+        value_there = omega (arith, length-append h.pool.exprs (made ∷ []));
+        is_target = stays.target;
+      })),
     )
 
 -- ---- the end of a machine
@@ -343,7 +337,7 @@ end_sound h t x b y own built e =
     ended q h false = h
 
     by_first : (o : Option ℕ) → IsSound (record h { pool = settled_at h.pool x.machine.signal (range_width (length x.machine.states)) o }) × (IsMachine (settled_at h.pool x.machine.signal (range_width (length x.machine.states)) o) (record x { machine = and_finished x.machine }) × IsBuilt (settled_at h.pool x.machine.signal (range_width (length x.machine.states)) o) (with_end x.machine b))
-    by_first None = (t, record { register = own.register; target = own.target; side = own.side; front = own.front }, ended h.pool built (is_begun x.machine))
+    by_first None = (t, (record { register = own.register; target = own.target; side = own.side; front = own.front }, ended h.pool built (is_begun x.machine)))
     by_first (Some n) =
         let f : Form = unsigned (range_width (length x.machine.states)) in
         let sigs : List Sig = settling.settled_at h.pool.signals x.machine.signal.0 f (pos n) in
@@ -351,8 +345,8 @@ end_sound h t x b y own built e =
         let g : IsGrown h.pool q = record { more = []; exprs = sym (append-nil h.pool.exprs) } in
         let stays = machine_stays h.pool q g x own in (
           pool_sound h sigs t (settled_names h.pool.signals x.machine.signal.0 f (pos n) t.names) (settled_length h.pool.signals x.machine.signal.0 f (pos n)),
-          record { register = stays.register; target = stays.target; side = stays.side; front = stays.front },
-          ended q (built_stays h.pool q g b built) (is_begun x.machine),
+          (record { register = stays.register; target = stays.target; side = stays.side; front = stays.front },
+          ended q (built_stays h.pool q g b built) (is_begun x.machine)),
         )
 
 -- ---- `ongoing`

@@ -24,6 +24,7 @@ use Rattle.design_ir.specs.declared.signal.Sig.{Sig}
 use Rattle.design_ir.specs.declared.ids.ExprId.{ExprId}
 use Rattle.design_ir.specs.declared.expr.Expr.{Expr}
 use Rattle.design_ir.specs.declared.expr.Expr.TheVariants as expr
+use Rattle.design_ir.specs.PoolRules.{IsPool}
 use Rattle.design_ir.specs.Pools.{Pooled}
 use Rattle.design_ir.specs.Targets.{is_target}
 use Rattle.design_ir.specs.declared.expr.Pattern.{Pattern}

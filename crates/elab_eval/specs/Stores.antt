@@ -1,6 +1,6 @@
 -- What elaboration holds beside the heap of the program: the pool, and the store of things, modules and the top. Which acts change it is said
 -- family by family in the other files.
-use Rattle.std.specs.Prelude.{List, [], ◌∷◌, ◌++◌, length, slice_get, Option, None, option_and_then}
+use Rattle.std.specs.Prelude.{List, [], ◌∷◌, ◌++◌, length, slice_get, Option, Some, None, option_and_then}
 use Rattle.py_values.specs.declared.val.Val.{Val}
 use Rattle.py_values.specs.declared.val.Val.TheVariants as val
 use Rattle.py_frames.specs.declared.request.Answer.{Answer}

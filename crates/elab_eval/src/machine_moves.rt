@@ -1,5 +1,5 @@
 // What the innermost machine of a module does where a state begins or ends, or the machine ends.
-ghost use Rattle.std.specs.Prelude.{◌≡◌, ◌<◌, ◌&&◌, ◌+◌, length, drop, Some, None, IfOk, slice_get, true, false};
+ghost use Rattle.std.specs.Prelude.{◌≡◌, ◌≢◌, ◌<◌, ◌&&◌, ◌+◌, length, drop, Some, None, IfOk, slice_get, true, false};
 ghost use Rattle.std.specs.Prelude.{◌==◌};
 ghost use Rattle.std.specs.List.{AllByRecursion, list_any, list_all};
 ghost use Rattle.design_ir.specs.declared.ids.ExprId.{ExprId as Number};
@@ -7,11 +7,12 @@ ghost use Rattle.design_ir.specs.Settling.{is_signal, is_match, names_place};
 ghost use Rattle.design_ir.specs.PoolRules.{IsPool};
 ghost use Rattle.module_dsl.specs.Blocks.{in_switch};
 ghost use Rattle.module_dsl.specs.Builders.{built_blocks, built_count};
+ghost use Rattle.fsm_lowering.specs.declared.refusal.FsmStop.{FsmStop};
 ghost use Rattle.fsm_lowering.specs.Machines.{HasRegister};
 ghost use Rattle.elab_eval.specs.OpenMachines.{is_open, innermost, is_without_state, in_machine};
-ghost use Rattle.elab_eval.specs.StateMachines.{chain_ended, store_begun, is_placed, is_at_choice, is_case_of, is_at_case, is_apart, is_unsettled, state_begins, state_ends, machine_ends, next_goes, moved};
+ghost use Rattle.elab_eval.specs.StateMachines.{chain_ended, store_begun, is_placed, is_at_choice, is_case_of, is_at_case, is_apart, is_unsettled, state_begins, state_ends, machine_ends, next_goes, moved, asked_of};
 ghost use Rattle.elab_eval.specs.Sound.{IsMachine, IsFront};
-ghost use Rattle.elab_eval.specs.Moves.{action_moves, IsMoved, moved_as, told_after};
+ghost use Rattle.elab_eval.specs.Moves.{action_moves, IsMoved, moved_as, told_after, asked_after};
 
 use crate::state_machines::OwnMachine;
 use crate::store::Store;
@@ -104,7 +105,8 @@ fn are_apart(pool: &Pool, machine: &Fsm) -> bool
     requires { machine.now.register.0 < length pool.now.exprs }
     ensures { result ≡ list_all (is_apart machine.now) (drop (machine.now.register.0 + 1) pool.now.exprs) }
 {
-    for k in machine.register().0 + 1..pool.count() {
+    let count = pool.count();
+    for k in machine.register().0 + 1..count {
         if !is_apart(machine, pool.at(ExprId(k))) {
             return false;
         }
@@ -221,6 +223,16 @@ fn end_chain(pool: &mut Pool, b: &mut Builder, register: ExprId) -> Result<(), N
     }
 }
 
+// What is told of a refusal: want of memory is no answer.
+fn told(stop: FsmStop) -> Result<FsmStop, NoMemory>
+    ensures { IfOk result (λ why. (why ≡ stop) × (stop ≢ FsmStop.NoMemory)) }
+{
+    match stop {
+        FsmStop::NoMemory => Err(NoMemory),
+        _ => Ok(stop),
+    }
+}
+
 // ---- the innermost machine
 
 fn is_open(of: u32, own: &OwnMachine) -> bool
@@ -302,7 +314,30 @@ impl Store {
         }
         let own = &mut self.machines[k];
         let b = &mut self.modules[of as usize];
-        act(pool, &mut own.machine, b, action, name, place)
+        let why = act(pool, &mut own.machine, b, action, name, place)?;
+        Ok(why)
+    }
+
+    /// A machine is asked for a state, open or ended.
+    pub(crate) fn ask_machine(
+        &mut self,
+        pool: &mut Pool,
+        number: usize,
+        name: &str,
+        place: Place,
+    ) -> Result<Option<FsmStop>, NoMemory>
+        requires { AllByRecursion (IsMachine pool.old) self.old.machines }
+        ensures { IfOk result (λ why. asked_of number (slice_get self.old.machines number) name.now place (record { pool = pool.old; store = self.old }) ≡ asked_after why place (record { 0 = length pool.old.exprs }) (record { pool = pool.new; store = self.new })) }
+    {
+        if number >= self.machines.len() {
+            return Ok(Some(FsmStop::Order));
+        }
+        let machine = &mut self.machines[number].machine;
+        if let Err(stop) = machine.ongoing(pool, name, place) {
+            let why = told(stop)?;
+            return Ok(Some(why));
+        }
+        Ok(None)
     }
 
     /// `m.next`: the innermost machine goes on to a state.
@@ -324,8 +359,9 @@ impl Store {
         }
         let machine = &mut self.machines[k].machine;
         let b = &mut self.modules[of as usize];
-        if let Some(stop) = machine.next_stop(pool, b, name) {
-            return Ok(Some(stop));
+        match machine.next_stop(pool, b, name) {
+            None => {}
+            Some(stop) => return Ok(Some(stop)),
         }
         let added = b.added_by(machine.side());
         if added > 65_536 || self.statements as usize > 65_536 - added {

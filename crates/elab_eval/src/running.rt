@@ -110,7 +110,7 @@ impl Elaboration {
                 Err(_) => Err(ElabStop::NoMemory),
             },
             Turn::Ended(_) => Ok(Step::Ended),
-            Turn::Stopped(stop) => Err(stop_of(told_at(self.store.told, stop))),
+            Turn::Stopped(stop) => Err(stop_of(told_at(self.store.told(), stop))),
             Turn::NoMemory => Err(ElabStop::NoMemory),
         }
     }

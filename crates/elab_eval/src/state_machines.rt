@@ -14,7 +14,7 @@ use crate::machine_moves::Action;
 use crate::names::{is_name, is_text};
 use crate::store::Elaboration;
 use amh_host::Place;
-use design_ir::Exprs;
+use design_ir::{ExprId, Exprs};
 use fsm_lowering::{Fsm, FsmStop};
 use lists::NoMemory;
 use py_frames::request::{Answer, Cause};
@@ -473,17 +473,16 @@ impl Elaboration {
         let Some(name) = name else {
             return self.refuse(Cause::Raised);
         };
-        if number >= self.store.machines.len() {
-            return self.refuse(Cause::Raised);
-        }
-        let machine = &mut self.store.machines[number].machine;
-        match machine.ongoing(&mut self.pool, heap.text(frozen, name), place) {
-            Ok(e) => {
+        let e = ExprId(self.pool.count());
+        let why =
+            self.store
+                .ask_machine(&mut self.pool, number, heap.text(frozen, name), place)?;
+        match why {
+            None => {
                 let v = self.store.hold(e)?;
                 self.give(v)
             }
-            Err(FsmStop::NoMemory) => Err(NoMemory),
-            Err(stop) => self.tell_stop(stop, place),
+            Some(stop) => self.tell_stop(stop, place),
         }
     }
 }

@@ -183,6 +183,13 @@ impl Store {
         self.top.root = None;
     }
 
+    /// Where a refusal is told, where this is not the place of its request.
+    pub(crate) fn told(&self) -> Option<Place>
+        ensures { result ≡ self.now.told }
+    {
+        self.told
+    }
+
     // Where a refusal is told.
     fn tell_at(&mut self, place: Place)
         ensures { self.new ≡ record self.old { told = Some place } }

@@ -1,4 +1,4 @@
-use Rattle.std.proofs.Common.{arith, rules, sym, ◌∙◌, ◌+◌, drop}
+use Rattle.std.proofs.Common.{rules, sym, ◌∙◌, ◌+◌, drop}
 use Rattle.std.specs.List.{list_all}
 use Rattle.elab_eval.specs.StateMachines.{is_apart}
 use Rattle.elab_eval.proofs.MachineLaws.{apart_next, apart_not}

@@ -1,5 +1,4 @@
 use Rattle.std.proofs.Common.{sym, ◌∙◌, rules, ◌≡◌, true}
-use Rattle.elab_eval.specs.StateMachines.{is_unsettled}
 use Rattle.elab_eval.proofs.MachineLaws.{unsettled_is}
 use Rattle.elab_eval.proofs.machine_moves.end_machine.Goals as goal
 

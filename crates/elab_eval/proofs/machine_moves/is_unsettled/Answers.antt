@@ -1,4 +1,4 @@
-use Rattle.std.proofs.Common.{[], sym, ◌∙◌, ◌<◌, length, subst}
+use Rattle.std.proofs.Common.{[], sym, ◌<◌, length, subst}
 use Rattle.design_ir.specs.declared.ids.SigId.{SigId}
 use Rattle.elab_eval.proofs.Pools.{signal_there}
 use Rattle.elab_eval.proofs.machine_moves.is_unsettled.Goals as goal
