@@ -207,12 +207,15 @@ begun_sound m name init p h rules t named =
       kept = u.kept;
       modules = chain_sound q m (record { 0 = length h.pool.exprs }) (slice_get h.store.modules m) h.store.modules (omega (arith, length-append h.pool.exprs (expr.Sig (record { 0 = length h.pool.signals }) ∷ []))) (λ b e. module_built q h.store.modules m b u.modules e) u.modules;
       ports = u.ports;
-      machines = all_and (IsMachine q) h.store.machines (record { of = m; machine = machine_at h.pool (codes "sync") init p } ∷ []) u.machines (record {
-        register = get_last h.pool.exprs (expr.Sig (record { 0 = length h.pool.signals }));
-        target = target_last (signal_added h.pool (no_bits (name ++ codes "_state"))) (record { 0 = length h.pool.signals });
-        side = name_is (codes "sync") refl;
-        front = λ k e lt at. fresh_signal h.pool k e rules (put_before h.pool.exprs (expr.Sig (record { 0 = length h.pool.signals })) k e lt at);
-      }, tt);
+      machines = all_and (IsMachine q) h.store.machines (record { of = m; machine = machine_at h.pool (codes "sync") init p } ∷ []) u.machines (
+        record {
+          register = get_last h.pool.exprs (expr.Sig (record { 0 = length h.pool.signals }));
+          target = target_last (signal_added h.pool (no_bits (name ++ codes "_state"))) (record { 0 = length h.pool.signals });
+          side = name_is (codes "sync") refl;
+          front = λ k e lt at. fresh_signal h.pool k e rules (put_before h.pool.exprs (expr.Sig (record { 0 = length h.pool.signals })) k e lt at);
+        },
+        tt,
+      );
     }
 
 made_sound : (m : ℕ) (name : List ℕ) (init : Option (List ℕ)) (p : Place) (h : Held) → IsPool h.pool → IsSound h → is_name name ≡ true → IsSound (machine_made m name init p h).held
@@ -292,12 +295,17 @@ next_move_sound h m name p t x b y own built e =
     let stays = machine_stays h.pool q g x own in
     subst P same (
       grown_one h made t,
-      (record { register = stays.register; target = stays.target; side = stays.side; front = stays.front },
-      told_more q b (Assign x.machine.side x.machine.register (record { 0 = length h.pool.exprs }) p) (built_stays h.pool q g b built) (own.side, record {
-        target_there = below q.exprs x.machine.register.0 _ stays.register;
-        value_there = omega (arith, length-append h.pool.exprs (made ∷ []));
-        is_target = stays.target;
-      })),
+      (
+        record { register = stays.register; target = stays.target; side = stays.side; front = stays.front },
+        told_more q b (Assign x.machine.side x.machine.register (record { 0 = length h.pool.exprs }) p) (built_stays h.pool q g b built) (
+          own.side,
+          record {
+            target_there = below q.exprs x.machine.register.0 _ stays.register;
+            value_there = omega (arith, length-append h.pool.exprs (made ∷ []));
+            is_target = stays.target;
+          },
+        ),
+      ),
     )
 
 -- ---- the end of a machine
@@ -345,8 +353,10 @@ end_sound h t x b y own built e =
         let g : IsGrown h.pool q = record { more = []; exprs = sym (append-nil h.pool.exprs) } in
         let stays = machine_stays h.pool q g x own in (
           pool_sound h sigs t (settled_names h.pool.signals x.machine.signal.0 f (pos n) t.names) (settled_length h.pool.signals x.machine.signal.0 f (pos n)),
-          (record { register = stays.register; target = stays.target; side = stays.side; front = stays.front },
-          ended q (built_stays h.pool q g b built) (is_begun x.machine)),
+          (
+            record { register = stays.register; target = stays.target; side = stays.side; front = stays.front },
+            ended q (built_stays h.pool q g b built) (is_begun x.machine),
+          ),
         )
 
 -- ---- `ongoing`
