@@ -1,5 +1,5 @@
 -- What is held stays sound where components are made.
-use Rattle.std.proofs.Common.{◌≡◌, subst, ℕ, [], ◌+◌, refl, Bool, true, false, cond, not, List, ◌∷◌, ◌++◌, length, Option, Some, None, Ok, Err, Result, arith}
+use Rattle.std.proofs.Common.{◌≡◌, ℕ, [], refl, Bool, true, false, cond, not, List, ◌∷◌, ◌++◌, length, Option, Some, None, Ok, Err, Result, arith}
 use Rattle.std.specs.List.{list_any, IsDistinct}
 use Rattle.std.proofs.lemmas.List.{length-append}
 use Rattle.lists.specs.Names.{IsName}

@@ -1,11 +1,9 @@
 -- What is held stays sound by every answer of this crate.
 use Rattle.std.proofs.Common.{◌≡◌, ℕ, zero, suc, ◌+◌, ◌<◌, refl, ap, ◌∙◌, sym, subst, Bool, true, false, List, [], ◌∷◌, ◌++◌, length, Option, Some, None, Result, Ok, Err, ℤ, arith, true≢false, is_some, append-nil, option_map, nat_lt}
-use Rattle.std.specs.Prelude.{if◌then◌else◌, slice_get, codes, All, IsTrue}
-use Rattle.std.specs.List.{AllByRecursion, list_any, list_all}
-use Rattle.std.proofs.lemmas.Bool.{and_parts}
+use Rattle.std.specs.Prelude.{if◌then◌else◌, slice_get, codes}
+use Rattle.std.specs.List.{AllByRecursion, list_any}
 use Rattle.std.proofs.lemmas.List.{length-append}
-use Rattle.std.proofs.lemmas.List.Elements.{All-nil, All-cons}
-use Rattle.lists.specs.Names.{IsName, starts_name, continues_name}
+use Rattle.lists.specs.Names.{IsName}
 use Rattle.lists.specs.Texts.{text_eq}
 use Rattle.amh_host.specs.declared.place.Place.{Place}
 use Rattle.shape_rules.specs.Forms.{Form}
@@ -64,7 +62,7 @@ use Rattle.elab_eval.specs.Calls.{Called, called}
 use Rattle.elab_eval.specs.Imports.{is_hdl, is_utils, own_named, star_names, hdl_thing, hdl_imported, bound_answer, all_bound, imported, import_answered}
 use Rattle.elab_eval.specs.Signals.{with_module, without_arguments, module_called, formed, call_name, signal_arguments, signal_name, signal_init, signal_reset_less, signal_form, signal_of, signal_passes, with_signal, signal_given, signal_shaped, signal_said, signal_from}
 use Rattle.elab_eval.specs.Equations.{equation_given, equation_made, equated}
-use Rattle.elab_eval.specs.Sides.{side_of, domain_named, domain_given, index_name, is_domain_of, domain_stored, equations_in, deepest, part_given, has_no_place, built_with, store_with_statement, statement_refusal, statement_put, statement_told, statements_behind, statements_told, statements_added}
+use Rattle.elab_eval.specs.Sides.{side_of, domain_named, domain_given, index_name, is_domain_of, domain_stored, equations_in, deepest, has_no_place, built_with, store_with_statement, statement_refusal, statement_put, statement_told, statements_behind, statements_told, statements_added}
 use Rattle.elab_eval.specs.Blocks.{block_named, block_name_given, begin_with, condition_given, condition_called, plain_called, with_patterns, case_given, case_in, case_called, case_subject, block_called, block_of, store_told, with_entered, entering_by, entering, passed, entered_at, block_entered, leaving_by, leaving, left_at, block_left}
 use Rattle.elab_eval.specs.declared.kept.BlockName.{BlockName}
 use Rattle.elab_eval.specs.declared.kept.BlockName.TheVariants as named

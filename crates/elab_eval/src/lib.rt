@@ -18,10 +18,10 @@ mod finish;
 mod imports;
 mod interfaces;
 mod kept;
-mod machine_moves;
 mod laws;
 mod libraries;
 mod likes;
+mod machine_moves;
 mod members;
 mod names;
 mod object_tops;
@@ -36,8 +36,8 @@ mod tops;
 pub use kept::{
     Begin, BlockName, DomainName, Equation, HdlName, Kept, MachineCall, MachinePart, StateCall, Top,
 };
-pub use machine_moves::Action;
 pub use laws::outcome_is_one;
+pub use machine_moves::Action;
 pub use members::{ComponentClass, Member, Members, NamedMember};
 pub use refusal::ElabStop;
 pub use running::{Elaborated, elaborate};

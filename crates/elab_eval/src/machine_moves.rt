@@ -150,11 +150,7 @@ fn begin_state(
     }
 }
 
-fn end_state(
-    pool: &Pool,
-    machine: &mut Fsm,
-    b: &mut Builder,
-) -> Result<Option<FsmStop>, NoMemory>
+fn end_state(pool: &Pool, machine: &mut Fsm, b: &mut Builder) -> Result<Option<FsmStop>, NoMemory>
     ensures moved { IfOk result (λ why. IsMoved why (state_ends pool.now machine.old b.old) (moved_as pool.now machine.old b.old) (moved_as pool.now machine.new b.new)) }
     ensures count { built_count b.new ≡ built_count b.old }
 {

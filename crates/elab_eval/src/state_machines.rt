@@ -276,12 +276,7 @@ impl Elaboration {
     }
 
     // `m.State(..)`.
-    fn call_state(
-        &mut self,
-        of: u32,
-        name: Option<StrId>,
-        place: Place,
-    ) -> Result<Answer, NoMemory>
+    fn call_state(&mut self, of: u32, name: Option<StrId>, place: Place) -> Result<Answer, NoMemory>
         ensures { Gives result self.new (state_said of name place (held_of self.old)) }
     {
         match name {
@@ -455,9 +450,7 @@ impl Elaboration {
         requires { IsSound (held_of self.old) }
         ensures { Gives result self.new (moved (next_goes of (held_of self.old) name.now place) of place (held_of self.old)) }
     {
-        let why = self
-            .store
-            .go_to_state(&mut self.pool, of, name, place)?;
+        let why = self.store.go_to_state(&mut self.pool, of, name, place)?;
         match why {
             None => self.give(Val::None),
             Some(stop) => self.tell_stop(stop, place),
@@ -481,9 +474,9 @@ impl Elaboration {
             return self.refuse(Cause::Raised);
         };
         let e = ExprId(self.pool.count());
-        let why =
-            self.store
-                .ask_machine(&mut self.pool, number, heap.text(frozen, name), place)?;
+        let why = self
+            .store
+            .ask_machine(&mut self.pool, number, heap.text(frozen, name), place)?;
         match why {
             None => {
                 let v = self.store.hold(e)?;
