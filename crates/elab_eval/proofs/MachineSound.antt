@@ -1,5 +1,5 @@
 -- What is held stays sound by what state machines do.
-use Rattle.std.proofs.Common.{◌≡◌, ℕ, zero, suc, ◌+◌, ◌<◌, ◌≤◌, refl, ap, ◌∙◌, sym, subst, Bool, true, false, List, [], ◌∷◌, ◌++◌, length, Option, Some, None, Result, Ok, Err, ℤ, arith, true≢false, is_some, append-nil}
+use Rattle.std.proofs.Common.{◌≡◌, ℕ, zero, suc, ◌<◌, ◌≤◌, refl, ap, ◌∙◌, sym, subst, Bool, true, false, List, [], ◌∷◌, ◌++◌, length, Option, Some, None, Result, Ok, Err, ℤ, arith, true≢false, append-nil}
 use Rattle.std.specs.Prelude.{◌==◌, if◌then◌else◌, get_or, pos, slice_get, slice_set, codes, ◌&&◌, ◌||◌, not}
 use Rattle.std.specs.List.{AllByRecursion, list_all}
 use Rattle.std.proofs.lemmas.Bool.{and_parts}
@@ -17,7 +17,7 @@ use Rattle.design_ir.specs.declared.ids.ExprId.{ExprId}
 use Rattle.design_ir.specs.declared.ids.SigId.{SigId}
 use Rattle.design_ir.specs.declared.expr.Expr.{Expr}
 use Rattle.design_ir.specs.declared.expr.Expr.TheVariants as expr
-use Rattle.design_ir.specs.Pools.{Pooled, answers, answer}
+use Rattle.design_ir.specs.Pools.{Pooled, answers}
 use Rattle.design_ir.specs.Targets.{is_target, target_test}
 use Rattle.design_ir.proofs.Answers.{answers_append, answers_begin}
 use Rattle.design_ir.specs.PoolRules.{IsPool, expr_added, signal_added}
@@ -25,31 +25,28 @@ use Rattle.design_ir.specs.Settling as settling
 use Rattle.module_dsl.specs.declared.step.Step.TheVariants.{Assign, Enter, Leave}
 use Rattle.module_dsl.specs.declared.step.Opening.TheVariants as opening
 use Rattle.module_dsl.specs.declared.step.Step.{Step}
-use Rattle.module_dsl.specs.Builders.{Built, and_left, and_step}
+use Rattle.module_dsl.specs.Builders.{Built, and_step}
 use Rattle.fsm_lowering.specs.declared.refusal.FsmStop.{FsmStop}
 use Rattle.fsm_lowering.specs.declared.refusal.FsmStop.TheVariants as stop
 use Rattle.fsm_lowering.specs.States.{number_of, range_width}
-use Rattle.fsm_lowering.specs.Machines.{Machine, HasRegister, in_state, state_number, no_bits}
-use Rattle.fsm_lowering.specs.Calls.{new_refusal, with_register, machine_at, is_begun, state_refusal, and_state, with_choice, with_case, end_refusal, and_ended, next_stop, and_mention, with_next, ongoing_refusal, and_asked, finish_refusal, and_finished, with_end, with_shape, settled_at, first_number}
+use Rattle.fsm_lowering.specs.Machines.{Machine, in_state, state_number, no_bits}
+use Rattle.fsm_lowering.specs.Calls.{new_refusal, with_register, machine_at, is_begun, state_refusal, with_choice, end_refusal, next_stop, with_next, ongoing_refusal, finish_refusal, and_finished, with_end, settled_at, first_number}
 use Rattle.amh_things.specs.declared.thing.Thing.TheVariants as thing
-use Rattle.amh_things.specs.Held.{IsHeld}
 use Rattle.elab_eval.specs.declared.kept.MachinePart.{MachinePart}
 use Rattle.elab_eval.specs.declared.kept.MachinePart.TheVariants as part
-use Rattle.elab_eval.specs.declared.kept.MachineCall.{MachineCall}
-use Rattle.elab_eval.specs.declared.kept.StateCall.{StateCall}
 use Rattle.elab_eval.specs.declared.kept.Kept.TheVariants as kept
 use Rattle.elab_eval.specs.declared.state_machines.OwnMachine.{OwnMachine}
 use Rattle.elab_eval.specs.declared.state_machines.MachineArguments.{MachineArguments}
 use Rattle.elab_eval.specs.Names.{is_name}
 use Rattle.elab_eval.specs.Calls.{Called}
-use Rattle.elab_eval.specs.Stores.{Held, Answered, refused, refused_at, kept_given}
+use Rattle.elab_eval.specs.Stores.{Held, Answered, refused}
 use Rattle.elab_eval.specs.Sides.{part_given}
 use Rattle.elab_eval.specs.OpenMachines.{innermost}
-use Rattle.elab_eval.specs.StateMachines.{part_named, part_attribute, machine_arguments, machine_said, machine_from, init_said, is_sync, name_said, state_argument, state_said, state_string, stop_told, unless_stopped, chain_ended, modules_begun, with_machine, machine_made, is_placed, machine_begun, machine_entered, register_name, init_name, Moved, unless_refused, with_moved, move_answer, own_moved, number_moved, moved, in_place, is_at_choice, is_at_case, state_made, state_begins, state_ends, state_entered, state_left, is_unsettled, machine_ends, machine_left, next_refused, next_goes, next_said, next_stored, with_asked, asked_of, ongoing_said, part_called, part_entered, part_left}
-use Rattle.elab_eval.specs.Sound.{IsAssigned, IsKept, IsTold, IsBuilt, IsMachine, IsSound}
-use Rattle.elab_eval.proofs.Pools.{IsGrown, target_stays, there_stays, signal_there}
+use Rattle.elab_eval.specs.StateMachines.{part_attribute, machine_arguments, machine_said, machine_from, init_said, is_sync, name_said, state_argument, state_said, state_string, stop_told, unless_stopped, chain_ended, modules_begun, with_machine, machine_made, is_placed, machine_begun, register_name, init_name, Moved, unless_refused, with_moved, move_answer, own_moved, number_moved, moved, in_place, is_at_choice, is_at_case, state_made, state_begins, state_ends, is_unsettled, machine_ends, next_refused, next_goes, next_said, next_stored, with_asked, asked_of, ongoing_said, part_called, part_entered, part_left}
+use Rattle.elab_eval.specs.Sound.{IsKept, IsTold, IsBuilt, IsMachine, IsSound}
+use Rattle.elab_eval.proofs.Pools.{IsGrown, signal_there}
 use Rattle.std.proofs.lemmas.Bool.Decides.{nat_tests}
-use Rattle.elab_eval.proofs.Modules.{all_map, all_each}
+use Rattle.elab_eval.proofs.Modules.{all_each}
 use Rattle.elab_eval.proofs.GrownLaws.{all_and, pool_grown, things_grown, keeping_sound, built_stays, kept_stays, told_module, module_built, machine_stays, name_is}
 use Rattle.elab_eval.proofs.PortLaws.{objects_stay}
 

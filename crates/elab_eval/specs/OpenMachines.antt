@@ -1,5 +1,5 @@
 -- The state machines of modules that are open.
-use Rattle.std.specs.Prelude.{ℕ, ◌+◌, ◌==◌, ◌&&◌, not, Bool, false, if◌then◌else◌, List, [], ◌∷◌, length, slice_get, Option, Some, None, option_and_then}
+use Rattle.std.specs.Prelude.{ℕ, ◌+◌, ◌==◌, ◌&&◌, not, Bool, false, if◌then◌else◌, List, [], ◌∷◌, slice_get, Option, Some, None, option_and_then}
 use Rattle.fsm_lowering.specs.States.{is_between, is_finished}
 use Rattle.elab_eval.specs.declared.state_machines.OwnMachine.{OwnMachine}
 

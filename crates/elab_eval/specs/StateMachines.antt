@@ -1,14 +1,12 @@
 -- State machines: `m.FSM(init=None, domain="sync", name="fsm")`, `m.State("S")`, `m.next = "S"` and `ongoing("S")` of what `with m.FSM() as f`
 -- binds. (Amaranth language guide 0.5, "Finite state machines".)
-use Rattle.std.specs.Prelude.{ℕ, nat_lt, ◌+◌, ◌==◌, ◌&&◌, ◌||◌, not, Bool, true, false, if◌then◌else◌, List, [], ◌∷◌, ◌++◌, length, drop, slice_get, slice_set, Option, Some, None, option_and_then, option_map, is_some, Result, Ok, Err, codes}
+use Rattle.std.specs.Prelude.{ℕ, nat_lt, ◌+◌, ◌==◌, ◌&&◌, ◌||◌, not, Bool, true, false, if◌then◌else◌, List, [], ◌∷◌, ◌++◌, length, drop, slice_get, slice_set, Option, Some, None, option_and_then, option_map, Result, Ok, Err, codes}
 use Rattle.std.specs.List.{list_all}
 use Rattle.lists.specs.Texts.{text_eq}
 use Rattle.py_values.specs.declared.val.StrId.{StrId}
 use Rattle.py_values.specs.declared.val.Val.{Val}
 use Rattle.py_values.specs.declared.val.Val.TheVariants as val
 use Rattle.py_values.specs.Heaps.{Seen, text_at}
-use Rattle.py_frames.specs.declared.request.Answer.TheVariants as answer
-use Rattle.py_frames.specs.declared.request.Cause.{Cause}
 use Rattle.py_frames.specs.declared.request.Cause.TheVariants.{Raised, Limit}
 use Rattle.amh_host.specs.declared.place.Place.{Place}
 use Rattle.design_ir.specs.declared.ids.ExprId.{ExprId}

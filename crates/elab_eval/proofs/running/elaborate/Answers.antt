@@ -1,5 +1,4 @@
 use Rattle.py_tree.specs.Programs.{program_of}
-use Rattle.py_machine.specs.Lives.{Stands}
 use Rattle.elab_eval.specs.Held.{held_of}
 use Rattle.elab_eval.proofs.RunLaws.{begun, elaborated}
 use Rattle.elab_eval.proofs.running.elaborate.Goals as goal

@@ -1,5 +1,5 @@
-use Rattle.std.proofs.Common.{◌≡◌, ◌<◌, sym, ap, ◌∙◌, arith, length, List, Some, None}
-use Rattle.std.specs.Prelude.{slice_get, slice_set}
+use Rattle.std.proofs.Common.{◌≡◌, sym, ap, ◌∙◌, arith, Some}
+use Rattle.std.specs.Prelude.{slice_get}
 use Rattle.fsm_lowering.specs.declared.refusal.FsmStop.{FsmStop}
 use Rattle.fsm_lowering.specs.Calls.{ongoing_refusal, and_asked}
 use Rattle.elab_eval.specs.declared.state_machines.OwnMachine.{OwnMachine}
