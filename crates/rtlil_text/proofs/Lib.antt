@@ -17,6 +17,7 @@ pub mod Enough
 pub mod Added
 pub mod CellLaws
 pub mod Words
+pub mod Numerals
 pub mod SpecOnce
 pub mod ModuleOnce
 pub mod IdText

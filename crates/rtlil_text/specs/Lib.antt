@@ -1,3 +1,4 @@
+pub mod Numerals
 pub mod Lines
 pub mod Ids
 pub mod Grammar
