@@ -8,6 +8,7 @@ pub mod CellSanity
 pub mod Distinct
 pub mod Found
 pub mod GateSanity
+pub mod InitSanity
 pub mod HistorySanity
 pub mod MemorySanity
 pub mod Depth

@@ -5,6 +5,7 @@ pub mod Grammar
 pub mod Sources
 pub mod CellTables
 pub mod Drivers
+pub mod Inits
 pub mod Cells
 pub mod Meaning
 pub mod Memories
