@@ -1,0 +1,5 @@
+mod Disjoint
+mod Enables
+mod WrittenRows
+mod ReadRows
+mod FirstRows

@@ -1,0 +1,70 @@
+-- The cells of a memory: its first rows, its write ports and its read ports.
+-- Source: Yosys manual, Cell library: memories; one `$meminit_v2`, no resets of reads, later write ports go first: own rules (docs/RULES.md).
+use Rattle.std.specs.Prelude.{ℕ, Bool, true, false, List, [], ◌∷◌, ◌++◌, replicate, ℤ, codes}
+use Rattle.shape_rules.specs.declared.cell.CellKind.TheVariants.{MemoryRead, MemoryWrite, MemoryInit}
+use Rattle.rtlil_text.specs.declared.sig.SigPart.{SigPart}
+use Rattle.rtlil_text.specs.declared.sig.SigPart.TheVariants as parts
+use Rattle.rtlil_text.specs.declared.cell.RtlValue.TheVariants as values
+use Rattle.rtlil_text.specs.declared.cell.RtlParameter.{RtlParameter}
+use Rattle.rtlil_text.specs.declared.cell.RtlEnd.{RtlEnd}
+use Rattle.rtlil_text.specs.declared.cell.RtlCell.{RtlCell}
+use Rattle.rtlil_text.specs.MemoryRules.{priority_mask}
+use Rattle.memory_cells.specs.Bits.{rows_bits}
+use Rattle.memory_cells.specs.Plans.{Plan, mask_bits, through_mask}
+
+abbrev pub number_at : List ℕ → ℕ → RtlParameter
+number_at name n = record { name = name; value = values.Number n }
+
+abbrev pub bits_at : List ℕ → List Bool → RtlParameter
+bits_at name bits = record { name = name; value = values.Bits bits }
+
+abbrev pub end_at : List ℕ → List SigPart → RtlEnd
+end_at name spec = record { name = name; spec = spec }
+
+abbrev pub constant : List Bool → List SigPart
+constant bits = parts.Const bits ∷ []
+
+-- which memory, and how wide its addresses and its rows are
+abbrev pub of_memory : Plan → List RtlParameter
+of_memory p = record { name = codes "\\MEMID"; value = values.Id p.id } ∷ number_at (codes "\\ABITS") p.address ∷ number_at (codes "\\WIDTH") p.width ∷ []
+
+-- the first rows
+abbrev pub init_cell : Plan → List ℕ → List ℤ → RtlCell
+init_cell p id rows = record {
+  kind = MemoryInit;
+  id = id;
+  parameters = of_memory p ++ number_at (codes "\\WORDS") p.depth ∷ number_at (codes "\\PRIORITY") 0 ∷ [];
+  ends = end_at (codes "\\ADDR") (constant (replicate p.address false)) ∷ end_at (codes "\\DATA") (constant (rows_bits p.width rows)) ∷ end_at (codes "\\EN") (constant (replicate p.width true)) ∷ [];
+}
+
+-- write port k at the rising edge of a clock
+abbrev pub write_cell : Plan → List ℕ → ℕ → (clock enable address word : List SigPart) → RtlCell
+write_cell p id k clock enable address word = record {
+  kind = MemoryWrite;
+  id = id;
+  parameters = of_memory p ++ number_at (codes "\\CLK_ENABLE") 1 ∷ number_at (codes "\\CLK_POLARITY") 1 ∷ number_at (codes "\\PORTID") k ∷ bits_at (codes "\\PRIORITY_MASK") (priority_mask (mask_bits p) k) ∷ [];
+  ends = end_at (codes "\\CLK") clock ∷ end_at (codes "\\EN") enable ∷ end_at (codes "\\ADDR") address ∷ end_at (codes "\\DATA") word ∷ [];
+}
+
+-- a read port: with a clock or without, and transparent for the write ports of a mask
+abbrev pub read_cell : Plan → List ℕ → (clocked : ℕ) → List Bool → (clock enable address word : List SigPart) → RtlCell
+read_cell p id clocked mask clock enable address word = record {
+  kind = MemoryRead;
+  id = id;
+  parameters =
+      of_memory p ++ number_at (codes "\\CLK_ENABLE") clocked ∷ number_at (codes "\\CLK_POLARITY") 1
+      ∷ bits_at (codes "\\TRANSPARENCY_MASK") mask ∷ bits_at (codes "\\COLLISION_X_MASK") (replicate (mask_bits p) false)
+      ∷ bits_at (codes "\\ARST_VALUE") (replicate p.width false) ∷ bits_at (codes "\\SRST_VALUE") (replicate p.width false) ∷ bits_at (codes "\\INIT_VALUE") (replicate p.width false)
+      ∷ number_at (codes "\\CE_OVER_SRST") 0 ∷ [];
+  ends =
+      end_at (codes "\\CLK") clock ∷ end_at (codes "\\EN") enable ∷ end_at (codes "\\ARST") (constant (false ∷ [])) ∷ end_at (codes "\\SRST") (constant (false ∷ []))
+      ∷ end_at (codes "\\ADDR") address ∷ end_at (codes "\\DATA") word ∷ [];
+}
+
+-- it reads at once
+abbrev pub comb_read : Plan → List ℕ → (address word : List SigPart) → RtlCell
+comb_read p id address word = read_cell p id 0 (replicate (mask_bits p) false) (constant (false ∷ [])) (constant (true ∷ [])) address word
+
+-- it reads at the rising edge of a clock
+abbrev pub clocked_read : Plan → List ℕ → List ℕ → (clock enable address word : List SigPart) → RtlCell
+clocked_read p id through clock enable address word = read_cell p id 1 (through_mask p through) clock enable address word

@@ -1,0 +1,5 @@
+pub mod Bits
+pub mod Plans
+pub mod Cells
+pub mod Carried
+pub mod Laws

@@ -1,0 +1,13 @@
+//! The cells of a memory in a module of RTLIL, and what they make of its rows.
+//!
+//! specs/Cells.antt has the cells: first rows, write ports and read ports. specs/Carried.antt says what the wires at their
+//! ends carry where they stand for the ports of a design. Under that, the functions of `laws` carry in their clauses that
+//! rows begin, are written and are read as those of the design, bit by bit. How the wires come to carry it is a matter of
+//! the lowering above.
+#![tactic(auto)]
+
+mod laws;
+
+pub use laws::{
+    clocked_reads_follow, enables_spread, guards_follow, reads_follow, rows_begin, rows_follow,
+};
