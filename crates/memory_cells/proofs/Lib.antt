@@ -3,3 +3,5 @@ mod Enables
 mod WrittenRows
 mod ReadRows
 mod FirstRows
+mod Guards
+mod Rules

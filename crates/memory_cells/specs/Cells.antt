@@ -1,6 +1,6 @@
 -- The cells of a memory: its first rows, its write ports and its read ports.
 -- Source: Yosys manual, Cell library: memories; one `$meminit_v2`, no resets of reads, later write ports go first: own rules (docs/RULES.md).
-use Rattle.std.specs.Prelude.{ℕ, Bool, true, false, List, [], ◌∷◌, ◌++◌, replicate, ℤ, codes}
+use Rattle.std.specs.Prelude.{ℕ, suc, Bool, true, false, List, [], ◌∷◌, ◌++◌, replicate, ℤ, codes}
 use Rattle.shape_rules.specs.declared.cell.CellKind.TheVariants.{MemoryRead, MemoryWrite, MemoryInit}
 use Rattle.rtlil_text.specs.declared.sig.SigPart.{SigPart}
 use Rattle.rtlil_text.specs.declared.sig.SigPart.TheVariants as parts
@@ -10,7 +10,8 @@ use Rattle.rtlil_text.specs.declared.cell.RtlEnd.{RtlEnd}
 use Rattle.rtlil_text.specs.declared.cell.RtlCell.{RtlCell}
 use Rattle.rtlil_text.specs.MemoryRules.{priority_mask}
 use Rattle.memory_cells.specs.Bits.{rows_bits}
-use Rattle.memory_cells.specs.Plans.{Plan, mask_bits, through_mask}
+use Rattle.memory_cells.specs.declared.plan.Plan.{Plan}
+use Rattle.memory_cells.specs.Plans.{mask_bits, through_mask}
 
 abbrev pub number_at : List ℕ → ℕ → RtlParameter
 number_at name n = record { name = name; value = values.Number n }
@@ -68,3 +69,18 @@ comb_read p id address word = read_cell p id 0 (replicate (mask_bits p) false) (
 -- it reads at the rising edge of a clock
 abbrev pub clocked_read : Plan → List ℕ → List ℕ → (clock enable address word : List SigPart) → RtlCell
 clocked_read p id through clock enable address word = read_cell p id 1 (through_mask p through) clock enable address word
+
+-- ---- all write ports
+
+-- a write cell, and what is at its ends
+pub record WritePort : Type 0 where
+  pub id : List ℕ
+  pub clock : List SigPart
+  pub enable : List SigPart
+  pub address : List SigPart
+  pub word : List SigPart
+
+-- the write cells of these ports, from number k on
+abbrev pub write_cells : Plan → ℕ → List WritePort → List RtlCell
+write_cells p k [] = []
+write_cells p k (w ∷ ws) = write_cell p w.id k w.clock w.enable w.address w.word ∷ write_cells p (suc k) ws

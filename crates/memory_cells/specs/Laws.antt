@@ -19,7 +19,8 @@ use Rattle.rtlil_text.specs.Memories.{writes_of}
 use Rattle.rtlil_text.specs.Meaning.{State, memory_size, comb_bit}
 use Rattle.rtlil_text.specs.History.{data_bit, step, next_bit}
 use Rattle.memory_cells.specs.Bits.{bit_of, is_set}
-use Rattle.memory_cells.specs.Plans.{Plan, guarded, through_from}
+use Rattle.memory_cells.specs.declared.plan.Plan.{Plan}
+use Rattle.memory_cells.specs.Plans.{guarded, through_from}
 use Rattle.memory_cells.specs.Cells.{init_cell}
 use Rattle.memory_cells.specs.Carried.{Moment, HasRows, CarryWrites, CarriesRead, address_at}
 
@@ -63,3 +64,28 @@ ClockedReadsFollow = (t : Moment) (m : Memory) (c : RtlCell) (r : MemRead) (rows
     → (b : Bool) × (next_bit t.rtl t.st t.old t.new c k (Some before) MemoryRead ≡ Some b)
     × (reads_now t.design t.env t.listed r ≡ false → b ≡ before)
     × (reads_now t.design t.env t.listed r ≡ true → address_at t r.addr < m.depth → b ≡ bit_of (read_word t.design t.env t.listed m rows r) k)
+
+-- ---- the guard behind a clocked read
+
+-- Bit k of read data, by a flag that says whether the last address was one of a row, and the bit that the read cell keeps.
+pub record IsBehindGuard (word : ℤ) (k : ℕ) (flag raw : Bool) : Type 0 where
+  pub kept : flag ≡ true → raw ≡ bit_of word k
+  pub dropped : flag ≡ false → bit_of word k ≡ false
+
+-- read data, and the flag, after an event
+abbrev pub word_after : Moment → Memory → MemRead → List ℤ → ℤ → ℤ
+word_after t m r rows word = if reads_now t.design t.env t.listed r then read_word t.design t.env t.listed m rows r else word
+
+abbrev pub flag_after : Moment → Memory → MemRead → Bool → Bool
+flag_after t m r flag = if reads_now t.design t.env t.listed r then nat_lt (address_at t r.addr) m.depth else flag
+
+-- where a flag keeps beside a clocked read whether the address was one of a row, data and flag stay together after each event
+abbrev pub GuardedReadsFollow : Type 0
+GuardedReadsFollow = (t : Moment) (m : Memory) (c : RtlCell) (r : MemRead) (rows : List ℤ) (word : ℤ) (k : ℕ) (flag raw : Bool) → Stands t m (memory_id c) → CarriesRead t m c r → length rows ≡ m.depth → 1 ≤ m.depth
+    → HasRows m.shape.width m.depth (memory_id c) t.st rows → bits_at c (codes "\\TRANSPARENCY_MASK") ≡ through_from r.transparent 0 (max 1 (length m.writes)) → k < m.shape.width
+    → IsBehindGuard word k flag raw
+    → (next : Bool) × (next_bit t.rtl t.st t.old t.new c k (Some raw) MemoryRead ≡ Some next) × IsBehindGuard (word_after t m r rows word) k (flag_after t m r flag) next
+
+-- what passes the guard is the read data
+abbrev pub GuardsShowTheWord : Type 0
+GuardsShowTheWord = (word : ℤ) (k : ℕ) (flag raw : Bool) → IsBehindGuard word k flag raw → (if flag then raw else false) ≡ bit_of word k

@@ -3,14 +3,7 @@
 use Rattle.std.specs.Prelude.{ℕ, ◌==◌, nat_lt, if◌then◌else◌, Bool, List, map, max}
 use Rattle.std.specs.List.{list_any, range_with_len}
 use Rattle.rtlil_text.specs.declared.module.RtlMemory.{RtlMemory}
-
--- its id, the bits of an address, the bits and the number of its rows, and how many write cells it has
-pub record Plan : Type 0 where
-  pub id : List ℕ
-  pub address : ℕ
-  pub width : ℕ
-  pub depth : ℕ
-  pub writes : ℕ
+use Rattle.memory_cells.specs.declared.plan.Plan.{Plan}
 
 -- the memory of a module
 abbrev pub planned : Plan → RtlMemory

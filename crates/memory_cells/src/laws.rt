@@ -1,5 +1,6 @@
 // The laws of a memory's cells. The functions do nothing: their clauses are the laws.
-ghost use Rattle.memory_cells.specs.Laws.{RowsBegin, EnablesSpread, RowsFollow, ReadsFollow, GuardsFollow, ClockedReadsFollow};
+ghost use Rattle.memory_cells.specs.Fits.{InitsFit, WritesFit, CombReadsFit, ClockedReadsFit, MemoriesFit};
+ghost use Rattle.memory_cells.specs.Laws.{RowsBegin, EnablesSpread, RowsFollow, ReadsFollow, GuardsFollow, ClockedReadsFollow, GuardedReadsFollow, GuardsShowTheWord};
 
 /// Before any event a memory has its first rows.
 pub fn rows_begin()
@@ -30,4 +31,24 @@ pub fn guards_follow()
 /// value after every event.
 pub fn clocked_reads_follow()
     ensures { ClockedReadsFollow }
+{}
+
+/// The same with a flag beside the read that keeps whether the last address was one of a row: where it is 0 the data is 0.
+pub fn guarded_reads_follow()
+    ensures { GuardedReadsFollow }
+{}
+
+/// What the flag lets through is the read data of the design.
+pub fn guards_show_the_word()
+    ensures { GuardsShowTheWord }
+{}
+
+/// A memory and its cells keep the rules of RTLIL text, where the bits at their ends are of the module and as many as they
+/// must be, and a read is transparent for write cells of its own clock alone.
+pub fn cells_keep_the_rules()
+    ensures inits { InitsFit }
+    ensures writes { WritesFit }
+    ensures comb_reads { CombReadsFit }
+    ensures clocked_reads { ClockedReadsFit }
+    ensures memories { MemoriesFit }
 {}

@@ -7,7 +7,10 @@
 #![tactic(auto)]
 
 mod laws;
+mod plan;
 
 pub use laws::{
-    clocked_reads_follow, enables_spread, guards_follow, reads_follow, rows_begin, rows_follow,
+    cells_keep_the_rules, clocked_reads_follow, enables_spread, guarded_reads_follow,
+    guards_follow, guards_show_the_word, reads_follow, rows_begin, rows_follow,
 };
+pub use plan::Plan;
