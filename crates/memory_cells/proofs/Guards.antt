@@ -1,6 +1,6 @@
 -- Read data behind a flag that keeps whether the last address was one of a row.
-use Rattle.std.proofs.Common.{◌==◌, ◌≡◌, ◌≤◌, ◌<◌, ℕ, nat_lt, Bool, true, false, if◌then◌else◌, List, length, ℤ, pos, refl, sym, ◌∙◌, ap}
-use Rattle.std.proofs.lemmas.Bool.{false≢true, true≢false, ltb-true}
+use Rattle.std.proofs.Common.{◌==◌, ◌≡◌, ℕ, nat_lt, Bool, true, false, if◌then◌else◌, List, length, ℤ, pos, refl, sym, ◌∙◌, ap}
+use Rattle.std.proofs.lemmas.Bool.{ltb-true}
 use Rattle.amh_bits.proofs.BitsOf.{nat_bit_zero}
 use Rattle.design_ir.specs.declared.memory.MemRead.{MemRead}
 use Rattle.design_ir.specs.declared.memory.Memory.{Memory}

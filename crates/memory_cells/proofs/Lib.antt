@@ -5,3 +5,5 @@ mod ReadRows
 mod FirstRows
 mod Guards
 mod Rules
+mod Loops
+pub mod Masks

@@ -1,25 +1,23 @@
 -- The cells of a memory keep the rules.
-use Rattle.std.proofs.Common.{length-append, ◌≡◌, ◌≤◌, ◌<◌, ℕ, zero, suc, ◌+◌, ◌*◌, ◌==◌, Bool, true, false, List, [], ◌∷◌, ◌++◌, map, length, replicate, ℤ, refl, sym, ◌∙◌, ap, subst, arith, All, codes, add-one}
-use Rattle.std.specs.Prelude.{Some, slice_get, MatchOption, max}
+use Rattle.std.proofs.Common.{length-append, ◌≡◌, ℕ, zero, suc, ◌+◌, ◌*◌, ◌==◌, Bool, true, false, List, [], ◌∷◌, map, length, replicate, ℤ, refl, sym, ◌∙◌, ap, subst, arith, All}
+use Rattle.std.specs.Prelude.{Some, slice_get, max}
 use Rattle.std.specs.List.{list_any, range_with_len}
 use Rattle.std.proofs.lemmas.List.Elements.{All-from_recursion, All-nil, All-cons}
 use Rattle.std.proofs.lemmas.List.FromFn.{length-range_with_len}
 use Rattle.std.proofs.Math.Nat.{suc-mul, mul_comm}
 use Rattle.amh_bits.specs.Patterns.{pattern}
-use Rattle.rtlil_text.specs.declared.sig.SigPart.{SigPart}
 use Rattle.rtlil_text.specs.declared.cell.RtlParameter.{RtlParameter}
 use Rattle.rtlil_text.specs.declared.cell.RtlEnd.{RtlEnd}
 use Rattle.rtlil_text.specs.declared.module.RtlWire.{RtlWire}
-use Rattle.rtlil_text.specs.declared.module.RtlModule.{RtlModule}
-use Rattle.rtlil_text.specs.Sources.{Source, Constant}
-use Rattle.rtlil_text.specs.MemoryRules.{IsConstant, AreNumbered, mask_width, FitsMemory}
+use Rattle.rtlil_text.specs.Sources.{Constant}
+use Rattle.rtlil_text.specs.MemoryRules.{IsConstant, AreNumbered, mask_width}
 use Rattle.rtlil_text.specs.Rules.{ValueFits, PartFits, SpecFits}
 use Rattle.rtlil_text.proofs.CellLaws.{length-number_bits}
 use Rattle.memory_cells.specs.declared.plan.Plan.{Plan}
 use Rattle.memory_cells.specs.Bits.{row_bits, rows_bits}
-use Rattle.memory_cells.specs.Plans.{planned, mask_bits, through_from, through_mask}
+use Rattle.memory_cells.specs.Plans.{planned, mask_bits, through_from}
 use Rattle.memory_cells.specs.Cells.{init_cell, write_cell, comb_read, clocked_read, WritePort, write_cells, constant}
-use Rattle.memory_cells.specs.Fits.{HasPlan, InitsFit, WritesFit, CombReadsFit, ClockedReadsFit, MemoriesFit}
+use Rattle.memory_cells.specs.Fits.{InitsFit, WritesFit, CombReadsFit, ClockedReadsFit, MemoriesFit}
 
 -- ---- lists
 

@@ -47,28 +47,37 @@ write_cell p id k clock enable address word = record {
   ends = end_at (codes "\\CLK") clock ∷ end_at (codes "\\EN") enable ∷ end_at (codes "\\ADDR") address ∷ end_at (codes "\\DATA") word ∷ [];
 }
 
--- a read port: with a clock or without, and transparent for the write ports of a mask
-abbrev pub read_cell : Plan → List ℕ → (clocked : ℕ) → List Bool → (clock enable address word : List SigPart) → RtlCell
-read_cell p id clocked mask clock enable address word = record {
+-- an end with one constant bit, and a parameter that is 0 at the width of a row
+abbrev pub bit_end : List ℕ → Bool → RtlEnd
+bit_end name bit = end_at name (constant (bit ∷ []))
+
+abbrev pub zero_row : Plan → List ℕ → RtlParameter
+zero_row p name = bits_at name (replicate p.width false)
+
+-- of a read port: with a clock or without, and transparent for the write ports of a mask
+abbrev pub read_parameters : Plan → (clocked : ℕ) → List Bool → List RtlParameter
+read_parameters p clocked mask =
+    of_memory p ++ number_at (codes "\\CLK_ENABLE") clocked ∷ number_at (codes "\\CLK_POLARITY") 1
+    ∷ bits_at (codes "\\TRANSPARENCY_MASK") mask ∷ bits_at (codes "\\COLLISION_X_MASK") (replicate (mask_bits p) false)
+    ∷ zero_row p (codes "\\ARST_VALUE") ∷ zero_row p (codes "\\SRST_VALUE") ∷ zero_row p (codes "\\INIT_VALUE")
+    ∷ number_at (codes "\\CE_OVER_SRST") 0 ∷ []
+
+-- a read cell with these parameters
+abbrev pub read_with : List ℕ → List RtlParameter → (clock enable address word : List SigPart) → RtlCell
+read_with id parameters clock enable address word = record {
   kind = MemoryRead;
   id = id;
-  parameters =
-      of_memory p ++ number_at (codes "\\CLK_ENABLE") clocked ∷ number_at (codes "\\CLK_POLARITY") 1
-      ∷ bits_at (codes "\\TRANSPARENCY_MASK") mask ∷ bits_at (codes "\\COLLISION_X_MASK") (replicate (mask_bits p) false)
-      ∷ bits_at (codes "\\ARST_VALUE") (replicate p.width false) ∷ bits_at (codes "\\SRST_VALUE") (replicate p.width false) ∷ bits_at (codes "\\INIT_VALUE") (replicate p.width false)
-      ∷ number_at (codes "\\CE_OVER_SRST") 0 ∷ [];
-  ends =
-      end_at (codes "\\CLK") clock ∷ end_at (codes "\\EN") enable ∷ end_at (codes "\\ARST") (constant (false ∷ [])) ∷ end_at (codes "\\SRST") (constant (false ∷ []))
-      ∷ end_at (codes "\\ADDR") address ∷ end_at (codes "\\DATA") word ∷ [];
+  parameters = parameters;
+  ends = end_at (codes "\\CLK") clock ∷ end_at (codes "\\EN") enable ∷ bit_end (codes "\\ARST") false ∷ bit_end (codes "\\SRST") false ∷ end_at (codes "\\ADDR") address ∷ end_at (codes "\\DATA") word ∷ [];
 }
 
 -- it reads at once
 abbrev pub comb_read : Plan → List ℕ → (address word : List SigPart) → RtlCell
-comb_read p id address word = read_cell p id 0 (replicate (mask_bits p) false) (constant (false ∷ [])) (constant (true ∷ [])) address word
+comb_read p id address word = read_with id (read_parameters p 0 (replicate (mask_bits p) false)) (constant (false ∷ [])) (constant (true ∷ [])) address word
 
 -- it reads at the rising edge of a clock
 abbrev pub clocked_read : Plan → List ℕ → List ℕ → (clock enable address word : List SigPart) → RtlCell
-clocked_read p id through clock enable address word = read_cell p id 1 (through_mask p through) clock enable address word
+clocked_read p id through clock enable address word = read_with id (read_parameters p 1 (through_mask p through)) clock enable address word
 
 -- ---- all write ports
 
