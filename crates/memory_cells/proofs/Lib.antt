@@ -7,3 +7,4 @@ mod Guards
 mod Rules
 mod Loops
 pub mod Masks
+pub mod Spike
