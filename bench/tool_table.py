@@ -5,12 +5,15 @@ A table has cases with a line of dashes between each two. A case has parts: `NAM
 lines indented by four blanks. The parts are
 
     words      the words of the command; without it `top.py top.il top.tr --play top.stim`
-    design     the lines of top.py; in their place `module` gives those between `m = Module()` and `top = m`
+    design     the lines of top.py; in their place `module` gives those between `m = Module()` and `top = m`, `example` names a design of
+               examples/ with its script and its trace, and `page` is the number of a whole file shown in docs/LANGUAGE.md
     bytes      the bytes of top.py in escapes, in place of its lines; `times` repeats them
     script     the lines of top.stim; without it the file is empty. `script bytes` gives them in escapes
     fail       a call of the host that is to fail
     each fault how many calls of each kind there are
     done       the text that is said; refused, usage, fault, spent: the text that is warned
+    KIND each  lines that are refused with this kind, each alone at the end of the design, at the place before which it has `@`; a line
+               that stands further in belongs to the one before it
     trace      the lines of the trace; `trace lines` how many there are of those of the last case, behind a fault
     rtlil      `there`, `whole`, `none` or `K lines`; without it `there` where the run is done, else `none`
 
@@ -20,8 +23,11 @@ import pathlib
 
 from syntax_table import in_escapes
 
-TABLES = pathlib.Path(__file__).resolve().parent / "tool"
-CRATE = pathlib.Path(__file__).resolve().parent.parent / "crates" / "tool_table"
+ROOT = pathlib.Path(__file__).resolve().parent.parent
+TABLES = ROOT / "bench" / "tool"
+CRATE = ROOT / "crates" / "tool_table"
+EXAMPLES = ROOT / "examples"
+PAGE = ROOT / "docs" / "LANGUAGE.md"
 WORDS = "top.py top.il top.tr --play top.stim"
 USAGE = "usage: amh_tool DESIGN IL TRACE [--play FILE] [--top NAME] [--budget N] [--make N]\n"
 CODES = {"done": 0, "refused": 1, "usage": 3, "spent": 4, "fault": 5}
@@ -51,12 +57,66 @@ def cases_in(path):
             raise SystemExit(f"{path}: {line!r} is no part of a case")
 
 
+def pieces_of(part):
+    """The pieces of a part, each its lines: one that stands further in belongs to the one before it."""
+    pieces = []
+    for line in part:
+        if line.startswith(" "):
+            pieces[-1].append(line)
+        elif line:
+            pieces.append([line])
+    return pieces
+
+
+def refused_with(case, kind, piece):
+    """The run of a case that is refused with this kind, where the piece at its end has the mark."""
+    form, above = ("module", 2) if "module" in case else ("design", 0)
+    head = lines(case[form]).splitlines()
+    row, col = next((row, line.index("@")) for row, line in enumerate(piece) if "@" in line)
+    return {form: head + [line.replace("@", "") for line in piece], "refused": f"top.py:{above + len(head) + row + 1}:{col + 1}: {kind}"}
+
+
+def expanded(case):
+    """The runs of a case: itself where it has an answer, and one for each piece that is refused."""
+    if any(status in case for status in CODES) or "each fault" in case:
+        yield {name: part for name, part in case.items() if not name.endswith(" each")}
+    for name, part in case.items():
+        if name.endswith(" each"):
+            for piece in pieces_of(part):
+                yield refused_with(case, name.removesuffix(" each"), piece)
+
+
 def lines(part, front=""):
     """Lines of a part, each behind this front, without the empty ones at its end."""
     part = list(part)
     while part and part[-1] == "":
         part.pop()
     return "".join(f"{front}{line}\n" if line else "\n" for line in part)
+
+
+def shown_in(page):
+    """The whole design files that a page shows: indented blocks that begin with an import of amaranth."""
+    files, block = [], []
+    for line in page.read_text(encoding="utf-8").splitlines() + ["end"]:
+        if line.startswith("    ") or (line == "" and block):
+            block.append(line[4:])
+        else:
+            if block and block[0].startswith("from amaranth"):
+                files.append(block)
+            block = []
+    return files
+
+
+def filled(case):
+    """A case with the lines of the files that it names in their place."""
+    if "example" in case:
+        design, script, trace = (
+            (EXAMPLES / f"{case['example']}.{end}").read_text(encoding="utf-8").splitlines() for end in ("py", "stim", "tr")
+        )
+        return case | {"design": design, "script": script, "trace": trace}
+    if "page" in case:
+        return case | {"design": shown_in(PAGE)[int(case["page"]) - 1]}
+    return case
 
 
 def design_of(case):
@@ -96,7 +156,7 @@ def answer_of(case):
 
 
 def main():
-    table = [case for path in sorted(TABLES.glob("*.txt")) for case in cases_in(path)]
+    table = [run for path in sorted(TABLES.glob("*.txt")) for case in cases_in(path) for run in expanded(filled(case))]
     questions = "".join(f"{question_of(case)}\n" for case in table)
     answers = "".join(f"{number} {answer_of(case)}\n" for number, case in enumerate(table, 1))
     (CRATE / "stdin").write_text(questions, encoding="utf-8")

@@ -1,5 +1,5 @@
 -- Calls of things: names, layouts, and the methods of a value or a view.
-use Rattle.std.specs.Prelude.{ℕ, ◌==◌, if◌then◌else◌, true, false, List, [], ◌∷◌, slice_get, Option, Some, Result, Ok, Err}
+use Rattle.std.specs.Prelude.{ℕ, ◌==◌, if◌then◌else◌, true, false, List, [], ◌∷◌, slice_get, Option, Some, None, Result, Ok, Err}
 use Rattle.shape_rules.specs.Forms.{Form}
 use Rattle.shape_rules.specs.declared.op.Op.TheVariants as op
 use Rattle.design_ir.specs.declared.ids.ExprId.{ExprId}
@@ -19,7 +19,7 @@ use Rattle.amh_things.specs.declared.thing.Method.TheVariants as method
 use Rattle.amh_things.specs.declared.operand.Operand.TheVariants.{Held}
 use Rattle.amh_things.specs.Ends.{Ends}
 use Rattle.amh_things.specs.declared.plan.Plan.{Plan}
-use Rattle.amh_things.specs.Plans.{ends_of, value_made, thing_made}
+use Rattle.amh_things.specs.Plans.{ends_of, value_made, thing_made, value_given}
 use Rattle.value_acts.specs.Operators.{unary_made}
 use Rattle.amh_things.specs.Arguments.{Arguments, arguments_of, fits}
 use Rattle.value_acts.specs.Names.{name_called}
@@ -81,7 +81,25 @@ thing_called s p things h (Some (thing.Layout l)) a = layout_called p things h l
 thing_called s p things h (Some (thing.Method of e m)) a = method_called s p things e m a
 thing_called s p things h t a = Err Raised
 
+-- ---- `shape` of a value of an enumeration is that enumeration
+
+abbrev pub numbered : Option Thing → Option Hw
+numbered (Some (thing.Numbered h e)) = Some h
+numbered t = None
+
+-- the enumeration of the value whose method `shape` a thing is
+abbrev pub own_numbering : List Thing → Option Thing → Option Hw
+own_numbering things (Some (thing.Method of e method.Shape)) = numbered (slice_get things of.0)
+own_numbering things t = None
+
+abbrev pub unless_numbered : Option Hw → Arguments → Result Plan Cause → Result Plan Cause
+unless_numbered (Some h) a others = if fits [] a then Ok (value_given (val.Hw h)) else Err Raised
+unless_numbered None a others = others
+
+abbrev pub any_called : Seen → Pooled → List Thing → Hw → Option Thing → Arguments → Result Plan Cause
+any_called s p things h t a = unless_numbered (own_numbering things t) a (thing_called s p things h t a)
+
 -- what a call of a thing gives: the thing and its arguments, those of the keywords at the end
 abbrev pub called : Seen → Pooled → List Thing → List Val → List (List ℕ) → Result Plan Cause
-called s p things (val.Hw h ∷ args) keys = thing_called s p things h (slice_get things h.0) (arguments_of args keys)
+called s p things (val.Hw h ∷ args) keys = any_called s p things h (slice_get things h.0) (arguments_of args keys)
 called s p things vals keys = Err Raised

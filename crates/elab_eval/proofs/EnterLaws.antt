@@ -14,7 +14,8 @@ use Rattle.elab_eval.specs.Stores.{Held}
 use Rattle.elab_eval.specs.Sound.{IsBuilt, IsSound}
 use Rattle.elab_eval.specs.Kept.{IsMasked}
 use Rattle.elab_eval.specs.Entering.{IsEntering}
-use Rattle.elab_eval.specs.Blocks.{switched}
+use Rattle.elab_eval.specs.Blocks.{switched, case_subject}
+use Rattle.elab_eval.specs.OpenMachines.{in_machine}
 use Rattle.elab_eval.proofs.GrownLaws.{module_built}
 use Rattle.elab_eval.proofs.Standing.{subject_there}
 
@@ -36,7 +37,7 @@ enterable h m None t k = k
 enterable h m (Some x) t k = enterable_at h.pool (slice_get h.store.modules m) x (λ b e. module_built h.pool h.store.modules m b t.modules e) k
 
 -- the subject of a `Switch` that is innermost stands in the pool
-pub switched_there : (h : Held) (m : ℕ) (e : ExprId) → IsSound h → switched (slice_get h.store.modules m) ≡ Some e → e.0 < length h.pool.exprs
+switched_there : (h : Held) (m : ℕ) (e : ExprId) → IsSound h → switched (slice_get h.store.modules m) ≡ Some e → e.0 < length h.pool.exprs
 switched_there h m e t is = by_module (slice_get h.store.modules m) (λ b k. module_built h.pool h.store.modules m b t.modules k) is
   where
     by_switch : (b : Built) (s : Bool) → in_switch (built_blocks b).around ≡ s → IsBuilt h.pool b → (if s then Some (subject_of (built_blocks b).around) else None) ≡ Some e → e.0 < length h.pool.exprs
@@ -46,6 +47,13 @@ switched_there h m e t is = by_module (slice_get h.store.modules m) (λ b k. mod
     by_module : (o : Option Built) → ((b : Built) → o ≡ Some b → IsBuilt h.pool b) → switched o ≡ Some e → e.0 < length h.pool.exprs
     by_module None f is = cc
     by_module (Some b) f is = by_switch b (in_switch (built_blocks b).around) refl (f b refl) is
+
+pub case_subject_there : (h : Held) (m : ℕ) (e : ExprId) → IsSound h → case_subject m h.store ≡ Some e → e.0 < length h.pool.exprs
+case_subject_there h m e t is = by_test (in_machine m h.store.machines) is
+  where
+    by_test : (b : Bool) → (if b then None else switched (slice_get h.store.modules m)) ≡ Some e → e.0 < length h.pool.exprs
+    by_test true is = absurd cc
+    by_test false is = switched_there h m e t is
 
 -- a refusal that is told leaves the pool as it was
 pub left_same : (q q' : Pooled) (made : Option Expr) (x : BuildStop) → ((o : Option BuildStop) → IsOwed o x → o ≡ Some x) → IsLeftAs q q' made x → q' ≡ q

@@ -1,9 +1,11 @@
 -- What is held stays sound when it grows.
-use Rattle.std.proofs.Common.{◌≡◌, ℕ, zero, suc, ◌<◌, ◌≤◌, ap, ◌∙◌, sym, subst, List, [], ◌∷◌, ◌++◌, length, Some, arith}
-use Rattle.std.specs.Prelude.{slice_get, slice_set}
-use Rattle.std.specs.List.{AllByRecursion}
+use Rattle.std.proofs.Common.{◌≡◌, ℕ, zero, suc, ◌<◌, ◌≤◌, refl, ap, ◌∙◌, sym, subst, true, List, [], ◌∷◌, ◌++◌, length, Some, arith, true≢false}
+use Rattle.std.specs.Prelude.{slice_get, slice_set, All, IsTrue}
+use Rattle.std.specs.List.{AllByRecursion, list_all}
+use Rattle.std.proofs.lemmas.Bool.{and_parts}
+use Rattle.std.proofs.lemmas.List.Elements.{All-nil, All-cons}
 use Rattle.std.proofs.lemmas.List.{length-append}
-use Rattle.lists.specs.Names.{IsName}
+use Rattle.lists.specs.Names.{IsName, starts_name, continues_name}
 use Rattle.design_ir.specs.declared.signal.Sig.{Sig}
 use Rattle.design_ir.specs.declared.ids.ExprId.{ExprId}
 use Rattle.design_ir.specs.declared.expr.Expr.{Expr}
@@ -25,7 +27,9 @@ use Rattle.elab_eval.specs.declared.kept.Kept.{Kept}
 use Rattle.elab_eval.specs.declared.kept.Kept.TheVariants as kept_as
 use Rattle.elab_eval.specs.declared.kept.Top.{Top}
 use Rattle.elab_eval.specs.Stores.{Held, kept_given}
-use Rattle.elab_eval.specs.Sound.{IsAssigned, IsBegin, IsKept, IsOpening, IsTold, IsBuilt, IsSound}
+use Rattle.elab_eval.specs.Sound.{IsAssigned, IsBegin, IsKept, IsOpening, IsTold, IsBuilt, IsMachine, IsSound}
+use Rattle.elab_eval.specs.Names.{is_name}
+use Rattle.elab_eval.specs.declared.state_machines.OwnMachine.{OwnMachine}
 use Rattle.elab_eval.proofs.Pools.{IsGrown, target_stays, there_stays}
 use Rattle.elab_eval.proofs.Modules.{all_each}
 use Rattle.elab_eval.proofs.PortLaws.{objects_stay}
@@ -54,7 +58,7 @@ begin_stays p q g (begin.Case n) h = tt
 begin_stays p q g begin.Default h = tt
 begin_stays p q g begin.Misplaced h = tt
 
-kept_stays : (p q : Pooled) → IsGrown p q → (k : Kept) → IsKept p k → IsKept q k
+pub kept_stays : (p q : Pooled) → IsGrown p q → (k : Kept) → IsKept p k → IsKept q k
 kept_stays p q g (kept_as.Statement x) h = assigned_stays p q x.target x.value g h
 kept_stays p q g (kept_as.Name n) h = tt
 kept_stays p q g (kept_as.Module m) h = tt
@@ -64,6 +68,7 @@ kept_stays p q g (kept_as.Member m) h = tt
 kept_stays p q g (kept_as.Signature n) h = tt
 kept_stays p q g (kept_as.BlockName m n) h = tt
 kept_stays p q g (kept_as.Block m b) h = begin_stays p q g b h
+kept_stays p q g (kept_as.OfMachine x) h = tt
 
 opening_stays : (p q : Pooled) → IsGrown p q → (o : Opening) → IsOpening p o → IsOpening q o
 opening_stays p q g (opening.If e) h = there_stays p q e.0 g h
@@ -96,6 +101,29 @@ held_stays m n le (thing.Kept x) h = tt
 grown_length : (p q : Pooled) → IsGrown p q → length p.exprs ≤ length q.exprs
 grown_length p q g = omega (arith, ap length g.exprs, length-append p.exprs g.more)
 
+get_stays : (es more : List Expr) (k : ℕ) (e : Expr) → slice_get es k ≡ Some e → slice_get (es ++ more) k ≡ Some e
+get_stays [] more k e h = absurd cc
+get_stays (x ∷ es) more zero e h = h
+get_stays (x ∷ es) more (suc k) e h = get_stays es more k e h
+
+get_front : (es more : List Expr) (k : ℕ) (e : Expr) → k < length es → slice_get (es ++ more) k ≡ Some e → slice_get es k ≡ Some e
+get_front [] more k e lt h = absurd (omega (arith, lt))
+get_front (x ∷ es) more zero e lt h = h
+get_front (x ∷ es) more (suc k) e lt h = get_front es more k e (omega (arith, lt)) h
+
+placed_below : (es : List Expr) (k : ℕ) (e : Expr) → slice_get es k ≡ Some e → k < length es
+placed_below [] k e h = absurd cc
+placed_below (x ∷ es) zero e h = omega arith
+placed_below (x ∷ es) (suc k) e h = omega (arith, placed_below es k e h)
+
+pub machine_stays : (p q : Pooled) → IsGrown p q → (x : OwnMachine) → IsMachine p x → IsMachine q x
+machine_stays p q g x h = record {
+  register = ap (λ es. slice_get es x.machine.register.0) g.exprs ∙ get_stays p.exprs g.more x.machine.register.0 _ h.register;
+  target = target_stays p q x.machine.register.0 g (placed_below p.exprs x.machine.register.0 _ h.register) ∙ h.target;
+  side = h.side;
+  front = λ k e lt at. h.front k e lt (get_front p.exprs g.more k e (let there = placed_below p.exprs x.machine.register.0 _ h.register in omega (arith, lt, there)) (subst (λ es. slice_get es k ≡ Some e) g.exprs at));
+}
+
 -- what was held stands under a pool that grew by such signals and such expressions
 pub pool_grown : (h : Held) (q : Pooled) (xs : List Sig) (es : List Expr) → IsSound h → q.signals ≡ h.pool.signals ++ xs → q.exprs ≡ h.pool.exprs ++ es
     → AllByRecursion (λ (x : Sig). IsName x.name) xs → IsSound (record h { pool = q })
@@ -106,6 +134,7 @@ pool_grown h q xs es s e1 e2 names =
       kept = all_each (IsKept h.pool) (IsKept q) h.store.kept (kept_stays h.pool q g) s.kept;
       modules = all_each (IsBuilt h.pool) (IsBuilt q) h.store.modules (built_stays h.pool q g) s.modules;
       ports = objects_stay h.pool q h.store.components.objects (omega (arith, ap length e1, length-append h.pool.signals xs)) s.ports;
+      machines = all_each (IsMachine h.pool) (IsMachine q) h.store.machines (machine_stays h.pool q g) s.machines;
     }
 
 -- things that are sound are put behind the others
@@ -115,6 +144,7 @@ things_grown h ts s held = record {
   kept = s.kept;
   modules = s.modules;
   ports = s.ports;
+  machines = s.machines;
   things = all_and (IsHeld (length h.pool.exprs)) h.store.things ts s.things held;
 }
 
@@ -130,6 +160,7 @@ kept_grown h k s held = record {
   things = s.things;
   modules = s.modules;
   ports = s.ports;
+  machines = s.machines;
   kept = all_and (IsKept h.pool) h.store.kept (k ∷ []) s.kept (held, tt);
 }
 
@@ -147,7 +178,7 @@ module_built q (x ∷ bs) zero b h e = let same : x ≡ b = cc in subst (IsBuilt
 module_built q (x ∷ bs) (suc m) b h e = module_built q bs m b h.1 e
 
 pub with_top_sound : (h : Held) (t : Top) → IsSound h → IsSound (record h { store = record h.store { top = t } })
-with_top_sound h t s = record { names = s.names; things = s.things; kept = s.kept; modules = s.modules; ports = s.ports }
+with_top_sound h t s = record { names = s.names; things = s.things; kept = s.kept; modules = s.modules; ports = s.ports; machines = s.machines }
 
 -- ---- a new thing of this crate
 
@@ -156,6 +187,16 @@ keeping_sound h k s held = record {
   names = s.names;
   modules = s.modules;
   ports = s.ports;
+  machines = s.machines;
   things = all_and (IsHeld (length h.pool.exprs)) h.store.things (thing.Kept (length h.store.kept) ∷ []) s.things (tt, tt);
   kept = all_and (IsKept h.pool) h.store.kept (k ∷ []) s.kept (held, tt);
 }
+
+-- a name that has the form of one
+pub name_is : (name : List ℕ) → is_name name ≡ true → IsName name
+name_is [] e = absurd (true≢false (sym e))
+name_is (b ∷ bs) e = let parts = and_parts (starts_name b) (list_all continues_name bs) e in record { first = b; rest = bs; whole = refl; starts = parts.0; continues = all_pass bs parts.1 }
+  where
+    all_pass : (bs : List ℕ) → list_all continues_name bs ≡ true → All (λ b. IsTrue (continues_name b)) bs
+    all_pass [] e = All-nil (λ b. IsTrue (continues_name b))
+    all_pass (b ∷ bs) e = let parts = and_parts (continues_name b) (list_all continues_name bs) e in All-cons (λ b. IsTrue (continues_name b)) b bs parts.0 (all_pass bs parts.1)

@@ -7,6 +7,8 @@ pub mod GivenLaws
 pub mod GrownLaws
 pub mod LikeSamples
 pub mod ListLaws
+pub mod MachineLaws
+pub mod MachineSound
 pub mod Modules
 pub mod ObjectLaws
 pub mod ObjectSamples

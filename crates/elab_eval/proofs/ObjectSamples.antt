@@ -50,6 +50,8 @@ held = record {
     patterns = [];
     top = no_top;
     components = no_components;
+    machines = [];
+    told = None;
   };
 }
 

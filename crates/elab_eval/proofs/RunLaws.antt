@@ -26,11 +26,11 @@ use Rattle.elab_eval.specs.Stores.{Held, Answered, nothing_held}
 use Rattle.elab_eval.specs.Sound.{IsSound}
 use Rattle.elab_eval.specs.Table.{prim}
 use Rattle.elab_eval.specs.Reaches.{Reaches, begins, goes_on, world}
-use Rattle.elab_eval.specs.Elaborates.{Found, Comes, design_of, cause_stop, stop_of, found_of, IsFound, IsElaborated}
+use Rattle.elab_eval.specs.Elaborates.{Found, Comes, design_of, cause_stop, stop_of, told_at, found_of, IsFound, IsElaborated}
 use Rattle.elab_eval.specs.Running.{IsRunning, HasEnded, Steps_to}
 
 nothing_sound : IsSound nothing_held
-nothing_sound = record { names = tt; things = tt; kept = tt; modules = tt; ports = tt }
+nothing_sound = record { names = tt; things = tt; kept = tt; modules = tt; ports = tt; machines = tt }
 
 -- before the first answer
 pub begun : (program : Steps) (budget : ℕ) (m : Machine) (h : Held) → Stands program nothing [] m → m.stage ≡ stage.Before → m.going.state.used ≡ 0 → h ≡ nothing_held → 0 < budget → IsRunning program budget m h answer.Begin budget
@@ -95,7 +95,7 @@ ended program budget left rest before behind h a v run resumed units =
 pub stopped : (program : Steps) (budget left rest : ℕ) (before behind : Machine) (h : Held) (a : Answer) (x : Stop)
     → IsRunning program budget before h a left → Resumed (again before.stage) program nothing a (turn.Stopped x) before behind left
     → rest ≡ before.going.state.used + left - behind.going.state.used
-    → Comes program budget rest (Err (stop_of x))
+    → Comes program budget rest (Err (stop_of (told_at h.store.told x)))
 stopped program budget left rest before behind h a x run resumed units =
     let brings : IsStopped program run.given a x behind (before.going.state.used + left) =
     subst (λ o. Resumed o program nothing a (turn.Stopped x) before behind left) run.waits resumed run.given run.stands in

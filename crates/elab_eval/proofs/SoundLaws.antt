@@ -1,11 +1,9 @@
 -- What is held stays sound by every answer of this crate.
 use Rattle.std.proofs.Common.{◌≡◌, ℕ, zero, suc, ◌+◌, ◌<◌, refl, ap, ◌∙◌, sym, subst, Bool, true, false, List, [], ◌∷◌, ◌++◌, length, Option, Some, None, Result, Ok, Err, ℤ, arith, true≢false, is_some, append-nil, option_map, nat_lt}
-use Rattle.std.specs.Prelude.{if◌then◌else◌, slice_get, codes, All, IsTrue}
-use Rattle.std.specs.List.{AllByRecursion, list_any, list_all}
-use Rattle.std.proofs.lemmas.Bool.{and_parts}
+use Rattle.std.specs.Prelude.{if◌then◌else◌, slice_get, codes}
+use Rattle.std.specs.List.{AllByRecursion, list_any}
 use Rattle.std.proofs.lemmas.List.{length-append}
-use Rattle.std.proofs.lemmas.List.Elements.{All-nil, All-cons}
-use Rattle.lists.specs.Names.{IsName, starts_name, continues_name}
+use Rattle.lists.specs.Names.{IsName}
 use Rattle.lists.specs.Texts.{text_eq}
 use Rattle.amh_host.specs.declared.place.Place.{Place}
 use Rattle.py_values.specs.declared.val.Val.{Val}
@@ -24,6 +22,7 @@ use Rattle.design_ir.specs.declared.signal.Sig.{Sig}
 use Rattle.design_ir.specs.declared.ids.ExprId.{ExprId}
 use Rattle.design_ir.specs.declared.expr.Expr.{Expr}
 use Rattle.design_ir.specs.declared.expr.Expr.TheVariants as expr
+use Rattle.design_ir.specs.PoolRules.{IsPool}
 use Rattle.design_ir.specs.Pools.{Pooled}
 use Rattle.design_ir.specs.Targets.{is_target}
 use Rattle.design_ir.specs.declared.expr.Pattern.{Pattern}
@@ -62,15 +61,15 @@ use Rattle.elab_eval.specs.Calls.{Called, called}
 use Rattle.elab_eval.specs.Imports.{is_hdl, is_utils, own_named, star_names, hdl_thing, hdl_imported, bound_answer, all_bound, imported, import_answered}
 use Rattle.elab_eval.specs.Signals.{with_module, without_arguments, module_called, formed, call_name, signal_arguments, signal_name, signal_init, signal_reset_less, signal_shape, signal_of, signal_passes, with_signal, signal_given, signal_shaped, signal_said, signal_from}
 use Rattle.elab_eval.specs.Equations.{equation_given, equation_made, equated}
-use Rattle.elab_eval.specs.Sides.{side_of, domain_named, domain_given, index_name, is_domain_of, domain_stored, equations_in, deepest, built_with, store_with_statement, statement_refusal, statement_put, statement_told, statements_behind, statements_told, statements_added}
-use Rattle.elab_eval.specs.Blocks.{block_named, block_name_given, begin_with, condition_given, condition_called, plain_called, with_patterns, case_given, case_patterns, case_in, case_called, switched, block_called, block_of, store_told, with_entered, entering_by, entering, passed, entered_at, block_entered, leaving_by, leaving, left_at, block_left}
+use Rattle.elab_eval.specs.Sides.{side_of, domain_named, domain_given, index_name, is_domain_of, domain_stored, equations_in, deepest, has_no_place, built_with, store_with_statement, statement_refusal, statement_put, statement_told, statements_behind, statements_told, statements_added}
+use Rattle.elab_eval.specs.Blocks.{block_named, block_name_given, begin_with, condition_given, condition_called, plain_called, with_patterns, case_given, case_patterns, case_in, case_called, case_subject, block_called, block_of, store_told, with_entered, entering_by, entering, passed, entered_at, block_entered, leaving_by, leaving, left_at, block_left}
 use Rattle.elab_eval.specs.declared.kept.BlockName.{BlockName}
 use Rattle.elab_eval.specs.declared.kept.BlockName.TheVariants as named
 use Rattle.elab_eval.specs.declared.kept.Begin.{Begin}
 use Rattle.elab_eval.specs.declared.kept.Begin.TheVariants as begin
 use Rattle.elab_eval.specs.Classes.{is_base, is_keyword, class_made, base_called}
 use Rattle.elab_eval.specs.Tops.{global, object_in, first_object, elaborate_of, module_of, top_taken, body_ended, elaborate_ended}
-use Rattle.elab_eval.specs.Table.{kept_called, equated_by, called_by, call_answered, attribute_of, attribute_answered, attribute_stored, store_answered, index_of, index_answered, index_stored, index_store_answered, added, operator_answered, enter_answered, leave_answered, own_answered, only}
+use Rattle.elab_eval.specs.Table.{kept_called, equated_by, called_by, call_answered, attribute_of, attribute_answered, attribute_stored, store_answered, index_of, index_answered, index_stored, index_store_answered, added, operator_answered, kept_entered, kept_left, enter_answered, leave_answered, own_answered, only}
 use Rattle.elab_eval.specs.Table as table
 use Rattle.elab_eval.specs.Libraries.{is_enum, is_data, library_named, wiring_named, thing_name_given}
 use Rattle.elab_eval.specs.Table.{name_attribute}
@@ -78,7 +77,10 @@ use Rattle.elab_eval.specs.Likes.{liked, like_placed, like_arguments, like_init,
 use Rattle.elab_eval.specs.Sound.{IsEquation, IsBegin, IsKept, IsOpening, IsTold, IsBuilt, IsSound}
 use Rattle.elab_eval.proofs.Pools.{IsGrown, target_stays, there_stays}
 use Rattle.elab_eval.proofs.SideLaws.{equations_stand, kept_stands}
-use Rattle.elab_eval.proofs.GrownLaws.{all_and, pool_grown, things_grown, read_held, keeping_sound, built_stays, told_module, module_built, with_top_sound}
+use Rattle.elab_eval.proofs.GrownLaws.{all_and, name_is, pool_grown, things_grown, read_held, keeping_sound, built_stays, told_module, module_built, with_top_sound}
+use Rattle.elab_eval.specs.OpenMachines.{in_machine}
+use Rattle.elab_eval.specs.StateMachines.{part_named}
+use Rattle.elab_eval.proofs.MachineSound as machine
 use Rattle.elab_eval.proofs.ComponentSound as component
 
 -- ---- what this crate answers
@@ -142,17 +144,9 @@ module_sound c h s =
       things = s.things;
       kept = s.kept;
       ports = s.ports;
+      machines = s.machines;
       modules = all_and (IsBuilt h.pool) h.store.modules (record { name = []; steps = [] } ∷ []) s.modules (record { steps = tt }, tt);
     } tt) s
-
--- a name that has the form of one
-name_is : (name : List ℕ) → is_name name ≡ true → IsName name
-name_is [] e = absurd (true≢false (sym e))
-name_is (b ∷ bs) e = let parts = and_parts (starts_name b) (list_all continues_name bs) e in record { first = b; rest = bs; whole = refl; starts = parts.0; continues = all_pass bs parts.1 }
-  where
-    all_pass : (bs : List ℕ) → list_all continues_name bs ≡ true → All (λ b. IsTrue (continues_name b)) bs
-    all_pass [] e = All-nil (λ b. IsTrue (continues_name b))
-    all_pass (b ∷ bs) e = let parts = and_parts (continues_name b) (list_all continues_name bs) e in All-cons (λ b. IsTrue (continues_name b)) b bs parts.0 (all_pass bs parts.1)
 
 formed_name : (text name : List ℕ) → formed text ≡ Some name → is_name name ≡ true
 formed_name text name e = by_test (is_name text) refl e
@@ -337,14 +331,14 @@ plain_sound m b (v ∷ vs) ns h t i = t
 case_sound : (m : ℕ) (o : Option (List Pattern)) (h : Held) → IsSound h → IsSound (case_given m o h).held
 case_sound m None h t = t
 case_sound m (Some ps) h t =
-    keeping_sound (with_patterns ps h) (kept_as.Block m (begin.Case (length h.store.patterns))) (record { names = t.names; things = t.things; kept = t.kept; modules = t.modules; ports = t.ports }) tt
+    keeping_sound (with_patterns ps h) (kept_as.Block m (begin.Case (length h.store.patterns))) (record { names = t.names; things = t.things; kept = t.kept; modules = t.modules; ports = t.ports; machines = t.machines }) tt
 
 case_in_sound : (s : Seen) (m : ℕ) (vs : List Val) (o : Option ExprId) (h : Held) → IsSound h → IsSound (case_in s m vs o h).held
 case_in_sound s m vs None h t = keeping_sound h (kept_as.Block m begin.Misplaced) t tt
 case_in_sound s m vs (Some subject) h t = case_sound m (case_patterns s h subject vs) h t
 
 cases_sound : (s : Seen) (m : ℕ) (vs : List Val) (ns : List (List ℕ)) (h : Held) → IsSound h → IsSound (case_called s m vs ns h).held
-cases_sound s m vs [] h t = case_in_sound s m vs (switched (slice_get h.store.modules m)) h t
+cases_sound s m vs [] h t = case_in_sound s m vs (case_subject m h.store) h t
 cases_sound s m vs (n ∷ ns) h t = t
 
 block_call_sound : (s : Seen) (m : ℕ) (n : BlockName) (c : Called) (h : Held) → IsSound h → IsSound (block_called s m n c h).held
@@ -396,6 +390,7 @@ entered_sound h m b x t k i = by_expr (condition_made (built_blocks b) x) (openi
       things = u.things;
       kept = u.kept;
       ports = u.ports;
+      machines = u.machines;
       modules = told_module q m (and_entered h.pool b x) h.store.modules (record { steps = all_and (IsTold q) b.steps (Enter (opening_of (length h.pool.exprs) x) ∷ []) l.steps (o, tt) }) u.modules;
     }
 
@@ -419,12 +414,13 @@ passed_sound (h, None) t = t
 passed_sound (h, Some why) t = t
 
 enter_sound : (o : Option Kept) (h : Held) → IsSound h → ((k : Kept) → o ≡ Some k → IsKept h.pool k) → IsSound (block_entered o h).held
-enter_sound (Some (kept_as.Block m b)) h t f = by_block (block_of h.store.patterns b) (λ x e. block_of_named h.pool h.store.patterns b x (f (kept_as.Block m b) refl) e)
+enter_sound (Some (kept_as.Block m b)) h t f = if_sound (in_machine m h.store.machines) _ _ t (by_block (block_of h.store.patterns b) (λ x e. block_of_named h.pool h.store.patterns b x (f (kept_as.Block m b) refl) e))
   where
     by_block : (o : Option Block) → ((x : Block) → o ≡ Some x → IsNamed h.pool x) → IsSound (entered_at m (slice_get h.store.modules m) o h).held
     by_block None g = t
     by_block (Some x) g =
         passed_sound (entering m (slice_get h.store.modules m) x h) (entering_sound h m (slice_get h.store.modules m) x t (λ c e. module_built h.pool h.store.modules m c t.modules e) (g x refl))
+enter_sound (Some (kept_as.OfMachine x)) h t f = t
 enter_sound None h t f = t
 enter_sound (Some (kept_as.Name n)) h t f = t
 enter_sound (Some (kept_as.Module m)) h t f = t
@@ -435,10 +431,23 @@ enter_sound (Some (kept_as.Member m)) h t f = t
 enter_sound (Some (kept_as.Signature m)) h t f = t
 enter_sound (Some (kept_as.BlockName m n)) h t f = t
 
-enters_sound : (vs : List Val) (h : Held) → IsSound h → IsSound (enter_answered vs h).held
-enters_sound [] h t = t
-enters_sound (x ∷ []) h t = enter_sound (kept_of h.store x) h t (kept_stands h.pool h.store t.kept x)
-enters_sound (x ∷ y ∷ vs) h t = t
+kept_entered_sound : (s : Seen) (o : Option Kept) (h : Held) → IsPool h.pool → IsSound h → ((k : Kept) → o ≡ Some k → IsKept h.pool k) → IsSound (kept_entered s o h).held
+kept_entered_sound s (Some (kept_as.OfMachine x)) h rules t f = machine.part_entered_sound s x h rules t
+kept_entered_sound s None h rules t f = enter_sound None h t f
+kept_entered_sound s (Some (kept_as.Name n)) h rules t f = enter_sound (Some (kept_as.Name n)) h t f
+kept_entered_sound s (Some (kept_as.Module m)) h rules t f = enter_sound (Some (kept_as.Module m)) h t f
+kept_entered_sound s (Some (kept_as.Domains m)) h rules t f = enter_sound (Some (kept_as.Domains m)) h t f
+kept_entered_sound s (Some (kept_as.Domain m d)) h rules t f = enter_sound (Some (kept_as.Domain m d)) h t f
+kept_entered_sound s (Some (kept_as.Statement q)) h rules t f = enter_sound (Some (kept_as.Statement q)) h t f
+kept_entered_sound s (Some (kept_as.Member m)) h rules t f = enter_sound (Some (kept_as.Member m)) h t f
+kept_entered_sound s (Some (kept_as.Signature m)) h rules t f = enter_sound (Some (kept_as.Signature m)) h t f
+kept_entered_sound s (Some (kept_as.BlockName m n)) h rules t f = enter_sound (Some (kept_as.BlockName m n)) h t f
+kept_entered_sound s (Some (kept_as.Block m b)) h rules t f = enter_sound (Some (kept_as.Block m b)) h t f
+
+enters_sound : (s : Seen) (vs : List Val) (h : Held) → IsPool h.pool → IsSound h → IsSound (enter_answered s vs h).held
+enters_sound s [] h rules t = t
+enters_sound s (x ∷ []) h rules t = kept_entered_sound s (kept_of h.store x) h rules t (kept_stands h.pool h.store t.kept x)
+enters_sound s (x ∷ y ∷ vs) h rules t = t
 
 left_sound : (h : Held) (m : ℕ) (b : Built) → IsSound h → IsBuilt h.pool b → IsSound (record h { store = store_told m (and_left b) h.store })
 left_sound h m b t k = record {
@@ -446,6 +455,7 @@ left_sound h m b t k = record {
   things = t.things;
   kept = t.kept;
   ports = t.ports;
+  machines = t.machines;
   modules = told_module h.pool m (and_left b) h.store.modules (record { steps = all_and (IsTold h.pool) b.steps (Leave ∷ []) k.steps (tt, tt) }) t.modules;
 }
 
@@ -462,6 +472,7 @@ leave_sound (Some (kept_as.Block m b)) h t = by_pair (leaving m (slice_get h.sto
   where
     by_pair : (x : Stored × Option Cause) → IsSound (record h { store = x.0 }) → IsSound (left_at m h x).held
     by_pair (s, why) u = passed_sound (record h { store = s }, why) u
+leave_sound (Some (kept_as.OfMachine x)) h t = t
 leave_sound None h t = t
 leave_sound (Some (kept_as.Name n)) h t = t
 leave_sound (Some (kept_as.Module m)) h t = t
@@ -472,9 +483,22 @@ leave_sound (Some (kept_as.Member m)) h t = t
 leave_sound (Some (kept_as.Signature m)) h t = t
 leave_sound (Some (kept_as.BlockName m n)) h t = t
 
+kept_left_sound : (o : Option Kept) (h : Held) → IsSound h → IsSound (kept_left o h).held
+kept_left_sound (Some (kept_as.OfMachine x)) h t = machine.part_left_sound x h t
+kept_left_sound None h t = leave_sound None h t
+kept_left_sound (Some (kept_as.Name n)) h t = leave_sound (Some (kept_as.Name n)) h t
+kept_left_sound (Some (kept_as.Module m)) h t = leave_sound (Some (kept_as.Module m)) h t
+kept_left_sound (Some (kept_as.Domains m)) h t = leave_sound (Some (kept_as.Domains m)) h t
+kept_left_sound (Some (kept_as.Domain m d)) h t = leave_sound (Some (kept_as.Domain m d)) h t
+kept_left_sound (Some (kept_as.Statement q)) h t = leave_sound (Some (kept_as.Statement q)) h t
+kept_left_sound (Some (kept_as.Member m)) h t = leave_sound (Some (kept_as.Member m)) h t
+kept_left_sound (Some (kept_as.Signature m)) h t = leave_sound (Some (kept_as.Signature m)) h t
+kept_left_sound (Some (kept_as.BlockName m n)) h t = leave_sound (Some (kept_as.BlockName m n)) h t
+kept_left_sound (Some (kept_as.Block m b)) h t = leave_sound (Some (kept_as.Block m b)) h t
+
 leaves_sound : (vs : List Val) (h : Held) → IsSound h → IsSound (leave_answered vs h).held
 leaves_sound [] h t = t
-leaves_sound (x ∷ []) h t = leave_sound (kept_of h.store x) h t
+leaves_sound (x ∷ []) h t = kept_left_sound (kept_of h.store x) h t
 leaves_sound (x ∷ y ∷ vs) h t = t
 
 name_sound : (s : Seen) (n : HdlName) (c : Called) (h : Held) → IsSound h → IsSound (table.name_called s n c h).held
@@ -491,23 +515,24 @@ name_sound s hdl.Enumerations c h t = t
 name_sound s hdl.Data c h t = t
 name_sound s hdl.Component c h t = t
 
-own_call_sound : (s : Seen) (o : Option Kept) (c : Called) (h : Held) → IsSound h → IsSound (kept_called s o c h).held
-own_call_sound s None c h t = t
-own_call_sound s (Some (kept_as.Name n)) c h t = name_sound s n c h t
-own_call_sound s (Some (kept_as.Module n)) c h t = t
-own_call_sound s (Some (kept_as.Domains n)) c h t = t
-own_call_sound s (Some (kept_as.Domain n d)) c h t = t
-own_call_sound s (Some (kept_as.Statement n)) c h t = t
-own_call_sound s (Some (kept_as.Member m)) c h t = t
-own_call_sound s (Some (kept_as.Signature m)) c h t = t
-own_call_sound s (Some (kept_as.BlockName m n)) c h t = block_call_sound s m n c h t
-own_call_sound s (Some (kept_as.Block m b)) c h t = t
+own_call_sound : (s : Seen) (o : Option Kept) (c : Called) (p : Place) (h : Held) → IsSound h → IsSound (kept_called s o c p h).held
+own_call_sound s None c p h t = t
+own_call_sound s (Some (kept_as.Name n)) c p h t = name_sound s n c h t
+own_call_sound s (Some (kept_as.Module n)) c p h t = t
+own_call_sound s (Some (kept_as.Domains n)) c p h t = t
+own_call_sound s (Some (kept_as.Domain n d)) c p h t = t
+own_call_sound s (Some (kept_as.Statement n)) c p h t = t
+own_call_sound s (Some (kept_as.Member m)) c p h t = t
+own_call_sound s (Some (kept_as.Signature m)) c p h t = t
+own_call_sound s (Some (kept_as.BlockName m n)) c p h t = block_call_sound s m n c h t
+own_call_sound s (Some (kept_as.Block m b)) c p h t = t
+own_call_sound s (Some (kept_as.OfMachine x)) c p h t = machine.part_call_sound s x c p h t
 
 call_sound : (s : Seen) (r : Request) (c : Called) (h : Held) → IsSound h → IsSound (call_answered s r c h).held
 call_sound s r c h t = by_eq (equated_by (thing_of h.store.things c.callee)) (λ e is. equated_there (length h.pool.exprs) h.store.things c.callee e t.things is)
   where
     by_eq : (o : Option ExprId) → ((e : ExprId) → o ≡ Some e → e.0 < length h.pool.exprs) → IsSound (called_by s o r c h).held
-    by_eq None f = own_call_sound s (kept_of h.store c.callee) c h t
+    by_eq None f = own_call_sound s (kept_of h.store c.callee) c r.place h t
     by_eq (Some e) f = eq_sound h e c.placed c.keywords r.place t (f e refl)
 
 -- domains
@@ -532,7 +557,7 @@ library_name_sound hdl.Component name h t = t
 
 attribute_sound : (o : Option Kept) (name : List ℕ) (h : Held) → IsSound h → IsSound (attribute_of o name h).held
 attribute_sound None name h t = t
-attribute_sound (Some (kept_as.Module m)) name h t = if_sound (text_eq name (codes "d")) _ _ (keeping_sound h (kept_as.Domains m) t tt) (block_name_sound m (block_named name) h t)
+attribute_sound (Some (kept_as.Module m)) name h t = if_sound (text_eq name (codes "d")) _ _ (keeping_sound h (kept_as.Domains m) t tt) (machine.part_given_sound (part_named m name) _ h t (block_name_sound m (block_named name) h t))
 attribute_sound (Some (kept_as.Domains m)) name h t = domain_sound m (domain_named name) h t
 attribute_sound (Some (kept_as.Name m)) name h t = library_name_sound m name h t
 attribute_sound (Some (kept_as.Domain m d)) name h t = t
@@ -541,6 +566,7 @@ attribute_sound (Some (kept_as.Member m)) name h t = t
 attribute_sound (Some (kept_as.Signature m)) name h t = t
 attribute_sound (Some (kept_as.BlockName m n)) name h t = t
 attribute_sound (Some (kept_as.Block m b)) name h t = t
+attribute_sound (Some (kept_as.OfMachine x)) name h t = machine.part_attribute_sound x name h t
 
 attributes_sound : (vs : List Val) (o : Option (List ℕ)) (h : Held) → IsSound h → IsSound (attribute_answered vs o h).held
 attributes_sound [] o h t = t
@@ -551,24 +577,25 @@ attributes_sound (x ∷ y ∷ vs) o h t = t
 stored_sound : (m : ℕ) (d : Option DomainName) (v : Val) (h : Held) → IsSound h → IsSound (domain_stored m d v h).held
 stored_sound m d v h t = if_sound (is_domain_of m d (kept_of h.store v)) _ _ t t
 
-attribute_stored_sound : (o : Option Kept) (name : List ℕ) (v : Val) (h : Held) → IsSound h → IsSound (attribute_stored o name v h).held
-attribute_stored_sound (Some (kept_as.Domains m)) name v h t = stored_sound m (domain_named name) v h t
-attribute_stored_sound None name v h t = t
-attribute_stored_sound (Some (kept_as.Module m)) name v h t = t
-attribute_stored_sound (Some (kept_as.Name m)) name v h t = t
-attribute_stored_sound (Some (kept_as.Domain m d)) name v h t = t
-attribute_stored_sound (Some (kept_as.Statement m)) name v h t = t
-attribute_stored_sound (Some (kept_as.Member m)) name v h t = t
-attribute_stored_sound (Some (kept_as.Signature m)) name v h t = t
-attribute_stored_sound (Some (kept_as.BlockName m n)) name v h t = t
-attribute_stored_sound (Some (kept_as.Block m b)) name v h t = t
+attribute_stored_sound : (s : Seen) (o : Option Kept) (name : List ℕ) (v : Val) (p : Place) (h : Held) → IsSound h → IsSound (attribute_stored s o name v p h).held
+attribute_stored_sound s (Some (kept_as.Domains m)) name v p h t = stored_sound m (domain_named name) v h t
+attribute_stored_sound s None name v p h t = t
+attribute_stored_sound s (Some (kept_as.Module m)) name v p h t = machine.next_sound s m name v p h t
+attribute_stored_sound s (Some (kept_as.Name m)) name v p h t = t
+attribute_stored_sound s (Some (kept_as.Domain m d)) name v p h t = t
+attribute_stored_sound s (Some (kept_as.Statement m)) name v p h t = t
+attribute_stored_sound s (Some (kept_as.Member m)) name v p h t = t
+attribute_stored_sound s (Some (kept_as.Signature m)) name v p h t = t
+attribute_stored_sound s (Some (kept_as.BlockName m n)) name v p h t = t
+attribute_stored_sound s (Some (kept_as.Block m b)) name v p h t = t
+attribute_stored_sound s (Some (kept_as.OfMachine x)) name v p h t = t
 
-stores_sound : (vs : List Val) (o : Option (List ℕ)) (h : Held) → IsSound h → IsSound (store_answered vs o h).held
-stores_sound [] o h t = t
-stores_sound (x ∷ []) o h t = t
-stores_sound (x ∷ v ∷ []) None h t = t
-stores_sound (x ∷ v ∷ []) (Some n) h t = attribute_stored_sound (kept_of h.store x) n v h t
-stores_sound (x ∷ v ∷ w ∷ vs) o h t = t
+stores_sound : (s : Seen) (vs : List Val) (o : Option (List ℕ)) (p : Place) (h : Held) → IsSound h → IsSound (store_answered s vs o p h).held
+stores_sound s [] o p h t = t
+stores_sound s (x ∷ []) o p h t = t
+stores_sound s (x ∷ v ∷ []) None p h t = t
+stores_sound s (x ∷ v ∷ []) (Some n) p h t = attribute_stored_sound s (kept_of h.store x) n v p h t
+stores_sound s (x ∷ v ∷ w ∷ vs) o p h t = t
 
 index_sound : (s : Seen) (o : Option Kept) (i : Val) (h : Held) → IsSound h → IsSound (index_of s o i h).held
 index_sound s (Some (kept_as.Domains m)) i h t = domain_sound m (index_name s i) h t
@@ -581,6 +608,7 @@ index_sound s (Some (kept_as.Member m)) i h t = t
 index_sound s (Some (kept_as.Signature m)) i h t = t
 index_sound s (Some (kept_as.BlockName m n)) i h t = t
 index_sound s (Some (kept_as.Block m b)) i h t = t
+index_sound s (Some (kept_as.OfMachine x)) i h t = t
 
 indices_sound : (s : Seen) (vs : List Val) (h : Held) → IsSound h → IsSound (index_answered s vs h).held
 indices_sound s [] h t = t
@@ -599,6 +627,7 @@ index_stored_sound s (Some (kept_as.Member m)) i v h t = t
 index_stored_sound s (Some (kept_as.Signature m)) i v h t = t
 index_stored_sound s (Some (kept_as.BlockName m n)) i v h t = t
 index_stored_sound s (Some (kept_as.Block m b)) i v h t = t
+index_stored_sound s (Some (kept_as.OfMachine x)) i v h t = t
 
 index_stores_sound : (s : Seen) (vs : List Val) (h : Held) → IsSound h → IsSound (index_store_answered s vs h).held
 index_stores_sound s [] h t = t
@@ -620,6 +649,7 @@ put_sound_by h None m b d q t k e = record {
   things = t.things;
   kept = t.kept;
   ports = t.ports;
+  machines = t.machines;
   modules = told_module h.pool m (built_with b d q) h.store.modules (record { steps = all_and (IsTold h.pool) b.steps (Assign (side_of d) q.target q.value q.place ∷ []) k.steps ((side_named d, e), tt) }) t.modules;
 }
 
@@ -640,7 +670,7 @@ all_told_sound h m d (q ∷ qs) t e = behind (statement_told m d q (slice_get h.
 
 statements_sound : (x : Val) (m : ℕ) (d : DomainName) (o : Option (List Equation)) (h : Held) → IsSound h → ((qs : List Equation) → o ≡ Some qs → AllByRecursion (IsEquation h.pool) qs) → IsSound (statements_added x m d o h).held
 statements_sound x m d None h t f = t
-statements_sound x m d (Some qs) h t f = all_told_sound h m d qs t (f qs refl)
+statements_sound x m d (Some qs) h t f = if_sound (has_no_place m qs h.store) _ _ t (all_told_sound h m d qs t (f qs refl))
 
 added_sound : (s : Seen) (o : Option Kept) (x v : Val) (h : Held) → IsSound h → IsSound (added s o x v h).held
 added_sound s (Some (kept_as.Domain m d)) x v h t = statements_sound x m d (equations_in deepest s h.store v) h t (λ qs e. equations_stand h.pool h.store t.kept deepest s v qs e)
@@ -653,6 +683,7 @@ added_sound s (Some (kept_as.Member m)) x v h t = t
 added_sound s (Some (kept_as.Signature m)) x v h t = t
 added_sound s (Some (kept_as.BlockName m n)) x v h t = t
 added_sound s (Some (kept_as.Block m b)) x v h t = t
+added_sound s (Some (kept_as.OfMachine y)) x v h t = t
 
 operator_sound : (s : Seen) (vs : List Val) (o : Option (List ℕ)) (h : Held) → IsSound h → IsSound (operator_answered s vs o h).held
 operator_sound s [] o h t = t
@@ -688,20 +719,20 @@ end_sound s [] h t = t
 end_sound s (v ∷ vs) h t = top_sound v (module_of (kept_of h.store v)) (elaborate_of s v) h t
 
 -- all acts
-pub own_sound : (s : Seen) (a : Act) (r : Request) (h : Held) → IsSound h → IsSound (own_answered s a r h).held
-own_sound s act.Import r h t = import_sound r.names h t
-own_sound s act.Attribute r h t = attributes_sound r.vals (only r.names) h t
-own_sound s act.SetAttribute r h t = stores_sound r.vals (only r.names) h t
-own_sound s act.CallThing r h t = call_sound s r (called r.vals r.names) h t
-own_sound s act.Index r h t = indices_sound s r.vals h t
-own_sound s act.SetIndex r h t = index_stores_sound s r.vals h t
-own_sound s act.Operator r h t = operator_sound s r.vals (only r.names) h t
-own_sound s act.Length r h t = t
-own_sound s act.Iterate r h t = t
-own_sound s act.Enter r h t = enters_sound r.vals h t
-own_sound s act.Leave r h t = leaves_sound r.vals h t
-own_sound s act.ClassMade r h t = component.class_sound r.vals r.names h (class_sound r.vals r.names h t) t
-own_sound s act.InitBase r h t = component.init_sound s r.vals r.names h (base_sound r.vals r.names h t) t
-own_sound s act.BodyEnd r h t = body_sound s (global (codes "top") r.vals r.names) h t
-own_sound s act.Returned r h t = end_sound s r.vals h t
-own_sound s act.Await r h t = t
+pub own_sound : (s : Seen) (a : Act) (r : Request) (h : Held) → IsPool h.pool → IsSound h → IsSound (own_answered s a r h).held
+own_sound s act.Import r h rules t = import_sound r.names h t
+own_sound s act.Attribute r h rules t = attributes_sound r.vals (only r.names) h t
+own_sound s act.SetAttribute r h rules t = stores_sound s r.vals (only r.names) r.place h t
+own_sound s act.CallThing r h rules t = call_sound s r (called r.vals r.names) h t
+own_sound s act.Index r h rules t = indices_sound s r.vals h t
+own_sound s act.SetIndex r h rules t = index_stores_sound s r.vals h t
+own_sound s act.Operator r h rules t = operator_sound s r.vals (only r.names) h t
+own_sound s act.Length r h rules t = t
+own_sound s act.Iterate r h rules t = t
+own_sound s act.Enter r h rules t = enters_sound s r.vals h rules t
+own_sound s act.Leave r h rules t = leaves_sound r.vals h t
+own_sound s act.ClassMade r h rules t = component.class_sound r.vals r.names h (class_sound r.vals r.names h t) t
+own_sound s act.InitBase r h rules t = component.init_sound s r.vals r.names h (base_sound r.vals r.names h t) t
+own_sound s act.BodyEnd r h rules t = body_sound s (global (codes "top") r.vals r.names) h t
+own_sound s act.Returned r h rules t = end_sound s r.vals h t
+own_sound s act.Await r h rules t = t

@@ -15,7 +15,7 @@ use Rattle.py_frames.specs.Whole.{ask_program}
 use Rattle.elab_eval.specs.declared.refusal.ElabStop.{ElabStop}
 use Rattle.elab_eval.specs.Stores.{Held, nothing_held}
 use Rattle.elab_eval.specs.Reaches.{Reaches, begins, goes_on, world, answered}
-use Rattle.elab_eval.specs.Elaborates.{Found, Ends, Stops, OneOutcome, design_of, stop_of}
+use Rattle.elab_eval.specs.Elaborates.{Found, Ends, Stops, OneOutcome, design_of, stop_of, told_at}
 
 -- ---- what is reached behind so many answers more than the first
 
@@ -128,7 +128,10 @@ two_stops program budget f g used spent a b =
     (none_behind program budget c.0 a.given a.held _ c.1 refl (none_stopped a.held a.given _ (a.stop, used) a.stops))
     (none_behind program budget d.0 b.given b.held _ d.1 refl (none_stopped b.held b.given _ (b.stop, spent) b.stops)) in
     let stop : (a.stop, used) ≡ (b.stop, spent) = some_pair (a.stop, used) (b.stop, spent) (sym a.stops ∙ ap (λ (x : List Answer × Held). stops_as (ask_program program (world budget x.0))) same ∙ b.stops) in
-    (a.found_is ∙ ap (λ (x : Stop × ℕ). Err (stop_of x.0)) stop ∙ sym b.found_is, ap (λ (x : Stop × ℕ). x.1) stop)
+    let held : a.held ≡ b.held = ap (λ (x : List Answer × Held). x.1) same in (
+      a.found_is ∙ ap (λ (x : Stop × ℕ). Err (stop_of (told_at a.held.store.told x.0))) stop ∙ ap (λ (h : Held). Err (stop_of (told_at h.store.told b.stop))) held ∙ sym b.found_is,
+      ap (λ (x : Stop × ℕ). x.1) stop,
+    )
   where
     some_pair : (a b : Stop × ℕ) → Some a ≡ Some b → a ≡ b
     some_pair a b e = cc

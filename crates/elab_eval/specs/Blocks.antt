@@ -28,6 +28,7 @@ use Rattle.elab_eval.specs.declared.kept.Begin.TheVariants as begin
 use Rattle.elab_eval.specs.declared.kept.Kept.{Kept}
 use Rattle.elab_eval.specs.declared.kept.Kept.TheVariants as kept
 use Rattle.elab_eval.specs.Calls.{Called}
+use Rattle.elab_eval.specs.OpenMachines.{in_machine}
 use Rattle.elab_eval.specs.Stores.{Stored, Held, Answered, refused, given, kept_given}
 
 -- ---- names
@@ -90,6 +91,10 @@ switched (Some b) = if in_switch (built_blocks b).around then Some (subject_of (
 abbrev pub case_patterns : Seen → Held → ExprId → List Val → Option (List Pattern)
 case_patterns s h subject vs = patterns_meant s (form h.pool subject.0) (map (plain h.store.things) vs)
 
+-- that in which a case of the module would stand directly; the choice of an `FSM` is none
+abbrev pub case_subject : ℕ → Stored → Option ExprId
+case_subject m s = if in_machine m s.machines then None else switched (slice_get s.modules m)
+
 -- The patterns are for the subject of the `Switch` in which the call stands directly. Where it stands in none, entering is refused.
 abbrev pub case_in : Seen → ℕ → List Val → Option ExprId → Held → Answered
 case_in s m vs None h = kept_given (kept.Block m begin.Misplaced) h
@@ -97,7 +102,7 @@ case_in s m vs (Some subject) h = case_given m (case_patterns s h subject vs) h
 
 -- patterns, and no keyword
 abbrev pub case_called : Seen → ℕ → List Val → List (List ℕ) → Held → Answered
-case_called s m vs [] h = case_in s m vs (switched (slice_get h.store.modules m)) h
+case_called s m vs [] h = case_in s m vs (case_subject m h.store) h
 case_called s m vs (n ∷ ns) h = refused Raised h
 
 abbrev pub block_called : Seen → ℕ → BlockName → Called → Held → Answered
@@ -150,9 +155,14 @@ abbrev pub entered_at : ℕ → Option Built → Option Block → Held → Answe
 entered_at m b None h = refused Raised h
 entered_at m b (Some x) h = passed (entering m b x h)
 
+-- directly in an `FSM` stand states alone
+abbrev pub block_begun : ℕ → Begin → Held → Answered
+block_begun m b h =
+    if in_machine m h.store.machines then refused Raised h else entered_at m (slice_get h.store.modules m) (block_of h.store.patterns b) h
+
 -- a block that was called; anything else raises
 abbrev pub block_entered : Option Kept → Held → Answered
-block_entered (Some (kept.Block m b)) h = entered_at m (slice_get h.store.modules m) (block_of h.store.patterns b) h
+block_entered (Some (kept.Block m b)) h = block_begun m b h
 block_entered k h = refused Raised h
 
 -- ---- leaving

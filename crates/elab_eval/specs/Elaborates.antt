@@ -100,6 +100,14 @@ cause_stop cause.Spent p = Spent p
 abbrev pub stop_of : Stop → ElabStop
 stop_of x = cause_stop x.cause x.place
 
+-- a refusal that the table told elsewhere than at the request, as that of a state that was never entered
+abbrev pub told_place : Option Place → Cause → Place → Place
+told_place (Some p) cause.Raised q = p
+told_place told why q = q
+
+abbrev pub told_at : Option Place → Stop → Stop
+told_at told x = record x { place = told_place told x.cause x.place }
+
 -- ---- outcomes
 
 -- behind answers that are reached a program ended, and what is then held gives this
@@ -120,7 +128,7 @@ pub record Stops (program : Steps) (budget : ℕ) (found : Result Found ElabStop
   pub reached : Reaches program budget given held
   pub stop : Stop
   pub stops : stops_as (ask_program program (world budget given)) ≡ Some (stop, used)
-  pub found_is : found ≡ Err (stop_of stop)
+  pub found_is : found ≡ Err (stop_of (told_at held.store.told stop))
 
 -- what a program is elaborated to, and how many units it used
 abbrev pub Elaborates : Steps → ℕ → Result Found ElabStop → ℕ → Type 0

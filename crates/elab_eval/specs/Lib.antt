@@ -15,6 +15,8 @@ pub mod Kept
 pub mod Libraries
 pub mod Members
 pub mod Names
+pub mod Moves
+pub mod OpenMachines
 pub mod ObjectTops
 pub mod Puts
 pub mod Reaches
@@ -25,6 +27,7 @@ pub mod Shapes
 pub mod Signals
 pub mod Likes
 pub mod Sound
+pub mod StateMachines
 pub mod Stores
 pub mod Table
 pub mod Tops

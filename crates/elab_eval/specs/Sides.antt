@@ -18,6 +18,9 @@ use Rattle.elab_eval.specs.declared.kept.Equation.{Equation}
 use Rattle.elab_eval.specs.declared.kept.Kept.{Kept}
 use Rattle.elab_eval.specs.declared.kept.Kept.TheVariants as kept
 use Rattle.elab_eval.specs.Blocks.{block_named, block_name_given}
+use Rattle.elab_eval.specs.declared.kept.MachinePart.{MachinePart}
+use Rattle.elab_eval.specs.OpenMachines.{in_machine}
+use Rattle.elab_eval.specs.StateMachines.{part_named}
 use Rattle.elab_eval.specs.Counts.{statement_count}
 use Rattle.elab_eval.specs.Stores.{Stored, Held, Answered, refused, given, kept_given, kept_of}
 
@@ -32,9 +35,15 @@ abbrev pub side_of : DomainName → Side
 side_of domain.Comb = Comb
 side_of domain.Sync = Clocked (codes "sync")
 
+-- `m.FSM` and `m.State`, and else a block
+abbrev pub part_given : Option MachinePart → Answered → Held → Answered
+part_given (Some x) others h = kept_given (kept.OfMachine x) h
+part_given None others h = others
+
 -- `m.d`, and the blocks of a module
 abbrev pub module_attribute : ℕ → List ℕ → Held → Answered
-module_attribute m name h = if text_eq name (codes "d") then kept_given (kept.Domains m) h else block_name_given m (block_named name) h
+module_attribute m name h =
+    if text_eq name (codes "d") then kept_given (kept.Domains m) h else part_given (part_named m name) (block_name_given m (block_named name) h) h
 
 -- `m.d.comb` and `m.d["comb"]`
 abbrev pub domain_given : ℕ → Option DomainName → Held → Answered
@@ -134,6 +143,11 @@ abbrev pub told_answer : Val → Option Cause → Answer
 told_answer v None = answer.Give v
 told_answer v (Some why) = answer.Refuse why
 
+-- directly in an `FSM` no statement stands
+abbrev pub has_no_place : ℕ → List Equation → Stored → Bool
+has_no_place m [] s = false
+has_no_place m (q ∷ qs) s = in_machine m s.machines
+
 abbrev pub statements_added : Val → ℕ → DomainName → Option (List Equation) → Held → Answered
 statements_added v m d None h = refused Raised h
-statements_added v m d (Some qs) h = record { answer = told_answer v (statements_told m d qs h.store).1; held = record h { store = (statements_told m d qs h.store).0 } }
+statements_added v m d (Some qs) h = if has_no_place m qs h.store then refused Raised h else record { answer = told_answer v (statements_told m d qs h.store).1; held = record h { store = (statements_told m d qs h.store).0 } }

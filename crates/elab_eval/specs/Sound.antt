@@ -1,5 +1,5 @@
 -- What is held keeps to: whatever is named stands there.
-use Rattle.std.specs.Prelude.{◌≡◌, ℕ, ◌<◌, ⊤, List, length, Bool, true, false}
+use Rattle.std.specs.Prelude.{◌≡◌, ℕ, ◌<◌, ⊤, List, length, slice_get, Some, Bool, true, false}
 use Rattle.std.specs.List.{AllByRecursion}
 use Rattle.lists.specs.Names.{IsName}
 use Rattle.design_ir.specs.declared.signal.Sig.{Sig}
@@ -21,6 +21,9 @@ use Rattle.amh_things.specs.Held.{AreHeld}
 use Rattle.elab_eval.specs.declared.kept.Equation.{Equation}
 use Rattle.elab_eval.specs.declared.kept.Kept.{Kept}
 use Rattle.elab_eval.specs.declared.kept.Kept.TheVariants as kept
+use Rattle.design_ir.specs.Settling.{is_signal}
+use Rattle.fsm_lowering.specs.Machines.{Machine, HasRegister}
+use Rattle.elab_eval.specs.declared.state_machines.OwnMachine.{OwnMachine}
 use Rattle.elab_eval.specs.Stores.{Held}
 
 -- a reset; `ResetSignal` comes with domains that modules define
@@ -70,6 +73,7 @@ IsKept q (kept.Member m) = ⊤
 IsKept q (kept.Signature n) = ⊤
 IsKept q (kept.BlockName m n) = ⊤
 IsKept q (kept.Block m b) = IsBegin q b
+IsKept q (kept.OfMachine x) = ⊤
 
 abbrev pub IsOpening : Pooled → Opening → Type 0
 IsOpening q (opening.If e) = e.0 < length q.exprs
@@ -87,9 +91,21 @@ IsTold q Leave = ⊤
 pub record IsBuilt (q : Pooled) (b : Built) : Type 0 where
   pub steps : AllByRecursion (IsTold q) b.steps
 
+-- nothing before its register is the register
+abbrev pub IsFront : Pooled → Machine → Type 0
+IsFront q x = (k : ℕ) (e : Expr) → k < x.register.0 → slice_get q.exprs k ≡ Some e → is_signal x.signal.0 e ≡ false
+
+-- the pool has the machine's register, which is a target, and its statements are of a named side
+pub record IsMachine (q : Pooled) (x : OwnMachine) : Type 0 where
+  pub register : HasRegister q x.machine
+  pub target : is_target q x.machine.register.0 ≡ true
+  pub side : IsNamedSide x.machine.side
+  pub front : IsFront q x.machine
+
 pub record IsSound (h : Held) : Type 0 where
   pub names : AllByRecursion (λ (x : Sig). IsName x.name) h.pool.signals
   pub things : AreHeld (length h.pool.exprs) h.store.things
   pub kept : AllByRecursion (IsKept h.pool) h.store.kept
   pub modules : AllByRecursion (IsBuilt h.pool) h.store.modules
+  pub machines : AllByRecursion (IsMachine h.pool) h.store.machines
   pub ports : AllByRecursion (λ (o : ℕ × List Port). ArePorts h.pool o.1) h.store.components.objects

@@ -1,6 +1,6 @@
 -- What elaboration holds beside the heap of the program: the pool, and the store of things, modules and the top. Which acts change it is said
 -- family by family in the other files.
-use Rattle.std.specs.Prelude.{List, [], ◌∷◌, ◌++◌, length, slice_get, Option, None, option_and_then}
+use Rattle.std.specs.Prelude.{List, [], ◌∷◌, ◌++◌, length, slice_get, Option, Some, None, option_and_then}
 use Rattle.py_values.specs.declared.val.Val.{Val}
 use Rattle.py_values.specs.declared.val.Val.TheVariants as val
 use Rattle.py_frames.specs.declared.request.Answer.{Answer}
@@ -14,6 +14,8 @@ use Rattle.amh_things.specs.Things.{thing_of, kept_number}
 use Rattle.module_dsl.specs.Builders.{Built}
 use Rattle.elab_eval.specs.declared.kept.Kept.{Kept}
 use Rattle.elab_eval.specs.declared.kept.Top.{Top}
+use Rattle.amh_host.specs.declared.place.Place.{Place}
+use Rattle.elab_eval.specs.declared.state_machines.OwnMachine.{OwnMachine}
 use Rattle.elab_eval.specs.Components.{Components, no_components}
 
 pub record Stored : Type 0 where
@@ -28,6 +30,10 @@ pub record Stored : Type 0 where
   pub top : Top
   -- classes over `Component`, and what their objects have
   pub components : Components
+  -- state machines in order of making
+  pub machines : List OwnMachine
+  -- where the refusal is told, where this is not the place of the request
+  pub told : Option Place
 
 pub record Held : Type 0 where
   pub pool : Pooled
@@ -39,7 +45,7 @@ no_top = record { object = None; root = None }
 
 -- before the body of a program
 abbrev pub nothing_held : Held
-nothing_held = record { pool = record { signals = []; exprs = [] }; store = record { things = []; kept = []; modules = []; patterns = []; top = no_top; components = no_components } }
+nothing_held = record { pool = record { signals = []; exprs = [] }; store = record { things = []; kept = []; modules = []; patterns = []; top = no_top; components = no_components; machines = []; told = None } }
 
 -- what a request is answered, and what is then held
 pub record Answered : Type 0 where
@@ -49,6 +55,10 @@ pub record Answered : Type 0 where
 -- a refusal changes nothing
 abbrev pub refused : Cause → Held → Answered
 refused why h = record { answer = answer.Refuse why; held = h }
+
+-- it is told at another place than the request's
+abbrev pub refused_at : Place → Cause → Held → Answered
+refused_at p why h = record { answer = answer.Refuse why; held = record h { store = record h.store { told = Some p } } }
 
 abbrev pub given : Val → Held → Answered
 given v h = record { answer = answer.Give v; held = h }

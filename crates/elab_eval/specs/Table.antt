@@ -27,6 +27,8 @@ use Rattle.elab_eval.specs.Signals.{module_called, signal_called}
 use Rattle.elab_eval.specs.Likes.{like_given, like_called}
 use Rattle.elab_eval.specs.Equations.{equated}
 use Rattle.elab_eval.specs.Blocks.{block_called, block_entered, block_left}
+use Rattle.amh_host.specs.declared.place.Place.{Place}
+use Rattle.elab_eval.specs.StateMachines.{part_attribute, next_stored, part_called, part_entered, part_left}
 use Rattle.elab_eval.specs.Sides.{module_attribute, domain_named, domain_given, index_name, domain_stored, deepest, equations_in, statements_added}
 use Rattle.elab_eval.specs.Libraries.{wiring_named, library_given, thing_name_given}
 use Rattle.elab_eval.specs.Members.{member_called}
@@ -45,10 +47,11 @@ name_called s hdl.In c h = member_called s false c h
 name_called s hdl.Out c h = member_called s true c h
 name_called s n c h = refused Raised h
 
-abbrev pub kept_called : Seen → Option Kept → Called → Held → Answered
-kept_called s (Some (kept.Name n)) c h = name_called s n c h
-kept_called s (Some (kept.BlockName m n)) c h = block_called s m n c h
-kept_called s k c h = refused Raised h
+abbrev pub kept_called : Seen → Option Kept → Called → Place → Held → Answered
+kept_called s (Some (kept.Name n)) c p h = name_called s n c h
+kept_called s (Some (kept.BlockName m n)) c p h = block_called s m n c h
+kept_called s (Some (kept.OfMachine x)) c p h = part_called s x c p h
+kept_called s k c p h = refused Raised h
 
 -- the value whose method `eq` a thing is, as its expression
 abbrev pub equated_by : Option Thing → Option ExprId
@@ -58,7 +61,7 @@ equated_by t = None
 -- the method `eq` of a value, or a thing of this crate
 abbrev pub called_by : Seen → Option ExprId → Request → Called → Held → Answered
 called_by s (Some e) r c h = equated e c.placed c.keywords r.place h
-called_by s None r c h = kept_called s (kept_of h.store c.callee) c h
+called_by s None r c h = kept_called s (kept_of h.store c.callee) c r.place h
 
 abbrev pub call_answered : Seen → Request → Called → Held → Answered
 call_answered s r c h = called_by s (equated_by (thing_of h.store.things c.callee)) r c h
@@ -83,19 +86,22 @@ abbrev pub attribute_of : Option Kept → List ℕ → Held → Answered
 attribute_of (Some (kept.Name n)) name h = name_attribute n name h
 attribute_of (Some (kept.Module m)) name h = module_attribute m name h
 attribute_of (Some (kept.Domains m)) name h = domain_given m (domain_named name) h
+attribute_of (Some (kept.OfMachine x)) name h = part_attribute x name h
 attribute_of k name h = refused Raised h
 
 abbrev pub attribute_answered : List Val → Option (List ℕ) → Held → Answered
 attribute_answered (x ∷ []) (Some name) h = attribute_of (kept_of h.store x) name h
 attribute_answered vals name h = refused Raised h
 
-abbrev pub attribute_stored : Option Kept → List ℕ → Val → Held → Answered
-attribute_stored (Some (kept.Domains m)) name v h = domain_stored m (domain_named name) v h
-attribute_stored k name v h = refused Raised h
+-- a domain to its name again, and `m.next`
+abbrev pub attribute_stored : Seen → Option Kept → List ℕ → Val → Place → Held → Answered
+attribute_stored s (Some (kept.Domains m)) name v p h = domain_stored m (domain_named name) v h
+attribute_stored s (Some (kept.Module m)) name v p h = next_stored s m name v p h
+attribute_stored s k name v p h = refused Raised h
 
-abbrev pub store_answered : List Val → Option (List ℕ) → Held → Answered
-store_answered (x ∷ v ∷ []) (Some name) h = attribute_stored (kept_of h.store x) name v h
-store_answered vals name h = refused Raised h
+abbrev pub store_answered : Seen → List Val → Option (List ℕ) → Place → Held → Answered
+store_answered s (x ∷ v ∷ []) (Some name) p h = attribute_stored s (kept_of h.store x) name v p h
+store_answered s vals name p h = refused Raised h
 
 abbrev pub index_of : Seen → Option Kept → Val → Held → Answered
 index_of s (Some (kept.Domains m)) i h = domain_given m (index_name s i) h
@@ -128,12 +134,20 @@ operator_answered s vals sign h = refused Raised h
 
 -- ---- `with`
 
-abbrev pub enter_answered : List Val → Held → Answered
-enter_answered (x ∷ []) h = block_entered (kept_of h.store x) h
-enter_answered vals h = refused Raised h
+abbrev pub kept_entered : Seen → Option Kept → Held → Answered
+kept_entered s (Some (kept.OfMachine x)) h = part_entered s x h
+kept_entered s k h = block_entered k h
+
+abbrev pub enter_answered : Seen → List Val → Held → Answered
+enter_answered s (x ∷ []) h = kept_entered s (kept_of h.store x) h
+enter_answered s vals h = refused Raised h
+
+abbrev pub kept_left : Option Kept → Held → Answered
+kept_left (Some (kept.OfMachine x)) h = part_left x h
+kept_left k h = block_left k h
 
 abbrev pub leave_answered : List Val → Held → Answered
-leave_answered (x ∷ []) h = block_left (kept_of h.store x) h
+leave_answered (x ∷ []) h = kept_left (kept_of h.store x) h
 leave_answered vals h = refused Raised h
 
 -- ---- all acts
@@ -142,14 +156,14 @@ leave_answered vals h = refused Raised h
 abbrev pub own_answered : Seen → Act → Request → Held → Answered
 own_answered s act.Import r h = import_answered r.names h
 own_answered s act.Attribute r h = attribute_answered r.vals (only r.names) h
-own_answered s act.SetAttribute r h = store_answered r.vals (only r.names) h
+own_answered s act.SetAttribute r h = store_answered s r.vals (only r.names) r.place h
 own_answered s act.CallThing r h = call_answered s r (called r.vals r.names) h
 own_answered s act.Index r h = index_answered s r.vals h
 own_answered s act.SetIndex r h = index_store_answered s r.vals h
 own_answered s act.Operator r h = operator_answered s r.vals (only r.names) h
 own_answered s act.Length r h = refused Raised h
 own_answered s act.Iterate r h = refused Raised h
-own_answered s act.Enter r h = enter_answered r.vals h
+own_answered s act.Enter r h = enter_answered s r.vals h
 own_answered s act.Leave r h = leave_answered r.vals h
 own_answered s act.ClassMade r h = class_answered r.vals r.names h
 own_answered s act.InitBase r h = init_answered s r.vals r.names h

@@ -3,7 +3,7 @@ ghost use Rattle.std.specs.Prelude.{◌≡◌, ◌<◌, length};
 ghost use Rattle.std.specs.Option.{option_copied};
 ghost use Rattle.py_values.specs.Heaps.{seen};
 ghost use Rattle.elab_eval.specs.Calls.{called};
-ghost use Rattle.elab_eval.specs.Table.{call_answered, attribute_answered, store_answered, index_answered, index_store_answered, operator_answered, enter_answered, leave_answered, own_answered, name_called, kept_called, only, name_attribute, attribute_of, attribute_stored, added, signed};
+ghost use Rattle.elab_eval.specs.Table.{call_answered, attribute_answered, store_answered, index_answered, index_store_answered, operator_answered, kept_entered, kept_left, enter_answered, leave_answered, own_answered, name_called, kept_called, only, name_attribute, attribute_of, attribute_stored, added, signed};
 ghost use Rattle.elab_eval.specs.Seen.{called_of};
 ghost use Rattle.elab_eval.specs.Sound.{IsSound};
 ghost use Rattle.elab_eval.specs.Stores.{kept_of};
@@ -15,6 +15,7 @@ use crate::libraries::wiring_named;
 use crate::names::is_text;
 use crate::sides::{domain_named, index_name};
 use crate::store::Elaboration;
+use amh_host::Place;
 use lists::NoMemory;
 use py_frames::request::{Act, Answer, Cause, Request};
 use py_values::{Frozen, Heap, Val};
@@ -42,13 +43,20 @@ impl Elaboration {
     }
 
     // The call of a thing of this crate.
-    fn call_kept(&mut self, heap: &Heap, frozen: &Frozen, call: &Called) -> Result<Answer, NoMemory>
+    fn call_kept(
+        &mut self,
+        heap: &Heap,
+        frozen: &Frozen,
+        call: &Called,
+        place: Place,
+    ) -> Result<Answer, NoMemory>
         requires { IsSound (held_of self.old) }
-        ensures { Gives result self.new (kept_called (seen frozen.now heap.now) (kept_of self.old.store (called_of call.now).callee) (called_of call.now) (held_of self.old)) }
+        ensures { Gives result self.new (kept_called (seen frozen.now heap.now) (kept_of self.old.store (called_of call.now).callee) (called_of call.now) place (held_of self.old)) }
     {
         match self.store.kept_of(call.callee) {
             Some(Kept::Name(name)) => self.call_name(heap, frozen, name, call),
             Some(Kept::BlockName { of, name }) => self.call_block(heap, frozen, of, name, call),
+            Some(Kept::OfMachine(part)) => self.call_part(heap, frozen, part, call, place),
             _ => self.refuse(Cause::Raised),
         }
     }
@@ -61,7 +69,7 @@ impl Elaboration {
         let call = Called::of(request);
         match self.store.equated_by(&call.callee) {
             Some(target) => self.equate(target, &call, request.place),
-            None => self.call_kept(heap, frozen, &call),
+            None => self.call_kept(heap, frozen, &call, request.place),
         }
     }
 
@@ -85,6 +93,7 @@ impl Elaboration {
             Some(Kept::Name(n)) => self.name_attribute(n, name),
             Some(Kept::Module(m)) => self.module_attribute(m, name),
             Some(Kept::Domains(m)) => self.give_domain(m, domain_named(name)),
+            Some(Kept::OfMachine(part)) => self.part_attribute(part, name),
             _ => self.refuse(Cause::Raised),
         }
     }
@@ -102,24 +111,40 @@ impl Elaboration {
         }
     }
 
-    // An assignment to an attribute: of a domain to its name again.
-    fn store_attribute(&mut self, request: &Request) -> Result<Answer, NoMemory>
-        ensures { Gives result self.new (store_answered request.now.vals (only request.now.names) (held_of self.old)) }
+    // An assignment to an attribute: of a domain to its name again, and `m.next`.
+    fn store_attribute(
+        &mut self,
+        heap: &Heap,
+        frozen: &Frozen,
+        request: &Request,
+    ) -> Result<Answer, NoMemory>
+        requires { IsSound (held_of self.old) }
+        ensures { Gives result self.new (store_answered (seen frozen.now heap.now) request.now.vals (only request.now.names) request.now.place (held_of self.old)) }
     {
         match request.vals.as_slice() {
             [x, v] => match only_name(request) {
-                Some(name) => self.attribute_stored(x, name, v),
+                Some(name) => self.attribute_stored(heap, frozen, x, name, v, request.place),
                 None => self.refuse(Cause::Raised),
             },
             _ => self.refuse(Cause::Raised),
         }
     }
 
-    fn attribute_stored(&mut self, x: &Val, name: &str, v: &Val) -> Result<Answer, NoMemory>
-        ensures { Gives result self.new (attribute_stored (kept_of self.old.store x.now) name.now v.now (held_of self.old)) }
+    fn attribute_stored(
+        &mut self,
+        heap: &Heap,
+        frozen: &Frozen,
+        x: &Val,
+        name: &str,
+        v: &Val,
+        place: Place,
+    ) -> Result<Answer, NoMemory>
+        requires { IsSound (held_of self.old) }
+        ensures { Gives result self.new (attribute_stored (seen frozen.now heap.now) (kept_of self.old.store x.now) name.now v.now place (held_of self.old)) }
     {
         match self.store.kept_of(*x) {
             Some(Kept::Domains(m)) => self.store_domain(m, domain_named(name), v),
+            Some(Kept::Module(m)) => self.store_next(heap, frozen, m, name, v, place),
             _ => self.refuse(Cause::Raised),
         }
     }
@@ -203,22 +228,43 @@ impl Elaboration {
     }
 
     // The begin of a `with`: a block that was called.
-    fn enter(&mut self, request: &Request) -> Result<Answer, NoMemory>
+    fn enter(&mut self, heap: &Heap, frozen: &Frozen, request: &Request) -> Result<Answer, NoMemory>
         requires { IsSound (held_of self.old) }
-        ensures { Gives result self.new (enter_answered request.now.vals (held_of self.old)) }
+        ensures { Gives result self.new (enter_answered (seen frozen.now heap.now) request.now.vals (held_of self.old)) }
     {
         match request.vals.as_slice() {
-            [x] => self.enter_block(x),
+            [x] => self.enter_kept(heap, frozen, x),
             _ => self.refuse(Cause::Raised),
+        }
+    }
+
+    fn enter_kept(&mut self, heap: &Heap, frozen: &Frozen, x: &Val) -> Result<Answer, NoMemory>
+        requires { IsSound (held_of self.old) }
+        ensures { Gives result self.new (kept_entered (seen frozen.now heap.now) (kept_of self.old.store x.now) (held_of self.old)) }
+    {
+        match self.store.kept_of(*x) {
+            Some(Kept::OfMachine(part)) => self.enter_part(heap, frozen, part),
+            _ => self.enter_block(x),
+        }
+    }
+
+    fn leave_kept(&mut self, x: &Val) -> Result<Answer, NoMemory>
+        requires { IsSound (held_of self.old) }
+        ensures { Gives result self.new (kept_left (kept_of self.old.store x.now) (held_of self.old)) }
+    {
+        match self.store.kept_of(*x) {
+            Some(Kept::OfMachine(part)) => self.leave_part(part),
+            _ => self.leave_block(x),
         }
     }
 
     // The end of a `with`.
     fn leave(&mut self, request: &Request) -> Result<Answer, NoMemory>
+        requires { IsSound (held_of self.old) }
         ensures { Gives result self.new (leave_answered request.now.vals (held_of self.old)) }
     {
         match request.vals.as_slice() {
-            [x] => self.leave_block(x),
+            [x] => self.leave_kept(x),
             _ => self.refuse(Cause::Raised),
         }
     }
@@ -236,7 +282,7 @@ impl Elaboration {
         match request.act {
             Act::Import => self.import(request),
             Act::Attribute => self.attribute(request),
-            Act::SetAttribute => self.store_attribute(request),
+            Act::SetAttribute => self.store_attribute(heap, frozen, request),
             Act::CallThing => self.call(heap, frozen, request),
             Act::Index => self.index(heap, frozen, request),
             Act::SetIndex => self.store_index(heap, frozen, request),
@@ -245,7 +291,7 @@ impl Elaboration {
             Act::InitBase => self.answer_init(heap, frozen, request),
             Act::BodyEnd => self.end_body(heap, frozen, request),
             Act::Returned => self.end_elaborate(heap, frozen, request),
-            Act::Enter => self.enter(request),
+            Act::Enter => self.enter(heap, frozen, request),
             Act::Leave => self.leave(request),
             Act::Length | Act::Iterate | Act::Await => self.refuse(Cause::Raised),
         }

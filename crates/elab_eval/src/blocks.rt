@@ -7,7 +7,7 @@ ghost use Rattle.amh_things.specs.Patterns.{AreWithin};
 ghost use Rattle.std.specs.Prelude.{Option as Stopped};
 ghost use Rattle.module_dsl.specs.declared.refusal.BuildStop.{BuildStop};
 ghost use Rattle.module_dsl.specs.Builders.{IsOwed};
-ghost use Rattle.elab_eval.specs.Blocks.{block_named, block_name_given, begin_with, condition_called, condition_given, plain_called, case_given, case_patterns, case_called, switched, store_with_patterns, block_called, block_of, stop_cause, entering, entered_at, block_entered, leaving, passed, block_left};
+ghost use Rattle.elab_eval.specs.Blocks.{block_named, block_name_given, begin_with, condition_called, condition_given, plain_called, case_given, case_patterns, case_called, case_subject, store_with_patterns, block_called, block_of, stop_cause, entering, entered_at, block_entered, leaving, passed, block_left};
 ghost use Rattle.elab_eval.specs.Seen.{called_of};
 ghost use Rattle.elab_eval.specs.Sound.{IsSound};
 ghost use Rattle.elab_eval.specs.Entering.{IsEntering};
@@ -163,7 +163,7 @@ impl Elaboration {
         if !call.keywords.is_empty() {
             return self.refuse(Cause::Raised);
         }
-        match self.store.switched(of) {
+        match self.store.case_subject(of) {
             Some(subject) => self.give_case(heap, frozen, of, subject, call.placed),
             None => self.give_kept(Kept::Block {
                 of,
@@ -205,6 +205,9 @@ impl Elaboration {
     {
         match self.store.kept_of(*x) {
             Some(Kept::Block { of, begin }) => {
+                if self.store.in_machine(of) {
+                    return self.refuse(Cause::Raised);
+                }
                 let block = self.store.block_of(self.alloc, begin)?;
                 self.enter_at(of as usize, block)
             }
@@ -249,10 +252,13 @@ impl Elaboration {
 }
 
 impl Store {
-    // The subject of the `Switch` that is the innermost block of a module.
-    fn switched(&self, of: u32) -> Option<ExprId>
-        ensures { result ≡ switched (slice_get self.now.modules of) }
+    // The subject of the `Switch` in which a case of a module would stand directly.
+    fn case_subject(&self, of: u32) -> Option<ExprId>
+        ensures { result ≡ case_subject of self.now }
     {
+        if self.in_machine(of) {
+            return None;
+        }
         match self.modules.get(of as usize) {
             Some(builder) if builder.in_switch() => Some(builder.subject()),
             _ => None,

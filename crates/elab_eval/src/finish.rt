@@ -87,6 +87,8 @@ impl Store {
             statements: _,
             top,
             components,
+            machines,
+            told,
         } = self;
         let root = module_in(modules, top.root);
         let rest = Store {
@@ -97,6 +99,8 @@ impl Store {
             statements: 0,
             top,
             components,
+            machines,
+            told,
         };
         (root, rest)
     }

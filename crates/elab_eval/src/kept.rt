@@ -3,6 +3,7 @@
 use crate::members::Member;
 use amh_host::Place;
 use design_ir::ExprId;
+use py_values::StrId;
 
 /// A name of Amaranth's modules that is served here.
 #[derive(Clone, Copy, Debug, PartialEq, Eq, Drop)]
@@ -66,6 +67,38 @@ pub struct Equation {
     pub place: Place,
 }
 
+/// `m.FSM(..)`: the first state and the name, where they were given, and the place of the call.
+#[derive(Clone, Copy, Debug, PartialEq, Eq, Drop)]
+pub struct MachineCall {
+    pub of: u32,
+    pub init: Option<StrId>,
+    pub name: Option<StrId>,
+    pub place: Place,
+}
+
+/// `m.State("S")`, with the place of the call.
+#[derive(Clone, Copy, Debug, PartialEq, Eq, Drop)]
+pub struct StateCall {
+    pub of: u32,
+    pub name: StrId,
+    pub place: Place,
+}
+
+/// What belongs to the state machines of a module.
+#[derive(Clone, Copy, Debug, PartialEq, Eq, Drop)]
+pub enum MachinePart {
+    /// `m.FSM` of a module.
+    Fsm(u32),
+    /// `m.State` of a module.
+    State(u32),
+    Called(MachineCall),
+    CalledState(StateCall),
+    /// A machine that was entered, by its number in order of making.
+    Running(usize),
+    /// `f.ongoing`.
+    Ongoing(usize),
+}
+
 /// What a kept thing is.
 #[derive(Clone, Copy, Debug, PartialEq, Eq, Drop)]
 pub enum Kept {
@@ -87,6 +120,8 @@ pub enum Kept {
     BlockName { of: u32, name: BlockName },
     /// `m.If(c)` and the like.
     Block { of: u32, begin: Begin },
+    /// What belongs to state machines.
+    OfMachine(MachinePart),
 }
 
 /// What is elaborated: the object of which it was asked first, where it was one, and the module that came of it.

@@ -21,6 +21,7 @@ mod kept;
 mod laws;
 mod libraries;
 mod likes;
+mod machine_moves;
 mod members;
 mod names;
 mod object_tops;
@@ -29,13 +30,18 @@ mod running;
 mod shapes;
 mod sides;
 mod signals;
+mod state_machines;
 mod store;
 mod tops;
 
-pub use kept::{Begin, BlockName, DomainName, Equation, HdlName, Kept, Top};
+pub use kept::{
+    Begin, BlockName, DomainName, Equation, HdlName, Kept, MachineCall, MachinePart, StateCall, Top,
+};
 pub use laws::outcome_is_one;
+pub use machine_moves::Action;
 pub use members::{ComponentClass, Member, Members, NamedMember};
 pub use refusal::ElabStop;
 pub use running::{Elaborated, elaborate};
 pub use shapes::Shaped;
+pub use state_machines::{MachineArguments, OwnMachine};
 pub use store::Store;

@@ -6,7 +6,7 @@ ghost use Rattle.py_frames.specs.declared.request.Answer.TheVariants.{Begin};
 ghost use Rattle.py_machine.specs.Lives.{IsOf};
 ghost use Rattle.amh_values.specs.Acts.{acted, Acts};
 ghost use Rattle.amh_things.specs.Held.{AreHeld};
-ghost use Rattle.elab_eval.specs.Elaborates.{IsElaborated, stop_of};
+ghost use Rattle.elab_eval.specs.Elaborates.{IsElaborated, stop_of, told_at};
 ghost use Rattle.elab_eval.specs.Running.{IsRunning, Steps_to, Runs_to};
 ghost use Rattle.elab_eval.specs.Table.{prim};
 ghost use Rattle.elab_eval.specs.Sound.{IsSound};
@@ -14,7 +14,7 @@ ghost use Rattle.elab_eval.specs.Held.{held_of, Gives};
 
 use crate::refusal::ElabStop;
 use crate::store::{Elaboration, Store};
-use amh_host::{Budget, Kind, Steps};
+use amh_host::{Budget, Kind, Place, Steps};
 use amh_values::{Acted, act};
 use design_ir::{Design, Pool};
 use lists::NoMemory;
@@ -76,7 +76,10 @@ impl Elaboration {
             .act(self.alloc, &mut self.pool, machine, frozen, request)?
         {
             Acted::Answer(answer) => Ok(answer),
-            Acted::Other => self.answer_own(&machine.going.state.heap, frozen, request),
+            Acted::Other => {
+                self.pool.known();
+                self.answer_own(&machine.going.state.heap, frozen, request)
+            }
         }
     }
 
@@ -107,7 +110,7 @@ impl Elaboration {
                 Err(_) => Err(ElabStop::NoMemory),
             },
             Turn::Ended(_) => Ok(Step::Ended),
-            Turn::Stopped(stop) => Err(stop_of(stop)),
+            Turn::Stopped(stop) => Err(stop_of(told_at(self.store.told(), stop))),
             Turn::NoMemory => Err(ElabStop::NoMemory),
         }
     }
@@ -147,6 +150,19 @@ fn note_taken(machine: &Machine)
     ensures { machine.now.going.state.taken < 2 ^ 64 }
 {
     let _taken = machine.going.state.taken;
+}
+
+// Where a stop is told.
+fn told_at(told: Option<Place>, stop: Stop) -> Stop
+    ensures { result ≡ told_at told stop }
+{
+    match (told, stop.cause) {
+        (Some(place), Cause::Raised) => Stop {
+            cause: Cause::Raised,
+            place,
+        },
+        _ => stop,
+    }
 }
 
 // What a stop of the program is told as: a false `assert` raises.

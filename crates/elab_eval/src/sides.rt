@@ -12,6 +12,7 @@ ghost use Rattle.elab_eval.specs.Held.{held_of, Gives};
 use crate::blocks::block_named;
 use crate::kept::{DomainName, Equation, Kept};
 use crate::names::is_text;
+use crate::state_machines::part_named;
 use crate::store::{Elaboration, Store};
 use amh_host::Text;
 use design_ir::{Pool, Side};
@@ -192,7 +193,10 @@ impl Elaboration {
         if is_text(name, "d") {
             self.give_kept(Kept::Domains(of))
         } else {
-            self.give_block_name(of, block_named(name))
+            match part_named(of, name) {
+                Some(part) => self.give_kept(Kept::OfMachine(part)),
+                None => self.give_block_name(of, block_named(name)),
+            }
         }
     }
 
@@ -259,6 +263,9 @@ impl Elaboration {
         requires { AllByRecursion (IsEquation self.old.pool) equations.now }
         ensures { Gives result self.new (statements_added x.now of name (Some equations.now) (held_of self.old)) }
     {
+        if !equations.is_empty() && self.store.in_machine(of) {
+            return self.refuse(Cause::Raised);
+        }
         let why = self
             .store
             .put_all(self.alloc, &self.pool, of as usize, name, equations)?;

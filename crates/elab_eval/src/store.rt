@@ -10,14 +10,16 @@ ghost use Rattle.amh_things.specs.Held.{AreHeld};
 ghost use Rattle.amh_things.specs.Members.{counted};
 ghost use Rattle.elab_eval.specs.Signals.{store_and_module};
 ghost use Rattle.elab_eval.specs.Components.{no_components};
-ghost use Rattle.elab_eval.specs.Stores.{nothing_held, no_top, kept_of, store_with, store_keeping, kept_given, given, refused};
+ghost use Rattle.elab_eval.specs.Stores.{nothing_held, no_top, kept_of, store_with, store_keeping, kept_given, given, refused, refused_at};
 ghost use Rattle.elab_eval.specs.Tops.{with_root, with_object, module_of};
 ghost use Rattle.elab_eval.specs.Held.{held_of, Gives};
 
 use crate::components::Components;
 use crate::kept::{Kept, Top};
+use crate::state_machines::OwnMachine;
 use crate::tops::first_object;
 use amh_bits::Int;
+use amh_host::Place;
 use amh_things::plan::read_as;
 use amh_things::thing::Reading;
 use amh_values::{Method, PlanStop, Thing, Values, counted, expr_meant, shape_meant};
@@ -41,6 +43,8 @@ pub struct Store {
     pub(crate) statements: u32,
     pub(crate) top: Top,
     pub(crate) components: Components,
+    pub(crate) machines: Vec<OwnMachine>,
+    pub(crate) told: Option<Place>,
 }
 
 impl Model for Store {
@@ -50,7 +54,7 @@ impl Model for Store {
 
     ghost Value = { Stored };
 
-    ghost view = { λ a. record { things = a.things; kept = a.kept.items; modules = a.modules.items; patterns = a.patterns.items; top = a.top; components = a.components } };
+    ghost view = { λ a. record { things = a.things; kept = a.kept.items; modules = a.modules.items; patterns = a.patterns.items; top = a.top; components = a.components; machines = a.machines.items; told = a.told } };
 
     ghost invariant = { λ a. IsStore a.statements a.modules.items a.patterns.items };
 }
@@ -58,7 +62,7 @@ impl Model for Store {
 impl Store {
     /// Nothing yet, which takes no memory.
     fn new(alloc: Global) -> Store
-        ensures { result ≡ record { things = []; kept = []; modules = []; patterns = []; top = no_top; components = no_components } }
+        ensures { result ≡ record { things = []; kept = []; modules = []; patterns = []; top = no_top; components = no_components; machines = []; told = None } }
     {
         Store {
             things: Values::new(alloc),
@@ -71,6 +75,8 @@ impl Store {
                 root: None,
             },
             components: Components::new(alloc),
+            machines: Vec::new(alloc),
+            told: None,
         }
     }
 
@@ -177,6 +183,20 @@ impl Store {
         self.top.root = None;
     }
 
+    /// Where a refusal is told, where this is not the place of its request.
+    pub(crate) fn told(&self) -> Option<Place>
+        ensures { result ≡ self.now.told }
+    {
+        self.told
+    }
+
+    // Where a refusal is told.
+    fn tell_at(&mut self, place: Place)
+        ensures { self.new ≡ record self.old { told = Some place } }
+    {
+        self.told = Some(place);
+    }
+
     /// The value whose method `eq` a value of the program is, as its expression.
     pub(crate) fn equated_by(&self, v: &Val) -> Option<ExprId>
         ensures { result ≡ equated_by (thing_of self.now.things v.now) }
@@ -252,6 +272,14 @@ impl Elaboration {
     pub(crate) fn refuse(&mut self, why: Cause) -> Result<Answer, NoMemory>
         ensures { Gives result self.new (refused why (held_of self.old)) }
     {
+        Ok(Answer::Refuse(why))
+    }
+
+    /// A refusal that is told at another place than the request's.
+    pub(crate) fn refuse_at(&mut self, place: Place, why: Cause) -> Result<Answer, NoMemory>
+        ensures { Gives result self.new (refused_at place why (held_of self.old)) }
+    {
+        self.store.tell_at(place);
         Ok(Answer::Refuse(why))
     }
 

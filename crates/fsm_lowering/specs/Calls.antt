@@ -46,6 +46,14 @@ Unless Order unchanged = unchanged
 Unless Limit unchanged = ⊤
 Unless NoMemory unchanged = ⊤
 
+-- nothing has changed; for want of memory all is only dropped
+abbrev pub UnlessMemory : FsmStop → Type 0 → Type 0
+UnlessMemory (UndefinedState place) unchanged = unchanged
+UnlessMemory Repeated unchanged = unchanged
+UnlessMemory Order unchanged = unchanged
+UnlessMemory Limit unchanged = unchanged
+UnlessMemory NoMemory unchanged = ⊤
+
 -- a pool is as it was, or has this expression more
 abbrev pub IsAtMost : Pooled → Expr → Pooled → Type 0
 IsAtMost q e q' = (q' ≡ q) ⊎ (q' ≡ expr_added q e)
@@ -132,6 +140,12 @@ abbrev pub next_refusal : Pooled → Machine → Built → List ℕ → Place �
 next_refusal q m b name place =
     stop_where Order (not (is_within m.stage) || in_switch (built_blocks b).around)
     (stop_where Limit (is_too_many m name || is_full q || nat_lt 65536 (built_count (with_next q m b place))) None)
+
+-- the first two of these refusals
+abbrev pub next_stop : Pooled → Machine → Built → List ℕ → Option FsmStop
+next_stop q m b name =
+    stop_where Order (not (is_within m.stage) || in_switch (built_blocks b).around)
+    (stop_where Limit (is_too_many m name || is_full q) None)
 
 -- ---- asking for a state
 

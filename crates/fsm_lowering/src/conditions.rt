@@ -1,8 +1,8 @@
 // What a machine asks of the pool and of the builder.
-ghost use Rattle.std.specs.Prelude.{◌≡◌, ◌+◌, ◌<◌, ◌∷◌, [], false, length, None, Some, IfOk, IfErr};
+ghost use Rattle.std.specs.Prelude.{◌≡◌, ◌+◌, ◌<◌, ◌∷◌, [], false, length, None, Some, IfOk, IfErr, OnOk};
 ghost use Rattle.design_ir.specs.PoolRules.{IsAskable, shape_stop, bad_operand, greatest_width, expr_added};
 ghost use Rattle.design_ir.specs.Values.{form};
-ghost use Rattle.module_dsl.specs.Builders.{assign_refusal, and_given, and_entered, built_blocks, leave_refusal, and_left};
+ghost use Rattle.module_dsl.specs.Builders.{assign_refusal, and_given, and_entered, built_blocks, built_count, leave_refusal, and_left};
 ghost use Rattle.module_dsl.specs.Blocks.{in_switch};
 ghost use Rattle.fsm_lowering.specs.Machines.{open_switch, open_case, number_pattern, state_number};
 ghost use Rattle.fsm_lowering.specs.Calls.{IsOwed, IsAtMost, stop_where, is_full, told};
@@ -60,6 +60,7 @@ pub fn made(pool: &mut Pool, e: Expr) -> Result<ExprId, FsmStop>
 /// A choice over this begins in the module.
 pub fn begin_switch(pool: &mut Pool, b: &mut Builder, subject: ExprId) -> Result<(), FsmStop>
     ensures begun { IfOk result (λ _. (in_switch (built_blocks b.old).around ≡ false) × (b.new ≡ and_entered pool.old b.old (Block.Switch subject)) × (open_switch (built_blocks b.new).around ≡ Some subject)) }
+    ensures count { built_count b.new ≡ built_count b.old }
     ensures refused { IfErr result (λ stop. IsOwed (stop_where FsmStop.Order (in_switch (built_blocks b.old).around) None) stop × (b.new ≡ b.old)) }
     ensures pool { pool.new ≡ pool.old }
 {
@@ -81,6 +82,7 @@ pub fn begin_case(
     requires in_place { open_switch (built_blocks b.old).around ≡ Some register }
     requires askable { IsAskable pool.old (Expr.Matches register patterns) }
     ensures begun { IfOk result (λ _. (is_full pool.old ≡ false) × (b.new ≡ and_entered pool.old b.old (Block.Case patterns)) × (pool.new ≡ expr_added pool.old (Expr.Matches register patterns)) × (open_case (built_blocks b.new).around ≡ Some register)) }
+    ensures count { built_count b.new ≡ built_count b.old }
     ensures refused { IfErr result (λ stop. IsOwed (stop_where FsmStop.Limit (is_full pool.old) None) stop × IsAtMost pool.old (Expr.Matches register patterns) pool.new) }
 {
     match b.enter(pool, Block::Case(patterns)) {
@@ -116,6 +118,7 @@ pub fn assign(
 /// The innermost block of the module ends.
 pub fn leave(b: &mut Builder) -> Result<(), FsmStop>
     ensures left { IfOk result (λ _. (leave_refusal b.old ≡ None) × (b.new ≡ and_left b.old)) }
+    ensures count { built_count b.new ≡ built_count b.old }
     ensures refused { IfErr result (λ stop. IsOwed (told (leave_refusal b.old)) stop × (b.new ≡ b.old)) }
 {
     match b.leave() {

@@ -1,12 +1,12 @@
 // State machines.
-ghost use Rattle.std.specs.Prelude.{Option, nat_le, true, false, ◌≡◌, ◌≢◌, ◌<◌, ◌∷◌, ◌++◌, ◌↔◌, [], length, None, Some, IfOk, IfErr, IsSome, IsTrue, option_copied, codes, ◌⊎◌};
+ghost use Rattle.std.specs.Prelude.{Option, nat_le, true, false, ◌≡◌, ◌≢◌, ◌<◌, ◌∷◌, ◌++◌, ◌↔◌, [], length, None, Some, IfOk, IfErr, OnOk, IsSome, IsTrue, option_copied, codes, ◌⊎◌, ◌||◌};
 ghost use Rattle.design_ir.specs.Settling.{IsUnsettled};
 ghost use Rattle.design_ir.specs.PoolRules.{IsPool, expr_added, signal_added};
-ghost use Rattle.module_dsl.specs.Builders.{built_blocks, and_left};
+ghost use Rattle.module_dsl.specs.Builders.{built_blocks, built_count, and_left};
 ghost use Rattle.fsm_lowering.specs.declared.refusal.FsmStop.{FsmStop};
 ghost use Rattle.fsm_lowering.specs.States.{first_unentered, is_entered, number_of, condition_in, range_width, is_finished};
 ghost use Rattle.fsm_lowering.specs.Machines.{AreStates, open_switch, open_case, no_bits, HasRegister, in_state, state_number};
-ghost use Rattle.fsm_lowering.specs.Calls.{IsAtChoice, IsAtCase, is_begun, has_no_place, with_choice, IsOwed, Unless, IsAtMost, stop_where, new_refusal, with_signal, with_register, machine_at, state_refusal, and_state, with_case, end_refusal, and_ended, next_refusal, and_mention, with_next, ongoing_refusal, and_asked, finish_refusal, and_finished, with_end, with_shape, first_number, undefined_state, undefined_init, has_no_bits, settled_at};
+ghost use Rattle.fsm_lowering.specs.Calls.{is_too_many, is_full, IsAtChoice, IsAtCase, is_begun, has_no_place, with_choice, IsOwed, Unless, UnlessMemory, next_stop, IsAtMost, stop_where, new_refusal, with_signal, with_register, machine_at, state_refusal, and_state, with_case, end_refusal, and_ended, next_refusal, and_mention, with_next, ongoing_refusal, and_asked, finish_refusal, and_finished, with_end, with_shape, first_number, undefined_state, undefined_init, has_no_bits, settled_at};
 
 use crate::conditions::{
     assign, begin_case, begin_switch, leave, made, number_pattern, state_number,
@@ -66,8 +66,12 @@ impl Fsm {
         ensures made { IfOk result (λ m. (new_refusal pool.old ≡ None) × (m ≡ machine_at pool.old domain.now (option_copied init.entry) place) × (pool.new ≡ with_register pool.old name.now)) }
         ensures register { IfOk result (λ m. HasRegister pool.new m × IsUnsettled pool.new m.signal.0) }
         ensures refused { IfErr result (λ stop. IsOwed (new_refusal pool.old) stop) }
+        ensures unchanged { IfErr result (λ stop. UnlessMemory stop (pool.new ≡ pool.old)) }
         ensures pool { IfErr result (λ _. (pool.new ≡ pool.old) ⊎ (pool.new ≡ with_signal pool.old name.now)) }
     {
+        if pool.count() >= 262_144 {
+            return Err(FsmStop::Limit);
+        }
         let side = Side::Clocked(copied(alloc, domain)?);
         let init = match init {
             None => None,
@@ -104,6 +108,7 @@ impl Fsm {
         requires in_place { IsAtChoice self.old b.old }
         ensures begun { IfOk result (λ _. (state_refusal pool.old self.old b.old name.now ≡ None) × (self.new ≡ and_state self.old name.now place (record { 0 = length pool.old.exprs })) × (b.new ≡ with_case pool.old self.old b.old name.now) × (pool.new ≡ expr_added pool.old (in_state self.old (number_of self.old.states name.now)))) }
         ensures in_place { IfOk result (λ _. open_case (built_blocks b.new).around ≡ Some self.new.register) }
+        ensures count { built_count b.new ≡ built_count b.old }
         ensures refused { IfErr result (λ stop. IsOwed (state_refusal pool.old self.old b.old name.now) stop) }
         ensures unchanged { IfErr result (λ stop. Unless stop ((self.new ≡ self.old) × (b.new ≡ b.old) × (pool.new ≡ pool.old))) }
         ensures pool { IfErr result (λ _. IsAtMost pool.old (in_state self.old (number_of self.old.states name.now)) pool.new) }
@@ -133,6 +138,7 @@ impl Fsm {
         requires in_place { IsAtCase self.old b.old }
         ensures ended { IfOk result (λ _. (end_refusal self.old ≡ None) × (self.new ≡ and_ended self.old) × (b.new ≡ and_left b.old)) }
         ensures in_place { IfOk result (λ _. open_switch (built_blocks b.new).around ≡ Some self.new.register) }
+        ensures count { built_count b.new ≡ built_count b.old }
         ensures refused { IfErr result (λ stop. IsOwed (end_refusal self.old) stop × (self.new ≡ self.old) × (b.new ≡ b.old)) }
     {
         if !self.stage.is_within() {
@@ -157,20 +163,20 @@ impl Fsm {
         ensures given { IfOk result (λ _. (next_refusal pool.old self.old b.old name.now place ≡ None) × (self.new ≡ and_mention self.old name.now place) × (b.new ≡ with_next pool.old self.old b.old place) × (pool.new ≡ expr_added pool.old (state_number (number_of self.old.states name.now)))) }
         ensures refused { IfErr result (λ stop. IsOwed (next_refusal pool.old self.old b.old name.now place) stop) }
         ensures unchanged { IfErr result (λ stop. Unless stop ((self.new ≡ self.old) × (b.new ≡ b.old) × (pool.new ≡ pool.old))) }
+        ensures module { IfErr result (λ _. b.new ≡ b.old) }
         ensures pool { IfErr result (λ _. IsAtMost pool.old (state_number (number_of self.old.states name.now)) pool.new) }
     {
-        if !self.stage.is_within() {
+        if !self.stage.is_within() || b.in_switch() {
             return Err(FsmStop::Order);
         }
         let number = number_of(self.states.as_slice(), name);
-        // the statement first: where the module does not take it, no expression is made
-        let value = ExprId(pool.count());
-        assign(pool, b, &self.side, self.register, value, place)?;
         if number >= 256 {
             return Err(FsmStop::Limit);
         }
-        made(pool, state_number(number))?;
+        let value = made(pool, state_number(number))?;
         mention(self.alloc, &mut self.states, name, place)?;
+        // the statement last: where it is refused the module is as it was
+        assign(pool, b, &self.side, self.register, value, place)?;
         Ok(())
     }
 
@@ -180,7 +186,7 @@ impl Fsm {
         requires { HasRegister pool.old self.old }
         ensures made { IfOk result (λ id. (ongoing_refusal pool.old self.old name.now ≡ None) × (id ≡ record { 0 = length pool.old.exprs }) × (self.new ≡ and_asked self.old name.now place id) × (pool.new ≡ expr_added pool.old (in_state self.old (number_of self.old.states name.now)))) }
         ensures refused { IfErr result (λ stop. IsOwed (ongoing_refusal pool.old self.old name.now) stop) }
-        ensures unchanged { IfErr result (λ stop. Unless stop ((self.new ≡ self.old) × (pool.new ≡ pool.old))) }
+        ensures unchanged { IfErr result (λ stop. UnlessMemory stop ((self.new ≡ self.old) × (pool.new ≡ pool.old))) }
         ensures pool { IfErr result (λ _. IsAtMost pool.old (in_state self.old (number_of self.old.states name.now)) pool.new) }
     {
         if self.stage.is_finished() && !is_entered(self.states.as_slice(), name) {
@@ -206,8 +212,9 @@ impl Fsm {
         requires unsettled { IsUnsettled pool.old self.old.signal.0 }
         requires in_place { IsAtChoice self.old b.old }
         ensures finished { IfOk result (λ _. (finish_refusal pool.old self.old ≡ None) × (self.new ≡ and_finished self.old) × (b.new ≡ with_end self.old b.old) × (pool.new ≡ with_shape pool.old self.old)) }
+        ensures count { built_count b.new ≡ built_count b.old }
         ensures refused { IfErr result (λ stop. IsOwed (finish_refusal pool.old self.old) stop) }
-        ensures unchanged { IfErr result (λ stop. (pool.new ≡ pool.old) × Unless stop ((self.new ≡ self.old) × (b.new ≡ b.old))) }
+        ensures unchanged { IfErr result (λ stop. UnlessMemory stop ((pool.new ≡ pool.old) × ((self.new ≡ self.old) × (b.new ≡ b.old)))) }
     {
         if !self.stage.is_between() {
             return Err(FsmStop::Order);
@@ -215,11 +222,11 @@ impl Fsm {
         if let Some(mention) = self.undefined() {
             return Err(FsmStop::UndefinedState(mention));
         }
-        if self.first.is_some() {
-            leave(b)?;
-        }
         if let Some(number) = self.first_number() {
             settle(pool, self.signal, self.states.len(), number)?;
+        }
+        if self.first.is_some() {
+            leave(b)?;
         }
         self.stage = Stage::Finished;
         Ok(())
@@ -241,10 +248,81 @@ impl Fsm {
         let _ = &self.first;
     }
 
+    /// The expression that is the register.
+    pub fn register(&self) -> ExprId
+        ensures { result ≡ self.now.register }
+    {
+        self.register
+    }
+
+    /// The signal that is the register.
+    pub fn signal(&self) -> SigId
+        ensures { result ≡ self.now.signal }
+    {
+        self.signal
+    }
+
+    /// The side whose statements change the state.
+    pub fn side(&self) -> &Side
+        ensures { result.now ≡ self.now.side }
+    {
+        &self.side
+    }
+
+    /// Where the machine stands.
+    pub fn stage(&self) -> Stage
+        ensures { result ≡ self.now.stage }
+    {
+        self.stage
+    }
+
+    /// Whether a state was entered.
+    pub fn is_begun(&self) -> bool
+        ensures { result ≡ is_begun self.now }
+    {
+        self.first.is_some()
+    }
+
+    /// What `state` would refuse.
+    pub fn state_stop(&self, pool: &Pool, b: &Builder, name: &str) -> Option<FsmStop>
+        ensures { result ≡ state_refusal pool.now self.now b.now name.now }
+    {
+        if !self.stage.is_between() || (!self.is_begun() && b.in_switch()) {
+            return Some(FsmStop::Order);
+        }
+        let entered = is_entered(self.states.as_slice(), name);
+        if entered {
+            return Some(FsmStop::Repeated);
+        }
+        self.limit(pool, name)
+    }
+
+    /// What `next` would refuse but for the count of the module's statements.
+    pub fn next_stop(&self, pool: &Pool, b: &Builder, name: &str) -> Option<FsmStop>
+        ensures { result ≡ next_stop pool.now self.now b.now name.now }
+    {
+        if !self.stage.is_within() || b.in_switch() {
+            return Some(FsmStop::Order);
+        }
+        self.limit(pool, name)
+    }
+
+    // Whether this would be one state or one expression too many.
+    fn limit(&self, pool: &Pool, name: &str) -> Option<FsmStop>
+        ensures { result ≡ stop_where FsmStop.Limit (is_too_many self.now name.now || is_full pool.now) None }
+    {
+        if number_of(self.states.as_slice(), name) >= 256 || pool.count() >= 262_144 {
+            Some(FsmStop::Limit)
+        } else {
+            None
+        }
+    }
+
     // The choice over the register begins, with the first state.
     fn begin_choice(&self, pool: &mut Pool, b: &mut Builder) -> Result<(), FsmStop>
         requires { is_begun self.now ≡ true → open_switch (built_blocks b.old).around ≡ Some self.now.register }
         ensures begun { IfOk result (λ _. (has_no_place self.now b.old ≡ false) × (b.new ≡ with_choice pool.old self.now b.old) × (open_switch (built_blocks b.new).around ≡ Some self.now.register)) }
+        ensures count { built_count b.new ≡ built_count b.old }
         ensures refused { IfErr result (λ stop. IsOwed (stop_where FsmStop.Order (has_no_place self.now b.old) None) stop × (b.new ≡ b.old)) }
         ensures pool { pool.new ≡ pool.old }
     {

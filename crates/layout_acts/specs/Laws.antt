@@ -1,5 +1,5 @@
 -- What the fields of a view are: laws of the definitions.
-use Rattle.std.specs.Prelude.{◌≡◌, ℕ, ◌+◌, ◌^◌, ℤ, pos, List, ◌∷◌, ◌++◌, length, map, unsigned_abs, ◌≤◌, false, Some}
+use Rattle.std.specs.Prelude.{true, ◌≡◌, ℕ, ◌+◌, ◌^◌, ℤ, pos, List, ◌∷◌, ◌++◌, length, map, unsigned_abs, ◌≤◌, false, Some}
 use Rattle.amh_bits.specs.Integers.{floor_quotient}
 use Rattle.amh_bits.specs.Patterns.{wrap}
 use Rattle.shape_rules.specs.Forms.{Form}
@@ -10,6 +10,7 @@ use Rattle.design_ir.specs.declared.expr.Expr.{Expr}
 use Rattle.design_ir.specs.declared.expr.Expr.TheVariants.{Pick}
 use Rattle.design_ir.specs.Pools.{Pooled}
 use Rattle.design_ir.specs.PoolRules.{IsPool}
+use Rattle.design_ir.specs.Targets.{is_target}
 use Rattle.design_ir.specs.Values.{num, picked}
 use Rattle.amh_things.specs.declared.thing.LayoutThing.{LayoutThing}
 use Rattle.layout_acts.specs.declared.fields.FieldRead.{FieldRead}
@@ -31,6 +32,17 @@ abbrev pub ItemsAreChosen : Type 0
 ItemsAreChosen = (p : Pooled) (env : List ℤ) (before after : List Expr) (e i : ExprId) (f : Form) (xs : List Field) → IsPool p
     → p.exprs ≡ before ++ (item_exprs e f (length before) xs ++ (Pick i (item_ids f (length before) xs) ∷ after))
     → num p env (length before + length (item_exprs e f (length before) xs)) ≡ picked (pos 0) (map (λ (x : Field). read_from x.low f (num p env e.0)) xs) (unsigned_abs (num p env i.0))
+
+-- ---- a field is a target where its value is one, and so is the item that an index chooses
+
+abbrev pub FieldsAreTargets : Type 0
+FieldsAreTargets = (p : Pooled) (before after : List Expr) (e : ExprId) (low : ℕ) (f : Form) → IsPool p → p.exprs ≡ before ++ (field_exprs e low f (length before) ++ after)
+    → is_target p (field_id f (length before)).0 ≡ is_target p e.0
+
+abbrev pub ItemsAreTargets : Type 0
+ItemsAreTargets = (p : Pooled) (before after : List Expr) (e i : ExprId) (f : Form) (xs : List Field) → IsPool p
+    → p.exprs ≡ before ++ (item_exprs e f (length before) xs ++ (Pick i (item_ids f (length before) xs) ∷ after))
+    → is_target p e.0 ≡ true → is_target p (length before + length (item_exprs e f (length before) xs)) ≡ true
 
 -- ---- what a view of the layout's width has lies within its value, so that nothing of it raises for want of bits
 

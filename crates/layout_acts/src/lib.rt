@@ -14,4 +14,6 @@ pub mod names;
 pub mod struct_classes;
 pub mod views;
 
-pub use laws::{fields_are_read, fields_lie_within, items_are_chosen, items_lie_within};
+pub use laws::{
+    fields_are_read, fields_are_targets, fields_lie_within, items_are_chosen, items_lie_within,
+};

@@ -79,6 +79,17 @@ abbrev pub subject_of : List Open → ExprId
 subject_of [] = record { 0 = 0 }
 subject_of (o ∷ around) = subject_in o.block
 
+abbrev pub case_subject_in : OpenBlock → Option ExprId
+case_subject_in (inside.Branch c) = None
+case_subject_in (inside.Last c) = None
+case_subject_in (inside.Switch v) = None
+case_subject_in (inside.Case v c) = Some v
+
+-- the subject of the `Switch` of which a case is innermost
+abbrev pub case_subject_of : List Open → Option ExprId
+case_subject_of [] = None
+case_subject_of (o ∷ around) = case_subject_in o.block
+
 -- the expression that a block makes, where it makes one
 abbrev pub condition_under : ExprId → Block → Option Expr
 condition_under subject (block.If c) = None

@@ -1,6 +1,6 @@
 // The builder of a module.
 ghost use Rattle.std.specs.Prelude.{◌≡◌, ◌+◌, ◌<◌, ◌∷◌, false, ◌++◌, [], length, map, None, Some, IfOk, IfErr, OnOk, OnErr};
-ghost use Rattle.module_dsl.specs.Builders.{assign_refusal, and_given, enter_refusal, and_entered, condition_made, built_blocks, built_count, opening_of, subject_of, room_refusal, pool_with, leave_refusal, and_left, finish_refusal, fragment_of, condition_under, always, IsOwed, IsEnterable, IsMakeable, IsLeftAs};
+ghost use Rattle.module_dsl.specs.Builders.{assign_refusal, and_given, enter_refusal, and_entered, condition_made, built_blocks, built_count, opening_of, subject_of, case_subject_of, room_refusal, pool_with, leave_refusal, and_left, finish_refusal, fragment_of, condition_under, always, IsOwed, IsEnterable, IsMakeable, IsLeftAs};
 ghost use Rattle.module_dsl.specs.Blocks.{in_switch};
 ghost use Rattle.module_dsl.specs.Parting.{process_from};
 ghost use Rattle.design_ir.specs.declared.ids.ExprId.{ExprId as Number};
@@ -111,6 +111,13 @@ impl Builder {
         ensures { result ≡ subject_of (built_blocks self.now).around }
     {
         self.progress.subject()
+    }
+
+    /// The subject of the `Switch` of which a case is the innermost block.
+    pub fn case_subject(&self) -> Option<ExprId>
+        ensures { result ≡ case_subject_of (built_blocks self.now).around }
+    {
+        self.progress.case_subject()
     }
 
     /// How many statements one of this side would be here: itself, and each open choice in which the side does not stand

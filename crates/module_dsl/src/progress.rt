@@ -2,7 +2,7 @@
 ghost use Rattle.std.specs.Prelude.{◌≡◌, ◌∷◌, ℕ, ◌+◌, ◌≤◌, true, false, map, length, drop, slice_set, Some, None, ◌≢◌, OnOk, OnErr};
 ghost use Rattle.module_dsl.specs.Blocks.{Blocks, Given, begun, and_statement, entered, left, entries_of, in_switch, is_outermost, may_begin};
 ghost use Rattle.design_ir.specs.declared.ids.ExprId.{ExprId as Subject};
-ghost use Rattle.module_dsl.specs.Builders.{opening_of, subject_of};
+ghost use Rattle.module_dsl.specs.Builders.{opening_of, subject_of, case_subject_of};
 ghost use Rattle.module_dsl.specs.Sided.{statement_count};
 ghost use Rattle.module_dsl.specs.Progress.{IsProgress, IsMoved, IsAsBefore, one_where, touched, clipped, has_kept, with_side, kept_reach, first_of};
 
@@ -94,6 +94,16 @@ impl Progress {
         match self.innermost() {
             Some(OpenBlock::Switch(subject)) => subject,
             _ => ExprId(0),
+        }
+    }
+
+    /// The subject of the `Switch` of which a case is the innermost block.
+    pub fn case_subject(&self) -> Option<ExprId>
+        ensures { (b : Blocks) → IsProgress b self.now → result ≡ case_subject_of b.around }
+    {
+        match self.innermost() {
+            Some(OpenBlock::Case { subject, .. }) => Some(subject),
+            _ => None,
         }
     }
 

@@ -45,4 +45,4 @@ returns-in-Other-clause-sound c =
     let k : Held = record { pool = c.act.new.pool; store = c.act.new.self } in
     let sound : IsSound k = subst (λ (st : Stored). IsSound (record { pool = c.act.new.pool; store = st })) (sym c.in_ok-answer.ensures.rest)
     (planned_sound s (held_of c.args.self.now) c.args.request.now c.in_ok-answer.field-0 c.act.new.pool c.act.new.self.things c.in_ok-answer.ensures.acts c.in_ok-answer.ensures.held c.requires) in
-    gives_sound c.answer_own.result c.answer_own.new.self (own_answered s c.args.request.now.act c.args.request.now k) c.answer_own.ensures (own_sound s c.args.request.now.act c.args.request.now k sound)
+    gives_sound c.answer_own.result c.answer_own.new.self (own_answered s c.args.request.now.act c.args.request.now k) c.answer_own.ensures (own_sound s c.args.request.now.act c.args.request.now k c.known.ensures sound)

@@ -1,10 +1,11 @@
-use Rattle.std.proofs.Common.{Err, ◌≡◌, sym, subst}
+use Rattle.std.proofs.Common.{Err, ◌≡◌, ◌∙◌, sym, ap, subst}
 use Rattle.py_tree.specs.Programs.{program_of}
 use Rattle.py_values.specs.Heaps.{Made, seen}
 use Rattle.py_frames.specs.declared.request.Turn.TheVariants as turn
 use Rattle.py_machine.specs.Lives.{Resumed, again}
 use Rattle.elab_eval.specs.Stores.{Held}
 use Rattle.elab_eval.specs.declared.refusal.ElabStop.{ElabStop}
+use Rattle.elab_eval.specs.Elaborates.{stop_of, told_at}
 use Rattle.elab_eval.specs.Running.{Steps_to}
 use Rattle.elab_eval.specs.Table.{prim}
 use Rattle.elab_eval.specs.Held.{held_of}
@@ -28,6 +29,6 @@ returns-in-Ended-clause-comes g c =
 pub returns-in-Stopped-clause-comes : goal.returns-in-Stopped-clause-comes
 returns-in-Stopped-clause-comes g c =
     let resumed = subst (λ (f : Made). Resumed (again c.args.machine.now.stage) (program_of c.args.program.now) f c.args.answer (turn.Stopped c.in-Stopped.stop) c.args.machine.now c.resume.new.self c.args.left.now.left) c.requires.frozen c.in-Stopped.ensures.comes in
-    subst (λ (x : ElabStop). Steps_to (program_of c.args.program.now) c.args._budget (Err x) c.args.machine.now c.resume.new.self (held_of c.args.self.now) c.resume.new.left.left) (sym c.stop_of.ensures)
-    (told_stop (program_of c.args.program.now) c.args._budget c.resume.new.left.left c.args.machine.now c.resume.new.self (held_of c.args.self.now) c.in-Stopped.stop
+    subst (λ (x : ElabStop). Steps_to (program_of c.args.program.now) c.args._budget (Err x) c.args.machine.now c.resume.new.self (held_of c.args.self.now) c.resume.new.left.left) (sym (c.stop_of.ensures ∙ ap stop_of (c.told_at.ensures ∙ ap (λ t. told_at t c.in-Stopped.stop) c.told.ensures)))
+    (told_stop (program_of c.args.program.now) c.args._budget c.resume.new.left.left c.args.machine.now c.resume.new.self (held_of c.args.self.now) (told_at c.args.self.now.store.told c.in-Stopped.stop)
     (stopped (program_of c.args.program.now) c.args._budget c.args.left.now.left c.resume.new.left.left c.args.machine.now c.resume.new.self (held_of c.args.self.now) c.args.answer c.in-Stopped.stop c.requires.running resumed c.in-Stopped.ensures.left))
