@@ -8,3 +8,5 @@ mod Rules
 mod Loops
 pub mod Masks
 pub mod Spike
+mod Spreads
+mod CarriedEnds

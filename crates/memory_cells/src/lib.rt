@@ -13,7 +13,8 @@ mod plan;
 
 pub use cells::{PortEnds, clocked_read, comb_read, init_cell, memory, write_cell};
 pub use laws::{
-    cells_keep_the_rules, clocked_reads_follow, enables_spread, guarded_reads_follow,
-    guards_follow, guards_show_the_word, reads_follow, rows_begin, rows_follow,
+    cells_keep_the_rules, clocked_reads_follow, enables_spread, ends_carry_the_port,
+    guarded_reads_follow, guards_follow, guards_show_the_word, reads_follow, rows_begin,
+    rows_follow,
 };
 pub use plan::Plan;
