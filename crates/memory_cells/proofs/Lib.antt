@@ -10,3 +10,4 @@ pub mod Masks
 pub mod Spike
 mod Spreads
 mod CarriedEnds
+pub mod ClockedSpike
