@@ -5,7 +5,8 @@ A table has cases with a line of dashes between each two. A case has parts: `NAM
 lines indented by four blanks. The parts are
 
     words      the words of the command; without it `top.py top.il top.tr --play top.stim`
-    design     the lines of top.py; in their place `module` gives those between `m = Module()` and `top = m`
+    design     the lines of top.py; in their place `module` gives those between `m = Module()` and `top = m`, `example` names a design of
+               examples/ with its script and its trace, and `page` is the number of a whole file shown in docs/LANGUAGE.md
     bytes      the bytes of top.py in escapes, in place of its lines; `times` repeats them
     script     the lines of top.stim; without it the file is empty. `script bytes` gives them in escapes
     fail       a call of the host that is to fail
@@ -20,8 +21,11 @@ import pathlib
 
 from syntax_table import in_escapes
 
-TABLES = pathlib.Path(__file__).resolve().parent / "tool"
-CRATE = pathlib.Path(__file__).resolve().parent.parent / "crates" / "tool_table"
+ROOT = pathlib.Path(__file__).resolve().parent.parent
+TABLES = ROOT / "bench" / "tool"
+CRATE = ROOT / "crates" / "tool_table"
+EXAMPLES = ROOT / "examples"
+PAGE = ROOT / "docs" / "LANGUAGE.md"
 WORDS = "top.py top.il top.tr --play top.stim"
 USAGE = "usage: amh_tool DESIGN IL TRACE [--play FILE] [--top NAME] [--budget N] [--make N]\n"
 CODES = {"done": 0, "refused": 1, "usage": 3, "spent": 4, "fault": 5}
@@ -57,6 +61,31 @@ def lines(part, front=""):
     while part and part[-1] == "":
         part.pop()
     return "".join(f"{front}{line}\n" if line else "\n" for line in part)
+
+
+def shown_in(page):
+    """The whole design files that a page shows: indented blocks that begin with an import of amaranth."""
+    files, block = [], []
+    for line in page.read_text(encoding="utf-8").splitlines() + ["end"]:
+        if line.startswith("    ") or (line == "" and block):
+            block.append(line[4:])
+        else:
+            if block and block[0].startswith("from amaranth"):
+                files.append(block)
+            block = []
+    return files
+
+
+def filled(case):
+    """A case with the lines of the files that it names in their place."""
+    if "example" in case:
+        design, script, trace = (
+            (EXAMPLES / f"{case['example']}.{end}").read_text(encoding="utf-8").splitlines() for end in ("py", "stim", "tr")
+        )
+        return case | {"design": design, "script": script, "trace": trace}
+    if "page" in case:
+        return case | {"design": shown_in(PAGE)[int(case["page"]) - 1]}
+    return case
 
 
 def design_of(case):
@@ -96,7 +125,7 @@ def answer_of(case):
 
 
 def main():
-    table = [case for path in sorted(TABLES.glob("*.txt")) for case in cases_in(path)]
+    table = [filled(case) for path in sorted(TABLES.glob("*.txt")) for case in cases_in(path)]
     questions = "".join(f"{question_of(case)}\n" for case in table)
     answers = "".join(f"{number} {answer_of(case)}\n" for number, case in enumerate(table, 1))
     (CRATE / "stdin").write_text(questions, encoding="utf-8")

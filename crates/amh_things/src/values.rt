@@ -195,8 +195,18 @@ impl Values {
         }
     }
 
+    /// The layout of a view: `None` exactly where the thing is none.
+    pub fn layout(&self, hw: Hw) -> Option<Hw>
+        ensures { result ≡ option_map (λ v. v.0) (shown_view (slice_get self.now hw.0)) }
+    {
+        match self.view(hw) {
+            Some((of, _)) => Some(of),
+            None => None,
+        }
+    }
+
     /// The layout that the thing is.
-    pub fn layout(&self, hw: Hw) -> Option<&LayoutThing>
+    pub fn shown_layout(&self, hw: Hw) -> Option<&LayoutThing>
         ensures { option_copied result ≡ shown_layout (slice_get self.now hw.0) }
     {
         match self.thing(hw) {

@@ -26,12 +26,12 @@ use Rattle.py_values.specs.declared.val.Hw.{Hw}
 use Rattle.amh_things.specs.Ends.{Ends}
 use Rattle.std.specs.Option.{option_and_then}
 use Rattle.data_layouts.specs.Enumerations.{Enumerated, number_named}
-use Rattle.amh_things.specs.Things.{bare_expr, method_named, shown_enumeration}
+use Rattle.amh_things.specs.Things.{bare_expr, held_expr, method_named, shown_view}
 use Rattle.amh_things.specs.Members.{member_of, member_given}
-use Rattle.amh_values.specs.Attributes.{method_made, thing_attribute, attributed}
+use Rattle.amh_values.specs.Attributes.{method_made, thing_attribute}
 use Rattle.amh_values.specs.Calls.{signed_made, method_plan}
 use Rattle.amh_things.proofs.Drafts.{forms_length, form_is, narrow, width_of_form, value_drafted, none_drafted}
-use Rattle.amh_things.proofs.PutLaws.{bare_expr_below}
+use Rattle.amh_things.proofs.PutLaws.{bare_expr_below, held_expr_below}
 use Rattle.value_acts.proofs.OperatorLaws.{unary_made_drafted}
 
 positive : (n : ℕ) → (n == 0) ≡ false → 1 ≤ n
@@ -85,7 +85,9 @@ module _ (p : Pooled) (things : List Thing) (e : ExprId) (f : Form) (there : e.0
   plain_drafted method.BitSelect plan made = cc
   plain_drafted method.WordSelect plan made = cc
   plain_drafted method.Matches plan made = cc
-  plain_drafted method.AsValue plan made = cc
+  plain_drafted method.AsValue plan made =
+      let is_plan : thing_made (ends_of p things) (thing.Value e) ≡ plan = cc in
+      rw (← is_plan) (none_drafted p (thing_made (ends_of p things) (thing.Value e)) refl (there, tt))
 
   -- what comes out of a method
   pub method_drafted : (r : Result Plan PlanStop) (m : Method) → IsPlanned r (method_plan (ends_of p things) e f m) → IfOk r (IsDrafted p)
@@ -113,14 +115,29 @@ module _ (p : Pooled) (ends : Ends) (things : List Thing) (held : AreHeld (lengt
   thing_attribute_drafted h None n plan made =
       method_made_drafted h (bare_expr (slice_get things h.0)) (method_named n) plan (λ x. bare_expr_below (length p.exprs) things h.0 x held) made
 
-  attributed_drafted : (vals : List Val) (n : List ℕ) (plan : Plan) → attributed ends things vals n ≡ Ok plan → IsDrafted p plan
-  attributed_drafted (val.Hw h ∷ []) n plan made =
-      thing_attribute_drafted h (shown_enumeration (slice_get things h.0)) n plan made
-  attributed_drafted vals n plan made = cc
+  pub attribute_drafted : (r : Result Plan PlanStop) (h : Hw) (e : Option Enumerated) (n : List ℕ) → IsPlanned r (thing_attribute ends things h e n) → IfOk r (IsDrafted p)
+  attribute_drafted (Ok plan) h e n made = thing_attribute_drafted h e n plan made
+  attribute_drafted (Err stop) h e n made = tt
 
-  pub attribute_drafted : (r : Result Plan PlanStop) (vals : List Val) (n : List ℕ) → IsPlanned r (attributed ends things vals n) → IfOk r (IsDrafted p)
-  attribute_drafted (Ok plan) vals n made = attributed_drafted vals n plan made
-  attribute_drafted (Err stop) vals n made = tt
+-- ---- views
+
+-- the value under a view is held
+view_held : (t : Option Thing) (v : Hw × ExprId) → shown_view t ≡ Some v → held_expr t ≡ Some v.1
+view_held (Some (thing.View of e)) v is = let same : (of, e) ≡ v = cc in rw (← same) refl
+view_held (Some (thing.Value x)) v is = cc
+view_held (Some (thing.Numbered of x)) v is = cc
+view_held (Some (thing.Layout x)) v is = cc
+view_held (Some (thing.Enumeration x)) v is = cc
+view_held (Some (thing.Member x)) v is = cc
+view_held (Some (thing.Name x)) v is = cc
+view_held (Some (thing.Shape x)) v is = cc
+view_held (Some (thing.Array x)) v is = cc
+view_held (Some (thing.Method of x m)) v is = cc
+view_held (Some (thing.Kept x)) v is = cc
+view_held None v is = cc
+
+pub view_below : (n : ℕ) (things : List Thing) (i : ℕ) (v : Hw × ExprId) → AreHeld n things → shown_view (slice_get things i) ≡ Some v → v.1.0 < n
+view_below n things i v held is = held_expr_below n things i v.1 held (view_held (slice_get things i) v is)
 
 -- ---- the length makes nothing
 

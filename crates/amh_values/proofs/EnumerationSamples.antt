@@ -4,7 +4,6 @@ use Rattle.shape_rules.specs.Forms.{Form, unsigned, signed_form}
 use Rattle.shape_rules.specs.declared.op.Op.TheVariants as op
 use Rattle.data_layouts.specs.declared.enumeration.NumberedName.{NumberedName}
 use Rattle.data_layouts.specs.Enumerations.{is_of}
-use Rattle.design_ir.specs.declared.signal.Sig.{Sig}
 use Rattle.design_ir.specs.declared.expr.Expr.TheVariants as expr
 use Rattle.design_ir.specs.Pools.{Pooled}
 use Rattle.design_ir.specs.Values.{form}
@@ -99,16 +98,16 @@ things =
     ∷ thing.Enumeration (record { shape = unsigned 2; members = numbered (codes "HIGH") (pos 2) ∷ [] }) ∷ member 6 (unsigned 2) true (pos 2) ∷ thing.Value (record { 0 = 0 }) ∷ thing.Numbered (record { 0 = 2 }) (record { 0 = 0 }) ∷ []
 
 -- `Op.SUB` and `Op.MINUS` are one thing
-sub_is : attributed (record { exprs = 1; things = 10 }) things (hw 2 ∷ []) (codes "SUB") ≡ Ok (value_given (hw 4))
-unfolding things hw op_enumeration numbered member
+sub_is : attributed pool things (hw 2 ∷ []) (codes "SUB") ≡ Ok (value_given (hw 4))
+unfolding pool things hw op_enumeration numbered member
 sub_is = refl
 
-minus_is : attributed (record { exprs = 1; things = 10 }) things (hw 2 ∷ []) (codes "MINUS") ≡ Ok (value_given (hw 4))
-unfolding things hw op_enumeration numbered member
+minus_is : attributed pool things (hw 2 ∷ []) (codes "MINUS") ≡ Ok (value_given (hw 4))
+unfolding pool things hw op_enumeration numbered member
 minus_is = refl
 
-unknown_name : attributed (record { exprs = 1; things = 10 }) things (hw 2 ∷ []) (codes "MUL") ≡ Err cause.Raised
-unfolding things hw op_enumeration numbered member
+unknown_name : attributed pool things (hw 2 ∷ []) (codes "MUL") ≡ Err cause.Raised
+unfolding pool things hw op_enumeration numbered member
 unknown_name = refl
 
 no_member : member_of things (record { 0 = 2 }) (pos 3) ≡ None

@@ -1,3 +1,4 @@
 pub mod CallLaws
 pub mod Samples
 pub mod EnumerationSamples
+pub mod LayoutSamples

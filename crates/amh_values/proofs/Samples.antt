@@ -121,13 +121,13 @@ shape_operand = refl
 
 -- ---- attributes and calls
 
-method_is : attributed (record { exprs = 2; things = 5 }) things (hw 0 ∷ []) (codes "any")
+method_is : attributed pool things (hw 0 ∷ []) (codes "any")
     ≡ Ok (record { exprs = []; things = thing.Method (record { 0 = 0 }) (record { 0 = 0 }) method.Any ∷ []; answer = answer.Give (hw 5) })
-unfolding things hw
+unfolding pool signal things hw
 method_is = refl
 
-no_width : attributed (record { exprs = 2; things = 5 }) things (hw 0 ∷ []) (codes "width") ≡ Err cause.Raised
-unfolding things hw
+no_width : attributed pool things (hw 0 ∷ []) (codes "width") ≡ Err cause.Raised
+unfolding pool signal things hw
 no_width = refl
 
 length_is : measured pool things (hw 1 ∷ []) ≡ Ok (record { exprs = []; things = []; answer = answer.Give (val.Int (pos 128)) })

@@ -1,5 +1,5 @@
 -- What the store answers to a request on shapes and values. The table of acts is this project's own; what each gives is in the files of
--- its family: Operators, Attributes, Calls, Indices and Enumerations.
+-- its family: Operators, Attributes, Calls, Indexing, Indices, Enumerations and StructClasses.
 use Rattle.std.specs.Prelude.{◌≡◌, ℕ, ◌||◌, Bool, true, false, if◌then◌else◌, List, [], ◌∷◌, ◌++◌, length, drop, is_some, Option, Some, None, Result, Ok, Err}
 use Rattle.std.specs.List.{list_any}
 use Rattle.design_ir.specs.Pools.{Pooled}
@@ -21,8 +21,9 @@ use Rattle.amh_things.specs.Plans.{ends_of, limited, grown_by}
 use Rattle.value_acts.specs.Operators.{operated}
 use Rattle.amh_values.specs.Attributes.{attributed}
 use Rattle.amh_values.specs.Calls.{called}
-use Rattle.value_acts.specs.Indices.{indexed, measured, iterated}
-use Rattle.layout_acts.specs.Enumerations.{class_made}
+use Rattle.amh_values.specs.Indexing.{any_indexed}
+use Rattle.value_acts.specs.Indices.{measured, iterated}
+use Rattle.layout_acts.specs.StructClasses.{class_made}
 
 -- ---- what is of the crate above
 
@@ -64,12 +65,12 @@ abbrev pub first_name : List (List ℕ) → List ℕ
 first_name [] = []
 first_name (n ∷ ns) = n
 
--- Assignments to attributes and indices, and blocks, raise: no shape, value, array or name has them.
+-- Assignments to attributes and indices, and blocks, raise: no shape, value, view, layout, array or name has them.
 abbrev pub planned : Seen → Pooled → List Thing → Act → List Val → List (List ℕ) → Result Plan Cause
 planned s p things act.Operator vals names = operated p things vals (first_name names)
-planned s p things act.Attribute vals names = attributed (ends_of p things) things vals (first_name names)
+planned s p things act.Attribute vals names = attributed p things vals (first_name names)
 planned s p things act.CallThing vals names = called s p things vals (drop 1 names)
-planned s p things act.Index vals names = indexed p things vals
+planned s p things act.Index vals names = any_indexed s p things vals
 planned s p things act.Length vals names = measured p things vals
 planned s p things act.Iterate vals names = iterated p things vals
 planned s p things act.ClassMade vals names = class_made s (ends_of p things) things vals names

@@ -1,3 +1,4 @@
 pub mod Attributes
 pub mod Calls
+pub mod Indexing
 pub mod Acts

@@ -10,16 +10,17 @@ use crate::above::is_other;
 use crate::acts::Acted;
 use crate::attributes::attributed;
 use crate::calls::called;
+use crate::indexing::any_indexed;
 use amh_things::plan::{Ends, Plan, PlanStop, raised};
 use amh_things::putting::{ends_of, put_exprs, put_things};
 use amh_things::shown::Shown;
 use amh_things::values::Values;
 use design_ir::Exprs;
-use layout_acts::enumerations::class_made;
+use layout_acts::struct_classes::class_made;
 use lists::NoMemory;
 use py_frames::request::{Act, Answer, Cause, Request};
 use std::alloc::Global;
-use value_acts::indices::{indexed, iterated, measured};
+use value_acts::indices::{iterated, measured};
 use value_acts::operators::operated;
 
 // The sign of an operator, or the name of an attribute.
@@ -50,9 +51,9 @@ fn planned<P: Exprs>(
     let name = first_name(request.names.items());
     match request.act {
         Act::Operator => operated(alloc, pool, values, ends, vals, name),
-        Act::Attribute => attributed(alloc, values, ends, vals, name),
+        Act::Attribute => attributed(alloc, pool, values, ends, vals, name),
         Act::CallThing => called(alloc, pool, values, shown, ends, request),
-        Act::Index => indexed(alloc, pool, values, ends, vals),
+        Act::Index => any_indexed(alloc, pool, values, &shown, ends, vals),
         Act::Iterate => iterated(alloc, pool, values, ends, vals),
         Act::Length => measured(alloc, pool, values, vals),
         Act::ClassMade => class_made(alloc, values, &shown, ends, vals, request.names.items()),

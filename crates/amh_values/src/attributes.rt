@@ -1,15 +1,18 @@
 // Attributes of things.
-ghost use Rattle.std.specs.Prelude.{◌≡◌, slice_get};
-ghost use Rattle.amh_values.specs.Attributes.{method_made, thing_attribute, attributed};
+ghost use Rattle.std.specs.Prelude.{◌≡◌, length, slice_get, IfOk};
+ghost use Rattle.amh_values.specs.Attributes.{method_made, thing_attribute, attribute_where, attributed};
+ghost use Rattle.amh_things.specs.Held.{AreHeld};
 ghost use Rattle.amh_things.specs.Members.{member_named};
-ghost use Rattle.amh_things.specs.Plans.{IsPlanned};
-ghost use Rattle.amh_things.specs.Things.{bare_expr, method_named, shown_enumeration};
+ghost use Rattle.amh_things.specs.Plans.{ends_of, IsPlanned, IsDrafted};
+ghost use Rattle.amh_things.specs.Things.{bare_expr, method_named, shown_enumeration, shown_view};
 
 use amh_things::names::method_named;
 use amh_things::plan::{Ends, Plan, PlanStop, raised, value_given};
 use amh_things::thing::Thing;
 use amh_things::values::Values;
 use data_layouts::EnumShape;
+use design_ir::Exprs;
+use layout_acts::views;
 use py_values::{Hw, Val};
 use std::alloc::Global;
 
@@ -63,18 +66,42 @@ fn thing_attribute(
     }
 }
 
-/// The attribute of a thing.
-pub(crate) fn attributed(
+// The attribute of a view, or of another thing.
+fn attribute_where<P: Exprs>(
     alloc: Global,
+    pool: &P,
+    values: &Values,
+    ends: Ends,
+    of: Hw,
+    name: &str,
+) -> Result<Plan, PlanStop>
+    requires held { AreHeld (length (P.pooled pool.now).exprs) values.now }
+    requires ends { ends ≡ ends_of (P.pooled pool.now) values.now }
+    ensures planned { IsPlanned result (attribute_where (P.pooled pool.now) values.now of (shown_view (slice_get values.now of.0)) name.now) }
+    ensures drafted { IfOk result (IsDrafted (P.pooled pool.now)) }
+{
+    match values.view(of) {
+        Some(view) => views::attributed(alloc, pool, values, ends, of, view, name),
+        None => thing_attribute(alloc, values, ends, of, name),
+    }
+}
+
+/// The attribute of a thing.
+pub(crate) fn attributed<P: Exprs>(
+    alloc: Global,
+    pool: &P,
     values: &Values,
     ends: Ends,
     vals: &[Val],
     name: &str,
 ) -> Result<Plan, PlanStop>
-    ensures { IsPlanned result (attributed ends values.now vals.now name.now) }
+    requires held { AreHeld (length (P.pooled pool.now).exprs) values.now }
+    requires ends { ends ≡ ends_of (P.pooled pool.now) values.now }
+    ensures planned { IsPlanned result (attributed (P.pooled pool.now) values.now vals.now name.now) }
+    ensures drafted { IfOk result (IsDrafted (P.pooled pool.now)) }
 {
     match vals {
-        [Val::Hw(hw)] => thing_attribute(alloc, values, ends, *hw, name),
+        [Val::Hw(hw)] => attribute_where(alloc, pool, values, ends, *hw, name),
         _ => Err(raised()),
     }
 }

@@ -1,21 +1,23 @@
-// Calls of things: names, and the methods of a value.
+// Calls of things: names, layouts, and the methods of a value or a view.
 ghost use Rattle.std.specs.Prelude.{◌≡◌, ◌<◌, length, drop, map, slice_get, string_bytes, IfOk};
 ghost use Rattle.shape_rules.specs.Forms.{unsigned};
 ghost use Rattle.design_ir.specs.Values.{form};
 ghost use Rattle.py_values.specs.Heaps.{seen};
-ghost use Rattle.amh_values.specs.Calls.{signed_made, method_plan, plain_called, method_called, any_name_called, thing_called, called};
+ghost use Rattle.amh_values.specs.Calls.{signed_made, method_plan, plain_called, method_called, any_name_called, thing_called, numbered, own_numbering, any_called, called};
 ghost use Rattle.amh_things.specs.Plans.{ends_of, value_made, IsPlanned, IsDrafted};
 ghost use Rattle.amh_things.specs.Held.{AreHeld};
 
 use amh_things::arguments::Arguments;
 use amh_things::given::Given;
 use amh_things::operand::{Operand, note_form};
-use amh_things::plan::{Ends, Plan, PlanStop, raised};
+use amh_things::plan::{Ends, Plan, PlanStop, raised, value_given};
 use amh_things::queue::Queue;
 use amh_things::shown::Shown;
 use amh_things::thing::{Method, Thing, ThingName};
 use amh_things::values::Values;
 use design_ir::{Expr, ExprId, Exprs};
+use layout_acts::layouts::{self, LayoutKind, members_called};
+use layout_acts::views::layout_called;
 use py_frames::request::Request;
 use py_values::{Hw, Val};
 use shape_rules::{Op, Shape};
@@ -67,6 +69,7 @@ fn method_plan(
         Method::AsSigned => signed_made(alloc, ends, e, shape.width),
         Method::AsUnsigned => unsigned_made(alloc, ends, e),
         Method::Shape => ends.thing(alloc, Thing::Shape(shape)),
+        Method::AsValue => ends.thing(alloc, Thing::Value(e)),
         _ => Err(raised()),
     }
 }
@@ -137,6 +140,11 @@ fn any_name_called<P: Exprs>(
     match name {
         ThingName::Cat => cat_called(alloc, pool, values, &given.shown, ends, &given.arguments),
         ThingName::Array => array_called(alloc, ends, &given.shown, &given.arguments),
+        ThingName::StructLayout => {
+            members_called(alloc, values, ends, LayoutKind::Structure, given)
+        }
+        ThingName::UnionLayout => members_called(alloc, values, ends, LayoutKind::Union, given),
+        ThingName::ArrayLayout => layouts::array_called(alloc, values, ends, given),
         _ => name_called(alloc, pool, values, ends, name, given),
     }
 }
@@ -152,15 +160,68 @@ fn thing_called<P: Exprs>(
 ) -> Result<Plan, PlanStop>
     requires held { AreHeld (length (P.pooled pool.now).exprs) values.now }
     requires ends { ends ≡ ends_of (P.pooled pool.now) values.now }
-    ensures planned { IsPlanned result (thing_called (seen given.now.shown.frozen.now given.now.shown.heap.now) (P.pooled pool.now) values.now (slice_get values.now hw.0) given.now.arguments) }
+    ensures planned { IsPlanned result (thing_called (seen given.now.shown.frozen.now given.now.shown.heap.now) (P.pooled pool.now) values.now hw (slice_get values.now hw.0) given.now.arguments) }
     ensures drafted { IfOk result (IsDrafted (P.pooled pool.now)) }
 {
     if let Some(of) = values.method(hw) {
         return method_called(alloc, pool, values, ends, of, given);
     }
+    if let Some(l) = values.shown_layout(hw) {
+        return layout_called(alloc, pool, values, ends, (hw, l), &given.arguments);
+    }
     match values.named(hw) {
         Some(name) => any_name_called(alloc, pool, values, ends, name, given),
         None => Err(raised()),
+    }
+}
+
+// The enumeration of a value.
+fn numbered(values: &Values, hw: Hw) -> Option<Hw>
+    ensures { result ≡ numbered (slice_get values.now hw.0) }
+{
+    match values.thing(hw) {
+        Some(Thing::Numbered { of, .. }) => Some(*of),
+        _ => None,
+    }
+}
+
+// The enumeration of the value whose method `shape` a thing is.
+fn own_numbering(values: &Values, hw: Hw) -> Option<Hw>
+    ensures { result ≡ own_numbering values.now (slice_get values.now hw.0) }
+{
+    match values.thing(hw) {
+        Some(
+            Thing::Method {
+                of,
+                method: Method::Shape,
+                ..
+            },
+        ) => numbered(values, *of),
+        _ => None,
+    }
+}
+
+// A call of `shape` of a value of an enumeration, or of another thing.
+fn any_called<P: Exprs>(
+    alloc: Global,
+    pool: &P,
+    values: &Values,
+    ends: Ends,
+    hw: Hw,
+    given: &Given<'_>,
+) -> Result<Plan, PlanStop>
+    requires held { AreHeld (length (P.pooled pool.now).exprs) values.now }
+    requires ends { ends ≡ ends_of (P.pooled pool.now) values.now }
+    ensures planned { IsPlanned result (any_called (seen given.now.shown.frozen.now given.now.shown.heap.now) (P.pooled pool.now) values.now hw (slice_get values.now hw.0) given.now.arguments) }
+    ensures drafted { IfOk result (IsDrafted (P.pooled pool.now)) }
+{
+    let Some(of) = own_numbering(values, hw) else {
+        return thing_called(alloc, pool, values, ends, hw, given);
+    };
+    if given.arguments.fits(&[]) {
+        Ok(value_given(alloc, Val::Hw(of)))
+    } else {
+        Err(raised())
     }
 }
 
@@ -195,7 +256,7 @@ pub(crate) fn called<P: Exprs>(
                 arguments: Arguments::of(args, keys),
                 shown,
             };
-            thing_called(alloc, pool, values, ends, *hw, &given)
+            any_called(alloc, pool, values, ends, *hw, &given)
         }
         _ => Err(raised()),
     }

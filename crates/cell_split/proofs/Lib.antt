@@ -9,3 +9,4 @@ pub mod PieceRules
 pub mod Rules
 pub mod Digits
 pub mod SplitCode
+pub mod Registers

@@ -18,6 +18,7 @@ use Rattle.rtlil_text.specs.Drivers.{inner_bits}
 use Rattle.rtlil_text.specs.MemoryRules.{MemoryFits}
 use Rattle.rtlil_text.specs.Rules.{IsModule, module_ids, CellFits}
 use Rattle.rtlil_text.proofs.SpecOnce.{All-left, All-right}
+use Rattle.rtlil_text.proofs.Numerals.{numeral_is_decimal}
 use Rattle.cell_split.specs.Pieces.{numbered_id, piece, pieces}
 use Rattle.cell_split.specs.Split.{can_split, split_cell, split_cells, split_of}
 use Rattle.cell_split.specs.Kept.{AreBelow}
@@ -117,7 +118,7 @@ module _ (n : ℕ) (marks : List Bool) (m : RtlModule) (rules : IsModule m) (bel
   all_ids : All IsId (module_ids (split_of n marks m))
   all_ids =
       All-append IsId others (ids (split_cells n marks m.cells)) (All-left IsId others (ids m.cells) were_ids)
-      (ids_hold IsId n (10 ^ 64) marks m.cells few (All-right IsId others (ids m.cells) were_ids) (λ j from upto. inr (j, refl)))
+      (ids_hold IsId n (10 ^ 64) marks m.cells few (All-right IsId others (ids m.cells) were_ids) (λ j from upto. inr (j, ap (λ ds. 36 ∷ ds) (sym (numeral_is_decimal j upto)))))
 
   cells_fit : All (CellFits (split_of n marks m)) (split_cells n marks m.cells)
   cells_fit =

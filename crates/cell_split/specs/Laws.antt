@@ -1,8 +1,9 @@
 -- What is proved of cut cells, whichever cells are marked.
 -- Internal: no rule of the language.
-use Rattle.std.specs.Prelude.{ℕ, ◌≤◌, ◌+◌, ◌^◌, Bool, List, length}
+use Rattle.std.specs.Prelude.{◌≡◌, ℕ, ◌≤◌, ◌+◌, ◌^◌, Bool, List, length}
 use Rattle.rtlil_text.specs.declared.module.RtlModule.{RtlModule}
 use Rattle.rtlil_text.specs.Rules.{IsModule, module_ids}
+use Rattle.rtlil_text.specs.Inits.{register_bits}
 use Rattle.cell_split.specs.Split.{split_cells, split_of}
 use Rattle.cell_split.specs.Kept.{KeepsHistory, AreBelow}
 
@@ -14,3 +15,7 @@ SplitsKeepTheRules =
 -- the module keeps its history, whatever it is
 abbrev pub SplitsKeepTheHistory : Type 0
 SplitsKeepTheHistory = (n : ℕ) (marks : List Bool) (m : RtlModule) → KeepsHistory m (split_of n marks m)
+
+-- registers drive the bits that they drove, in the same order
+abbrev pub SplitsKeepTheRegisters : Type 0
+SplitsKeepTheRegisters = (n : ℕ) (marks : List Bool) (m : RtlModule) → register_bits (split_of n marks m) ≡ register_bits m

@@ -1,5 +1,5 @@
 // The laws of cut cells. The functions do nothing: their clauses are the laws.
-ghost use Rattle.cell_split.specs.Laws.{SplitsKeepTheRules, SplitsKeepTheHistory};
+ghost use Rattle.cell_split.specs.Laws.{SplitsKeepTheRules, SplitsKeepTheHistory, SplitsKeepTheRegisters};
 
 /// Where new numbers begin behind those of the module, it keeps the rules of RTLIL text, whichever cells are marked.
 pub fn splits_keep_the_rules()
@@ -10,4 +10,9 @@ pub fn splits_keep_the_rules()
 /// same value after every event, or has none in both.
 pub fn splits_keep_the_history()
     ensures { SplitsKeepTheHistory }
+{}
+
+/// Whichever cells are marked, registers drive the same bits in the same order.
+pub fn splits_keep_the_registers()
+    ensures { SplitsKeepTheRegisters }
 {}

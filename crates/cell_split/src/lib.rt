@@ -17,5 +17,5 @@ mod tangled;
 #[cfg(test)]
 mod tests;
 
-pub use laws::{splits_keep_the_history, splits_keep_the_rules};
+pub use laws::{splits_keep_the_history, splits_keep_the_registers, splits_keep_the_rules};
 pub use split::split_tangled;

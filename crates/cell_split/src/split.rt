@@ -2,12 +2,13 @@
 ghost use Rattle.std.specs.Prelude.{◌≡◌, ◌<◌, ◌≤◌, ◌^◌, ◌+◌, ◌++◌, ◌∷◌, [], length, take, All, codes, IfOk, OnOk, IfSome, slice_get, Some};
 ghost use Rattle.rtlil_text.specs.Rules.{IsModule, module_ids};
 ghost use Rattle.rtlil_text.specs.Sources.{end_width, number_at};
+ghost use Rattle.rtlil_text.specs.Inits.{register_bits};
 ghost use Rattle.cell_split.specs.Split.{can_split, split_cell, split_cells, split_of};
 ghost use Rattle.cell_split.specs.Kept.{KeepsHistory, AreBelow};
 ghost use Rattle.cell_split.specs.Short.{IsPlainCell, AreNarrow, width_name};
 
 use crate::copies::copied_cell;
-use crate::laws::{splits_keep_the_history, splits_keep_the_rules};
+use crate::laws::{splits_keep_the_history, splits_keep_the_registers, splits_keep_the_rules};
 use crate::numbers::first_number;
 use crate::pieces::{is_bitwise, push_pieces};
 use crate::tangled::tangled;
@@ -18,7 +19,7 @@ use std::alloc::Global;
 
 /// The module with each bitwise cell cut into cells of one bit where it lies on a loop between cells. Its wires,
 /// memories and links stay, it keeps the rules of RTLIL text, and every bit of every wire has the value of before
-/// after every event, or has none in both. Which cells lie on a loop is found in time that is linear in the bits of
+/// after every event, or has none in both; registers drive the same bits. Which cells lie on a loop is found in time that is linear in the bits of
 /// the module, but for the look-up of wires by their ids.
 pub fn split_tangled(alloc: Global, rtl: RtlModule) -> Result<RtlModule, NoMemory>
     requires { IsModule rtl }
@@ -26,6 +27,7 @@ pub fn split_tangled(alloc: Global, rtl: RtlModule) -> Result<RtlModule, NoMemor
     ensures wires { IfOk result (λ m. m.wires ≡ rtl.wires) }
     ensures memories { IfOk result (λ m. m.memories ≡ rtl.memories) }
     ensures links { IfOk result (λ m. m.links ≡ rtl.links) }
+    ensures registers { IfOk result (λ m. register_bits m ≡ register_bits rtl) }
     ensures history { IfOk result (KeepsHistory rtl) }
 {
     let marks = tangled(alloc, &rtl)?;
@@ -36,6 +38,7 @@ pub fn split_tangled(alloc: Global, rtl: RtlModule) -> Result<RtlModule, NoMemor
         return Ok(rtl);
     };
     splits_keep_the_rules();
+    splits_keep_the_registers();
     splits_keep_the_history();
     split(alloc, first, &marks, rtl)
 }

@@ -4,7 +4,6 @@ use Rattle.std.specs.List.{list_any, IsDistinct}
 use Rattle.std.proofs.lemmas.List.{length-append}
 use Rattle.lists.specs.Names.{IsName}
 use Rattle.lists.specs.Texts.{text_eq}
-use Rattle.shape_rules.specs.Forms.{Form}
 use Rattle.py_values.specs.declared.val.Val.{Val}
 use Rattle.py_values.specs.declared.val.Val.TheVariants as val
 use Rattle.py_values.specs.declared.val.ObjId.{ObjId}
@@ -18,6 +17,9 @@ use Rattle.design_ir.specs.declared.expr.Expr.TheVariants as expr
 use Rattle.design_ir.specs.PoolRules.{signal_added}
 use Rattle.clock_domains.specs.Resolvable.{ArePorts}
 use Rattle.amh_things.specs.declared.thing.Thing.TheVariants as thing
+use Rattle.amh_things.specs.declared.thing.Reading.{Reading}
+use Rattle.amh_things.specs.Things.{read_as}
+use Rattle.elab_eval.specs.declared.shapes.Shaped.{Shaped}
 use Rattle.elab_eval.specs.declared.kept.HdlName.{HdlName}
 use Rattle.elab_eval.specs.declared.kept.Kept.TheVariants as kept
 use Rattle.elab_eval.specs.declared.members.NamedMember.{NamedMember}
@@ -32,7 +34,7 @@ use Rattle.elab_eval.specs.ComponentClasses.{component_made, component_base, ann
 use Rattle.elab_eval.specs.Classes.{class_made, base_called}
 use Rattle.elab_eval.specs.Interfaces.{are_named, are_members, member_signal, with_member, member_bound, no_interface, interface_made, interface_given, members_given, component_called, component_class, init_as, init_of, init_answered, signature_name}
 use Rattle.elab_eval.specs.Sound.{IsKept, IsSound}
-use Rattle.elab_eval.proofs.GrownLaws.{all_and, pool_grown, things_grown, keeping_sound}
+use Rattle.elab_eval.proofs.GrownLaws.{all_and, pool_grown, things_grown, read_held, keeping_sound}
 use Rattle.elab_eval.proofs.PortLaws.{and_split, name_stands, all_put, ports_stay, port_more}
 
 -- ---- names and members
@@ -41,11 +43,11 @@ pub library_sound : (n : Option HdlName) (h : Held) → IsSound h → IsSound (l
 library_sound (Some n) h s = keeping_sound h (kept.Name n) s tt
 library_sound None h s = s
 
-shaped_sound : (is_out : Bool) (n : _) (f : Result Form Cause) (h : Held) → IsSound h → IsSound (member_shaped is_out n f h).held
-shaped_sound is_out n (Ok f) h s = keeping_sound h (kept.Member (record { is_out = is_out; shape = f; init = n })) s tt
+shaped_sound : (is_out : Bool) (n : _) (f : Result Shaped Cause) (h : Held) → IsSound h → IsSound (member_shaped is_out n f h).held
+shaped_sound is_out n (Ok x) h s = keeping_sound h (kept.Member (record { is_out = is_out; shape = x; init = n })) s tt
 shaped_sound is_out n (Err why) h s = s
 
-said_sound : (is_out : Bool) (n : _) (f : Result Form Cause) (h : Held) → IsSound h → IsSound (member_said is_out n f h).held
+said_sound : (is_out : Bool) (n : _) (f : Result Shaped Cause) (h : Held) → IsSound h → IsSound (member_said is_out n f h).held
 said_sound is_out (Some n) f h s = shaped_sound is_out n f h s
 said_sound is_out None f h s = s
 
@@ -55,7 +57,7 @@ placed_sound s is_out (v ∷ []) n h t = said_sound is_out n _ h t
 placed_sound s is_out (v ∷ w ∷ vs) n h t = t
 
 pub member_sound : (s : Seen) (is_out : Bool) (c : Called) (h : Held) → IsSound h → IsSound (member_called s is_out c h).held
-member_sound s is_out c h t = placed_sound s is_out c.placed (member_init c.keywords c.keyword_vals) h t
+member_sound s is_out c h t = placed_sound s is_out c.placed (member_init h.store.things c.keywords c.keyword_vals) h t
 
 -- ---- classes: no act on one changes what is kept of pools, things or modules
 
@@ -88,19 +90,19 @@ class_sound (class ∷ base ∷ vs) names h other s = over_sound (component_base
 -- ---- interfaces
 
 -- the answer where no count is passed
-abbrev unlimited : Sig → Held → Answered
-unlimited x h = thing_given (thing.Value (record { 0 = length h.pool.exprs })) (with_signal x h)
+abbrev unlimited : Reading → Sig → Held → Answered
+unlimited r x h = thing_given (read_as r (record { 0 = length h.pool.exprs })) (with_signal x h)
 
-pub unlimited_sound : (x : Sig) (h : Held) → IsName x.name → IsSound h → IsSound (unlimited x h).held
-unlimited_sound x h name s =
+pub unlimited_sound : (r : Reading) (x : Sig) (h : Held) → IsName x.name → IsSound h → IsSound (unlimited r x h).held
+unlimited_sound r x h name s =
     let e : Expr = expr.Sig (record { 0 = length h.pool.signals }) in
-    things_grown (with_signal x h) (thing.Value (record { 0 = length h.pool.exprs }) ∷ [])
+    things_grown (with_signal x h) (read_as r (record { 0 = length h.pool.exprs }) ∷ [])
     (pool_grown h (with_signal x h).pool (x ∷ []) (e ∷ []) s refl refl (name, tt))
-    (omega (arith, length-append h.pool.exprs (e ∷ [])), tt)
+    (read_held (length (with_signal x h).pool.exprs) r (record { 0 = length h.pool.exprs }) (omega (arith, length-append h.pool.exprs (e ∷ []))), tt)
 
-pub limited_sound : (b : Bool) (x : Sig) (h : Held) → IsName x.name → IsSound h → IsSound (cond b (refused Limit h) (unlimited x h)).held
-limited_sound true x h name s = s
-limited_sound false x h name s = unlimited_sound x h name s
+pub limited_sound : (b : Bool) (r : Reading) (x : Sig) (h : Held) → IsName x.name → IsSound h → IsSound (cond b (refused Limit h) (unlimited r x h)).held
+limited_sound true r x h name s = s
+limited_sound false r x h name s = unlimited_sound r x h name s
 
 module _ (o : ObjId) (all : List NamedMember) where
   -- ports so far, and names of which none stands before, keep what is held sound
@@ -117,12 +119,12 @@ module _ (o : ObjId) (all : List NamedMember) where
       let parts = and_split (is_name m.name) _ named in
       let rest = and_split (not (list_any (text_eq m.name) before)) (are_named (before ++ m.name ∷ []) ms) parts.1 in
       let name = name_stands m.name parts.0 in
-      elim (signal_passes h m.member.shape.width) as (λ b. let given : Answered = cond b (refused Limit h) (unlimited (member_signal m) h) in
+      elim (signal_passes h m.member.shape.form.width) as (λ b. let given : Answered = cond b (refused Limit h) (unlimited m.member.shape.reading (member_signal m) h) in
       IsSound (member_bound (λ y g. interface_made o all y ms g) m (length h.pool.signals) x given.answer given.held).held) [
         | true ↦ s
-        | false ↦ interface_sound (before ++ m.name ∷ []) (with_member m (length h.pool.signals) (next_thing h) x) ms (unlimited (member_signal m) h).held
-            (unlimited_sound (member_signal m) h name s)
-            (ports_stay (signal_added h.pool (member_signal m)) (unlimited (member_signal m) h).held.pool (with_member m (length h.pool.signals) (next_thing h) x).ports (omega arith)
+        | false ↦ interface_sound (before ++ m.name ∷ []) (with_member m (length h.pool.signals) (next_thing h) x) ms (unlimited m.member.shape.reading (member_signal m) h).held
+            (unlimited_sound m.member.shape.reading (member_signal m) h name s)
+            (ports_stay (signal_added h.pool (member_signal m)) (unlimited m.member.shape.reading (member_signal m) h).held.pool (with_member m (length h.pool.signals) (next_thing h) x).ports (omega arith)
             (port_more h.pool x.ports (member_signal m) (record { name = m.name; sig = record { 0 = length h.pool.signals }; is_input = not m.member.is_out }) ports refl name))
             rest.1
       ]

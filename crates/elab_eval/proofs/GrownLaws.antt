@@ -19,6 +19,9 @@ use Rattle.elab_eval.specs.declared.kept.Begin.{Begin}
 use Rattle.elab_eval.specs.declared.kept.Begin.TheVariants as begin
 use Rattle.amh_things.specs.declared.thing.Thing.{Thing}
 use Rattle.amh_things.specs.declared.thing.Thing.TheVariants as thing
+use Rattle.amh_things.specs.declared.thing.Reading.{Reading}
+use Rattle.amh_things.specs.declared.thing.Reading.TheVariants as reading
+use Rattle.amh_things.specs.Things.{read_as}
 use Rattle.amh_things.specs.Held.{IsHeld, AreHeld}
 use Rattle.elab_eval.specs.declared.kept.Kept.{Kept}
 use Rattle.elab_eval.specs.declared.kept.Kept.TheVariants as kept_as
@@ -144,6 +147,12 @@ things_grown h ts s held = record {
   machines = s.machines;
   things = all_and (IsHeld (length h.pool.exprs)) h.store.things ts s.things held;
 }
+
+-- what stands for an expression by a reading
+pub read_held : (n : ℕ) (r : Reading) (e : ExprId) → e.0 < n → IsHeld n (read_as r e)
+read_held n reading.Plain e h = h
+read_held n (reading.Numbered o) e h = h
+read_held n (reading.Viewed o) e h = h
 
 pub kept_grown : (h : Held) (k : Kept) → IsSound h → IsKept h.pool k → IsSound (record h { store = record h.store { kept = h.store.kept ++ k ∷ [] } })
 kept_grown h k s held = record {

@@ -15,6 +15,7 @@ pub mod ObjectSamples
 pub mod Pools
 pub mod PortLaws
 pub mod RunLaws
+pub mod ShapeSamples
 pub mod SideLaws
 pub mod Standing
 pub mod ToldLaws

@@ -1,6 +1,7 @@
 -- Lists that are gone through side by side: globals, keywords, and the names of a star.
-use Rattle.std.proofs.Common.{◌≡◌, ℕ, zero, suc, ◌+◌, ◌<◌, refl, ap, ◌∙◌, sym, subst, Bool, false, List, [], ◌∷◌, ◌++◌, length, map, drop, Option, Some, None, arith, add-one}
+use Rattle.std.proofs.Common.{◌≡◌, ℕ, zero, suc, ◌+◌, ◌-◌, ◌<◌, ◌≤◌, refl, ap, ◌∙◌, sym, subst, Bool, false, List, [], ◌∷◌, ◌++◌, length, map, take, drop, Option, Some, None, arith, add-one}
 use Rattle.std.specs.Prelude.{slice_get, slice_index_or, if◌then◌else◌}
+use Rattle.std.proofs.lemmas.List.{take_all}
 use Rattle.lists.specs.Texts.{text_eq}
 use Rattle.py_values.specs.declared.val.Val.{Val}
 use Rattle.py_values.proofs.ObjectLaws.{drop_at}
@@ -61,6 +62,14 @@ global_end name [] (n ∷ ns) h = refl
 global_end name (v ∷ vs) (n ∷ ns) h = absurd (omega arith)
 
 -- ---- two names
+
+-- the first two items and those behind them
+pub two_first : {A : Type 0} (xs : List A) (a b : A) → 2 ≤ length xs → a ≡ slice_index_or xs 0 a → b ≡ slice_index_or xs 1 b → xs ≡ a ∷ b ∷ take (length xs - 2) (drop 2 xs)
+two_first [] a b h e1 e2 = absurd (omega arith)
+two_first (x ∷ []) a b h e1 e2 = absurd (omega arith)
+two_first (x ∷ y ∷ xs) a b h e1 e2 =
+    let rest : take (length (x ∷ y ∷ xs) - 2) xs ≡ xs = take_all (length (x ∷ y ∷ xs) - 2) xs (omega arith) in
+    ap (λ (z : _). z ∷ y ∷ xs) (sym e1) ∙ ap (λ (z : _). a ∷ z ∷ xs) (sym e2) ∙ ap (λ (zs : _). a ∷ b ∷ zs) (sym rest)
 
 pub two_names : {A : Type 0} (f : A → List ℕ) (xs : List A) (a b : A) → length xs ≡ 2 → a ≡ slice_index_or xs 0 a → b ≡ slice_index_or xs 1 b → map f xs ≡ f a ∷ f b ∷ []
 two_names f [] a b h e1 e2 = absurd (omega arith)

@@ -6,7 +6,6 @@ use Rattle.std.proofs.lemmas.List.{length-append}
 use Rattle.lists.specs.Names.{IsName}
 use Rattle.lists.specs.Texts.{text_eq}
 use Rattle.amh_host.specs.declared.place.Place.{Place}
-use Rattle.shape_rules.specs.Forms.{Form}
 use Rattle.py_values.specs.declared.val.Val.{Val}
 use Rattle.py_values.specs.declared.val.Val.TheVariants as val
 use Rattle.py_values.specs.Heaps.{Seen, text_at}
@@ -27,14 +26,12 @@ use Rattle.design_ir.specs.PoolRules.{IsPool}
 use Rattle.design_ir.specs.Pools.{Pooled}
 use Rattle.design_ir.specs.Targets.{is_target}
 use Rattle.design_ir.specs.declared.expr.Pattern.{Pattern}
-use Rattle.design_ir.specs.Values.{form}
 use Rattle.module_dsl.specs.declared.refusal.BuildStop.{BuildStop}
 use Rattle.module_dsl.specs.declared.step.Step.TheVariants.{Assign, Enter, Leave}
 use Rattle.module_dsl.specs.declared.step.Block.{Block}
 use Rattle.module_dsl.specs.declared.step.Block.TheVariants as dsl
 use Rattle.module_dsl.specs.Blocks.{Blocks}
 use Rattle.module_dsl.specs.Builders.{Built, built_blocks, always, condition_made, subject_of, opening_of, pool_with, enter_refusal, leave_refusal, and_entered, and_left}
-use Rattle.amh_things.specs.Patterns.{patterns_meant}
 use Rattle.clock_domains.specs.Resolvable.{IsNamedSide}
 use Rattle.amh_things.specs.declared.operand.Operand.{Operand}
 use Rattle.amh_things.specs.declared.operand.Operand.TheVariants as operand
@@ -43,7 +40,8 @@ use Rattle.amh_things.specs.declared.thing.Thing.TheVariants as thing
 use Rattle.amh_things.specs.declared.thing.ThingName.{ThingName}
 use Rattle.amh_things.specs.declared.thing.Method.TheVariants as method
 use Rattle.amh_things.specs.Held.{IsHeld, AreHeld}
-use Rattle.amh_things.specs.Things.{thing_of, held_expr, shown_member, name_called, base_called as base_named}
+use Rattle.amh_things.specs.declared.thing.Reading.{Reading}
+use Rattle.amh_things.specs.Things.{thing_of, held_expr, shown_member, name_called, base_called as base_named, layout_named, read_as}
 use Rattle.amh_things.specs.Operands.{operand_of, thing_operand, held_operand, member_operand, number_operand}
 use Rattle.amh_things.specs.Meant.{operand_meant, expr_meant}
 use Rattle.amh_things.specs.Plans.{grown_by}
@@ -55,15 +53,16 @@ use Rattle.elab_eval.specs.declared.kept.DomainName.{DomainName}
 use Rattle.elab_eval.specs.declared.kept.DomainName.TheVariants as domain
 use Rattle.elab_eval.specs.declared.kept.Equation.{Equation}
 use Rattle.elab_eval.specs.declared.tops.Calling.{Calling}
+use Rattle.elab_eval.specs.declared.shapes.Shaped.{Shaped}
 use Rattle.elab_eval.specs.declared.signals.SignalArguments.{SignalArguments}
 use Rattle.elab_eval.specs.Names.{is_name}
 use Rattle.elab_eval.specs.Stores.{Stored, Held, Answered, refused, kept_given, kept_of}
 use Rattle.elab_eval.specs.Calls.{Called, called}
 use Rattle.elab_eval.specs.Imports.{is_hdl, is_utils, own_named, star_names, hdl_thing, hdl_imported, bound_answer, all_bound, imported, import_answered}
-use Rattle.elab_eval.specs.Signals.{with_module, without_arguments, module_called, formed, call_name, signal_arguments, signal_name, signal_init, signal_reset_less, signal_form, signal_of, signal_passes, with_signal, signal_given, signal_shaped, signal_said, signal_from}
+use Rattle.elab_eval.specs.Signals.{with_module, without_arguments, module_called, formed, call_name, signal_arguments, signal_name, signal_init, signal_reset_less, signal_shape, signal_of, signal_passes, with_signal, signal_given, signal_shaped, signal_said, signal_from}
 use Rattle.elab_eval.specs.Equations.{equation_given, equation_made, equated}
 use Rattle.elab_eval.specs.Sides.{side_of, domain_named, domain_given, index_name, is_domain_of, domain_stored, equations_in, deepest, has_no_place, built_with, store_with_statement, statement_refusal, statement_put, statement_told, statements_behind, statements_told, statements_added}
-use Rattle.elab_eval.specs.Blocks.{block_named, block_name_given, begin_with, condition_given, condition_called, plain_called, with_patterns, case_given, case_in, case_called, case_subject, block_called, block_of, store_told, with_entered, entering_by, entering, passed, entered_at, block_entered, leaving_by, leaving, left_at, block_left}
+use Rattle.elab_eval.specs.Blocks.{block_named, block_name_given, begin_with, condition_given, condition_called, plain_called, with_patterns, case_given, case_patterns, case_in, case_called, case_subject, block_called, block_of, store_told, with_entered, entering_by, entering, passed, entered_at, block_entered, leaving_by, leaving, left_at, block_left}
 use Rattle.elab_eval.specs.declared.kept.BlockName.{BlockName}
 use Rattle.elab_eval.specs.declared.kept.BlockName.TheVariants as named
 use Rattle.elab_eval.specs.declared.kept.Begin.{Begin}
@@ -72,14 +71,13 @@ use Rattle.elab_eval.specs.Classes.{is_base, is_keyword, class_made, base_called
 use Rattle.elab_eval.specs.Tops.{global, object_in, first_object, elaborate_of, module_of, top_taken, body_ended, elaborate_ended}
 use Rattle.elab_eval.specs.Table.{kept_called, equated_by, called_by, call_answered, attribute_of, attribute_answered, attribute_stored, store_answered, index_of, index_answered, index_stored, index_store_answered, added, operator_answered, kept_entered, kept_left, enter_answered, leave_answered, own_answered, only}
 use Rattle.elab_eval.specs.Table as table
-use Rattle.elab_eval.specs.Libraries.{is_enum, library_named, wiring_named, base_given}
+use Rattle.elab_eval.specs.Libraries.{is_enum, is_data, library_named, wiring_named, thing_name_given}
 use Rattle.elab_eval.specs.Table.{name_attribute}
-use Rattle.elab_eval.specs.Likes.{liked, like_placed, like_arguments, like_init, like_form, own_reset_less, liked_signal}
-use Rattle.amh_things.specs.Meant.{form_meant}
+use Rattle.elab_eval.specs.Likes.{liked, like_placed, like_arguments, like_init, own_reset_less, liked_shape, liked_signal}
 use Rattle.elab_eval.specs.Sound.{IsEquation, IsBegin, IsKept, IsOpening, IsTold, IsBuilt, IsSound}
 use Rattle.elab_eval.proofs.Pools.{IsGrown, target_stays, there_stays}
 use Rattle.elab_eval.proofs.SideLaws.{equations_stand, kept_stands}
-use Rattle.elab_eval.proofs.GrownLaws.{all_and, name_is, pool_grown, things_grown, keeping_sound, built_stays, told_module, module_built, with_top_sound}
+use Rattle.elab_eval.proofs.GrownLaws.{all_and, name_is, pool_grown, things_grown, read_held, keeping_sound, built_stays, told_module, module_built, with_top_sound}
 use Rattle.elab_eval.specs.OpenMachines.{in_machine}
 use Rattle.elab_eval.specs.StateMachines.{part_named}
 use Rattle.elab_eval.proofs.MachineSound as machine
@@ -114,15 +112,16 @@ star_sound names (n ∷ ns) h s =
     let next : IsSound (hdl_imported n h).held = hdl_sound (own_named n) (name_called n) h s in
     bound_sound names n (hdl_imported n h).held (λ more g. all_bound more ns g) (hdl_imported n h).answer next (λ more. star_sound more ns (hdl_imported n h).held next)
 
-base_name_sound : (t : Option ThingName) (h : Held) → IsSound h → IsSound (base_given t h).held
-base_name_sound (Some n) h s = things_grown h (thing.Name n ∷ []) s (tt, tt)
-base_name_sound None h s = s
+thing_name_sound : (t : Option ThingName) (h : Held) → IsSound h → IsSound (thing_name_given t h).held
+thing_name_sound (Some n) h s = things_grown h (thing.Name n ∷ []) s (tt, tt)
+thing_name_sound None h s = s
 
 imported_sound : (path name : List ℕ) (h : Held) → IsSound h → IsSound (imported path name h).held
 imported_sound path name h s =
     if_sound (is_hdl path) _ _ (if_sound (text_eq name (codes "*")) _ _ (star_sound [] star_names h s) (hdl_sound (own_named name) (name_called name) h s))
     (if_sound (is_utils path) _ _ (if_sound (text_eq name (codes "ceil_log2")) _ _ s (if_sound (text_eq name (codes "bits_for")) _ _ s s))
-    (if_sound (is_enum path) _ _ (base_name_sound (base_named name) h s) (component.library_sound (library_named path name) h s)))
+    (if_sound (is_enum path) _ _ (thing_name_sound (base_named name) h s)
+    (if_sound (is_data path) _ _ (thing_name_sound (layout_named name) h s) (component.library_sound (library_named path name) h s))))
 
 import_sound : (names : List (List ℕ)) (h : Held) → IsSound h → IsSound (import_answered names h).held
 import_sound [] h s = s
@@ -172,18 +171,19 @@ given_name s call (Some (val.Class b)) name e = absurd (true≢false (ap is_some
 given_name s call (Some (val.Object b)) name e = absurd (true≢false (ap is_some (sym e)))
 given_name s call (Some (val.Hw b)) name e = absurd (true≢false (ap is_some (sym e)))
 
-put_sound : (x : Sig) (h : Held) → IsSound h → IsName x.name → IsSound (signal_given x h).held
-put_sound x h s named =
+put_sound : (r : Reading) (x : Sig) (h : Held) → IsSound h → IsName x.name → IsSound (signal_given r x h).held
+put_sound r x h s named =
     let q : Pooled = (with_signal x h).pool in
     let grown : IsSound (with_signal x h) = pool_grown h q (x ∷ []) (expr.Sig (record { 0 = length h.pool.signals }) ∷ []) s refl refl (named, tt) in
     if_sound (signal_passes h x.shape.width) _ _ s
-    (things_grown (with_signal x h) (thing.Value (record { 0 = length h.pool.exprs }) ∷ []) grown (omega (arith, length-append h.pool.exprs (expr.Sig (record { 0 = length h.pool.signals }) ∷ [])), tt))
+    (things_grown (with_signal x h) (read_as r (record { 0 = length h.pool.exprs }) ∷ []) grown
+    (read_held (length q.exprs) r (record { 0 = length h.pool.exprs }) (omega (arith, length-append h.pool.exprs (expr.Sig (record { 0 = length h.pool.signals }) ∷ []))), tt))
 
-shaped_sound : (name : List ℕ) (n : ℤ) (r : Bool) (f : Result Form Cause) (h : Held) → IsSound h → is_name name ≡ true → IsSound (signal_shaped name n r f h).held
-shaped_sound name n r (Ok f) h s named = put_sound (signal_of name f n r) h s (name_is name named)
+shaped_sound : (name : List ℕ) (n : ℤ) (r : Bool) (f : Result Shaped Cause) (h : Held) → IsSound h → is_name name ≡ true → IsSound (signal_shaped name n r f h).held
+shaped_sound name n r (Ok x) h s named = put_sound x.reading (signal_of name x.form n r) h s (name_is name named)
 shaped_sound name n r (Err why) h s named = s
 
-said_sound : (name : Option (List ℕ)) (n : Option ℤ) (r : Option Bool) (f : Result Form Cause) (h : Held) → IsSound h → ((x : List ℕ) → name ≡ Some x → is_name x ≡ true) → IsSound (signal_said name n r f h).held
+said_sound : (name : Option (List ℕ)) (n : Option ℤ) (r : Option Bool) (f : Result Shaped Cause) (h : Held) → IsSound h → ((x : List ℕ) → name ≡ Some x → is_name x ≡ true) → IsSound (signal_said name n r f h).held
 said_sound (Some name) (Some n) (Some r) f h s named = shaped_sound name n r f h s (named name refl)
 said_sound None n r f h s named = s
 said_sound (Some name) None r f h s named = s
@@ -192,16 +192,16 @@ said_sound (Some name) (Some n) None f h s named = s
 signal_sound : (s : Seen) (name : List ℕ) (args : Option SignalArguments) (h : Held) → IsSound h → IsSound (signal_from s name args h).held
 signal_sound s name None h t = t
 signal_sound s name (Some args) h t =
-    said_sound (signal_name s name args.name) (signal_init args.init) (signal_reset_less s args.reset_less) (signal_form s h args.shape) h t (λ x e. given_name s name args.name x e)
+    said_sound (signal_name s name args.name) (signal_init h.store.things args.init) (signal_reset_less s args.reset_less) (signal_shape s h args.shape) h t (λ x e. given_name s name args.name x e)
 
-liked_sound : (s : Seen) (name : List ℕ) (args : Option SignalArguments) (f : Option Form) (x : Option Sig) (h : Held) → IsSound h → IsSound (liked s name args f x h).held
+liked_sound : (s : Seen) (name : List ℕ) (args : Option SignalArguments) (f : Result Shaped Cause) (x : Option Sig) (h : Held) → IsSound h → IsSound (liked s name args f x h).held
 liked_sound s name None f x h t = t
 liked_sound s name (Some args) f x h t =
-    said_sound (signal_name s name args.name) (like_init x args.init) (Some (own_reset_less x)) (like_form f) h t (λ n e. given_name s name args.name n e)
+    said_sound (signal_name s name args.name) (like_init h.store.things x args.init) (Some (own_reset_less x)) f h t (λ n e. given_name s name args.name n e)
 
 like_sound : (s : Seen) (name : List ℕ) (args : Option SignalArguments) (vs : List Val) (h : Held) → IsSound h → IsSound (like_placed s name args vs h).held
 like_sound s name args [] h t = t
-like_sound s name args (v ∷ []) h t = liked_sound s name args (form_meant h.pool h.store.things v) (liked_signal h v) h t
+like_sound s name args (v ∷ []) h t = liked_sound s name args (liked_shape h v) (liked_signal h v) h t
 like_sound s name args (v ∷ w ∷ vs) h t = t
 
 -- statements
@@ -335,7 +335,7 @@ case_sound m (Some ps) h t =
 
 case_in_sound : (s : Seen) (m : ℕ) (vs : List Val) (o : Option ExprId) (h : Held) → IsSound h → IsSound (case_in s m vs o h).held
 case_in_sound s m vs None h t = keeping_sound h (kept_as.Block m begin.Misplaced) t tt
-case_in_sound s m vs (Some subject) h t = case_sound m (patterns_meant s (form h.pool subject.0) vs) h t
+case_in_sound s m vs (Some subject) h t = case_sound m (case_patterns s h subject vs) h t
 
 cases_sound : (s : Seen) (m : ℕ) (vs : List Val) (ns : List (List ℕ)) (h : Held) → IsSound h → IsSound (case_called s m vs ns h).held
 cases_sound s m vs [] h t = case_in_sound s m vs (case_subject m h.store) h t
@@ -512,6 +512,7 @@ name_sound s hdl.In c h t = component.member_sound s false c h t
 name_sound s hdl.Out c h t = component.member_sound s true c h t
 name_sound s hdl.Wiring c h t = t
 name_sound s hdl.Enumerations c h t = t
+name_sound s hdl.Data c h t = t
 name_sound s hdl.Component c h t = t
 
 own_call_sound : (s : Seen) (o : Option Kept) (c : Called) (p : Place) (h : Held) → IsSound h → IsSound (kept_called s o c p h).held
@@ -542,7 +543,8 @@ domain_sound m (Some d) h t = keeping_sound h (kept_as.Domain m d) t tt
 
 library_name_sound : (n : HdlName) (name : List ℕ) (h : Held) → IsSound h → IsSound (name_attribute n name h).held
 library_name_sound hdl.Wiring name h t = component.library_sound (wiring_named name) h t
-library_name_sound hdl.Enumerations name h t = base_name_sound (base_named name) h t
+library_name_sound hdl.Enumerations name h t = thing_name_sound (base_named name) h t
+library_name_sound hdl.Data name h t = thing_name_sound (layout_named name) h t
 library_name_sound hdl.Module name h t = t
 library_name_sound hdl.Signal name h t = if_sound (text_eq name (codes "like")) _ _ (keeping_sound h (kept_as.Name hdl.Like) t tt) t
 library_name_sound hdl.Like name h t = t

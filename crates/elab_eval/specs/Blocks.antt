@@ -1,6 +1,6 @@
 -- The blocks of a module: `m.If(c)`, `m.Elif(c)`, `m.Else()`, `m.Switch(v)`, `m.Case(p1, p2)` and `m.Default()`, which `with`
 -- enters and leaves. (Amaranth language guide 0.5, "Control blocks".)
-use Rattle.std.specs.Prelude.{ℕ, if◌then◌else◌, List, [], ◌∷◌, ◌++◌, length, slice_get, slice_set, Option, Some, None, option_map, Result, Ok, Err, codes}
+use Rattle.std.specs.Prelude.{ℕ, if◌then◌else◌, List, [], ◌∷◌, ◌++◌, length, map, slice_get, slice_set, Option, Some, None, option_map, Result, Ok, Err, codes}
 use Rattle.lists.specs.Texts.{text_eq}
 use Rattle.py_values.specs.declared.val.Val.{Val}
 use Rattle.py_values.specs.declared.val.Val.TheVariants as val
@@ -18,6 +18,7 @@ use Rattle.module_dsl.specs.declared.step.Block.TheVariants as dsl
 use Rattle.module_dsl.specs.Blocks.{in_switch}
 use Rattle.module_dsl.specs.Builders.{Built, built_blocks, subject_of, condition_made, enter_refusal, and_entered, pool_with, leave_refusal, and_left}
 use Rattle.amh_things.specs.Meant.{expr_meant}
+use Rattle.amh_things.specs.Members.{plain}
 use Rattle.amh_things.specs.Patterns.{patterns_meant}
 use Rattle.amh_things.specs.Plans.{grown_by}
 use Rattle.elab_eval.specs.declared.kept.BlockName.{BlockName}
@@ -86,6 +87,10 @@ abbrev pub switched : Option Built → Option ExprId
 switched None = None
 switched (Some b) = if in_switch (built_blocks b).around then Some (subject_of (built_blocks b).around) else None
 
+-- a member is the pattern of its number
+abbrev pub case_patterns : Seen → Held → ExprId → List Val → Option (List Pattern)
+case_patterns s h subject vs = patterns_meant s (form h.pool subject.0) (map (plain h.store.things) vs)
+
 -- that in which a case of the module would stand directly; the choice of an `FSM` is none
 abbrev pub case_subject : ℕ → Stored → Option ExprId
 case_subject m s = if in_machine m s.machines then None else switched (slice_get s.modules m)
@@ -93,7 +98,7 @@ case_subject m s = if in_machine m s.machines then None else switched (slice_get
 -- The patterns are for the subject of the `Switch` in which the call stands directly. Where it stands in none, entering is refused.
 abbrev pub case_in : Seen → ℕ → List Val → Option ExprId → Held → Answered
 case_in s m vs None h = kept_given (kept.Block m begin.Misplaced) h
-case_in s m vs (Some subject) h = case_given m (patterns_meant s (form h.pool subject.0) vs) h
+case_in s m vs (Some subject) h = case_given m (case_patterns s h subject vs) h
 
 -- patterns, and no keyword
 abbrev pub case_called : Seen → ℕ → List Val → List (List ℕ) → Held → Answered

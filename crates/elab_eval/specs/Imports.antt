@@ -9,11 +9,11 @@ use Rattle.py_frames.specs.declared.request.Cause.TheVariants.{Raised}
 use Rattle.py_frames.specs.declared.request.NamedVal.{NamedVal}
 use Rattle.amh_things.specs.declared.thing.Thing.TheVariants as thing
 use Rattle.amh_things.specs.declared.thing.ThingName.{ThingName}
-use Rattle.amh_things.specs.Things.{name_called, base_called}
+use Rattle.amh_things.specs.Things.{name_called, base_called, layout_named}
 use Rattle.elab_eval.specs.declared.kept.HdlName.{HdlName}
 use Rattle.elab_eval.specs.declared.kept.HdlName.TheVariants as hdl
 use Rattle.elab_eval.specs.declared.kept.Kept.TheVariants as kept
-use Rattle.elab_eval.specs.Libraries.{is_enum, library_named, library_given, base_given}
+use Rattle.elab_eval.specs.Libraries.{is_enum, is_data, library_named, library_given, thing_name_given}
 use Rattle.elab_eval.specs.Stores.{Held, Answered, refused, given, thing_given, kept_given}
 
 -- ---- `amaranth` and `amaranth.hdl`
@@ -71,7 +71,8 @@ abbrev pub imported : List ℕ → List ℕ → Held → Answered
 imported path name h =
     if is_hdl path then (if text_eq name (codes "*") then all_bound [] star_names h else hdl_imported name h)
     else (if is_utils path then utility_imported name h
-    else (if is_enum path then base_given (base_called name) h else library_given (library_named path name) h))
+    else (if is_enum path then thing_name_given (base_called name) h
+    else (if is_data path then thing_name_given (layout_named name) h else library_given (library_named path name) h)))
 
 -- a request names the module and then the name
 abbrev pub import_answered : List (List ℕ) → Held → Answered

@@ -73,7 +73,11 @@ are_members ms = are_named (signature_name ∷ []) ms
 -- ---- their signals
 
 abbrev pub member_signal : NamedMember → Sig
-member_signal m = signal_of m.name m.member.shape m.member.init false
+member_signal m = signal_of m.name m.member.shape.form m.member.init false
+
+-- a port of an enumeration's shape is a value of it, and one of a layout's shape a view
+abbrev pub member_given : NamedMember → Held → Answered
+member_given m h = signal_given m.member.shape.reading (member_signal m) h
 
 -- nothing is bound yet
 abbrev pub no_interface : Interface
@@ -106,7 +110,7 @@ member_bound rest m number x a h = record { answer = a; held = h }
 abbrev pub interface_made : ObjId → List NamedMember → Interface → List NamedMember → Held → Answered
 interface_made o all x [] h = interface_bound o all x h
 interface_made o all x (m ∷ ms) h =
-    member_bound (λ y g. interface_made o all y ms g) m (length h.pool.signals) x (signal_given (member_signal m) h).answer (signal_given (member_signal m) h).held
+    member_bound (λ y g. interface_made o all y ms g) m (length h.pool.signals) x (member_given m h).answer (member_given m h).held
 
 -- ---- `__init__` of a component
 

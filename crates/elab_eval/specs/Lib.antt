@@ -23,6 +23,7 @@ pub mod Reaches
 pub mod Running
 pub mod Seen
 pub mod Sides
+pub mod Shapes
 pub mod Signals
 pub mod Likes
 pub mod Sound

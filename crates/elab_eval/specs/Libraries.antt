@@ -1,5 +1,5 @@
--- The modules below `amaranth.lib`. (Amaranth standard library reference 0.5, "Interfaces and connections" and "Enumerations". That other modules and names are
--- refused is this project's own rule.)
+-- The modules below `amaranth.lib`. (Amaranth standard library reference 0.5, "Interfaces and connections", "Enumerations" and "Data structures".
+-- That other modules and names are refused is this project's own rule.)
 use Rattle.std.specs.Prelude.{ℕ, Bool, if◌then◌else◌, List, Option, Some, None, codes}
 use Rattle.lists.specs.Texts.{text_eq}
 use Rattle.py_frames.specs.declared.request.Cause.TheVariants.{Raised}
@@ -18,7 +18,9 @@ wiring_named n =
 
 -- `amaranth.lib`, whose names are modules
 abbrev pub module_named : List ℕ → Option HdlName
-module_named n = if text_eq n (codes "wiring") then Some hdl.Wiring else (if text_eq n (codes "enum") then Some hdl.Enumerations else None)
+module_named n =
+    if text_eq n (codes "wiring") then Some hdl.Wiring
+    else (if text_eq n (codes "enum") then Some hdl.Enumerations else (if text_eq n (codes "data") then Some hdl.Data else None))
 
 abbrev pub is_library : List ℕ → Bool
 is_library path = text_eq path (codes "amaranth.lib")
@@ -29,6 +31,9 @@ is_wiring path = text_eq path (codes "amaranth.lib.wiring")
 abbrev pub is_enum : List ℕ → Bool
 is_enum path = text_eq path (codes "amaranth.lib.enum")
 
+abbrev pub is_data : List ℕ → Bool
+is_data path = text_eq path (codes "amaranth.lib.data")
+
 abbrev pub library_named : (path name : List ℕ) → Option HdlName
 library_named path name = if is_library path then module_named name else (if is_wiring path then wiring_named name else None)
 
@@ -36,7 +41,7 @@ abbrev pub library_given : Option HdlName → Held → Answered
 library_given (Some n) h = kept_given (kept.Name n) h
 library_given None h = refused Raised h
 
--- `amaranth.lib.enum`, whose names are of amh_values
-abbrev pub base_given : Option ThingName → Held → Answered
-base_given (Some n) h = thing_given (thing.Name n) h
-base_given None h = refused Raised h
+-- `amaranth.lib.enum` and `amaranth.lib.data`, whose names are of amh_things
+abbrev pub thing_name_given : Option ThingName → Held → Answered
+thing_name_given (Some n) h = thing_given (thing.Name n) h
+thing_name_given None h = refused Raised h

@@ -26,7 +26,7 @@ abbrev pub signal_in : Option Expr → Option SigId
 signal_in (Some (expr.Sig s)) = Some s
 signal_in e = None
 
--- the signal that a value is; what is computed from one, as a slice of it, is none
+-- the signal that a value is, or that a view stands over; what is computed from one, as a slice of it, is none
 abbrev pub held_signal : Held → Val → Option SigId
 held_signal h v = signal_in (option_and_then (λ (e : ExprId). slice_get h.pool.exprs e.0) (held_expr (thing_of h.store.things v)))
 

@@ -6,19 +6,23 @@ use Rattle.shape_rules.specs.Forms.{Form, unsigned}
 use Rattle.py_values.specs.declared.val.Val.{Val}
 use Rattle.py_values.specs.declared.val.Val.TheVariants as val
 use Rattle.py_values.specs.Heaps.{Seen, text_at}
-use Rattle.py_values.specs.Numbers.{number_of}
 use Rattle.py_values.specs.Truths.{truth}
 use Rattle.py_frames.specs.declared.request.Cause.{Cause}
 use Rattle.py_frames.specs.declared.request.Cause.TheVariants.{Raised, Limit}
 use Rattle.design_ir.specs.declared.signal.Sig.{Sig}
 use Rattle.design_ir.specs.declared.expr.Expr.TheVariants as expr
 use Rattle.design_ir.specs.PoolRules.{signal_refusal, signal_added, expr_added}
-use Rattle.amh_things.specs.declared.thing.Thing.TheVariants as thing
-use Rattle.amh_things.specs.Meant.{shape_meant}
+use Rattle.amh_things.specs.declared.thing.Thing.{Thing}
+use Rattle.amh_things.specs.declared.thing.Reading.{Reading}
+use Rattle.amh_things.specs.declared.thing.Reading.TheVariants as reading
+use Rattle.amh_things.specs.Things.{read_as}
+use Rattle.amh_things.specs.Members.{counted}
+use Rattle.elab_eval.specs.declared.shapes.Shaped.{Shaped}
 use Rattle.elab_eval.specs.declared.signals.SignalArguments.{SignalArguments}
 use Rattle.elab_eval.specs.declared.kept.Kept.TheVariants as kept
 use Rattle.elab_eval.specs.Names.{is_name}
 use Rattle.elab_eval.specs.Calls.{Called}
+use Rattle.elab_eval.specs.Shapes.{shaped_meant}
 use Rattle.elab_eval.specs.Stores.{Stored, Held, Answered, refused, thing_given, kept_given}
 
 -- ---- a module
@@ -85,9 +89,10 @@ signal_name s name (Some val.None) = formed (call_name name)
 signal_name s name (Some (val.Str x)) = formed (text_at s x.0)
 signal_name s name (Some v) = None
 
-abbrev pub signal_init : Option Val → Option ℤ
-signal_init None = Some (pos 0)
-signal_init (Some v) = number_of v
+-- an integer, a boolean or a member
+abbrev pub signal_init : List Thing → Option Val → Option ℤ
+signal_init things None = Some (pos 0)
+signal_init things (Some v) = counted things v
 
 abbrev pub signal_reset_less : Seen → Option Val → Option Bool
 signal_reset_less s None = Some false
@@ -103,35 +108,36 @@ with_signal x h = record h { pool = expr_added (signal_added h.pool x) (expr.Sig
 abbrev pub signal_passes : Held → ℕ → Bool
 signal_passes h width = is_some (signal_refusal h.pool width) || nat_le 262144 (length h.pool.exprs)
 
-abbrev pub signal_given : Sig → Held → Answered
-signal_given x h =
+-- what is given is its value by what its bits are read as
+abbrev pub signal_given : Reading → Sig → Held → Answered
+signal_given r x h =
     if signal_passes h x.shape.width then refused Limit h
-    else thing_given (thing.Value (record { 0 = length h.pool.exprs })) (with_signal x h)
+    else thing_given (read_as r (record { 0 = length h.pool.exprs })) (with_signal x h)
 
 -- a number of any size is wrapped to the shape
 abbrev pub signal_of : List ℕ → Form → ℤ → Bool → Sig
 signal_of name f n reset_less = record { name = name; shape = f; init = wrap f.signed f.width n; reset_less = reset_less }
 
 -- what raises is told before a shape that is too wide, and that before a count
-abbrev pub signal_shaped : List ℕ → ℤ → Bool → Result Form Cause → Held → Answered
-signal_shaped name n reset_less (Ok f) h = signal_given (signal_of name f n reset_less) h
+abbrev pub signal_shaped : List ℕ → ℤ → Bool → Result Shaped Cause → Held → Answered
+signal_shaped name n reset_less (Ok x) h = signal_given x.reading (signal_of name x.form n reset_less) h
 signal_shaped name n reset_less (Err why) h = refused why h
 
-abbrev pub signal_said : Option (List ℕ) → Option ℤ → Option Bool → Result Form Cause → Held → Answered
+abbrev pub signal_said : Option (List ℕ) → Option ℤ → Option Bool → Result Shaped Cause → Held → Answered
 signal_said (Some name) (Some n) (Some r) shape h = signal_shaped name n r shape h
 signal_said None n r shape h = refused Raised h
 signal_said (Some name) None r shape h = refused Raised h
 signal_said (Some name) (Some n) None shape h = refused Raised h
 
 -- without a shape it has one bit
-abbrev pub signal_form : Seen → Held → Option Val → Result Form Cause
-signal_form s h None = Ok (unsigned 1)
-signal_form s h (Some v) = shape_meant s h.store.things v
+abbrev pub signal_shape : Seen → Held → Option Val → Result Shaped Cause
+signal_shape s h None = Ok (record { form = unsigned 1; reading = reading.Plain })
+signal_shape s h (Some v) = shaped_meant s h.store.things v
 
 abbrev pub signal_from : Seen → List ℕ → Option SignalArguments → Held → Answered
 signal_from s name None h = refused Raised h
 signal_from s name (Some args) h =
-    signal_said (signal_name s name args.name) (signal_init args.init) (signal_reset_less s args.reset_less) (signal_form s h args.shape) h
+    signal_said (signal_name s name args.name) (signal_init h.store.things args.init) (signal_reset_less s args.reset_less) (signal_shape s h args.shape) h
 
 abbrev pub signal_called : Seen → Called → Held → Answered
 signal_called s c h = signal_from s c.name (signal_arguments c) h

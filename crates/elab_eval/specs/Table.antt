@@ -13,7 +13,7 @@ use Rattle.amh_things.specs.declared.thing.Thing.{Thing}
 use Rattle.amh_things.specs.declared.thing.Thing.TheVariants as thing
 use Rattle.amh_things.specs.declared.thing.Method.TheVariants as method
 use Rattle.amh_things.specs.declared.plan.Plan.{Plan}
-use Rattle.amh_things.specs.Things.{thing_of, base_called}
+use Rattle.amh_things.specs.Things.{thing_of, base_called, layout_named}
 use Rattle.amh_things.specs.Plans.{grown_by}
 use Rattle.amh_values.specs.Acts.{acted}
 use Rattle.elab_eval.specs.declared.kept.HdlName.{HdlName}
@@ -30,7 +30,7 @@ use Rattle.elab_eval.specs.Blocks.{block_called, block_entered, block_left}
 use Rattle.amh_host.specs.declared.place.Place.{Place}
 use Rattle.elab_eval.specs.StateMachines.{part_attribute, next_stored, part_called, part_entered, part_left}
 use Rattle.elab_eval.specs.Sides.{module_attribute, domain_named, domain_given, index_name, domain_stored, deepest, equations_in, statements_added}
-use Rattle.elab_eval.specs.Libraries.{wiring_named, library_given, base_given}
+use Rattle.elab_eval.specs.Libraries.{wiring_named, library_given, thing_name_given}
 use Rattle.elab_eval.specs.Members.{member_called}
 use Rattle.elab_eval.specs.ComponentClasses.{class_answered}
 use Rattle.elab_eval.specs.Interfaces.{init_answered}
@@ -77,7 +77,8 @@ only (x ∷ y ∷ xs) = None
 -- a module of the library, and `Signal.like`
 abbrev pub name_attribute : HdlName → List ℕ → Held → Answered
 name_attribute hdl.Wiring name h = library_given (wiring_named name) h
-name_attribute hdl.Enumerations name h = base_given (base_called name) h
+name_attribute hdl.Enumerations name h = thing_name_given (base_called name) h
+name_attribute hdl.Data name h = thing_name_given (layout_named name) h
 name_attribute hdl.Signal name h = like_given name h
 name_attribute n name h = refused Raised h
 

@@ -105,6 +105,7 @@ impl Elaboration {
         match library {
             HdlName::Wiring => self.give_library(wiring_named(name)),
             HdlName::Enumerations => self.give_base(name),
+            HdlName::Data => self.give_layout(name),
             HdlName::Signal => self.give_like(name),
             _ => self.refuse(Cause::Raised),
         }

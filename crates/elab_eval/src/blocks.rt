@@ -2,13 +2,12 @@
 ghost use Rattle.std.specs.Prelude.{◌≡◌, ◌<◌, length, Some, None, IfOk, IfSome, slice_get, option_map};
 ghost use Rattle.module_dsl.specs.declared.step.Block.TheVariants as dsl;
 ghost use Rattle.py_values.specs.Heaps.{seen};
-ghost use Rattle.design_ir.specs.Values.{form};
 ghost use Rattle.amh_things.specs.Meant.{expr_meant};
-ghost use Rattle.amh_things.specs.Patterns.{patterns_meant, AreWithin};
+ghost use Rattle.amh_things.specs.Patterns.{AreWithin};
 ghost use Rattle.std.specs.Prelude.{Option as Stopped};
 ghost use Rattle.module_dsl.specs.declared.refusal.BuildStop.{BuildStop};
 ghost use Rattle.module_dsl.specs.Builders.{IsOwed};
-ghost use Rattle.elab_eval.specs.Blocks.{block_named, block_name_given, begin_with, condition_called, condition_given, plain_called, case_given, case_called, case_subject, store_with_patterns, block_called, block_of, stop_cause, entering, entered_at, block_entered, leaving, passed, block_left};
+ghost use Rattle.elab_eval.specs.Blocks.{block_named, block_name_given, begin_with, condition_called, condition_given, plain_called, case_given, case_patterns, case_called, case_subject, store_with_patterns, block_called, block_of, stop_cause, entering, entered_at, block_entered, leaving, passed, block_left};
 ghost use Rattle.elab_eval.specs.Seen.{called_of};
 ghost use Rattle.elab_eval.specs.Sound.{IsSound};
 ghost use Rattle.elab_eval.specs.Entering.{IsEntering};
@@ -20,7 +19,7 @@ use crate::calls::Called;
 use crate::kept::{Begin, BlockName, Kept};
 use crate::names::is_text;
 use crate::store::{Elaboration, Store};
-use amh_values::{PlanStop, patterns_meant};
+use amh_values::{PlanStop, all_plain, patterns_meant};
 use design_ir::{ExprId, Exprs, Patterns, Pool};
 use lists::NoMemory;
 use module_dsl::{Block, BuildStop};
@@ -183,10 +182,11 @@ impl Elaboration {
         vals: &[Val],
     ) -> Result<Answer, NoMemory>
         requires { subject.0 < length self.old.pool.exprs }
-        ensures { Gives result self.new (case_given of (patterns_meant (seen frozen.now heap.now) (form self.old.pool subject.0) vals.now) (held_of self.old)) }
+        ensures { Gives result self.new (case_given of (case_patterns (seen frozen.now heap.now) (held_of self.old) subject vals.now) (held_of self.old)) }
     {
         let shape = self.pool.shape(subject);
-        match patterns_meant(self.alloc, heap, frozen, shape, vals)? {
+        let vals = all_plain(self.alloc, &self.store.things, vals)?;
+        match patterns_meant(self.alloc, heap, frozen, shape, vals.as_slice())? {
             Some(patterns) => {
                 let number = self.store.add_patterns(patterns)?;
                 self.give_kept(Kept::Block {

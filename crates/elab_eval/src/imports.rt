@@ -6,7 +6,7 @@ ghost use Rattle.elab_eval.specs.Imports.{is_hdl, is_utils, own_named, star_name
 ghost use Rattle.elab_eval.specs.Held.{held_of, Gives};
 
 use crate::kept::{HdlName, Kept};
-use crate::libraries::{is_enum, library_named};
+use crate::libraries::{is_data, is_enum, library_named};
 use crate::names::is_text;
 use crate::store::Elaboration;
 use amh_host::Text;
@@ -116,6 +116,8 @@ impl Elaboration {
             self.import_utility(name)
         } else if is_enum(path) {
             self.give_base(name)
+        } else if is_data(path) {
+            self.give_layout(name)
         } else {
             self.give_library(library_named(path, name))
         }

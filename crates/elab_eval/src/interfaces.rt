@@ -18,6 +18,7 @@ use crate::members::{Members, NamedMember};
 use crate::names::is_name;
 use crate::store::{Elaboration, Store};
 use amh_host::Text;
+use amh_things::thing::Reading;
 use design_ir::{Expr, Exprs, PoolStop, Port, Ports, Sig, SigId};
 use lists::NoMemory;
 use py_frames::request::{Answer, Cause, NamedVal, NamedVals, Request};
@@ -195,11 +196,11 @@ fn member_signal(alloc: Global, m: &NamedMember) -> Result<Sig, NoMemory>
     ensures value { IfOk result (λ x. x ≡ member_signal m.now) }
     ensures init { IfOk result HasInit }
 {
-    let shape = m.member.shape;
+    let form = m.member.shape.form;
     Ok(Sig {
         name: copied_text(alloc, &m.name)?,
-        shape,
-        init: m.member.init.wrap(shape.width, shape.signed),
+        shape: form,
+        init: m.member.init.wrap(form.width, form.signed),
         reset_less: false,
     })
 }
@@ -230,10 +231,14 @@ fn want_of_memory(_stop: PoolStop) -> NoMemory
 }
 
 impl Elaboration {
-    /// A signal, the expression that it is and the thing that stands for it; none where a count would be passed.
-    pub(crate) fn new_signal(&mut self, x: Sig) -> Result<Option<NewSignal>, NoMemory>
+    /// A signal, the expression that it is and the thing that stands for it by what its bits are read as; none where a count would be passed.
+    pub(crate) fn new_signal(
+        &mut self,
+        reading: Reading,
+        x: Sig,
+    ) -> Result<Option<NewSignal>, NoMemory>
         requires init { HasInit x }
-        ensures { IfOk result (λ made. IsPut made x (held_of self.old) (held_of self.new)) }
+        ensures { IfOk result (λ made. IsPut made reading x (held_of self.old) (held_of self.new)) }
     {
         if self.pool.count() >= 262_144 {
             return Ok(None);
@@ -245,7 +250,7 @@ impl Elaboration {
         };
         match self.pool.expr(Expr::Sig(sig)) {
             Ok(e) => {
-                let val = self.store.hold(e)?;
+                let val = self.store.hold(reading, e)?;
                 Ok(Some(NewSignal { sig, val }))
             }
             Err(stop) => Err(want_of_memory(stop)),
@@ -279,7 +284,7 @@ impl Elaboration {
         for i in 0..members.len() {
             let m = members.get(i);
             let x = member_signal(self.alloc, m)?;
-            let Some(new) = self.new_signal(x)? else {
+            let Some(new) = self.new_signal(m.member.shape.reading, x)? else {
                 return self.refuse(Cause::Limit);
             };
             made.push(self.alloc, m, new)?;

@@ -20,6 +20,8 @@ pub enum HdlName {
     Wiring,
     /// The module `amaranth.lib.enum`.
     Enumerations,
+    /// The module `amaranth.lib.data`.
+    Data,
     In,
     Out,
     Component,

@@ -1,7 +1,7 @@
 // The modules below `amaranth.lib`.
 ghost use Rattle.std.specs.Prelude.{◌≡◌, is_some, codes};
-ghost use Rattle.elab_eval.specs.Libraries.{is_library, is_wiring, is_enum, base_given, wiring_named, module_named, library_named, library_given};
-ghost use Rattle.amh_things.specs.Things.{base_called};
+ghost use Rattle.elab_eval.specs.Libraries.{is_library, is_wiring, is_enum, is_data, thing_name_given, wiring_named, module_named, library_named, library_given};
+ghost use Rattle.amh_things.specs.Things.{base_called, layout_named};
 ghost use Rattle.elab_eval.specs.Held.{held_of, Gives};
 
 use crate::kept::{HdlName, Kept};
@@ -32,6 +32,8 @@ fn module_named(name: &str) -> Option<HdlName>
         Some(HdlName::Wiring)
     } else if is_text(name, "enum") {
         Some(HdlName::Enumerations)
+    } else if is_text(name, "data") {
+        Some(HdlName::Data)
     } else {
         None
     }
@@ -55,11 +57,27 @@ pub(crate) fn is_enum(path: &str) -> bool
     is_text(path, "amaranth.lib.enum")
 }
 
+pub(crate) fn is_data(path: &str) -> bool
+    ensures { result ≡ is_data path.now }
+{
+    is_text(path, "amaranth.lib.data")
+}
+
 // Whether a name is one over which a class makes an enumeration.
 fn is_base_name(name: &str) -> bool
     ensures { result ≡ is_some (base_called name.now) }
 {
     is_text(name, "Enum") || is_text(name, "IntEnum")
+}
+
+// Whether a name is one of a layout.
+fn is_layout_name(name: &str) -> bool
+    ensures { result ≡ is_some (layout_named name.now) }
+{
+    is_text(name, "Struct")
+        || is_text(name, "StructLayout")
+        || is_text(name, "UnionLayout")
+        || is_text(name, "ArrayLayout")
 }
 
 /// A name of a module below `amaranth`.
@@ -88,12 +106,23 @@ impl Elaboration {
 
     /// A name of `amaranth.lib.enum`.
     pub(crate) fn give_base(&mut self, name: &str) -> Result<Answer, NoMemory>
-        ensures { Gives result self.new (base_given (base_called name.now) (held_of self.old)) }
+        ensures { Gives result self.new (thing_name_given (base_called name.now) (held_of self.old)) }
     {
         if !is_base_name(name) {
             return self.refuse(Cause::Raised);
         }
         let v = self.store.base(name)?;
+        self.give(v)
+    }
+
+    /// A name of `amaranth.lib.data`.
+    pub(crate) fn give_layout(&mut self, name: &str) -> Result<Answer, NoMemory>
+        ensures { Gives result self.new (thing_name_given (layout_named name.now) (held_of self.old)) }
+    {
+        if !is_layout_name(name) {
+            return self.refuse(Cause::Raised);
+        }
+        let v = self.store.layout_name(name)?;
         self.give(v)
     }
 }

@@ -3,19 +3,21 @@ ghost use Rattle.std.specs.Prelude.{◌≡◌, ◌<◌, length, map, slice_get, 
 ghost use Rattle.std.specs.List.{list_all};
 ghost use Rattle.std.specs.Option.{option_copied};
 ghost use Rattle.py_values.specs.Heaps.{seen};
-ghost use Rattle.amh_things.specs.Meant.{form_meant};
 ghost use Rattle.elab_eval.specs.Seen.{called_of};
-ghost use Rattle.elab_eval.specs.Likes.{like_given, is_like_keyword, like_arguments, signal_in, liked_signal, own_init, own_reset_less, like_init, like_called};
+ghost use Rattle.elab_eval.specs.Likes.{like_given, is_like_keyword, like_arguments, signal_in, liked_signal, own_init, own_reset_less, like_init, own_reading, like_shape, liked_shape, like_called};
+ghost use Rattle.amh_things.specs.Things.{thing_of};
 ghost use Rattle.elab_eval.specs.Sound.{IsSound};
 ghost use Rattle.elab_eval.specs.Held.{held_of, Gives};
 
 use crate::calls::Called;
 use crate::kept::{HdlName, Kept};
 use crate::names::is_text;
-use crate::signals::{SignalArguments, number_of, signal_name, with_keywords};
-use crate::store::Elaboration;
+use crate::shapes::Shaped;
+use crate::signals::{SignalArguments, signal_name, with_keywords};
+use crate::store::{Elaboration, Store};
 use amh_bits::Int;
-use amh_values::form_meant;
+use amh_things::thing::Reading;
+use amh_values::{Thing, form_meant};
 use design_ir::{Expr, ExprId, Exprs, Sig};
 use lists::NoMemory;
 use py_frames::request::{Answer, Cause};
@@ -76,13 +78,40 @@ fn own_reset_less(signal: Option<&Sig>) -> bool
     }
 }
 
-// The number that the signal begins with, where one is given.
-fn like_init(signal: Option<&Sig>, given: Option<Val>) -> Option<Int>
-    ensures { result ≡ like_init (option_copied signal.entry) given }
+// The shape of a value, where it is one, with what its bits are read as.
+fn like_shape(reading: Reading, form: Option<Shape>) -> Result<Shaped, Cause>
+    ensures { result ≡ like_shape reading form }
 {
-    match given {
-        None | Some(Val::None) => Some(own_init(signal)),
-        Some(v) => number_of(v),
+    match form {
+        Some(form) => Ok(Shaped { form, reading }),
+        None => Err(Cause::Raised),
+    }
+}
+
+impl Store {
+    // The number that the signal begins with, where one is given.
+    fn like_init(&self, signal: Option<&Sig>, given: Option<Val>) -> Option<Int>
+        ensures { result ≡ like_init self.now.things (option_copied signal.entry) given }
+    {
+        match given {
+            None | Some(Val::None) => Some(own_init(signal)),
+            Some(v) => self.counted(&v),
+        }
+    }
+
+    // What the bits of a value are read as.
+    fn own_reading(&self, v: &Val) -> Reading
+        ensures { result ≡ own_reading (thing_of self.now.things v.now) }
+    {
+        let Val::Hw(hw) = v else {
+            return Reading::Plain;
+        };
+        match self.things.thing(*hw) {
+            Some(Thing::Numbered { of, .. }) => Reading::Numbered(*of),
+            Some(Thing::Member(m)) => Reading::Numbered(m.of),
+            Some(Thing::View { of, .. }) => Reading::Viewed(*of),
+            _ => Reading::Plain,
+        }
     }
 }
 
@@ -113,12 +142,13 @@ impl Elaboration {
         }
     }
 
-    // The shape of a value of the program.
-    fn form_meant(&self, v: &Val) -> Option<Shape>
+    // The shape of a value of the program, with what its bits are read as.
+    fn liked_shape(&self, v: &Val) -> Result<Shaped, Cause>
         requires { IsSound (held_of self.now) }
-        ensures { result ≡ form_meant (held_of self.now).pool (held_of self.now).store.things v.now }
+        ensures { result ≡ liked_shape (held_of self.now) v.now }
     {
-        form_meant(&self.pool, &self.store.things, v)
+        let form = form_meant(&self.pool, &self.store.things, v);
+        like_shape(self.store.own_reading(v), form)
     }
 
     /// `Signal.like(value, name=.., init=..)`.
@@ -140,14 +170,14 @@ impl Elaboration {
         let Some(name) = signal_name(heap, frozen, call.name, args.name) else {
             return self.refuse(Cause::Raised);
         };
-        let Some(shape) = self.form_meant(v) else {
-            return self.refuse(Cause::Raised);
-        };
         let signal = self.liked_signal(v);
         let reset_less = own_reset_less(signal);
-        match like_init(signal, args.init) {
-            Some(init) => self.put_signal(name, shape, init, reset_less),
-            None => self.refuse(Cause::Raised),
+        let Some(init) = self.store.like_init(signal, args.init) else {
+            return self.refuse(Cause::Raised);
+        };
+        match self.liked_shape(v) {
+            Ok(shape) => self.put_signal(name, shape, init, reset_less),
+            Err(why) => self.refuse(why),
         }
     }
 

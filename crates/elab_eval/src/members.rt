@@ -8,21 +8,20 @@ ghost use Rattle.elab_eval.specs.Held.{held_of, Gives};
 use crate::calls::Called;
 use crate::kept::Kept;
 use crate::names::is_text;
-use crate::signals::number_of;
-use crate::store::Elaboration;
+use crate::shapes::Shaped;
+use crate::store::{Elaboration, Store};
 use amh_bits::Int;
 use amh_host::{Items, Text};
 use lists::NoMemory;
 use py_frames::request::{Answer, Cause};
 use py_values::{Frozen, Heap, ObjId, Val};
-use shape_rules::Shape;
 use std::alloc::Global;
 
 /// What `In(shape, init=n)` and `Out(shape, init=n)` give. The signal of a member has the number wrapped to the shape.
 #[derive(Clone, Copy, Debug, PartialEq, Eq, Drop)]
 pub struct Member {
     pub is_out: bool,
-    pub shape: Shape,
+    pub shape: Shaped,
     pub init: Int,
 }
 
@@ -54,30 +53,32 @@ impl NamedMember {
     }
 }
 
-// A number, and 0 for None.
-fn init_given(v: Val) -> Option<Int>
-    ensures { result ≡ init_given v }
-{
-    match v {
-        Val::None => Some(Int::of_u128(0)),
-        _ => number_of(v),
-    }
-}
-
-// `init` is the only keyword.
-fn member_init(keywords: &[String], vals: &[Val]) -> Option<Int>
-    ensures { result ≡ member_init (map string_bytes keywords.now) vals.now }
-{
-    match (keywords, vals) {
-        ([], _) => Some(Int::of_u128(0)),
-        ([name], [v]) => {
-            if is_text(name.as_str(), "init") {
-                init_given(*v)
-            } else {
-                None
-            }
+impl Store {
+    // A number, or a member of an enumeration as its number; and 0 for None.
+    fn init_given(&self, v: &Val) -> Option<Int>
+        ensures { result ≡ init_given self.now.things v.now }
+    {
+        match v {
+            Val::None => Some(Int::of_u128(0)),
+            _ => self.counted(v),
         }
-        _ => None,
+    }
+
+    // `init` is the only keyword.
+    fn member_init(&self, keywords: &[String], vals: &[Val]) -> Option<Int>
+        ensures { result ≡ member_init self.now.things (map string_bytes keywords.now) vals.now }
+    {
+        match (keywords, vals) {
+            ([], _) => Some(Int::of_u128(0)),
+            ([name], [v]) => {
+                if is_text(name.as_str(), "init") {
+                    self.init_given(v)
+                } else {
+                    None
+                }
+            }
+            _ => None,
+        }
     }
 }
 
@@ -87,7 +88,7 @@ impl Elaboration {
         &mut self,
         is_out: bool,
         init: Option<Int>,
-        shape: Result<Shape, Cause>,
+        shape: Result<Shaped, Cause>,
     ) -> Result<Answer, NoMemory>
         ensures { Gives result self.new (member_said is_out init shape (held_of self.old)) }
     {
@@ -112,10 +113,10 @@ impl Elaboration {
     ) -> Result<Answer, NoMemory>
         ensures { Gives result self.new (member_called (seen frozen.now heap.now) is_out (called_of call.now) (held_of self.old)) }
     {
-        let init = member_init(call.keywords, call.keyword_vals);
+        let init = self.store.member_init(call.keywords, call.keyword_vals);
         match call.placed {
             [v] => {
-                let shape = self.store.shape_meant(heap, frozen, v);
+                let shape = self.store.shaped_meant(heap, frozen, v);
                 self.give_member(is_out, init, shape)
             }
             _ => self.refuse(Cause::Raised),

@@ -2,21 +2,22 @@
 ghost use Rattle.std.specs.Prelude.{◌≡◌, ◌<◌, length, map, drop, string_bytes, Some, None, IfOk, option_map, option_and_then};
 ghost use Rattle.std.specs.Option.{option_copied};
 ghost use Rattle.py_values.specs.Heaps.{seen};
-ghost use Rattle.py_values.specs.Numbers.{number_of};
 ghost use Rattle.design_ir.specs.declared.expr.Expr.TheVariants as expr;
 ghost use Rattle.design_ir.specs.PoolRules.{expr_added};
 ghost use Rattle.amh_things.specs.declared.thing.Thing.TheVariants as thing;
 ghost use Rattle.elab_eval.specs.Stores.{thing_given};
 ghost use Rattle.elab_eval.specs.Seen.{called_of};
-ghost use Rattle.elab_eval.specs.Signals.{module_called, with_module, no_arguments, once, formed, with_keyword, with_keywords, placed_arguments, signal_arguments, call_name, signal_name, signal_init, signal_reset_less, signal_passes, signal_of, signal_given, signal_shaped, signal_said, signal_form, signal_from, signal_called};
+ghost use Rattle.elab_eval.specs.Signals.{module_called, with_module, no_arguments, once, formed, with_keyword, with_keywords, placed_arguments, signal_arguments, call_name, signal_name, signal_init, signal_reset_less, signal_passes, signal_of, signal_given, signal_shaped, signal_said, signal_shape, signal_from, signal_called};
 ghost use Rattle.elab_eval.specs.Held.{held_of, Gives};
 
 use crate::calls::Called;
 use crate::kept::Kept;
 use crate::names::{is_name, is_text};
+use crate::shapes::Shaped;
 use crate::store::Elaboration;
 use amh_bits::Int;
 use amh_host::Text;
+use amh_things::thing::Reading;
 use design_ir::Sig;
 use lists::NoMemory;
 use py_frames::request::{Answer, Cause};
@@ -156,26 +157,6 @@ pub(crate) fn signal_name<'a>(
     }
 }
 
-// The number that a value is.
-pub(crate) fn number_of(v: Val) -> Option<Int>
-    ensures { result ≡ number_of v }
-{
-    match v {
-        Val::Bool(b) => Some(Int::of_u128(if b { 1 } else { 0 })),
-        Val::Int(n) => Some(n),
-        _ => None,
-    }
-}
-
-fn signal_init(given: Option<Val>) -> Option<Int>
-    ensures { result ≡ signal_init given }
-{
-    match given {
-        None => Some(Int::of_u128(0)),
-        Some(v) => number_of(v),
-    }
-}
-
 fn signal_reset_less(heap: &Heap, frozen: &Frozen, given: Option<Val>) -> Option<bool>
     ensures { result ≡ signal_reset_less (seen frozen.now heap.now) given }
 {
@@ -212,28 +193,46 @@ impl Elaboration {
         let Some(name) = signal_name(heap, frozen, call.name, args.name) else {
             return self.refuse(Cause::Raised);
         };
-        let Some(init) = signal_init(args.init) else {
+        let Some(init) = self.signal_init(args.init) else {
             return self.refuse(Cause::Raised);
         };
         let Some(reset_less) = signal_reset_less(heap, frozen, args.reset_less) else {
             return self.refuse(Cause::Raised);
         };
-        match self.signal_form(heap, frozen, args.shape) {
+        match self.signal_shape(heap, frozen, args.shape) {
             Ok(shape) => self.put_signal(name, shape, init, reset_less),
             Err(why) => self.refuse(why),
         }
     }
 
-    // The shape of a signal.
-    fn signal_form(&self, heap: &Heap, frozen: &Frozen, given: Option<Val>) -> Result<Shape, Cause>
-        ensures { result ≡ signal_form (seen frozen.now heap.now) (held_of self.now) given }
+    // The number that a signal begins with.
+    fn signal_init(&self, given: Option<Val>) -> Option<Int>
+        ensures { result ≡ signal_init (held_of self.now).store.things given }
     {
         match given {
-            None => Ok(Shape {
-                width: 1,
-                signed: false,
+            None => Some(Int::of_u128(0)),
+            Some(v) => self.store.counted(&v),
+        }
+    }
+
+    // The shape of a signal.
+    fn signal_shape(
+        &self,
+        heap: &Heap,
+        frozen: &Frozen,
+        given: Option<Val>,
+    ) -> Result<Shaped, Cause>
+        ensures { result ≡ signal_shape (seen frozen.now heap.now) (held_of self.now) given }
+    {
+        match given {
+            None => Ok(Shaped {
+                form: Shape {
+                    width: 1,
+                    signed: false,
+                },
+                reading: Reading::Plain,
             }),
-            Some(v) => self.store.shape_meant(heap, frozen, &v),
+            Some(v) => self.store.shaped_meant(heap, frozen, &v),
         }
     }
 
@@ -241,21 +240,22 @@ impl Elaboration {
     pub(crate) fn put_signal(
         &mut self,
         name: &str,
-        shape: Shape,
+        shape: Shaped,
         init: Int,
         reset_less: bool,
     ) -> Result<Answer, NoMemory>
-        ensures { Gives result self.new (signal_given (signal_of name.now shape init reset_less) (held_of self.old)) }
+        ensures { Gives result self.new (signal_given shape.reading (signal_of name.now shape.form init reset_less) (held_of self.old)) }
     {
         let mut copy = Text::new(self.alloc);
         copy.push(name)?;
+        let form = shape.form;
         let sig = Sig {
             name: copy,
-            shape,
-            init: init.wrap(shape.width, shape.signed),
+            shape: form,
+            init: init.wrap(form.width, form.signed),
             reset_less,
         };
-        match self.new_signal(sig)? {
+        match self.new_signal(shape.reading, sig)? {
             Some(new) => self.give(new.val),
             None => self.refuse(Cause::Limit),
         }

@@ -14,6 +14,7 @@ use crate::machine_moves::Action;
 use crate::names::{is_name, is_text};
 use crate::store::Elaboration;
 use amh_host::Place;
+use amh_things::thing::Reading;
 use design_ir::{ExprId, Exprs};
 use fsm_lowering::{Fsm, FsmStop};
 use lists::NoMemory;
@@ -479,7 +480,7 @@ impl Elaboration {
             .ask_machine(&mut self.pool, number, heap.text(frozen, name), place)?;
         match why {
             None => {
-                let v = self.store.hold(e)?;
+                let v = self.store.hold(Reading::Plain, e)?;
                 self.give(v)
             }
             Some(stop) => self.tell_stop(stop, place),

@@ -3,10 +3,11 @@ ghost use Rattle.std.specs.Prelude.{◌≡◌, ◌++◌, ◌∷◌, [], length, 
 ghost use Rattle.py_values.specs.Heaps.{seen};
 ghost use Rattle.py_values.specs.declared.val.Val.TheVariants as val;
 ghost use Rattle.amh_things.specs.declared.thing.Thing.TheVariants as thing;
-ghost use Rattle.amh_things.specs.Things.{name_called, thing_of, base_called};
+ghost use Rattle.amh_things.specs.Things.{name_called, thing_of, base_called, layout_named, read_as};
 ghost use Rattle.elab_eval.specs.Table.{equated_by};
 ghost use Rattle.amh_things.specs.Meant.{shape_meant, expr_meant, Gives as Meant};
 ghost use Rattle.amh_things.specs.Held.{AreHeld};
+ghost use Rattle.amh_things.specs.Members.{counted};
 ghost use Rattle.elab_eval.specs.Signals.{store_and_module};
 ghost use Rattle.elab_eval.specs.Components.{no_components};
 ghost use Rattle.elab_eval.specs.Stores.{nothing_held, no_top, kept_of, store_with, store_keeping, kept_given, given, refused, refused_at};
@@ -17,8 +18,11 @@ use crate::components::Components;
 use crate::kept::{Kept, Top};
 use crate::state_machines::OwnMachine;
 use crate::tops::first_object;
+use amh_bits::Int;
 use amh_host::Place;
-use amh_values::{Method, PlanStop, Thing, Values, expr_meant, shape_meant};
+use amh_things::plan::read_as;
+use amh_things::thing::Reading;
+use amh_values::{Method, PlanStop, Thing, Values, counted, expr_meant, shape_meant};
 use design_ir::{ExprId, Patterns, Pool};
 use lists::NoMemory;
 use module_dsl::Builder;
@@ -107,6 +111,22 @@ impl Store {
         Ok(Val::Hw(hw))
     }
 
+    /// A name of a layout, as a thing.
+    pub(crate) fn layout_name(&mut self, name: &str) -> Result<Val, NoMemory>
+        requires { IsSome (layout_named name.now) }
+        ensures { IfOk result (λ v. (v ≡ val.Hw (record { 0 = length self.old.things })) × (Some self.new ≡ option_map (λ n. store_with (thing.Name n) self.old) (layout_named name.now))) }
+    {
+        let hw = self.things.layout_name(name)?;
+        Ok(Val::Hw(hw))
+    }
+
+    /// The number that a value of the program is, a member of an enumeration too.
+    pub(crate) fn counted(&self, v: &Val) -> Option<Int>
+        ensures { result ≡ counted self.now.things v.now }
+    {
+        counted(&self.things, v)
+    }
+
     /// The expression that a value of the program is.
     pub(crate) fn value_meant(
         &self,
@@ -127,11 +147,11 @@ impl Store {
         shape_meant(&self.things, heap, frozen, v)
     }
 
-    /// The value of an expression, as a new thing.
-    pub(crate) fn hold(&mut self, e: ExprId) -> Result<Val, NoMemory>
-        ensures { IfOk result (λ v. (v ≡ val.Hw (record { 0 = length self.old.things })) × (self.new ≡ store_with (thing.Value e) self.old)) }
+    /// The value of an expression by what its bits are read as, as a new thing.
+    pub(crate) fn hold(&mut self, reading: Reading, e: ExprId) -> Result<Val, NoMemory>
+        ensures { IfOk result (λ v. (v ≡ val.Hw (record { 0 = length self.old.things })) × (self.new ≡ store_with (read_as reading e) self.old)) }
     {
-        let hw = self.things.hold(e, None)?;
+        let hw = self.things.put(read_as(reading, e))?;
         Ok(Val::Hw(hw))
     }
 

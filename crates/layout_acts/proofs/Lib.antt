@@ -1,1 +1,5 @@
 pub mod EnumerationLaws
+pub mod StructLaws
+pub mod ViewLaws
+pub mod ReadLaws
+pub mod WithinLaws

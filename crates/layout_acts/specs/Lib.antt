@@ -1,1 +1,6 @@
 pub mod Enumerations
+pub mod Names
+pub mod Layouts
+pub mod StructClasses
+pub mod Views
+pub mod Laws

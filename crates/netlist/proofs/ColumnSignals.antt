@@ -24,7 +24,7 @@ or-false : (a b : Bool) → (a || b) ≡ false → (a ≡ false) × (b ≡ false
 or-false true b e = absurd (false≢true (sym e))
 or-false false b e = (refl, e)
 
-and-false : (a : Bool) → (a && false) ≡ false
+pub and-false : (a : Bool) → (a && false) ≡ false
 and-false true = refl
 and-false false = refl
 
@@ -110,7 +110,7 @@ input_side (p ∷ ps) k s h = by (input_side ps k s h.1) (p.sig.0 == s) refl
 
 -- ---- what is given for columns, or for the signals that they show
 
-abbrev of_column : (Column → List Source) → Option Column → List Source
+abbrev pub of_column : (Column → List Source) → Option Column → List Source
 of_column f None = []
 of_column f (Some x) = f x
 
@@ -134,7 +134,7 @@ of_first f x xs h s = by (x.sig.0 == s) refl
     by true t = sym (ap (λ (o : Option Column). f x ++ of_column f o) (ap (λ j. column_at j xs) (sym (eqb-true x.sig.0 s t)) ∙ none_apart xs x.sig.0 h) ∙ append-nil (f x))
     by false t = refl
 
-gathered : (f : Column → List Source) (n : ℕ) (xs : List Column) → IsDistinct nat_eq (column_signals xs) → AllByRecursion (λ (x : Column). x.sig.0 < n) xs → IsPermutation (flat_map f xs) (flat_map (λ s. of_column f (column_at s xs)) (range_with_len 0 n))
+pub gathered : (f : Column → List Source) (n : ℕ) (xs : List Column) → IsDistinct nat_eq (column_signals xs) → AllByRecursion (λ (x : Column). x.sig.0 < n) xs → IsPermutation (flat_map f xs) (flat_map (λ s. of_column f (column_at s xs)) (range_with_len 0 n))
 unfolding IsDistinct
 gathered f n [] d h = subst (IsPermutation []) (sym (empty (range_with_len 0 n))) (IsPermutation-refl [])
   where

@@ -26,7 +26,7 @@ module _ (c : Circuit) (flat : c.memories ≡ []) where
       (ap (λ (ms : List Memory). map (driven_by c) c.processes ++ flat_map (λ (m : Memory). map (λ (r : MemRead). r.word.0 ∷ []) m.reads) ms) flat ∙ append-nil (map (driven_by c) c.processes))
       d.one_driver
 
-  no_memory_register : (s : ℕ) → is_register c s ≡ (list_any (clocks_it (driven_by c) s) c.processes || false)
+  pub no_memory_register : (s : ℕ) → is_register c s ≡ (list_any (clocks_it (driven_by c) s) c.processes || false)
   no_memory_register s =
       ap (λ (ms : List Memory). list_any (clocks_it (driven_by c) s) c.processes || list_any (λ (m : Memory). list_any (λ (r : MemRead). is_some r.domain && (r.word.0 == s)) m.reads) ms) flat
 

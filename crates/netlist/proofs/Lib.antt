@@ -103,3 +103,5 @@ pub mod LowerDomains
 pub mod LowerWires
 pub mod LowerModule
 pub mod FlatModules
+pub mod FirstBits
+pub mod FirstValues

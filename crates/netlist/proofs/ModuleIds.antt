@@ -1,7 +1,7 @@
 -- All ids of the module of a design: they are ids of the text's form, and no two are the same.
-use Rattle.std.specs.Prelude.{◌≡◌, ◌≢◌, ◌<◌, ◌+◌, ◌*◌, ◌^◌, ◌&&◌, nat_lt, ℕ, zero, suc, Bool, true, false, List, [], ◌∷◌, ◌++◌, map, length, IsPermutation, All, is_none, codes, slice_get}
+use Rattle.std.specs.Prelude.{◌≡◌, ◌≢◌, ◌<◌, ◌+◌, ◌*◌, ◌^◌, ◌&&◌, nat_lt, ℕ, zero, suc, Bool, true, false, List, [], ◌∷◌, ◌++◌, map, length, IsPermutation, All, is_none, slice_get}
 use Rattle.std.specs.List.{flat_map, range_with_len, AllByRecursion, IsDistinct}
-use Rattle.std.proofs.Common.{refl, sym, ap, ◌∙◌, arith, subst, append_assoc, append-nil, get_or, inl, inr}
+use Rattle.std.proofs.Common.{refl, sym, ap, ◌∙◌, arith, subst, append_assoc, append-nil, inl, inr}
 use Rattle.std.proofs.lemmas.Bool.{cond_both}
 use Rattle.std.proofs.lemmas.List.{map-append}
 use Rattle.std.proofs.lemmas.List.Concat.{flat_map-append}
@@ -9,7 +9,7 @@ use Rattle.std.proofs.lemmas.List.Elements.{All-nil, All-cons, All-append}
 use Rattle.std.proofs.lemmas.List.Sorted.{IsPermutation-refl, IsPermutation-trans, IsPermutation-sym, IsPermutation-append, IsPermutation-append_right, All-permutation}
 use Rattle.std.proofs.lemmas.Map.Keys.{IsDistinct-IsPermutation}
 use Rattle.std.proofs.lemmas.Map.Made.{AllPairs-from_IsDistinct}
-use Rattle.lists.specs.Names as names
+use Rattle.lists.specs.Names.{IsPublicName}
 use Rattle.lists.specs.Texts.{text_eq}
 use Rattle.lists.proofs.TextLaws.{text_eq_true, text_eq_same}
 use Rattle.design_ir.specs.declared.port.Column.{Column}
@@ -20,7 +20,7 @@ use Rattle.design_ir.specs.Designs.{IsDesign}
 use Rattle.rtlil_text.specs.declared.cell.RtlCell.{RtlCell}
 use Rattle.rtlil_text.specs.declared.module.RtlWire.{RtlWire}
 use Rattle.rtlil_text.specs.declared.module.WirePort.TheVariants.{Inner}
-use Rattle.rtlil_text.specs.Ids.{AreDistinct, IsId, IsName, IsPublicName, dotted}
+use Rattle.rtlil_text.specs.Ids.{AreDistinct, IsId}
 use Rattle.rtlil_text.specs.Rules.{module_ids}
 use Rattle.netlist.specs.Ids.{inner_id, signal_id, value_id, part_id, step_id}
 use Rattle.netlist.specs.Operators.{Drawing, inner_wire}
@@ -28,6 +28,7 @@ use Rattle.netlist.specs.Expressions.{part_total}
 use Rattle.netlist.specs.Module.{public_id, column_of, first_value, column_wires, signal_wires, expr_wires, drawings, signal_drawing, all_drawings, module_of}
 use Rattle.netlist.proofs.Permuted.{IsPermutation-flat_map}
 use Rattle.rtlil_text.proofs.Among.{AllByRecursion-append}
+use Rattle.rtlil_text.proofs.Numerals.{numeral_is_decimal}
 use Rattle.netlist.proofs.Fresh.{Apart, Within, Apart-append, Apart-map, IsFresh, IsFresh-append, inner_id-differ}
 use Rattle.netlist.proofs.Drives.{drawing_ids, fresh_none}
 use Rattle.netlist.proofs.ManyDrawn.{drawn_from_are}
@@ -143,21 +144,6 @@ public_distinct (x ∷ xs) ns h k = (AllByRecursion-append (λ y. text_eq (publi
     inner : (ms : List ℕ) → AllByRecursion (λ y. text_eq (public_id x) y ≡ false) (map inner_id ms)
     inner [] = tt
     inner (m ∷ ms) = (refl, inner ms)
-
--- ---- a name of a column is a name of the text
-
-is_name : (name : List ℕ) → names.IsName name → IsName name
-is_name name n = record { first = n.first; rest = n.rest; whole = n.whole; starts = n.starts; continues = n.continues }
-
-are_names : (xs : List (List ℕ)) → All names.IsName xs → All IsName xs
-are_names xs h = λ i d lt. is_name (get_or xs i d) (h i d lt)
-
-dots : (a : List ℕ) (more : List (List ℕ)) → names.dotted a more ≡ dotted a more
-dots a [] = refl
-dots a (b ∷ more) = ap (λ r. a ++ (codes "." ++ r)) (dots b more)
-
-is_public : (name : List ℕ) → names.IsPublicName name → IsPublicName name
-is_public name n = record { name = n.name; more = n.more; suffix = n.suffix; first = is_name n.name n.first; others = are_names n.more n.others; ends = n.ends; whole = n.whole ∙ ap (λ r. r ++ n.suffix) (dots n.name n.more) }
 
 -- ---- the ids of wires in a row
 
@@ -291,13 +277,13 @@ module _ (c : Circuit) where
     module_ids-are h =
         let g = has_ids in
         let A = map public_id (map (λ (x : Column). x.name) c.columns) in
-        let all : All IsId (A ++ map inner_id g.numbers) = All-append IsId A (map inner_id g.numbers) (publics c.columns h.columns.name_forms) (inners g.numbers) in
+        let all : All IsId (A ++ map inner_id g.numbers) = All-append IsId A (map inner_id g.numbers) (publics c.columns h.columns.name_forms) (inners g.numbers g.below) in
         All-permutation IsId (A ++ map inner_id g.numbers) (module_ids (module_of c)) (IsPermutation-sym (module_ids (module_of c)) (A ++ map inner_id g.numbers) g.same) all
       where
-        publics : (xs : List Column) → AllByRecursion (λ (x : Column). names.IsPublicName x.name) xs → All IsId (map public_id (map (λ (x : Column). x.name) xs))
+        publics : (xs : List Column) → AllByRecursion (λ (x : Column). IsPublicName x.name) xs → All IsId (map public_id (map (λ (x : Column). x.name) xs))
         publics [] k = All-nil IsId
-        publics (x ∷ xs) k = All-cons IsId (public_id x.name) (map public_id (map (λ (y : Column). y.name) xs)) (inl (x.name, is_public x.name k.0, refl)) (publics xs k.1)
+        publics (x ∷ xs) k = All-cons IsId (public_id x.name) (map public_id (map (λ (y : Column). y.name) xs)) (inl (x.name, k.0, refl)) (publics xs k.1)
 
-        inners : (ns : List ℕ) → All IsId (map inner_id ns)
-        inners [] = All-nil IsId
-        inners (n ∷ ns) = All-cons IsId (inner_id n) (map inner_id ns) (inr (n, refl)) (inners ns)
+        inners : (ns : List ℕ) → Below ns → All IsId (map inner_id ns)
+        inners [] k = All-nil IsId
+        inners (n ∷ ns) k = All-cons IsId (inner_id n) (map inner_id ns) (inr (n, ap (λ ds. 36 ∷ ds) (sym (numeral_is_decimal n k.0)))) (inners ns k.1)

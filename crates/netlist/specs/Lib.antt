@@ -15,6 +15,7 @@ pub mod Tables
 pub mod PoolsDrawn
 pub mod Drives
 pub mod Corresponds
+pub mod FirstValues
 pub mod Plain
 pub mod Beyond
 pub mod Histories

@@ -9,6 +9,7 @@ ghost use Rattle.rtlil_text.specs.Rules.{IsModule};
 ghost use Rattle.netlist.specs.Expressions.{part_total};
 ghost use Rattle.netlist.specs.Module.{column_wires, signal_wires, expr_wires, module_of};
 ghost use Rattle.netlist.specs.Corresponds.{Corresponds};
+ghost use Rattle.netlist.specs.FirstValues.{HasFirstValues};
 ghost use Rattle.netlist.specs.Histories.{SameHistory};
 ghost use Rattle.netlist.specs.Made.{HasByteStride};
 ghost use Rattle.netlist.specs.Plain.{IsPlain};
@@ -28,13 +29,15 @@ use rtlil_text::{RtlModule, RtlWire};
 use std::alloc::Global;
 
 /// The module of a design that has no memories. It keeps the rules of RTLIL text, has the design's columns, and has the
-/// design's history over all legal events, with a value on every bit of every wire. Choices become multiplexers, and so do
+/// design's history over all legal events, with a value on every bit of every wire. Wires have first values where registers
+/// drive them, and nowhere else. Choices become multiplexers, and so do
 /// targets with computed offsets and indices. Cells whose bits need each other in turn are cut into cells of one bit.
 pub fn lower(alloc: Global, design: &Design, ranks: &Ranks) -> Result<RtlModule, NoMemory>
     requires flat { design.now.memories ≡ [] }
     requires ranked { IsRanking design.now ranks.now }
     ensures rules { IfOk result IsModule }
     ensures corresponds { IfOk result (Corresponds design.now) }
+    ensures begins { IfOk result (HasFirstValues design.now) }
     ensures history { IfOk result (SameHistory design.now) }
 {
     flat_keeps_orders();
@@ -53,6 +56,7 @@ fn lower_plain(alloc: Global, design: &Design, ranks: &Ranks) -> Result<RtlModul
     requires ordered { IsOrder design.now (map bit_of ranks.now.order) }
     ensures rules { IfOk result IsModule }
     ensures corresponds { IfOk result (Corresponds design.now) }
+    ensures begins { IfOk result (HasFirstValues design.now) }
     ensures history { IfOk result (SameHistory design.now) }
 {
     modules_have_the_history();
@@ -91,6 +95,7 @@ pub(crate) fn draw(alloc: Global, design: &Design) -> Result<RtlModule, NoMemory
     ensures module { IfOk result (λ m. (m ≡ module_of design.now) × (part_total design.now.pool.exprs < 10 ^ 63)) }
     ensures sound { IfOk result IsModule }
     ensures columns { IfOk result (Corresponds design.now) }
+    ensures begins { IfOk result (HasFirstValues design.now) }
 {
     let _ = design.count();
     let _ = design.processes();

@@ -1,14 +1,15 @@
 -- One AND gate: its text, and what it does.
 use Rattle.std.proofs.Common.{◌≡◌, refl, subst, ℕ, Bool, true, false, List, [], ◌∷◌, map, codes, All, inl, inr, arith, IsTrue}
 use Rattle.std.specs.Prelude.{Some, None, Contains}
-use Rattle.std.specs.Fmt.{digits}
+use Rattle.rtlil_text.specs.Numerals.{numeral}
 use Rattle.std.proofs.lemmas.List.Elements.{All-from_recursion, All-nil}
 use Rattle.rtlil_text.specs.declared.cell.RtlParameter.{RtlParameter}
 use Rattle.rtlil_text.specs.declared.cell.RtlEnd.{RtlEnd}
 use Rattle.rtlil_text.specs.declared.module.WirePort.{WirePort}
 use Rattle.rtlil_text.specs.declared.module.WirePort.TheVariants.{Inner, Input, Output}
 use Rattle.rtlil_text.specs.declared.module.RtlWire.{RtlWire}
-use Rattle.rtlil_text.specs.Ids.{IsId, IsPublicId, IsName, starts_name, continues_name}
+use Rattle.lists.specs.Names.{IsName, starts_name, continues_name}
+use Rattle.rtlil_text.specs.Ids.{IsId, IsPublicId}
 use Rattle.rtlil_text.specs.Rules.{IsModule, ValueFits, SpecFits, PartFits, WireFits, CellFits, LinkFits, module_ids}
 use Rattle.rtlil_text.specs.MemoryRules.{MemoryFits}
 use Rattle.rtlil_text.specs.Reads.{Reads}
@@ -30,7 +31,7 @@ pub public : (letter : ℕ) → IsTrue (starts_name letter) → IsId (92 ∷ let
 public letter h = inl (public_letter letter h)
 
 gate_ids : All IsId (module_ids gate)
-unfolding gate digits
+unfolding gate numeral
 gate_ids = All-from_recursion IsId (module_ids gate) (public 97 refl, (public 98 refl, (public 121 refl, (inr (1, refl), (inr (2, refl), tt)))))
 
 -- a wire of one bit, whole
@@ -74,7 +75,7 @@ gate_text =
     codes "attribute \\top 1\nmodule \\top\n  wire width 1 input 1 \\a\n  wire width 1 input 2 \\b\n  wire width 1 output 3 \\y\n  wire width 1 $1\n  cell $and $2\n    parameter \\A_SIGNED 0\n    parameter \\A_WIDTH 1\n    parameter \\B_SIGNED 0\n    parameter \\B_WIDTH 1\n    parameter \\Y_WIDTH 1\n    connect \\A \\a\n    connect \\B \\b\n    connect \\Y $1\n  end\n  connect \\y $1\nend\n"
 
 gate_text_is : module_text (width_among gate.wires) gate ≡ gate_text
-unfolding gate gate_text digits
+unfolding gate gate_text numeral
 gate_text_is = refl
 
 -- the text stands for the module

@@ -3,10 +3,13 @@ use Rattle.std.proofs.Common.{◌≡◌, ◌⊎◌, ◌≤◌, ◌∷◌, [], �
 use Rattle.std.specs.Prelude.{nat_le}
 use Rattle.std.specs.List.{AllByRecursion}
 use Rattle.std.specs.Fmt.{decimal}
+use Rattle.rtlil_text.specs.Numerals.{numeral}
 use Rattle.std.proofs.lemmas.Bool.{eqb-true, leb-true, false≢true}
 use Rattle.std.proofs.lemmas.List.Elements.{recursion_from_All}
-use Rattle.rtlil_text.specs.Ids.{is_between, starts_name, continues_name, IsName, dotted, IsSuffix, IsPublicName, IsPublicId, IsInnerId, IsId}
-use Rattle.rtlil_text.proofs.Words.{IsWord, IsWord-append, IsWord-decimal}
+use Rattle.lists.specs.Names.{is_between, starts_name, continues_name, IsName, dotted, IsSuffix, IsPublicName}
+use Rattle.rtlil_text.specs.Ids.{IsPublicId, IsInnerId, IsId}
+use Rattle.rtlil_text.proofs.Words.{IsWord, IsWord-append}
+use Rattle.rtlil_text.proofs.Numerals.{IsWord-numeral, IsWord-decimal}
 use Rattle.rtlil_text.proofs.SpecOnce.{IsIdText}
 
 bool_or : (a b : Bool) → (a || b) ≡ true → (a ≡ true) ⊎ (b ≡ true)
@@ -57,8 +60,8 @@ IsIdText-public id h =
 
 IsIdText-inner : (id : List ℕ) → IsInnerId id → IsIdText id
 IsIdText-inner id h =
-    let w : IsWord (36 ∷ decimal h.0) = (omega arith, IsWord-decimal h.0) in
-    record { word = subst IsWord (sym h.1) w; begins = record { first = 36; rest = decimal h.0; such = inr refl; is = h.1 } }
+    let w : IsWord (36 ∷ numeral h.0) = (omega arith, IsWord-numeral h.0) in
+    record { word = subst IsWord (sym h.1) w; begins = record { first = 36; rest = numeral h.0; such = inr refl; is = h.1 } }
 
 pub IsIdText-id : (id : List ℕ) → IsId id → IsIdText id
 IsIdText-id id h = ⊎_elim (IsIdText-public id) (IsIdText-inner id) h

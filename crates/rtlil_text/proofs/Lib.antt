@@ -8,6 +8,7 @@ pub mod CellSanity
 pub mod Distinct
 pub mod Found
 pub mod GateSanity
+pub mod InitSanity
 pub mod HistorySanity
 pub mod MemorySanity
 pub mod Depth
@@ -17,6 +18,7 @@ pub mod Enough
 pub mod Added
 pub mod CellLaws
 pub mod Words
+pub mod Numerals
 pub mod SpecOnce
 pub mod ModuleOnce
 pub mod IdText

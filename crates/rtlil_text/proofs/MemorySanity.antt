@@ -1,7 +1,7 @@
 -- A memory of three rows with two writes and two reads: it keeps the rules, and its bits are worked out by hand.
 use Rattle.std.proofs.Common.{◌≡◌, ◌∙◌, refl, sym, ℕ, zero, suc, ◌≤◌, Bool, true, false, List, [], ◌∷◌, map, codes, All, inr, arith}
 use Rattle.std.specs.Prelude.{Option, Some, None, Contains, slice_get, MatchOption}
-use Rattle.std.specs.Fmt.{digits}
+use Rattle.rtlil_text.specs.Numerals.{numeral}
 use Rattle.std.proofs.lemmas.List.Elements.{All-from_recursion, All-nil}
 use Rattle.shape_rules.specs.declared.cell.CellKind.TheVariants.{MemoryRead, MemoryWrite, MemoryInit}
 use Rattle.rtlil_text.specs.declared.sig.SigPart.{SigPart}
@@ -140,7 +140,7 @@ ram_of : RtlModule
 ram_of = ram (two true true)
 
 ram_ids : All IsId (module_ids ram_of)
-unfolding ram_of ram digits
+unfolding ram_of ram numeral
 ram_ids = All-from_recursion IsId (module_ids ram_of)
     (public 99 refl, (public 97 refl, (public 100 refl, (public 101 refl, (public 102 refl, (public 114 refl, (public 110 refl, (public 113 refl, (public 112 refl, (public 109 refl, (inr (1, refl), (inr (2, refl), (inr (3, refl), (inr (4, refl), (inr (5, refl), tt)))))))))))))))
 

@@ -1,9 +1,8 @@
 -- A text stands for one module at most.
-use Rattle.std.proofs.Common.{◌≡◌, ◌∙◌, ◌⊎◌, ◌<◌, ◌^◌, ◌==◌, ◌||◌, ℕ, Bool, true, false, List, [], ◌∷◌, ◌++◌, codes, refl, sym, ap, arith, inl, inr, ⊎_elim, append_assoc}
+use Rattle.std.proofs.Common.{◌≡◌, ◌∙◌, ◌⊎◌, ◌<◌, ◌==◌, ◌||◌, ℕ, Bool, true, false, List, [], ◌∷◌, ◌++◌, codes, refl, sym, ap, arith, inl, inr, ⊎_elim, append_assoc}
 use Rattle.std.specs.Prelude.{Option, None, Some}
 use Rattle.std.specs.List.{flat_map, AllByRecursion}
-use Rattle.std.specs.Fmt.{decimal}
-use Rattle.std.proofs.lemmas.Fmt.{decimal_injective}
+use Rattle.rtlil_text.specs.Numerals.{numeral}
 use Rattle.std.proofs.lemmas.Bool.{true≢false, false≢true}
 use Rattle.rtlil_text.specs.declared.module.WirePort.{WirePort}
 use Rattle.rtlil_text.specs.declared.module.WirePort.TheVariants.{Inner, Input, Output}
@@ -11,7 +10,8 @@ use Rattle.rtlil_text.specs.declared.module.RtlWire.{RtlWire}
 use Rattle.rtlil_text.specs.declared.module.RtlMemory.{RtlMemory}
 use Rattle.rtlil_text.specs.Lines.{const_text, init_line, init_text, port_text, wire_line, wire_text, memory_text}
 use Rattle.rtlil_text.specs.Grammar.{Each}
-use Rattle.rtlil_text.proofs.Words.{IsWord, append-cancel, word-cut, IsWord-decimal}
+use Rattle.rtlil_text.proofs.Words.{IsWord, append-cancel, word-cut}
+use Rattle.rtlil_text.proofs.Numerals.{IsWord-numeral, numeral-injective}
 use Rattle.rtlil_text.proofs.SpecOnce.{IsIdText, IsWord-const_text, const_text-injective}
 
 -- ---- things one after another, each of which is read in one way
@@ -50,43 +50,34 @@ is_third c [] = false
 memory_spread : (p a q b w d r : List ℕ) → (p ++ (a ++ (q ++ (b ++ (w ++ (d ++ (10 ∷ []))))))) ++ r ≡ p ++ (a ++ (q ++ (b ++ (w ++ (d ++ (10 ∷ r))))))
 memory_spread p a q b w d r = simp append_assoc
 
-pub record IsNarrowMemory (m : RtlMemory) : Type 0 where
-  pub id : IsWord m.id
-  pub width : m.width < 2 ^ 64
-  pub size : m.size < 2 ^ 64
+abbrev pub IsWordMemory : RtlMemory → Type 0
+IsWordMemory m = IsWord m.id
 
-memory-once : (a b : RtlMemory) (r s : List ℕ) → IsNarrowMemory a → IsNarrowMemory b → memory_text a ++ r ≡ memory_text b ++ s → (a ≡ b) × (r ≡ s)
+memory-once : (a b : RtlMemory) (r s : List ℕ) → IsWordMemory a → IsWordMemory b → memory_text a ++ r ≡ memory_text b ++ s → (a ≡ b) × (r ≡ s)
 memory-once a b r s h k same =
     let p = codes "  memory width " in
     let q = codes " size " in
     let w = codes " " in
-    let e = sym (memory_spread p (decimal a.width) q (decimal a.size) w a.id r) ∙ same ∙ memory_spread p (decimal b.width) q (decimal b.size) w b.id s in
-    let e1 = append-cancel p (decimal a.width ++ (q ++ (decimal a.size ++ (w ++ (a.id ++ (10 ∷ r)))))) (decimal b.width ++ (q ++ (decimal b.size ++ (w ++ (b.id ++ (10 ∷ s)))))) e in
-    let c1 = word-cut (decimal a.width) (decimal b.width) 32 32 (codes "size " ++ (decimal a.size ++ (w ++ (a.id ++ (10 ∷ r))))) (codes "size " ++ (decimal b.size ++ (w ++ (b.id ++ (10 ∷ s))))) (IsWord-decimal a.width) (IsWord-decimal b.width) (omega arith) (omega arith) e1 in
-    let e2 = append-cancel (codes "size ") (decimal a.size ++ (w ++ (a.id ++ (10 ∷ r)))) (decimal b.size ++ (w ++ (b.id ++ (10 ∷ s)))) c1.2 in
-    let c2 = word-cut (decimal a.size) (decimal b.size) 32 32 (a.id ++ (10 ∷ r)) (b.id ++ (10 ∷ s)) (IsWord-decimal a.size) (IsWord-decimal b.size) (omega arith) (omega arith) e2 in
-    let c3 = word-cut a.id b.id 10 10 r s h.id k.id (omega arith) (omega arith) c2.2 in
-    let width = decimal_injective a.width b.width h.width k.width c1.0 in
-    let size = decimal_injective a.size b.size h.size k.size c2.0 in
+    let e = sym (memory_spread p (numeral a.width) q (numeral a.size) w a.id r) ∙ same ∙ memory_spread p (numeral b.width) q (numeral b.size) w b.id s in
+    let e1 = append-cancel p (numeral a.width ++ (q ++ (numeral a.size ++ (w ++ (a.id ++ (10 ∷ r)))))) (numeral b.width ++ (q ++ (numeral b.size ++ (w ++ (b.id ++ (10 ∷ s)))))) e in
+    let c1 = word-cut (numeral a.width) (numeral b.width) 32 32 (codes "size " ++ (numeral a.size ++ (w ++ (a.id ++ (10 ∷ r))))) (codes "size " ++ (numeral b.size ++ (w ++ (b.id ++ (10 ∷ s))))) (IsWord-numeral a.width) (IsWord-numeral b.width) (omega arith) (omega arith) e1 in
+    let e2 = append-cancel (codes "size ") (numeral a.size ++ (w ++ (a.id ++ (10 ∷ r)))) (numeral b.size ++ (w ++ (b.id ++ (10 ∷ s)))) c1.2 in
+    let c2 = word-cut (numeral a.size) (numeral b.size) 32 32 (a.id ++ (10 ∷ r)) (b.id ++ (10 ∷ s)) (IsWord-numeral a.size) (IsWord-numeral b.size) (omega arith) (omega arith) e2 in
+    let c3 = word-cut a.id b.id 10 10 r s h k (omega arith) (omega arith) c2.2 in
+    let width = numeral-injective a.width b.width c1.0 in
+    let size = numeral-injective a.size b.size c2.0 in
     ((λ i. record { id = c3.0 i; width = width i; size = size i }), c3.2)
 
-pub memories-once : (xs ys : List RtlMemory) (r s : List ℕ) → AllByRecursion IsNarrowMemory xs → AllByRecursion IsNarrowMemory ys → is_third 109 r ≡ false → is_third 109 s ≡ false → flat_map memory_text xs ++ r ≡ flat_map memory_text ys ++ s → (xs ≡ ys) × (r ≡ s)
+pub memories-once : (xs ys : List RtlMemory) (r s : List ℕ) → AllByRecursion IsWordMemory xs → AllByRecursion IsWordMemory ys → is_third 109 r ≡ false → is_third 109 s ≡ false → flat_map memory_text xs ++ r ≡ flat_map memory_text ys ++ s → (xs ≡ ys) × (r ≡ s)
 unfolding is_third
 memories-once xs ys r s px py nr ns same =
-    each-once (λ t a. t ≡ memory_text a) IsNarrowMemory (is_third 109) (λ t r a e. rw e refl) (λ t u r s a b h k e f g. memory-once a b r s h k (ap (λ x. x ++ r) (sym e) ∙ g ∙ ap (λ x. x ++ s) f))
+    each-once (λ t a. t ≡ memory_text a) IsWordMemory (is_third 109) (λ t r a e. rw e refl) (λ t u r s a b h k e f g. memory-once a b r s h k (ap (λ x. x ++ r) (sym e) ∙ g ∙ ap (λ x. x ++ s) f))
     xs ys (flat_map memory_text xs) (flat_map memory_text ys) r s px py (each-flat_map memory_text xs) (each-flat_map memory_text ys) nr ns same
 
 -- ---- wires
 
-abbrev pub IsNarrowPort : WirePort → Type 0
-IsNarrowPort Inner = Unit {0}
-IsNarrowPort (Input n) = n < 2 ^ 64
-IsNarrowPort (Output n) = n < 2 ^ 64
-
-pub record IsNarrowWire (w : RtlWire) : Type 0 where
-  pub id : IsIdText w.id
-  pub width : w.width < 2 ^ 64
-  pub port : IsNarrowPort w.port
+abbrev pub IsIdWire : RtlWire → Type 0
+IsIdWire w = IsIdText w.id
 
 port_word : (id : List ℕ) (x : ℕ) (r s : List ℕ) → IsIdText id → ((x ≡ 105) ⊎ (x ≡ 111)) → id ++ r ≡ x ∷ s → ⊥
 port_word id x r s h c e =
@@ -98,26 +89,26 @@ not_both : (x y : ℕ) (a b : List ℕ) → x < y → 32 ∷ x ∷ a ≡ 32 ∷ 
 not_both x y a b h e = let f : x ≡ y = cc in omega (arith, h, f)
 
 -- behind the width: the port, and the id
-port-once : (p q : WirePort) (id other r s : List ℕ) → IsNarrowPort p → IsNarrowPort q → IsIdText id → IsIdText other → port_text p ++ (32 ∷ (id ++ (10 ∷ r))) ≡ port_text q ++ (32 ∷ (other ++ (10 ∷ s))) → (p ≡ q) × (id ≡ other) × (r ≡ s)
-port-once Inner Inner id other r s hp hq h k same =
+port-once : (p q : WirePort) (id other r s : List ℕ) → IsIdText id → IsIdText other → port_text p ++ (32 ∷ (id ++ (10 ∷ r))) ≡ port_text q ++ (32 ∷ (other ++ (10 ∷ s))) → (p ≡ q) × (id ≡ other) × (r ≡ s)
+port-once Inner Inner id other r s h k same =
     let c = word-cut id other 10 10 r s h.word k.word (omega arith) (omega arith) (append-cancel (32 ∷ []) (id ++ (10 ∷ r)) (other ++ (10 ∷ s)) same) in
     (refl, c.0, c.2)
-port-once Inner (Input n) id other r s hp hq h k same = absurd (port_word id 105 (10 ∷ r) (codes "nput " ++ (decimal n ++ (32 ∷ (other ++ (10 ∷ s))))) h (inl refl) (append-cancel (32 ∷ []) (id ++ (10 ∷ r)) (codes "input " ++ (decimal n ++ (32 ∷ (other ++ (10 ∷ s))))) same))
-port-once Inner (Output n) id other r s hp hq h k same = absurd (port_word id 111 (10 ∷ r) (codes "utput " ++ (decimal n ++ (32 ∷ (other ++ (10 ∷ s))))) h (inr refl) (append-cancel (32 ∷ []) (id ++ (10 ∷ r)) (codes "output " ++ (decimal n ++ (32 ∷ (other ++ (10 ∷ s))))) same))
-port-once (Input n) Inner id other r s hp hq h k same = absurd (port_word other 105 (10 ∷ s) (codes "nput " ++ (decimal n ++ (32 ∷ (id ++ (10 ∷ r))))) k (inl refl) (append-cancel (32 ∷ []) (other ++ (10 ∷ s)) (codes "input " ++ (decimal n ++ (32 ∷ (id ++ (10 ∷ r))))) (sym same)))
-port-once (Output n) Inner id other r s hp hq h k same = absurd (port_word other 111 (10 ∷ s) (codes "utput " ++ (decimal n ++ (32 ∷ (id ++ (10 ∷ r))))) k (inr refl) (append-cancel (32 ∷ []) (other ++ (10 ∷ s)) (codes "output " ++ (decimal n ++ (32 ∷ (id ++ (10 ∷ r))))) (sym same)))
-port-once (Input m) (Output n) id other r s hp hq h k same = absurd (not_both 105 111 (codes "nput " ++ (decimal m ++ (32 ∷ (id ++ (10 ∷ r))))) (codes "utput " ++ (decimal n ++ (32 ∷ (other ++ (10 ∷ s))))) (omega arith) same)
-port-once (Output m) (Input n) id other r s hp hq h k same = absurd (not_both 105 111 (codes "nput " ++ (decimal n ++ (32 ∷ (other ++ (10 ∷ s))))) (codes "utput " ++ (decimal m ++ (32 ∷ (id ++ (10 ∷ r))))) (omega arith) (sym same))
-port-once (Input m) (Input n) id other r s hp hq h k same =
-    let e = append-cancel (codes " input ") (decimal m ++ (32 ∷ (id ++ (10 ∷ r)))) (decimal n ++ (32 ∷ (other ++ (10 ∷ s)))) same in
-    let c = word-cut (decimal m) (decimal n) 32 32 (id ++ (10 ∷ r)) (other ++ (10 ∷ s)) (IsWord-decimal m) (IsWord-decimal n) (omega arith) (omega arith) e in
+port-once Inner (Input n) id other r s h k same = absurd (port_word id 105 (10 ∷ r) (codes "nput " ++ (numeral n ++ (32 ∷ (other ++ (10 ∷ s))))) h (inl refl) (append-cancel (32 ∷ []) (id ++ (10 ∷ r)) (codes "input " ++ (numeral n ++ (32 ∷ (other ++ (10 ∷ s))))) same))
+port-once Inner (Output n) id other r s h k same = absurd (port_word id 111 (10 ∷ r) (codes "utput " ++ (numeral n ++ (32 ∷ (other ++ (10 ∷ s))))) h (inr refl) (append-cancel (32 ∷ []) (id ++ (10 ∷ r)) (codes "output " ++ (numeral n ++ (32 ∷ (other ++ (10 ∷ s))))) same))
+port-once (Input n) Inner id other r s h k same = absurd (port_word other 105 (10 ∷ s) (codes "nput " ++ (numeral n ++ (32 ∷ (id ++ (10 ∷ r))))) k (inl refl) (append-cancel (32 ∷ []) (other ++ (10 ∷ s)) (codes "input " ++ (numeral n ++ (32 ∷ (id ++ (10 ∷ r))))) (sym same)))
+port-once (Output n) Inner id other r s h k same = absurd (port_word other 111 (10 ∷ s) (codes "utput " ++ (numeral n ++ (32 ∷ (id ++ (10 ∷ r))))) k (inr refl) (append-cancel (32 ∷ []) (other ++ (10 ∷ s)) (codes "output " ++ (numeral n ++ (32 ∷ (id ++ (10 ∷ r))))) (sym same)))
+port-once (Input m) (Output n) id other r s h k same = absurd (not_both 105 111 (codes "nput " ++ (numeral m ++ (32 ∷ (id ++ (10 ∷ r))))) (codes "utput " ++ (numeral n ++ (32 ∷ (other ++ (10 ∷ s))))) (omega arith) same)
+port-once (Output m) (Input n) id other r s h k same = absurd (not_both 105 111 (codes "nput " ++ (numeral n ++ (32 ∷ (other ++ (10 ∷ s))))) (codes "utput " ++ (numeral m ++ (32 ∷ (id ++ (10 ∷ r))))) (omega arith) (sym same))
+port-once (Input m) (Input n) id other r s h k same =
+    let e = append-cancel (codes " input ") (numeral m ++ (32 ∷ (id ++ (10 ∷ r)))) (numeral n ++ (32 ∷ (other ++ (10 ∷ s)))) same in
+    let c = word-cut (numeral m) (numeral n) 32 32 (id ++ (10 ∷ r)) (other ++ (10 ∷ s)) (IsWord-numeral m) (IsWord-numeral n) (omega arith) (omega arith) e in
     let d = word-cut id other 10 10 r s h.word k.word (omega arith) (omega arith) c.2 in
-    (ap Input (decimal_injective m n hp hq c.0), d.0, d.2)
-port-once (Output m) (Output n) id other r s hp hq h k same =
-    let e = append-cancel (codes " output ") (decimal m ++ (32 ∷ (id ++ (10 ∷ r)))) (decimal n ++ (32 ∷ (other ++ (10 ∷ s)))) same in
-    let c = word-cut (decimal m) (decimal n) 32 32 (id ++ (10 ∷ r)) (other ++ (10 ∷ s)) (IsWord-decimal m) (IsWord-decimal n) (omega arith) (omega arith) e in
+    (ap Input (numeral-injective m n c.0), d.0, d.2)
+port-once (Output m) (Output n) id other r s h k same =
+    let e = append-cancel (codes " output ") (numeral m ++ (32 ∷ (id ++ (10 ∷ r)))) (numeral n ++ (32 ∷ (other ++ (10 ∷ s)))) same in
+    let c = word-cut (numeral m) (numeral n) 32 32 (id ++ (10 ∷ r)) (other ++ (10 ∷ s)) (IsWord-numeral m) (IsWord-numeral n) (omega arith) (omega arith) e in
     let d = word-cut id other 10 10 r s h.word k.word (omega arith) (omega arith) c.2 in
-    (ap Output (decimal_injective m n hp hq c.0), d.0, d.2)
+    (ap Output (numeral-injective m n c.0), d.0, d.2)
 
 wire_spread : (p a port w d r : List ℕ) → (p ++ (a ++ (port ++ (w ++ (d ++ (10 ∷ [])))))) ++ r ≡ p ++ (a ++ (port ++ (w ++ (d ++ (10 ∷ r)))))
 wire_spread p a port w d r = simp append_assoc
@@ -125,21 +116,21 @@ wire_spread p a port w d r = simp append_assoc
 -- the byte behind a width is a blank
 port_blank : (p : WirePort) (more : List ℕ) → (rest : List ℕ) × (port_text p ++ (32 ∷ more) ≡ 32 ∷ rest)
 port_blank Inner more = (more, refl)
-port_blank (Input n) more = (codes "input " ++ (decimal n ++ (32 ∷ more)), refl)
-port_blank (Output n) more = (codes "output " ++ (decimal n ++ (32 ∷ more)), refl)
+port_blank (Input n) more = (codes "input " ++ (numeral n ++ (32 ∷ more)), refl)
+port_blank (Output n) more = (codes "output " ++ (numeral n ++ (32 ∷ more)), refl)
 
-wire_line-once : (a b : RtlWire) (r s : List ℕ) → IsNarrowWire a → IsNarrowWire b → wire_line a ++ r ≡ wire_line b ++ s → (a.id ≡ b.id) × (a.width ≡ b.width) × (a.port ≡ b.port) × (r ≡ s)
+wire_line-once : (a b : RtlWire) (r s : List ℕ) → IsIdWire a → IsIdWire b → wire_line a ++ r ≡ wire_line b ++ s → (a.id ≡ b.id) × (a.width ≡ b.width) × (a.port ≡ b.port) × (r ≡ s)
 wire_line-once a b r s h k same =
     let p = codes "  wire width " in
     let w = codes " " in
-    let e = sym (wire_spread p (decimal a.width) (port_text a.port) w a.id r) ∙ same ∙ wire_spread p (decimal b.width) (port_text b.port) w b.id s in
-    let e1 = append-cancel p (decimal a.width ++ (port_text a.port ++ (w ++ (a.id ++ (10 ∷ r))))) (decimal b.width ++ (port_text b.port ++ (w ++ (b.id ++ (10 ∷ s))))) e in
+    let e = sym (wire_spread p (numeral a.width) (port_text a.port) w a.id r) ∙ same ∙ wire_spread p (numeral b.width) (port_text b.port) w b.id s in
+    let e1 = append-cancel p (numeral a.width ++ (port_text a.port ++ (w ++ (a.id ++ (10 ∷ r))))) (numeral b.width ++ (port_text b.port ++ (w ++ (b.id ++ (10 ∷ s))))) e in
     let ba = port_blank a.port (a.id ++ (10 ∷ r)) in
     let bb = port_blank b.port (b.id ++ (10 ∷ s)) in
-    let e2 : decimal a.width ++ (32 ∷ ba.0) ≡ decimal b.width ++ (32 ∷ bb.0) = ap (λ x. decimal a.width ++ x) (sym ba.1) ∙ e1 ∙ ap (λ x. decimal b.width ++ x) bb.1 in
-    let c = word-cut (decimal a.width) (decimal b.width) 32 32 ba.0 bb.0 (IsWord-decimal a.width) (IsWord-decimal b.width) (omega arith) (omega arith) e2 in
-    let d = port-once a.port b.port a.id b.id r s h.port k.port h.id k.id (ba.1 ∙ ap (λ x. 32 ∷ x) c.2 ∙ sym bb.1) in
-    (d.1, decimal_injective a.width b.width h.width k.width c.0, d.0, d.2)
+    let e2 : numeral a.width ++ (32 ∷ ba.0) ≡ numeral b.width ++ (32 ∷ bb.0) = ap (λ x. numeral a.width ++ x) (sym ba.1) ∙ e1 ∙ ap (λ x. numeral b.width ++ x) bb.1 in
+    let c = word-cut (numeral a.width) (numeral b.width) 32 32 ba.0 bb.0 (IsWord-numeral a.width) (IsWord-numeral b.width) (omega arith) (omega arith) e2 in
+    let d = port-once a.port b.port a.id b.id r s h k (ba.1 ∙ ap (λ x. 32 ∷ x) c.2 ∙ sym bb.1) in
+    (d.1, numeral-injective a.width b.width c.0, d.0, d.2)
 
 init_spread : (p bits r : List ℕ) → (p ++ (bits ++ (10 ∷ []))) ++ r ≡ p ++ (bits ++ (10 ∷ r))
 init_spread p bits r = simp append_assoc
@@ -159,7 +150,7 @@ init-once (Some x) (Some y) a b r s same = let c = init_line-once x y (wire_line
 init-once None (Some y) a b r s same = absurd (true≢false (ap (is_third 119) same))
 init-once (Some x) None a b r s same = absurd (false≢true (ap (is_third 119) same))
 
-wire-once : (a b : RtlWire) (r s : List ℕ) → IsNarrowWire a → IsNarrowWire b → wire_text a ++ r ≡ wire_text b ++ s → (a ≡ b) × (r ≡ s)
+wire-once : (a b : RtlWire) (r s : List ℕ) → IsIdWire a → IsIdWire b → wire_text a ++ r ≡ wire_text b ++ s → (a ≡ b) × (r ≡ s)
 wire-once a b r s h k same =
     let i = init-once a.init b.init a b r s (sym (append_assoc (init_text a.init) (wire_line a) r) ∙ same ∙ append_assoc (init_text b.init) (wire_line b) s) in
     let l = wire_line-once a b r s h k i.1 in
@@ -173,7 +164,7 @@ unfolding is_third is_wire_start
 wire-begins r a None = refl
 wire-begins r a (Some bits) = refl
 
-pub wires-once : (xs ys : List RtlWire) (r s : List ℕ) → AllByRecursion IsNarrowWire xs → AllByRecursion IsNarrowWire ys → is_wire_start r ≡ false → is_wire_start s ≡ false → flat_map wire_text xs ++ r ≡ flat_map wire_text ys ++ s → (xs ≡ ys) × (r ≡ s)
+pub wires-once : (xs ys : List RtlWire) (r s : List ℕ) → AllByRecursion IsIdWire xs → AllByRecursion IsIdWire ys → is_wire_start r ≡ false → is_wire_start s ≡ false → flat_map wire_text xs ++ r ≡ flat_map wire_text ys ++ s → (xs ≡ ys) × (r ≡ s)
 wires-once xs ys r s px py nr ns same =
-    each-once (λ t a. t ≡ wire_text a) IsNarrowWire is_wire_start (λ t r a e. rw e (wire-begins r a a.init)) (λ t u r s a b h k e f g. wire-once a b r s h k (ap (λ x. x ++ r) (sym e) ∙ g ∙ ap (λ x. x ++ s) f))
+    each-once (λ t a. t ≡ wire_text a) IsIdWire is_wire_start (λ t r a e. rw e (wire-begins r a a.init)) (λ t u r s a b h k e f g. wire-once a b r s h k (ap (λ x. x ++ r) (sym e) ∙ g ∙ ap (λ x. x ++ s) f))
     xs ys (flat_map wire_text xs) (flat_map wire_text ys) r s px py (each-flat_map wire_text xs) (each-flat_map wire_text ys) nr ns same

@@ -1,8 +1,7 @@
 -- A spec's text is read in one way.
-use Rattle.std.proofs.Common.{◌≡◌, ◌∙◌, ◌⊎◌, ◌<◌, ◌≤◌, ◌+◌, ◌-◌, ◌^◌, ℕ, suc, Bool, true, false, List, [], ◌∷◌, ◌++◌, map, reverse, length, All, codes, refl, sym, ap, subst, arith, inl, inr, ⊎_elim, append_assoc}
+use Rattle.std.proofs.Common.{◌≡◌, ◌∙◌, ◌⊎◌, ◌≤◌, ◌+◌, ◌-◌, ℕ, suc, Bool, true, false, List, [], ◌∷◌, ◌++◌, map, reverse, length, All, codes, refl, sym, ap, subst, arith, inl, inr, ⊎_elim, append_assoc}
 use Rattle.std.specs.Prelude.{Contains}
-use Rattle.std.specs.Fmt.{decimal}
-use Rattle.std.proofs.lemmas.Fmt.{decimal_injective}
+use Rattle.rtlil_text.specs.Numerals.{numeral}
 use Rattle.std.proofs.lemmas.List.{reverse-reverse}
 use Rattle.std.proofs.lemmas.List.Elements.{All-head, All-from_recursion, recursion_from_All}
 use Rattle.std.specs.List.{AllByRecursion}
@@ -12,7 +11,8 @@ use Rattle.rtlil_text.specs.declared.module.RtlWire.{RtlWire}
 use Rattle.rtlil_text.specs.Lines.{◌▸◌, bit_char, const_text}
 use Rattle.rtlil_text.specs.Grammar.{IsWhole, IsSpec, AreSpecs}
 use Rattle.rtlil_text.specs.Rules.{PartFits, SpecFits, IsSlice}
-use Rattle.rtlil_text.proofs.Words.{IsWord, append-cancel, word-cut, digits-cut, IsWord-append, IsWord-decimal, IsDigits-decimal, decimal-first}
+use Rattle.rtlil_text.proofs.Words.{IsWord, append-cancel, word-cut, digits-cut, IsWord-append}
+use Rattle.rtlil_text.proofs.Numerals.{IsWord-numeral, IsDigits-numeral, numeral-first, numeral-injective}
 
 -- ---- first bytes
 
@@ -89,11 +89,11 @@ IsWord-bits (true ∷ bs) = (omega arith, IsWord-bits bs)
 IsWord-bits (false ∷ bs) = (omega arith, IsWord-bits bs)
 
 pub IsWord-const_text : (bits : List Bool) → IsWord (const_text bits)
-IsWord-const_text bits = IsWord-append (decimal (length bits)) (39 ∷ map bit_char (reverse bits)) (IsWord-decimal (length bits)) (omega arith, IsWord-bits (reverse bits))
+IsWord-const_text bits = IsWord-append (numeral (length bits)) (39 ∷ map bit_char (reverse bits)) (IsWord-numeral (length bits)) (omega arith, IsWord-bits (reverse bits))
 
 pub const-begins : (bits : List Bool) → Begins IsDigitByte (const_text bits)
 const-begins bits =
-    let d = decimal-first (length bits) in
+    let d = numeral-first (length bits) in
     record { first = d.0; rest = d.1 ++ (39 ∷ map bit_char (reverse bits)); such = (d.2, d.3); is = ap (λ x. x ++ (39 ∷ map bit_char (reverse bits))) d.4 }
 
 bit_char-injective : (a b : Bool) → bit_char a ≡ bit_char b → a ≡ b
@@ -113,7 +113,7 @@ bits-injective (x ∷ a) (y ∷ b) e =
 
 pub const_text-injective : (a b : List Bool) → const_text a ≡ const_text b → a ≡ b
 const_text-injective a b e =
-    let c = digits-cut (decimal (length a)) (decimal (length b)) 39 39 (map bit_char (reverse a)) (map bit_char (reverse b)) (IsDigits-decimal (length a)) (IsDigits-decimal (length b)) (inl (omega arith)) (inl (omega arith)) e in
+    let c = digits-cut (numeral (length a)) (numeral (length b)) 39 39 (map bit_char (reverse a)) (map bit_char (reverse b)) (IsDigits-numeral (length a)) (IsDigits-numeral (length b)) (inl (omega arith)) (inl (omega arith)) e in
     sym (reverse-reverse a) ∙ ap reverse (bits-injective (reverse a) (reverse b) c.2) ∙ reverse-reverse b
 
 -- ---- all specs over some wires
@@ -129,16 +129,13 @@ pub All-right : {A : Type 0} (P : A → Type 0) (xs ys : List A) → All P (xs +
 All-right P [] ys h = h
 All-right P (x ∷ xs) ys h = All-right P xs ys (λ k d lt. h (suc k) d (omega arith))
 
-module _ (wires : List RtlWire) (ids : (w : RtlWire) → Contains wires w → IsIdText w.id) (narrow : (w : RtlWire) → Contains wires w → w.width < 2 ^ 64)
+module _ (wires : List RtlWire) (ids : (w : RtlWire) → Contains wires w → IsIdText w.id)
     (agree : (v w : RtlWire) → Contains wires v → Contains wires w → v.id ≡ w.id → v.width ≡ w.width) where
   whole_id : (id : List ℕ) (width : ℕ) → IsWhole wires id width → IsIdText id
   whole_id id width h = subst IsIdText h.named (ids h.wire h.among)
 
   slice_id : (id : List ℕ) (low width : ℕ) → IsSlice wires id low width → IsIdText id
   slice_id id low width h = subst IsIdText h.named (ids h.wire h.among)
-
-  slice_low : (id : List ℕ) (low width : ℕ) → IsSlice wires id low width → low + width < 2 ^ 64
-  slice_low id low width h = let n = narrow h.wire h.among in omega (arith, h.within, n)
 
   slice_of : (id : List ℕ) (low width : ℕ) (ps : List SigPart) → ps ≡ parts.Wire id low width ∷ [] → SpecFits wires ps → IsSlice wires id low width
   slice_of id low width ps e h = All-head (PartFits wires) (parts.Wire id low width) [] (subst (SpecFits wires) e h)
@@ -166,9 +163,9 @@ module _ (wires : List RtlWire) (ids : (w : RtlWire) → Contains wires w → Is
   spec-begins t ps (IsSpec.const _ _ bits e f) h = let b = from_const t bits e in record { first = b.first; rest = b.rest; such = inl (inl b.such); is = b.is }
   spec-begins t ps (IsSpec.whole _ _ width w f) h = let b = (whole_id t width w).begins in record { first = b.first; rest = b.rest; such = inl (inr b.such); is = b.is }
   spec-begins t ps (IsSpec.one _ _ id low e f) h =
-      let b = from_slice t id (codes " [" ▸ decimal low ▸ codes "]") e (slice_id id low 1 (slice_of id low 1 ps f h)) in record { first = b.first; rest = b.rest; such = inl (inr b.such); is = b.is }
+      let b = from_slice t id (codes " [" ▸ numeral low ▸ codes "]") e (slice_id id low 1 (slice_of id low 1 ps f h)) in record { first = b.first; rest = b.rest; such = inl (inr b.such); is = b.is }
   spec-begins t ps (IsSpec.range _ _ id high low le e f) h =
-      let b = from_slice t id (codes " [" ▸ decimal high ▸ codes ":" ▸ decimal low ▸ codes "]") e (slice_id id low (high - low + 1) (slice_of id low (high - low + 1) ps f h)) in record { first = b.first; rest = b.rest; such = inl (inr b.such); is = b.is }
+      let b = from_slice t id (codes " [" ▸ numeral high ▸ codes ":" ▸ numeral low ▸ codes "]") e (slice_id id low (high - low + 1) (slice_of id low (high - low + 1) ps f h)) in record { first = b.first; rest = b.rest; such = inl (inr b.such); is = b.is }
   spec-begins t ps (IsSpec.braces _ inner _ hs e) h = record { first = 123; rest = inner ▸ codes " }"; such = inr refl; is = e }
 
   pub no_start : (x c : ℕ) → (c ≡ 91) ⊎ (c ≡ 125) → IsStart x → x ≡ c → ⊥
@@ -219,26 +216,26 @@ module _ (wires : List RtlWire) (ids : (w : RtlWire) → Contains wires w → Is
       (g ∙ (λ i. parts.Wire (c.0 i) 0 (width i) ∷ []) ∙ sym h, c.1)
 
   one_index : ℕ → List ℕ
-  one_index low = decimal low ++ (93 ∷ [])
+  one_index low = numeral low ++ (93 ∷ [])
 
   range_index : ℕ → ℕ → List ℕ
-  range_index high low = decimal high ++ (58 ∷ (decimal low ++ (93 ∷ [])))
+  range_index high low = numeral high ++ (58 ∷ (numeral low ++ (93 ∷ [])))
 
   one-one : (t u r s : List ℕ) (ps qs : List SigPart) (id other : List ℕ) (a b : ℕ) → t ≡ id ++ (32 ∷ 91 ∷ one_index a) → u ≡ other ++ (32 ∷ 91 ∷ one_index b) → ps ≡ parts.Wire id a 1 ∷ [] → qs ≡ parts.Wire other b 1 ∷ [] → Once t u r s ps qs
   unfolding Once one_index
   one-one t u r s ps qs id other a b e f g h hp hq p q same =
       let sa = slice_of id a 1 ps g hp in
       let sb = slice_of other b 1 qs h hq in
-      let c = indexed_indexed id other (decimal a ++ (93 ∷ [])) (decimal b ++ (93 ∷ [])) r s (slice_id id a 1 sa).word (slice_id other b 1 sb).word (sym (ap (λ x. x ++ r) e) ∙ same ∙ ap (λ x. x ++ s) f) in
-      let d = digits-cut (decimal a) (decimal b) 93 93 r s (IsDigits-decimal a) (IsDigits-decimal b) (inr (omega arith)) (inr (omega arith)) (sym (append_assoc (decimal a) (93 ∷ []) r) ∙ c.1 ∙ append_assoc (decimal b) (93 ∷ []) s) in
-      let low = decimal_injective a b (omega (arith, slice_low id a 1 sa)) (omega (arith, slice_low other b 1 sb)) d.0 in
+      let c = indexed_indexed id other (numeral a ++ (93 ∷ [])) (numeral b ++ (93 ∷ [])) r s (slice_id id a 1 sa).word (slice_id other b 1 sb).word (sym (ap (λ x. x ++ r) e) ∙ same ∙ ap (λ x. x ++ s) f) in
+      let d = digits-cut (numeral a) (numeral b) 93 93 r s (IsDigits-numeral a) (IsDigits-numeral b) (inr (omega arith)) (inr (omega arith)) (sym (append_assoc (numeral a) (93 ∷ []) r) ∙ c.1 ∙ append_assoc (numeral b) (93 ∷ []) s) in
+      let low = numeral-injective a b d.0 in
       (g ∙ (λ i. parts.Wire (c.0 i) (low i) 1 ∷ []) ∙ sym h, d.2)
 
   one-range : (t u r s : List ℕ) (id other : List ℕ) (a high low : ℕ) → IsWord id → IsWord other → t ≡ id ++ (32 ∷ 91 ∷ one_index a) → u ≡ other ++ (32 ∷ 91 ∷ range_index high low) → t ++ r ≡ u ++ s → ⊥
   unfolding one_index range_index
   one-range t u r s id other a high low hi ho e f same =
-      let c = indexed_indexed id other (decimal a ++ (93 ∷ [])) (decimal high ++ (58 ∷ (decimal low ++ (93 ∷ [])))) r s hi ho (sym (ap (λ x. x ++ r) e) ∙ same ∙ ap (λ x. x ++ s) f) in
-      let d = digits-cut (decimal a) (decimal high) 93 58 r ((decimal low ++ (93 ∷ [])) ++ s) (IsDigits-decimal a) (IsDigits-decimal high) (inr (omega arith)) (inr (omega arith)) (sym (append_assoc (decimal a) (93 ∷ []) r) ∙ c.1 ∙ append_assoc (decimal high) (58 ∷ (decimal low ++ (93 ∷ []))) s) in
+      let c = indexed_indexed id other (numeral a ++ (93 ∷ [])) (numeral high ++ (58 ∷ (numeral low ++ (93 ∷ [])))) r s hi ho (sym (ap (λ x. x ++ r) e) ∙ same ∙ ap (λ x. x ++ s) f) in
+      let d = digits-cut (numeral a) (numeral high) 93 58 r ((numeral low ++ (93 ∷ [])) ++ s) (IsDigits-numeral a) (IsDigits-numeral high) (inr (omega arith)) (inr (omega arith)) (sym (append_assoc (numeral a) (93 ∷ []) r) ∙ c.1 ∙ append_assoc (numeral high) (58 ∷ (numeral low ++ (93 ∷ []))) s) in
       omega (arith, d.1)
 
   range-range : (t u r s : List ℕ) (ps qs : List SigPart) (id other : List ℕ) (ha a hb b : ℕ) → a ≤ ha → b ≤ hb → t ≡ id ++ (32 ∷ 91 ∷ range_index ha a) → u ≡ other ++ (32 ∷ 91 ∷ range_index hb b)
@@ -247,14 +244,12 @@ module _ (wires : List RtlWire) (ids : (w : RtlWire) → Contains wires w → Is
   range-range t u r s ps qs id other ha a hb b la lb e f g h hp hq p q same =
       let sa = slice_of id a (ha - a + 1) ps g hp in
       let sb = slice_of other b (hb - b + 1) qs h hq in
-      let na = slice_low id a (ha - a + 1) sa in
-      let nb = slice_low other b (hb - b + 1) sb in
-      let c = indexed_indexed id other (decimal ha ++ (58 ∷ (decimal a ++ (93 ∷ [])))) (decimal hb ++ (58 ∷ (decimal b ++ (93 ∷ [])))) r s (slice_id id a (ha - a + 1) sa).word (slice_id other b (hb - b + 1) sb).word (sym (ap (λ x. x ++ r) e) ∙ same ∙ ap (λ x. x ++ s) f) in
-      let d = digits-cut (decimal ha) (decimal hb) 58 58 ((decimal a ++ (93 ∷ [])) ++ r) ((decimal b ++ (93 ∷ [])) ++ s) (IsDigits-decimal ha) (IsDigits-decimal hb) (inr (omega arith)) (inr (omega arith))
-      (sym (append_assoc (decimal ha) (58 ∷ (decimal a ++ (93 ∷ []))) r) ∙ c.1 ∙ append_assoc (decimal hb) (58 ∷ (decimal b ++ (93 ∷ []))) s) in
-      let d2 = digits-cut (decimal a) (decimal b) 93 93 r s (IsDigits-decimal a) (IsDigits-decimal b) (inr (omega arith)) (inr (omega arith)) (sym (append_assoc (decimal a) (93 ∷ []) r) ∙ d.2 ∙ append_assoc (decimal b) (93 ∷ []) s) in
-      let high = decimal_injective ha hb (omega (arith, na, la)) (omega (arith, nb, lb)) d.0 in
-      let low = decimal_injective a b (omega (arith, na, la)) (omega (arith, nb, lb)) d2.0 in
+      let c = indexed_indexed id other (numeral ha ++ (58 ∷ (numeral a ++ (93 ∷ [])))) (numeral hb ++ (58 ∷ (numeral b ++ (93 ∷ [])))) r s (slice_id id a (ha - a + 1) sa).word (slice_id other b (hb - b + 1) sb).word (sym (ap (λ x. x ++ r) e) ∙ same ∙ ap (λ x. x ++ s) f) in
+      let d = digits-cut (numeral ha) (numeral hb) 58 58 ((numeral a ++ (93 ∷ [])) ++ r) ((numeral b ++ (93 ∷ [])) ++ s) (IsDigits-numeral ha) (IsDigits-numeral hb) (inr (omega arith)) (inr (omega arith))
+      (sym (append_assoc (numeral ha) (58 ∷ (numeral a ++ (93 ∷ []))) r) ∙ c.1 ∙ append_assoc (numeral hb) (58 ∷ (numeral b ++ (93 ∷ []))) s) in
+      let d2 = digits-cut (numeral a) (numeral b) 93 93 r s (IsDigits-numeral a) (IsDigits-numeral b) (inr (omega arith)) (inr (omega arith)) (sym (append_assoc (numeral a) (93 ∷ []) r) ∙ d.2 ∙ append_assoc (numeral b) (93 ∷ []) s) in
+      let high = numeral-injective ha hb d.0 in
+      let low = numeral-injective a b d2.0 in
       (g ∙ (λ i. parts.Wire (c.0 i) (low i) (high i - low i + 1) ∷ []) ∙ sym h, d2.2)
 
   whole-indexed : (t u r s : List ℕ) (a : ℕ) (id index : List ℕ) → IsWhole wires t a → IsWord id → u ≡ id ++ (32 ∷ 91 ∷ index) → Stops r → t ++ r ≡ u ++ s → ⊥
@@ -293,9 +288,9 @@ module _ (wires : List RtlWire) (ids : (w : RtlWire) → Contains wires w → Is
     spec-once t u r s ps qs (IsSpec.const _ _ bits_a ea fa) (IsSpec.whole _ _ width_b wb fb) hp hq p q same =
         absurd (clash IsDigitByte IsIdByte digit_or_id t u r s (from_const t bits_a ea) (whole_id u width_b wb).begins same)
     spec-once t u r s ps qs (IsSpec.const _ _ bits_a ea fa) (IsSpec.one _ _ id_b low_b eb fb) hp hq p q same =
-        absurd (clash IsDigitByte IsIdByte digit_or_id t u r s (from_const t bits_a ea) (from_slice u id_b (32 ∷ 91 ∷ (decimal low_b ++ (93 ∷ []))) eb (slice_id id_b low_b 1 (slice_of id_b low_b 1 qs fb hq))) same)
+        absurd (clash IsDigitByte IsIdByte digit_or_id t u r s (from_const t bits_a ea) (from_slice u id_b (32 ∷ 91 ∷ (numeral low_b ++ (93 ∷ []))) eb (slice_id id_b low_b 1 (slice_of id_b low_b 1 qs fb hq))) same)
     spec-once t u r s ps qs (IsSpec.const _ _ bits_a ea fa) (IsSpec.range _ _ id_b high_b low_b lb eb fb) hp hq p q same =
-        absurd (clash IsDigitByte IsIdByte digit_or_id t u r s (from_const t bits_a ea) (from_slice u id_b (32 ∷ 91 ∷ (decimal high_b ++ (58 ∷ (decimal low_b ++ (93 ∷ []))))) eb (slice_id id_b low_b (high_b - low_b + 1) (slice_of id_b low_b (high_b - low_b + 1) qs fb hq))) same)
+        absurd (clash IsDigitByte IsIdByte digit_or_id t u r s (from_const t bits_a ea) (from_slice u id_b (32 ∷ 91 ∷ (numeral high_b ++ (58 ∷ (numeral low_b ++ (93 ∷ []))))) eb (slice_id id_b low_b (high_b - low_b + 1) (slice_of id_b low_b (high_b - low_b + 1) qs fb hq))) same)
     spec-once t u r s ps qs (IsSpec.const _ _ bits_a ea fa) (IsSpec.braces _ inner_b _ sb eb) hp hq p q same =
         absurd (clash IsDigitByte (λ x. x ≡ 123) digit_or_brace t u r s (from_const t bits_a ea) (from_braces u (inner_b ++ (32 ∷ 125 ∷ [])) eb) same)
     spec-once t u r s ps qs (IsSpec.whole _ _ width_a wa fa) (IsSpec.const _ _ bits_b eb fb) hp hq p q same =
@@ -303,39 +298,39 @@ module _ (wires : List RtlWire) (ids : (w : RtlWire) → Contains wires w → Is
     spec-once t u r s ps qs (IsSpec.whole _ _ width_a wa fa) (IsSpec.whole _ _ width_b wb fb) hp hq p q same =
         whole-whole t u r s ps qs width_a width_b wa wb fa fb hp hq p q same
     spec-once t u r s ps qs (IsSpec.whole _ _ width_a wa fa) (IsSpec.one _ _ id_b low_b eb fb) hp hq p q same =
-        absurd (whole-indexed t u r s width_a id_b (decimal low_b ++ (93 ∷ [])) wa (slice_id id_b low_b 1 (slice_of id_b low_b 1 qs fb hq)).word eb p same)
+        absurd (whole-indexed t u r s width_a id_b (numeral low_b ++ (93 ∷ [])) wa (slice_id id_b low_b 1 (slice_of id_b low_b 1 qs fb hq)).word eb p same)
     spec-once t u r s ps qs (IsSpec.whole _ _ width_a wa fa) (IsSpec.range _ _ id_b high_b low_b lb eb fb) hp hq p q same =
-        absurd (whole-indexed t u r s width_a id_b (decimal high_b ++ (58 ∷ (decimal low_b ++ (93 ∷ [])))) wa (slice_id id_b low_b (high_b - low_b + 1) (slice_of id_b low_b (high_b - low_b + 1) qs fb hq)).word eb p same)
+        absurd (whole-indexed t u r s width_a id_b (numeral high_b ++ (58 ∷ (numeral low_b ++ (93 ∷ [])))) wa (slice_id id_b low_b (high_b - low_b + 1) (slice_of id_b low_b (high_b - low_b + 1) qs fb hq)).word eb p same)
     spec-once t u r s ps qs (IsSpec.whole _ _ width_a wa fa) (IsSpec.braces _ inner_b _ sb eb) hp hq p q same =
         absurd (clash IsIdByte (λ x. x ≡ 123) id_or_brace t u r s (whole_id t width_a wa).begins (from_braces u (inner_b ++ (32 ∷ 125 ∷ [])) eb) same)
     spec-once t u r s ps qs (IsSpec.one _ _ id_a low_a ea fa) (IsSpec.const _ _ bits_b eb fb) hp hq p q same =
-        absurd (clash IsIdByte IsDigitByte (turned digit_or_id) t u r s (from_slice t id_a (32 ∷ 91 ∷ (decimal low_a ++ (93 ∷ []))) ea (slice_id id_a low_a 1 (slice_of id_a low_a 1 ps fa hp))) (from_const u bits_b eb) same)
+        absurd (clash IsIdByte IsDigitByte (turned digit_or_id) t u r s (from_slice t id_a (32 ∷ 91 ∷ (numeral low_a ++ (93 ∷ []))) ea (slice_id id_a low_a 1 (slice_of id_a low_a 1 ps fa hp))) (from_const u bits_b eb) same)
     spec-once t u r s ps qs (IsSpec.one _ _ id_a low_a ea fa) (IsSpec.whole _ _ width_b wb fb) hp hq p q same =
-        absurd (whole-indexed u t s r width_b id_a (decimal low_a ++ (93 ∷ [])) wb (slice_id id_a low_a 1 (slice_of id_a low_a 1 ps fa hp)).word ea q (sym same))
+        absurd (whole-indexed u t s r width_b id_a (numeral low_a ++ (93 ∷ [])) wb (slice_id id_a low_a 1 (slice_of id_a low_a 1 ps fa hp)).word ea q (sym same))
     spec-once t u r s ps qs (IsSpec.one _ _ id_a low_a ea fa) (IsSpec.one _ _ id_b low_b eb fb) hp hq p q same =
         one-one t u r s ps qs id_a id_b low_a low_b ea eb fa fb hp hq p q same
     spec-once t u r s ps qs (IsSpec.one _ _ id_a low_a ea fa) (IsSpec.range _ _ id_b high_b low_b lb eb fb) hp hq p q same =
         absurd (one-range t u r s id_a id_b low_a high_b low_b (slice_id id_a low_a 1 (slice_of id_a low_a 1 ps fa hp)).word (slice_id id_b low_b (high_b - low_b + 1) (slice_of id_b low_b (high_b - low_b + 1) qs fb hq)).word ea eb same)
     spec-once t u r s ps qs (IsSpec.one _ _ id_a low_a ea fa) (IsSpec.braces _ inner_b _ sb eb) hp hq p q same =
-        absurd (clash IsIdByte (λ x. x ≡ 123) id_or_brace t u r s (from_slice t id_a (32 ∷ 91 ∷ (decimal low_a ++ (93 ∷ []))) ea (slice_id id_a low_a 1 (slice_of id_a low_a 1 ps fa hp))) (from_braces u (inner_b ++ (32 ∷ 125 ∷ [])) eb) same)
+        absurd (clash IsIdByte (λ x. x ≡ 123) id_or_brace t u r s (from_slice t id_a (32 ∷ 91 ∷ (numeral low_a ++ (93 ∷ []))) ea (slice_id id_a low_a 1 (slice_of id_a low_a 1 ps fa hp))) (from_braces u (inner_b ++ (32 ∷ 125 ∷ [])) eb) same)
     spec-once t u r s ps qs (IsSpec.range _ _ id_a high_a low_a la ea fa) (IsSpec.const _ _ bits_b eb fb) hp hq p q same =
-        absurd (clash IsIdByte IsDigitByte (turned digit_or_id) t u r s (from_slice t id_a (32 ∷ 91 ∷ (decimal high_a ++ (58 ∷ (decimal low_a ++ (93 ∷ []))))) ea (slice_id id_a low_a (high_a - low_a + 1) (slice_of id_a low_a (high_a - low_a + 1) ps fa hp))) (from_const u bits_b eb) same)
+        absurd (clash IsIdByte IsDigitByte (turned digit_or_id) t u r s (from_slice t id_a (32 ∷ 91 ∷ (numeral high_a ++ (58 ∷ (numeral low_a ++ (93 ∷ []))))) ea (slice_id id_a low_a (high_a - low_a + 1) (slice_of id_a low_a (high_a - low_a + 1) ps fa hp))) (from_const u bits_b eb) same)
     spec-once t u r s ps qs (IsSpec.range _ _ id_a high_a low_a la ea fa) (IsSpec.whole _ _ width_b wb fb) hp hq p q same =
-        absurd (whole-indexed u t s r width_b id_a (decimal high_a ++ (58 ∷ (decimal low_a ++ (93 ∷ [])))) wb (slice_id id_a low_a (high_a - low_a + 1) (slice_of id_a low_a (high_a - low_a + 1) ps fa hp)).word ea q (sym same))
+        absurd (whole-indexed u t s r width_b id_a (numeral high_a ++ (58 ∷ (numeral low_a ++ (93 ∷ [])))) wb (slice_id id_a low_a (high_a - low_a + 1) (slice_of id_a low_a (high_a - low_a + 1) ps fa hp)).word ea q (sym same))
     spec-once t u r s ps qs (IsSpec.range _ _ id_a high_a low_a la ea fa) (IsSpec.one _ _ id_b low_b eb fb) hp hq p q same =
         absurd (one-range u t s r id_b id_a low_b high_a low_a (slice_id id_b low_b 1 (slice_of id_b low_b 1 qs fb hq)).word (slice_id id_a low_a (high_a - low_a + 1) (slice_of id_a low_a (high_a - low_a + 1) ps fa hp)).word eb ea (sym same))
     spec-once t u r s ps qs (IsSpec.range _ _ id_a high_a low_a la ea fa) (IsSpec.range _ _ id_b high_b low_b lb eb fb) hp hq p q same =
         range-range t u r s ps qs id_a id_b high_a low_a high_b low_b la lb ea eb fa fb hp hq p q same
     spec-once t u r s ps qs (IsSpec.range _ _ id_a high_a low_a la ea fa) (IsSpec.braces _ inner_b _ sb eb) hp hq p q same =
-        absurd (clash IsIdByte (λ x. x ≡ 123) id_or_brace t u r s (from_slice t id_a (32 ∷ 91 ∷ (decimal high_a ++ (58 ∷ (decimal low_a ++ (93 ∷ []))))) ea (slice_id id_a low_a (high_a - low_a + 1) (slice_of id_a low_a (high_a - low_a + 1) ps fa hp))) (from_braces u (inner_b ++ (32 ∷ 125 ∷ [])) eb) same)
+        absurd (clash IsIdByte (λ x. x ≡ 123) id_or_brace t u r s (from_slice t id_a (32 ∷ 91 ∷ (numeral high_a ++ (58 ∷ (numeral low_a ++ (93 ∷ []))))) ea (slice_id id_a low_a (high_a - low_a + 1) (slice_of id_a low_a (high_a - low_a + 1) ps fa hp))) (from_braces u (inner_b ++ (32 ∷ 125 ∷ [])) eb) same)
     spec-once t u r s ps qs (IsSpec.braces _ inner_a _ sa ea) (IsSpec.const _ _ bits_b eb fb) hp hq p q same =
         absurd (clash (λ x. x ≡ 123) IsDigitByte (turned digit_or_brace) t u r s (from_braces t (inner_a ++ (32 ∷ 125 ∷ [])) ea) (from_const u bits_b eb) same)
     spec-once t u r s ps qs (IsSpec.braces _ inner_a _ sa ea) (IsSpec.whole _ _ width_b wb fb) hp hq p q same =
         absurd (clash (λ x. x ≡ 123) IsIdByte (turned id_or_brace) t u r s (from_braces t (inner_a ++ (32 ∷ 125 ∷ [])) ea) (whole_id u width_b wb).begins same)
     spec-once t u r s ps qs (IsSpec.braces _ inner_a _ sa ea) (IsSpec.one _ _ id_b low_b eb fb) hp hq p q same =
-        absurd (clash (λ x. x ≡ 123) IsIdByte (turned id_or_brace) t u r s (from_braces t (inner_a ++ (32 ∷ 125 ∷ [])) ea) (from_slice u id_b (32 ∷ 91 ∷ (decimal low_b ++ (93 ∷ []))) eb (slice_id id_b low_b 1 (slice_of id_b low_b 1 qs fb hq))) same)
+        absurd (clash (λ x. x ≡ 123) IsIdByte (turned id_or_brace) t u r s (from_braces t (inner_a ++ (32 ∷ 125 ∷ [])) ea) (from_slice u id_b (32 ∷ 91 ∷ (numeral low_b ++ (93 ∷ []))) eb (slice_id id_b low_b 1 (slice_of id_b low_b 1 qs fb hq))) same)
     spec-once t u r s ps qs (IsSpec.braces _ inner_a _ sa ea) (IsSpec.range _ _ id_b high_b low_b lb eb fb) hp hq p q same =
-        absurd (clash (λ x. x ≡ 123) IsIdByte (turned id_or_brace) t u r s (from_braces t (inner_a ++ (32 ∷ 125 ∷ [])) ea) (from_slice u id_b (32 ∷ 91 ∷ (decimal high_b ++ (58 ∷ (decimal low_b ++ (93 ∷ []))))) eb (slice_id id_b low_b (high_b - low_b + 1) (slice_of id_b low_b (high_b - low_b + 1) qs fb hq))) same)
+        absurd (clash (λ x. x ≡ 123) IsIdByte (turned id_or_brace) t u r s (from_braces t (inner_a ++ (32 ∷ 125 ∷ [])) ea) (from_slice u id_b (32 ∷ 91 ∷ (numeral high_b ++ (58 ∷ (numeral low_b ++ (93 ∷ []))))) eb (slice_id id_b low_b (high_b - low_b + 1) (slice_of id_b low_b (high_b - low_b + 1) qs fb hq))) same)
     spec-once t u r s ps qs (IsSpec.braces _ inner_a _ sa ea) (IsSpec.braces _ inner_b _ sb eb) hp hq p q same =
         let c = specs-once inner_a inner_b r s ps qs sa sb hp hq (between inner_a inner_b r s t u ea eb same) in (c.0, c.1)
 

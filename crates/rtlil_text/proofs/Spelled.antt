@@ -2,7 +2,7 @@
 use Rattle.std.proofs.Common.{◌≡◌, ◌∙◌, ℕ, ◌+◌, ◌-◌, ◌≤◌, ◌==◌, ◌&&◌, Bool, true, false, List, [], ◌∷◌, ◌++◌, refl, sym, ap, arith, All, append_assoc, codes, if◌then◌else◌}
 use Rattle.std.specs.Prelude.{Option, Some, None}
 use Rattle.std.specs.List.{flat_map}
-use Rattle.std.specs.Fmt.{decimal}
+use Rattle.rtlil_text.specs.Numerals.{numeral}
 use Rattle.std.proofs.lemmas.Bool.{eqb-true, false≢true}
 use Rattle.std.proofs.lemmas.List.Elements.{All-head, All-tail}
 use Rattle.rtlil_text.specs.declared.sig.SigPart.{SigPart}
@@ -38,7 +38,7 @@ module _ (wires : List RtlWire) (widths : List ℕ → Option ℕ) (are : AreWid
   covered id low width None o e = absurd (false≢true e)
 
   slice : (id : List ℕ) (low width : ℕ) → 1 ≤ width → (b d : Bool) → is_whole (widths id) low width ≡ b → (width == 1) ≡ d
-      → IsSpec wires (if b then id else if d then id ▸ codes " [" ▸ decimal low ▸ codes "]" else id ▸ codes " [" ▸ decimal (low + width - 1) ▸ codes ":" ▸ decimal low ▸ codes "]") (parts.Wire id low width ∷ [])
+      → IsSpec wires (if b then id else if d then id ▸ codes " [" ▸ numeral low ▸ codes "]" else id ▸ codes " [" ▸ numeral (low + width - 1) ▸ codes ":" ▸ numeral low ▸ codes "]") (parts.Wire id low width ∷ [])
   slice id low width h true d e f = let w = covered id low width (widths id) refl e in IsSpec.whole id _ width w.1 (ap (λ l. parts.Wire id l width ∷ []) w.0)
   slice id low width h false true e f = IsSpec.one _ _ id low refl (ap (λ w. parts.Wire id low w ∷ []) (eqb-true width 1 f))
   slice id low width h false false e f =

@@ -1,5 +1,5 @@
 -- A text stands for one module at most.
-use Rattle.std.proofs.Common.{◌≡◌, ◌∙◌, ◌<◌, ◌^◌, ◌==◌, ℕ, Bool, false, List, [], ◌∷◌, ◌++◌, map, All, refl, sym, ap, subst, inl, inr, ⊎_elim}
+use Rattle.std.proofs.Common.{◌≡◌, ◌∙◌, ◌==◌, ℕ, Bool, false, List, [], ◌∷◌, ◌++◌, map, All, refl, sym, ap, subst, inl, inr, ⊎_elim}
 use Rattle.std.specs.Prelude.{Contains, Option, None, Some}
 use Rattle.std.specs.List.{flat_map, AllByRecursion, IsDistinct}
 use Rattle.std.proofs.lemmas.Bool.{true≢false}
@@ -17,7 +17,6 @@ use Rattle.rtlil_text.specs.declared.module.RtlLink.{RtlLink}
 use Rattle.rtlil_text.specs.declared.module.RtlModule.{RtlModule}
 use Rattle.rtlil_text.specs.Lines.{init_text, wire_line, wire_text, memory_text, head_text, module_end}
 use Rattle.rtlil_text.specs.Ids.{IsId}
-use Rattle.rtlil_text.specs.Sources.{as_number}
 use Rattle.rtlil_text.specs.CellTables.{Named, value_form}
 use Rattle.rtlil_text.specs.Grammar.{Each, IsLink, IsCell}
 use Rattle.rtlil_text.specs.Rules.{IsModule, ValueFits, SpecFits, CellFits, LinkFits}
@@ -28,16 +27,10 @@ use Rattle.rtlil_text.proofs.Words.{IsWord, append-cancel}
 use Rattle.rtlil_text.proofs.SpecOnce.{IsIdText, All-left, All-right}
 use Rattle.rtlil_text.proofs.IdText.{IsIdText-id, IsIdText-public}
 use Rattle.rtlil_text.proofs.KindTexts.{words-parameters_of, words-ends_of}
-use Rattle.rtlil_text.proofs.ModuleOnce.{is_third, is_wire_start, IsNarrowMemory, IsNarrowPort, IsNarrowWire, memories-once, wires-once}
-use Rattle.rtlil_text.proofs.CellOnce.{IsNarrowValue, IsNarrowParameter, IsNarrowEnd, IsNarrowCell, FitsWires, is_cell_start, cells-once, links-once}
+use Rattle.rtlil_text.proofs.ModuleOnce.{is_third, is_wire_start, IsWordMemory, IsIdWire, memories-once, wires-once}
+use Rattle.rtlil_text.proofs.CellOnce.{IsWordValue, IsWordParameter, EndFits, IsWordCell, FitsWires, is_cell_start, cells-once, links-once}
 
--- the numbers of a module are below 2^64, as those of the code are
-pub record IsNarrow (m : RtlModule) : Type 0 where
-  pub memories : All (λ (r : RtlMemory). (r.width < 2 ^ 64) × (r.size < 2 ^ 64)) m.memories
-  pub wires : All (λ (w : RtlWire). (w.width < 2 ^ 64) × IsNarrowPort w.port) m.wires
-  pub parameters : All (λ (c : RtlCell). All (λ (p : RtlParameter). as_number p.value < 2 ^ 64) c.parameters) m.cells
-
--- ---- elements that are narrow, by recursion
+-- ---- elements, by recursion
 
 both_of : {A : Type 0} (P Q R : A → Type 0) → ((a : A) → P a → Q a → R a) → (xs : List A) → AllByRecursion P xs → AllByRecursion Q xs → AllByRecursion R xs
 both_of P Q R f [] h k = tt
@@ -62,15 +55,13 @@ cell_id_texts m rules =
     of_map IsId (λ (c : RtlCell). c.id) m.cells (recursion_from_All IsId (map (λ (c : RtlCell). c.id) m.cells)
     (All-right IsId (wire_ids m.wires ++ map (λ (r : RtlMemory). r.id) m.memories) (map (λ (c : RtlCell). c.id) m.cells) rules.ids))
 
-narrow_memories : (m : RtlModule) → IsModule m → IsNarrow m → AllByRecursion IsNarrowMemory m.memories
-narrow_memories m rules h =
-    both_of (λ (r : RtlMemory). IsId r.id) (λ (r : RtlMemory). (r.width < 2 ^ 64) × (r.size < 2 ^ 64)) IsNarrowMemory (λ r i n. record { id = (IsIdText-id r.id i).word; width = n.0; size = n.1 }) m.memories (memory_id_texts m rules)
-    (recursion_from_All (λ (r : RtlMemory). (r.width < 2 ^ 64) × (r.size < 2 ^ 64)) m.memories h.memories)
+memory_words : (m : RtlModule) → IsModule m → AllByRecursion IsWordMemory m.memories
+memory_words m rules =
+    both_of (λ (r : RtlMemory). IsId r.id) (λ (r : RtlMemory). IsId r.id) IsWordMemory (λ r i j. (IsIdText-id r.id i).word) m.memories (memory_id_texts m rules) (memory_id_texts m rules)
 
-narrow_wires : (m : RtlModule) → IsModule m → IsNarrow m → AllByRecursion IsNarrowWire m.wires
-narrow_wires m rules h =
-    both_of (λ (w : RtlWire). IsId w.id) (λ (w : RtlWire). (w.width < 2 ^ 64) × IsNarrowPort w.port) IsNarrowWire (λ w i n. record { id = IsIdText-id w.id i; width = n.0; port = n.1 }) m.wires (wire_id_texts m rules)
-    (recursion_from_All (λ (w : RtlWire). (w.width < 2 ^ 64) × IsNarrowPort w.port) m.wires h.wires)
+wire_ids_are : (m : RtlModule) → IsModule m → AllByRecursion IsIdWire m.wires
+wire_ids_are m rules =
+    both_of (λ (w : RtlWire). IsId w.id) (λ (w : RtlWire). IsId w.id) IsIdWire (λ w i j. IsIdText-id w.id i) m.wires (wire_id_texts m rules) (wire_id_texts m rules)
 
 id_among : (ws : List RtlWire) (w : RtlWire) → Among ws w → Among (wire_ids ws) w.id
 id_among [] w h = absurd h
@@ -86,40 +77,36 @@ same_width (x ∷ ws) d v w (inr a) (inr b) e = same_width ws d.1 v w a b e
 
 -- ---- cells over the wires of a module that is read of the same text
 
-narrow_value : (v : RtlValue) → ValueFits v → as_number v < 2 ^ 64 → IsNarrowValue v
-narrow_value (values.Number n) f n_below = n_below
-narrow_value (values.Bits bits) f n_below = tt
-narrow_value (values.Id id) f n_below = (IsIdText-public id f).word
+word_value : (v : RtlValue) → ValueFits v → IsWordValue v
+word_value (values.Number n) f = tt
+word_value (values.Bits bits) f = tt
+word_value (values.Id id) f = (IsIdText-public id f).word
 
 parameter_names : (ps : List RtlParameter) → AllByRecursion IsWord (map (λ (n : Named). n.0) (map (λ (p : RtlParameter). (p.name, value_form p.value)) ps)) → AllByRecursion (λ (p : RtlParameter). IsWord p.name) ps
 parameter_names [] h = tt
 parameter_names (p ∷ ps) h = (h.0, parameter_names ps h.1)
 
-narrow_parameters : (m : RtlModule) (c : RtlCell) → CellFits m c → All (λ (p : RtlParameter). as_number p.value < 2 ^ 64) c.parameters → AllByRecursion IsNarrowParameter c.parameters
-narrow_parameters m c fits h =
-    let names = parameter_names c.parameters (subst (λ (ns : List Named). AllByRecursion IsWord (map (λ (n : Named). n.0) ns)) (sym fits.parameters) (words-parameters_of c.kind)) in
-    let kinds = both_of (λ (p : RtlParameter). ValueFits p.value) (λ (p : RtlParameter). as_number p.value < 2 ^ 64) (λ (p : RtlParameter). IsNarrowValue p.value) (λ p f n. narrow_value p.value f n) c.parameters
-    (recursion_from_All (λ (p : RtlParameter). ValueFits p.value) c.parameters fits.values) (recursion_from_All (λ (p : RtlParameter). as_number p.value < 2 ^ 64) c.parameters h) in
-    both_of (λ (p : RtlParameter). IsWord p.name) (λ (p : RtlParameter). IsNarrowValue p.value) IsNarrowParameter (λ p n v. record { name = n; value = v }) c.parameters names kinds
+word_parameters : (m : RtlModule) (c : RtlCell) → CellFits m c → AllByRecursion IsWordParameter c.parameters
+word_parameters m c fits =
+    both_of (λ (p : RtlParameter). IsWord p.name) (λ (p : RtlParameter). ValueFits p.value) IsWordParameter (λ p n v. record { name = n; value = word_value p.value v }) c.parameters
+    (parameter_names c.parameters (subst (λ (ns : List Named). AllByRecursion IsWord (map (λ (n : Named). n.0) ns)) (sym fits.parameters) (words-parameters_of c.kind)))
+    (recursion_from_All (λ (p : RtlParameter). ValueFits p.value) c.parameters fits.values)
 
-module _ (wires : List RtlWire) (ids : (w : RtlWire) → Contains wires w → IsIdText w.id) (narrow : (w : RtlWire) → Contains wires w → w.width < 2 ^ 64)
-    (agree : (v w : RtlWire) → Contains wires v → Contains wires w → v.id ≡ w.id → v.width ≡ w.width) where
-  narrow_ends : (m : RtlModule) (c : RtlCell) → m.wires ≡ wires → CellFits m c → AllByRecursion (IsNarrowEnd wires ids narrow agree) c.ends
-  narrow_ends m c e fits =
+module _ (wires : List RtlWire) (ids : (w : RtlWire) → Contains wires w → IsIdText w.id) (agree : (v w : RtlWire) → Contains wires v → Contains wires w → v.id ≡ w.id → v.width ≡ w.width) where
+  fit_ends : (m : RtlModule) (c : RtlCell) → m.wires ≡ wires → CellFits m c → AllByRecursion (EndFits wires ids agree) c.ends
+  fit_ends m c e fits =
       let names = of_map IsWord (λ (x : RtlEnd). x.name) c.ends (subst (AllByRecursion IsWord) (sym fits.ends) (words-ends_of c.kind)) in
       let specs = recursion_from_All (λ (x : RtlEnd). SpecFits wires x.spec) c.ends (subst (λ (ws : List RtlWire). All (λ (x : RtlEnd). SpecFits ws x.spec) c.ends) e fits.specs) in
-      both_of (λ (x : RtlEnd). IsWord x.name) (λ (x : RtlEnd). SpecFits wires x.spec) (IsNarrowEnd wires ids narrow agree) (λ x n s. record { name = n; spec = s }) c.ends names specs
+      both_of (λ (x : RtlEnd). IsWord x.name) (λ (x : RtlEnd). SpecFits wires x.spec) (EndFits wires ids agree) (λ x n s. record { name = n; spec = s }) c.ends names specs
 
-  narrow_cells : (m : RtlModule) → m.wires ≡ wires → IsModule m → IsNarrow m → AllByRecursion (IsNarrowCell wires ids narrow agree) m.cells
-  narrow_cells m e rules h =
-      both_of (λ (c : RtlCell). IsId c.id) (λ (c : RtlCell). CellFits m c × All (λ (p : RtlParameter). as_number p.value < 2 ^ 64) c.parameters) (IsNarrowCell wires ids narrow agree)
-      (λ c i f. record { id = (IsIdText-id c.id i).word; parameters = narrow_parameters m c f.0 f.1; ends = narrow_ends m c e f.0 }) m.cells (cell_id_texts m rules)
-      (both_of (CellFits m) (λ (c : RtlCell). All (λ (p : RtlParameter). as_number p.value < 2 ^ 64) c.parameters) (λ (c : RtlCell). CellFits m c × All (λ (p : RtlParameter). as_number p.value < 2 ^ 64) c.parameters) (λ c f n. (f, n)) m.cells
-      (recursion_from_All (CellFits m) m.cells rules.cells) (recursion_from_All (λ (c : RtlCell). All (λ (p : RtlParameter). as_number p.value < 2 ^ 64) c.parameters) m.cells h.parameters))
+  word_cells : (m : RtlModule) → m.wires ≡ wires → IsModule m → AllByRecursion (IsWordCell wires ids agree) m.cells
+  word_cells m e rules =
+      both_of (λ (c : RtlCell). IsId c.id) (CellFits m) (IsWordCell wires ids agree) (λ c i f. record { id = (IsIdText-id c.id i).word; parameters = word_parameters m c f; ends = fit_ends m c e f }) m.cells (cell_id_texts m rules)
+      (recursion_from_All (CellFits m) m.cells rules.cells)
 
-  narrow_links : (m : RtlModule) → m.wires ≡ wires → IsModule m → AllByRecursion (FitsWires wires ids narrow agree) m.links
-  narrow_links m e rules =
-      both_of (LinkFits m) (LinkFits m) (FitsWires wires ids narrow agree) (λ l f g. record { left = subst (λ (ws : List RtlWire). SpecFits ws l.left) e f.left; right = subst (λ (ws : List RtlWire). SpecFits ws l.right) e f.right }) m.links
+  fit_links : (m : RtlModule) → m.wires ≡ wires → IsModule m → AllByRecursion (FitsWires wires ids agree) m.links
+  fit_links m e rules =
+      both_of (LinkFits m) (LinkFits m) (FitsWires wires ids agree) (λ l f g. record { left = subst (λ (ws : List RtlWire). SpecFits ws l.left) e f.left; right = subst (λ (ws : List RtlWire). SpecFits ws l.right) e f.right }) m.links
       (recursion_from_All (LinkFits m) m.links rules.links) (recursion_from_All (LinkFits m) m.links rules.links)
 
 -- ---- what stands behind each section
@@ -158,8 +145,8 @@ no_wire r p q = rw (p, q) refl
 
 -- ---- the whole text
 
-pub Reads-once : (t : List ℕ) (m n : RtlModule) → IsNarrow m → IsNarrow n → Reads t m → Reads t n → m ≡ n
-Reads-once t m n hm hn rm rn =
+pub Reads-once : (t : List ℕ) (m n : RtlModule) → Reads t m → Reads t n → m ≡ n
+Reads-once t m n rm rn =
     let gm = rm.grammar in
     let gn = rn.grammar in
     let wires_m = flat_map wire_text m.wires in
@@ -169,17 +156,14 @@ Reads-once t m n hm hn rm rn =
     let third_m = λ (c : ℕ) (p : (99 == c) ≡ false) (q : (100 == c) ≡ false). cells_third c p q m.wires gm.cells gm.links m.cells m.links gm.spells_cells gm.spells_links in
     let third_n = λ (c : ℕ) (p : (99 == c) ≡ false) (q : (100 == c) ≡ false). cells_third c p q n.wires gn.cells gn.links n.cells n.links gn.spells_cells gn.spells_links in
     let e1 = append-cancel head_text (flat_map memory_text m.memories ++ (wires_m ++ rest_m)) (flat_map memory_text n.memories ++ (wires_n ++ rest_n)) (sym gm.whole ∙ gn.whole) in
-    let memories = memories-once m.memories n.memories (wires_m ++ rest_m) (wires_n ++ rest_n) (narrow_memories m rm.rules hm) (narrow_memories n rn.rules hn) (wires_third m.wires rest_m (third_m 109 refl refl)) (wires_third n.wires rest_n (third_n 109 refl refl)) e1 in
-    let wires = wires-once m.wires n.wires rest_m rest_n (narrow_wires m rm.rules hm) (narrow_wires n rn.rules hn) (no_wire rest_m (third_m 97 refl refl) (third_m 119 refl refl)) (no_wire rest_n (third_n 97 refl refl) (third_n 119 refl refl)) memories.1 in
-    let narrow = narrow_wires m rm.rules hm in
-    let at = λ (w : RtlWire) (h : Contains m.wires w). AllByRecursion-among IsNarrowWire m.wires w narrow (Among-contains m.wires w h) in
-    let ids = λ (w : RtlWire) (h : Contains m.wires w). (at w h).id in
-    let below = λ (w : RtlWire) (h : Contains m.wires w). (at w h).width in
+    let memories = memories-once m.memories n.memories (wires_m ++ rest_m) (wires_n ++ rest_n) (memory_words m rm.rules) (memory_words n rn.rules) (wires_third m.wires rest_m (third_m 109 refl refl)) (wires_third n.wires rest_n (third_n 109 refl refl)) e1 in
+    let wires = wires-once m.wires n.wires rest_m rest_n (wire_ids_are m rm.rules) (wire_ids_are n rn.rules) (no_wire rest_m (third_m 97 refl refl) (third_m 119 refl refl)) (no_wire rest_n (third_n 97 refl refl) (third_n 119 refl refl)) memories.1 in
+    let ids = λ (w : RtlWire) (h : Contains m.wires w). AllByRecursion-among IsIdWire m.wires w (wire_ids_are m rm.rules) (Among-contains m.wires w h) in
     let agree = λ (v w : RtlWire) (h : Contains m.wires v) (k : Contains m.wires w). same_width m.wires (wire_ids-distinct m rm.rules) v w (Among-contains m.wires v h) (Among-contains m.wires w k) in
     let back = sym wires.0 in
     let cells_n = subst (λ (ws : List RtlWire). Each (IsCell ws) gn.cells n.cells) back gn.spells_cells in
     let links_n = subst (λ (ws : List RtlWire). Each (IsLink ws) gn.links n.links) back gn.spells_links in
-    let cells = cells-once m.wires ids below agree m.cells n.cells gm.cells gn.cells (gm.links ++ module_end) (gn.links ++ module_end) (narrow_cells m.wires ids below agree m refl rm.rules hm) (narrow_cells m.wires ids below agree n back rn.rules hn)
+    let cells = cells-once m.wires ids agree m.cells n.cells gm.cells gn.cells (gm.links ++ module_end) (gn.links ++ module_end) (word_cells m.wires ids agree m refl rm.rules) (word_cells m.wires ids agree n back rn.rules)
     gm.spells_cells cells_n (links_start m.wires gm.links m.links gm.spells_links) (links_start m.wires gn.links n.links links_n) wires.1 in
-    let links = links-once m.wires ids below agree m.links n.links gm.links gn.links module_end module_end (narrow_links m.wires ids below agree m refl rm.rules) (narrow_links m.wires ids below agree n back rn.rules) gm.spells_links links_n no_link no_link cells.1 in
+    let links = links-once m.wires ids agree m.links n.links gm.links gn.links module_end module_end (fit_links m.wires ids agree m refl rm.rules) (fit_links m.wires ids agree n back rn.rules) gm.spells_links links_n no_link no_link cells.1 in
     (λ i. record { wires = wires.0 i; memories = memories.0 i; cells = cells.0 i; links = links.0 i })

@@ -2,7 +2,7 @@
 -- Source: Yosys manual, RTLIL text representation: Signal specifications, Connections, Cells; a part of it: own rule (docs/RULES.md).
 use Rattle.std.specs.Prelude.{◌≡◌, ℕ, ◌+◌, ◌-◌, ◌≤◌, Bool, List, [], ◌∷◌, ◌++◌, codes, Contains}
 use Rattle.std.specs.List.{flat_map}
-use Rattle.std.specs.Fmt.{decimal}
+use Rattle.rtlil_text.specs.Numerals.{numeral}
 use Rattle.rtlil_text.specs.declared.sig.SigPart.{SigPart}
 use Rattle.rtlil_text.specs.declared.sig.SigPart.TheVariants as parts
 use Rattle.rtlil_text.specs.declared.cell.RtlEnd.{RtlEnd}
@@ -24,8 +24,8 @@ mutual
   pub data IsSpec (wires : List RtlWire) : List ℕ → List SigPart → Type 0 where
     const : (text : List ℕ) (ps : List SigPart) (bits : List Bool) → text ≡ const_text bits → ps ≡ parts.Const bits ∷ [] → IsSpec wires text ps
     whole : (text : List ℕ) (ps : List SigPart) (width : ℕ) → IsWhole wires text width → ps ≡ parts.Wire text 0 width ∷ [] → IsSpec wires text ps
-    one : (text : List ℕ) (ps : List SigPart) (id : List ℕ) (low : ℕ) → text ≡ id ▸ codes " [" ▸ decimal low ▸ codes "]" → ps ≡ parts.Wire id low 1 ∷ [] → IsSpec wires text ps
-    range : (text : List ℕ) (ps : List SigPart) (id : List ℕ) (high low : ℕ) → low ≤ high → text ≡ id ▸ codes " [" ▸ decimal high ▸ codes ":" ▸ decimal low ▸ codes "]" → ps ≡ parts.Wire id low (high - low + 1) ∷ [] → IsSpec wires text ps
+    one : (text : List ℕ) (ps : List SigPart) (id : List ℕ) (low : ℕ) → text ≡ id ▸ codes " [" ▸ numeral low ▸ codes "]" → ps ≡ parts.Wire id low 1 ∷ [] → IsSpec wires text ps
+    range : (text : List ℕ) (ps : List SigPart) (id : List ℕ) (high low : ℕ) → low ≤ high → text ≡ id ▸ codes " [" ▸ numeral high ▸ codes ":" ▸ numeral low ▸ codes "]" → ps ≡ parts.Wire id low (high - low + 1) ∷ [] → IsSpec wires text ps
     braces : (text inner : List ℕ) (ps : List SigPart) → AreSpecs wires inner ps → text ≡ codes "{" ▸ inner ▸ codes " }" → IsSpec wires text ps
 
   -- specs one after another, each with a blank before it

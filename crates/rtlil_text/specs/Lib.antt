@@ -1,9 +1,11 @@
+pub mod Numerals
 pub mod Lines
 pub mod Ids
 pub mod Grammar
 pub mod Sources
 pub mod CellTables
 pub mod Drivers
+pub mod Inits
 pub mod Cells
 pub mod Meaning
 pub mod Memories

@@ -1,7 +1,7 @@
 -- The pieces of a text that can be written in one way only.
 -- Source: Yosys manual, RTLIL text representation: Values, Strings, Attribute statements, Modules, Wires, Memories, Cells.
 use Rattle.std.specs.Prelude.{ℕ, Bool, cond, List, [], ◌∷◌, ◌++◌, map, reverse, length, Option, Some, None, codes}
-use Rattle.std.specs.Fmt.{decimal}
+use Rattle.rtlil_text.specs.Numerals.{numeral}
 use Rattle.shape_rules.specs.declared.cell.CellKind.{CellKind}
 use Rattle.shape_rules.specs.declared.cell.CellKind.TheVariants.{Not, And, Or, Xor, ReduceOr, ReduceAnd, ReduceXor, Add, Sub, Mul, Eq, Lt, Le, Shl, Shr, Sshr, DivFloor, ModFloor, Mux, Dff, Adff, MemoryRead, MemoryWrite, MemoryInit, Many}
 use Rattle.rtlil_text.specs.declared.cell.RtlValue.{RtlValue}
@@ -26,12 +26,12 @@ bit_char b = cond b 49 48
 
 -- a width, and the bits, the most significant first
 abbrev pub const_text : List Bool → List ℕ
-const_text bits = decimal (length bits) ▸ (39 ∷ []) ▸ map bit_char (reverse bits)
+const_text bits = numeral (length bits) ▸ (39 ∷ []) ▸ map bit_char (reverse bits)
 
 abbrev pub port_text : WirePort → List ℕ
 port_text Inner = []
-port_text (Input n) = codes " input " ▸ decimal n
-port_text (Output n) = codes " output " ▸ decimal n
+port_text (Input n) = codes " input " ▸ numeral n
+port_text (Output n) = codes " output " ▸ numeral n
 
 abbrev pub init_line : List Bool → List ℕ
 init_line bits = codes "  attribute \\init " ▸ const_text bits ▸ end_line
@@ -41,17 +41,17 @@ init_text None = []
 init_text (Some bits) = init_line bits
 
 abbrev pub wire_line : RtlWire → List ℕ
-wire_line w = codes "  wire width " ▸ decimal w.width ▸ port_text w.port ▸ codes " " ▸ w.id ▸ end_line
+wire_line w = codes "  wire width " ▸ numeral w.width ▸ port_text w.port ▸ codes " " ▸ w.id ▸ end_line
 
 abbrev pub wire_text : RtlWire → List ℕ
 wire_text w = init_text w.init ▸ wire_line w
 
 abbrev pub memory_text : RtlMemory → List ℕ
-memory_text m = codes "  memory width " ▸ decimal m.width ▸ codes " size " ▸ decimal m.size ▸ codes " " ▸ m.id ▸ end_line
+memory_text m = codes "  memory width " ▸ numeral m.width ▸ codes " size " ▸ numeral m.size ▸ codes " " ▸ m.id ▸ end_line
 
 -- an id stands between quotes, with one `\` more
 abbrev pub value_text : RtlValue → List ℕ
-value_text (values.Number n) = decimal n
+value_text (values.Number n) = numeral n
 value_text (values.Bits bits) = const_text bits
 value_text (values.Id id) = codes "\"\\" ▸ id ▸ codes "\""
 

@@ -2,7 +2,7 @@
 -- Internal: no rule of the language.
 use Rattle.std.specs.Prelude.{◌≡◌, ℕ, ◌+◌, ◌-◌, ◌==◌, ◌&&◌, Bool, false, if◌then◌else◌, List, [], ◌∷◌, Option, Some, None, codes}
 use Rattle.std.specs.List.{flat_map}
-use Rattle.std.specs.Fmt.{decimal}
+use Rattle.rtlil_text.specs.Numerals.{numeral}
 use Rattle.rtlil_text.specs.declared.sig.SigPart.{SigPart}
 use Rattle.rtlil_text.specs.declared.sig.SigPart.TheVariants as parts
 use Rattle.rtlil_text.specs.declared.cell.RtlEnd.{RtlEnd}
@@ -26,8 +26,8 @@ abbrev pub part_text : (List ℕ → Option ℕ) → SigPart → List ℕ
 part_text widths (parts.Const bits) = const_text bits
 part_text widths (parts.Wire id low width) =
     if is_whole (widths id) low width then id
-    else if width == 1 then id ▸ codes " [" ▸ decimal low ▸ codes "]"
-    else id ▸ codes " [" ▸ decimal (low + width - 1) ▸ codes ":" ▸ decimal low ▸ codes "]"
+    else if width == 1 then id ▸ codes " [" ▸ numeral low ▸ codes "]"
+    else id ▸ codes " [" ▸ numeral (low + width - 1) ▸ codes ":" ▸ numeral low ▸ codes "]"
 
 abbrev pub braced_text : (List ℕ → Option ℕ) → List SigPart → List ℕ
 braced_text widths ps = codes "{" ▸ flat_map (λ p. codes " " ▸ part_text widths p) ps ▸ codes " }"

@@ -12,10 +12,12 @@ use crate::widths::Widths;
 use std::alloc::{AllocError, Global};
 use std::fmt::Write;
 
+#[tactic(auto, using(crate::proofs::Numerals::decimal_is_numeral))]
 pub(crate) fn memory_line(alloc: Global, m: &RtlMemory) -> Result<String, AllocError>
     ensures { IfOk result (λ s. string_bytes s ≡ memory_text m.now) }
 {
-    format!(in alloc; "  memory width {} size {} {}\n", m.width, m.size, m.id)
+    let (width, size) = (m.width, m.size);
+    format!(in alloc; "  memory width {width} size {size} {}\n", m.id)
 }
 
 pub(crate) fn init_line(alloc: Global, bits: &RtlBits) -> Result<String, AllocError>
@@ -27,10 +29,12 @@ pub(crate) fn init_line(alloc: Global, bits: &RtlBits) -> Result<String, AllocEr
     Ok(line)
 }
 
+#[tactic(auto, using(crate::proofs::Numerals::decimal_is_numeral))]
 pub(crate) fn wire_line(alloc: Global, w: &RtlWire) -> Result<String, AllocError>
     ensures { IfOk result (λ s. string_bytes s ≡ wire_line w.now) }
 {
-    format!(in alloc; "  wire width {}{} {}\n", w.width, w.port, w.id)
+    let width = w.width;
+    format!(in alloc; "  wire width {width}{} {}\n", w.port, w.id)
 }
 
 pub(crate) fn cell_line(alloc: Global, c: &RtlCell) -> Result<String, AllocError>

@@ -1,5 +1,6 @@
 // The text of constants, specs and names.
-ghost use Rattle.std.specs.Prelude.{◌≡◌, ◌++◌, OnOk, string_bytes};
+ghost use Rattle.std.specs.Prelude.{◌≡◌, ◌∷◌, [], ◌++◌, OnOk, string_bytes};
+ghost use Rattle.rtlil_text.specs.Numerals.{numeral};
 ghost use Rattle.rtlil_text.specs.Lines.{const_text, kind_text, value_text, port_text};
 ghost use Rattle.rtlil_text.specs.Written.{part_text, spec_text, is_whole, braced_text};
 ghost use Rattle.rtlil_text.specs.Widths.{width_in};
@@ -19,11 +20,18 @@ impl fmt::Display for WirePort {
 
     ghost output = { λ p. Some (port_text p) };
 
+    #[tactic(auto, using(crate::proofs::Numerals::decimal_is_numeral))]
     fn fmt<W: fmt::Write>(&self, f: &mut fmt::Formatter<W>) -> fmt::Result {
         match self {
             WirePort::Inner => Ok(()),
-            WirePort::Input(n) => write!(f, " input {n}"),
-            WirePort::Output(n) => write!(f, " output {n}"),
+            WirePort::Input(n) => {
+                let number = *n;
+                write!(f, " input {number}")
+            }
+            WirePort::Output(n) => {
+                let number = *n;
+                write!(f, " output {number}")
+            }
         }
     }
 }
@@ -61,24 +69,34 @@ pub(crate) fn kind_name(kind: CellKind) -> &'static str
     }
 }
 
+// The width of a constant, which a quote ends.
+#[tactic(auto, using(crate::proofs::Numerals::decimal_is_numeral))]
+fn constant_width(out: &mut String, width: usize) -> Result<(), AllocError>
+    ensures { OnOk result (string_bytes out.new ≡ string_bytes out.old ++ (numeral width ++ 39 ∷ [])) }
+{
+    write!(out, "{width}'")?;
+    Ok(())
+}
+
 /// The width, and the bits from the most significant one on.
 pub(crate) fn constant(out: &mut String, bits: &RtlBits) -> Result<(), AllocError>
     ensures { OnOk result (string_bytes out.new ≡ string_bytes out.old ++ const_text bits.now) }
 {
-    let width = bits.len();
-    write!(out, "{width}'")?;
+    constant_width(out, bits.len())?;
     for b in bits.as_slice().iter().rev() {
         out.push(if *b { '1' } else { '0' })?;
     }
     Ok(())
 }
 
+#[tactic(auto, using(crate::proofs::Numerals::decimal_is_numeral))]
 pub(crate) fn value(out: &mut String, v: &RtlValue) -> Result<(), AllocError>
     ensures { OnOk result (string_bytes out.new ≡ string_bytes out.old ++ value_text v.now) }
 {
     match v {
         RtlValue::Number(n) => {
-            write!(out, "{n}")?;
+            let number = *n;
+            write!(out, "{number}")?;
             Ok(())
         }
         RtlValue::Bits(bits) => constant(out, bits),
@@ -99,6 +117,7 @@ fn covers(width_of_wire: Option<u32>, low: u32, width: u32) -> bool
     }
 }
 
+#[tactic(auto, using(crate::proofs::Numerals::decimal_is_numeral))]
 fn part(out: &mut String, widths: &Widths, p: &SigPart) -> Result<(), AllocError>
     ensures { OnOk result (string_bytes out.new ≡ string_bytes out.old ++ part_text (width_in widths.now) p.now) }
 {

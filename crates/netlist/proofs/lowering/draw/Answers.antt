@@ -4,6 +4,8 @@ use Rattle.rtlil_text.specs.Rules.{IsModule}
 use Rattle.netlist.specs.Corresponds.{Corresponds}
 use Rattle.netlist.proofs.ModuleRules.{module_rules}
 use Rattle.netlist.proofs.ModuleWires.{module_corresponds}
+use Rattle.netlist.specs.FirstValues.{HasFirstValues}
+use Rattle.netlist.proofs.FirstValues.{module_begins}
 use Rattle.netlist.proofs.lowering.draw.Goals as goal
 
 pub returns-clause-module : goal.returns-clause-module
@@ -18,3 +20,8 @@ pub returns-clause-columns : goal.returns-clause-columns
 returns-clause-columns c =
     IfOk-weaker c.module_from.result _ _
     (λ m e. subst (Corresponds c.args.design.now) (sym (e ∙ c.in_ok-drawing.ensures.drawn)) (module_corresponds c.args.design.now c.count.ensures.rules)) c.module_from.ensures
+
+pub returns-clause-begins : goal.returns-clause-begins
+returns-clause-begins c =
+    IfOk-weaker c.module_from.result _ _
+    (λ m e. subst (HasFirstValues c.args.design.now) (sym (e ∙ c.in_ok-drawing.ensures.drawn)) (module_begins c.args.design.now c.requires.flat c.count.ensures.rules c.processes.ensures.rules)) c.module_from.ensures

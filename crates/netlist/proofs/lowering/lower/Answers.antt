@@ -4,6 +4,7 @@ use Rattle.std.proofs.lemmas.Result.{IfOk-weaker}
 use Rattle.comb_graph.specs.Rankings.{bit_of}
 use Rattle.design_ir.specs.Circuits.{Circuit}
 use Rattle.netlist.proofs.FlatModules.{Corresponds-flat, SameHistory-flat}
+use Rattle.netlist.proofs.FirstValues.{HasFirstValues-flat}
 use Rattle.netlist.proofs.lowering.lower.Goals as goal
 
 pub lower_plain-requires : goal.lower_plain-requires
@@ -21,3 +22,6 @@ returns-clause-history c =
     (λ m h. SameHistory-flat c.args.design.now c.in_ok-flat.flat m c.in_ok-flat.ensures.flat
     (λ events envs legal. c.flat_has_the_history.ensures c.args.design.now c.in_ok-flat.flat events envs c.count.ensures.rules c.count-2.ensures.rules c.processes.ensures.rules c.processes-2.ensures.rules c.in_ok-flat.ensures.flat legal) h)
     c.lower_plain.ensures.history
+
+pub returns-clause-begins : goal.returns-clause-begins
+returns-clause-begins c = IfOk-weaker c.lower_plain.result _ _ (λ m h. HasFirstValues-flat c.args.design.now c.in_ok-flat.flat m c.requires.flat c.in_ok-flat.ensures.flat h) c.lower_plain.ensures.begins

@@ -6,6 +6,9 @@ use Rattle.comb_graph.specs.Rankings.{bit_of}
 use Rattle.cell_split.specs.Kept.{KeepsHistory}
 use Rattle.netlist.specs.Histories.{SameHistory}
 use Rattle.netlist.proofs.SplitModules.{Corresponds-wires, SameHistory-kept, IfOk-both}
+use Rattle.rtlil_text.specs.Inits.{register_bits}
+use Rattle.netlist.specs.FirstValues.{HasFirstValues}
+use Rattle.netlist.proofs.FirstValues.{HasFirstValues-cut}
 use Rattle.netlist.proofs.lowering.lower_plain.Goals as goal
 
 pub returns-clause-corresponds : goal.returns-clause-corresponds
@@ -20,3 +23,9 @@ returns-clause-history c =
     (c.modules_have_the_history.ensures c.args.design.now (map bit_of c.args.ranks.now.order) c.count.ensures.rules c.strides_are_bytes.ensures c.processes.ensures.rules c.requires.plain c.in_ok-drawn.ensures.module.1 c.requires.ordered) in
     IfOk-both c.split_tangled.result (λ (m : RtlModule). m.wires ≡ drawn.wires) (KeepsHistory drawn) (SameHistory c.args.design.now)
     (λ m e keeps. SameHistory-kept c.args.design.now drawn m e keeps was) c.split_tangled.ensures.wires c.split_tangled.ensures.history
+
+pub returns-clause-begins : goal.returns-clause-begins
+returns-clause-begins c =
+    let drawn = c.in_ok-drawn.drawn in
+    IfOk-both c.split_tangled.result (λ (m : RtlModule). m.wires ≡ drawn.wires) (λ (m : RtlModule). register_bits m ≡ register_bits drawn) (HasFirstValues c.args.design.now)
+    (λ m e same. HasFirstValues-cut c.args.design.now drawn m e same c.in_ok-drawn.ensures.begins) c.split_tangled.ensures.wires c.split_tangled.ensures.registers

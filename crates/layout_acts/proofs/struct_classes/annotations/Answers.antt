@@ -1,0 +1,14 @@
+use Rattle.std.proofs.Common.{◌∙◌, ◌<◌, sym, ap, arith, true, length, drop, map, string_bytes}
+use Rattle.std.proofs.lemmas.List.{at_drop_all, length-drop, length-map}
+use Rattle.layout_acts.specs.StructClasses.{annotations, behind_members}
+use Rattle.layout_acts.proofs.StructLaws.{annotations_short}
+use Rattle.layout_acts.proofs.struct_classes.annotations.Goals as goal
+
+pub returns-then-i-vals : goal.returns-then-i-vals
+returns-then-i-vals c =
+    let i = c.loop-i.i in
+    let names = map string_bytes (drop i c.args.names.now) in
+    let some : 0 < length names = simp (length-map, length-drop) (omega arith) in
+    sym (ap (behind_members true c.loop-i.members)
+    (at_drop_all (λ vs. annotations vs names) c.args.vals.now i (omega arith) ∙ annotations_short names some))
+    ∙ c.loop-i.invariant

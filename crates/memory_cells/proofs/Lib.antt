@@ -1,0 +1,10 @@
+mod Disjoint
+mod Enables
+mod WrittenRows
+mod ReadRows
+mod FirstRows
+mod Guards
+mod Rules
+mod Loops
+pub mod Masks
+pub mod Spike
