@@ -8,6 +8,9 @@ pub mod Aimed
 pub mod OneBit
 pub mod TargetsInside
 pub mod Walks
+pub mod Agrees
+pub mod Frames
+pub mod TaskValues
 pub mod WritesFit
 pub mod SweepsFit
 pub mod Starts

@@ -4,3 +4,6 @@ pub mod Rounds
 pub mod Driven
 pub mod Given
 pub mod After
+pub mod Reads
+pub mod Woken
+pub mod Tasks

@@ -21,5 +21,6 @@ mod settle;
 mod sim;
 mod sweep;
 mod targets;
+mod task;
 
 pub use sim::Sim;
