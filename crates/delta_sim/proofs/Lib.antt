@@ -10,6 +10,7 @@ pub mod TargetsInside
 pub mod Walks
 pub mod Agrees
 pub mod Frames
+pub mod Waits
 pub mod TaskValues
 pub mod WritesFit
 pub mod SweepsFit

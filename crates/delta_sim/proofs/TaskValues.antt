@@ -108,7 +108,7 @@ module _ (pool : Pooled) (env : List ℤ) (s : ℕ) where
   combs_at (p ∷ ps) zero q cur is comb apart =
       let same : p ≡ q = cc in
       let none = none_among (λ (r : DesignProcess). driven pool r.body) s (λ (r : DesignProcess). is_none r.domain && is_among (driven pool r.body) s) ps
-          (λ j r there. and_none (is_none r.domain) (is_among (driven pool r.body) s) (apart (suc j) r there (λ e. cc))) in
+      (λ j r there. and_none (is_none r.domain) (is_among (driven pool r.body) s) (apart (suc j) r there (λ e. cc))) in
       processes_other pool env s ps (comb_process pool env cur p) none ∙ ap (λ x. at (comb_process pool env cur x) s) same ∙ ap (λ xs. at xs s) (comb_here cur q comb)
   combs_at (p ∷ ps) (suc k) q cur is comb apart =
       combs_at ps k q (comb_process pool env cur p) is comb (λ j r there e. apart (suc j) r there (λ f. e (omega (arith, f))))

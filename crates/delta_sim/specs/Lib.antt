@@ -7,3 +7,4 @@ pub mod After
 pub mod Reads
 pub mod Woken
 pub mod Tasks
+pub mod Waiting

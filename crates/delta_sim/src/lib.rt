@@ -8,6 +8,7 @@
 //! from what was read before it, and a reset gives each signal that a process drives its init (specs/Driven.antt).
 #![tactic(auto)]
 
+mod agenda;
 mod bits;
 mod counter;
 mod driven;
