@@ -11,6 +11,7 @@ pub mod Walks
 pub mod Agrees
 pub mod Frames
 pub mod Waits
+pub mod PlaceWalks
 pub mod TaskValues
 pub mod WritesFit
 pub mod SweepsFit

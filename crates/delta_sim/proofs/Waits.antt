@@ -149,8 +149,8 @@ none_left (x ∷ list) (suc i) k h = none_left list i k (omega (arith, h))
 pub unmarked_all : (w : Waiting) (marks : List Bool) → IsWaiting w → length marks ≡ length w.marks → ((n : ℕ) → slice_index_or marks n false ≡ true → (is_among w.list n ≡ false) × (slice_index_or w.marks n false ≡ true)) → marks ≡ replicate (length w.marks) false
 unmarked_all w marks h long gone =
     all_false marks (λ k. ⊎_elim
-        (λ (e : slice_index_or marks k false ≡ true). let g = gone k e in absurd (false≢true (sym g.0 ∙ sym (h.listed k) ∙ g.1)))
-        (λ (e : slice_index_or marks k false ≡ false). e) (cases_Bool (slice_index_or marks k false)))
+    (λ (e : slice_index_or marks k false ≡ true). let g = gone k e in absurd (false≢true (sym g.0 ∙ sym (h.listed k) ∙ g.1)))
+    (λ (e : slice_index_or marks k false ≡ false). e) (cases_Bool (slice_index_or marks k false)))
     ∙ ap (λ n. replicate n false) long
 
 -- those that wait are below the bound

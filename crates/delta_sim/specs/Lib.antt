@@ -8,3 +8,4 @@ pub mod Reads
 pub mod Woken
 pub mod Tasks
 pub mod Waiting
+pub mod Walked

@@ -15,6 +15,7 @@ mod driven;
 mod edge;
 mod expressions;
 mod given;
+mod place;
 mod places;
 mod put;
 mod reading;
