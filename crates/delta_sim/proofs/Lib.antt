@@ -12,6 +12,9 @@ pub mod Agrees
 pub mod Frames
 pub mod Waits
 pub mod PlaceWalks
+pub mod Programs
+pub mod BitTurns
+pub mod StatementTurns
 pub mod TaskValues
 pub mod WritesFit
 pub mod SweepsFit

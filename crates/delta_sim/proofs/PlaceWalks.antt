@@ -188,7 +188,7 @@ module _ (p : Pooled) (env nums : List ℤ) (list : List ExprId) (read : IsRead 
           let places : List (Option Bit) = target_bits p env a.0 in
           let k : ℕ = unsigned_abs (num p env index.0) in
           let item : picked [] (map (λ (y : ExprId). target_bits p env y.0) es) k ≡ places =
-              picked_is (target_bits p env) [] es k (min (unsigned_abs (get_or nums index.0 (pos 0))) (length es - 1)) a (ap (λ n. min (unsigned_abs n) (length es - 1)) (among_known index.0 among.0)) chosen in
+          picked_is (target_bits p env) [] es k (min (unsigned_abs (get_or nums index.0 (pos 0))) (length es - 1)) a (ap (λ n. min (unsigned_abs n) (length es - 1)) (among_known index.0 among.0)) chosen in
           let at : (j : ℕ) → place_of p env e j ≡ get_or (padded w places) j None = λ j. ap (λ xs. get_or xs j None) (target_is p env e x rules is) ∙ ap (λ ps. get_or (padded w ps) j None) item in
           walked_window width a 0 i (below_at e es _ a (below x is).1 chosen) (all_among es _ a among.1 chosen) (all_targets es _ a (tested x is) chosen)
           (λ j h. let none : 0 + j ≡ j = omega arith in ap (λ n. get_or places n None) none ∙ sym (at j ∙ padded_at w places j (omega (arith, h, same))))
@@ -215,9 +215,9 @@ module _ (p : Pooled) (env nums : List ℤ) (list : List ExprId) (read : IsRead 
           let w : ℕ = (form p y.0).width in
           ⊎_elim
           (λ (c : nat_lt j w ≡ true). subst (IsWalked p env list e i) (sym (ap (λ b. cond b (GoesOn y j) (item_at (form p) es (j - w))) c))
-              (h.0, among.0, t.0, sym (get_or-append places rest None j (omega (arith, ltb-true j w c, long))) ∙ at))
+          (h.0, among.0, t.0, sym (get_or-append places rest None j (omega (arith, ltb-true j w c, long))) ∙ at))
           (λ (c : nat_lt j w ≡ false). subst (IsWalked p env list e i) (sym (ap (λ b. cond b (GoesOn y j) (item_at (form p) es (j - w))) c))
-              (items_walked es i (j - w) h.1 among.1 t.1 (ap (λ n. get_or rest (j - n) None) (sym long) ∙ sym (behind places rest j (omega (arith, ltb-false j w c, long))) ∙ at)))
+          (items_walked es i (j - w) h.1 among.1 t.1 (ap (λ n. get_or rest (j - n) None) (sym long) ∙ sym (behind places rest j (omega (arith, ltb-false j w c, long))) ∙ at)))
           (cases_Bool (nat_lt j w))
         where
           behind : (xs ys : List (Option Bit)) (j : ℕ) → length xs ≤ j → get_or (xs ++ ys) j None ≡ get_or ys (j - length xs) None

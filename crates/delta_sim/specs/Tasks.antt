@@ -2,6 +2,7 @@
 -- which each stands behind those that it names.
 use Rattle.std.specs.Prelude.{◌≡◌, ℕ, ◌<◌, ◌≤◌, true, List, [], ◌∷◌, ◌++◌, map, take, length, slice_get, Option, Some, None, ℤ, pos, slice_index_or}
 use Rattle.std.specs.List.{AllByRecursion}
+use Rattle.amh_bits.specs.Patterns.{IsOf}
 use Rattle.design_ir.specs.declared.expr.Expr.{Expr}
 use Rattle.design_ir.specs.declared.ids.ExprId.{ExprId}
 use Rattle.design_ir.specs.declared.process.DesignProcess.{DesignProcess}
@@ -13,7 +14,7 @@ use Rattle.design_ir.specs.PoolRules.{IsPool}
 use Rattle.design_ir.specs.Put.{put}
 use Rattle.design_ir.specs.Targets.{is_target}
 use Rattle.design_ir.specs.Trees.{Statement, assign, choose, Choices, none, arm, Block, done, next, statements}
-use Rattle.design_ir.specs.Values.{num}
+use Rattle.design_ir.specs.Values.{form, num}
 use Rattle.delta_sim.specs.declared.task.Task.{Task}
 use Rattle.delta_sim.specs.Driven.{numbers_of}
 
@@ -76,6 +77,11 @@ pub record IsTask (c : Circuit) (count : ℕ) (t : Task) (p : DesignProcess) : T
   pub targets : AreTargetsOf c.pool (block_targets (picked p.body t.statements))
 
 -- ---- what is read by a task
+
+-- the integers of the first so many expressions, or others of their shapes
+pub record AreFitting (p : Pooled) (nums : List ℤ) : Type 0 where
+  pub few : length nums ≤ length p.exprs
+  pub fits : (k : ℕ) → k < length nums → IsOf (form p k).signed (form p k).width (slice_index_or nums k (pos 0))
 
 -- the integers of these expressions are known, and so are those that they name
 pub record IsRead (p : Pooled) (env nums : List ℤ) (list : List ExprId) : Type 0 where

@@ -25,7 +25,7 @@ pub fn put_number(design: &Design, places: &[Option<SignalBit>], n: Int, cur: &m
 }
 
 // A bit of a vector, 0 past its width.
-fn bit_at(bits: Bits, i: u32) -> u128
+pub fn bit_at(bits: Bits, i: u32) -> u128
     requires { i < 128 }
     ensures { result ≡ nat_bit bits.bits i }
 {
@@ -33,7 +33,7 @@ fn bit_at(bits: Bits, i: u32) -> u128
 }
 
 // What is written to no bit is dropped.
-fn put_place(design: &Design, place: Option<SignalBit>, bit: u128, cur: &mut [Int])
+pub fn put_place(design: &Design, place: Option<SignalBit>, bit: u128, cur: &mut [Int])
     requires bit { bit < 2 }
     requires inside { IsInside design.now.pool.signals place }
     requires signals { length cur.old ≡ length design.now.pool.signals }

@@ -42,7 +42,7 @@ fn number(design: &Design, env: &[Int], nums: &[Int], k: ExprId) -> Int
 }
 
 // What the integer of an expression comes to.
-fn value(design: &Design, env: &[Int], nums: &[Int], e: &Expr) -> Int
+pub fn value(design: &Design, env: &[Int], nums: &[Int], e: &Expr) -> Int
     requires ready { IsReady design.now.pool env.now nums.now e.now }
     ensures { result ≡ value_step (form design.now.pool) env.now (λ k. slice_index_or nums.now k (pos 0)) e.now }
 {

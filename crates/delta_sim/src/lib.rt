@@ -10,6 +10,7 @@
 
 mod agenda;
 mod bits;
+mod compute;
 mod counter;
 mod driven;
 mod edge;
@@ -21,8 +22,10 @@ mod put;
 mod reading;
 mod settle;
 mod sim;
+mod statements;
 mod sweep;
 mod targets;
 mod task;
+mod write;
 
 pub use sim::Sim;
