@@ -14,6 +14,8 @@ pub mod Waits
 pub mod PlaceWalks
 pub mod Programs
 pub mod BitTurns
+pub mod Waking
+pub mod Resting
 pub mod StatementTurns
 pub mod TaskValues
 pub mod WritesFit

@@ -9,3 +9,4 @@ pub mod Woken
 pub mod Tasks
 pub mod Waiting
 pub mod Walked
+pub mod Plans

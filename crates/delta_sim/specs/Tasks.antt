@@ -71,6 +71,7 @@ pub record IsTask (c : Circuit) (count : ℕ) (t : Task) (p : DesignProcess) : T
   pub process : slice_get c.processes t.process ≡ Some p
   pub inside : AllByRecursion (λ i. i < length (statements p.body)) t.statements
   pub outs : (s : ℕ) → is_among (numbers_of t.outs) s ≡ is_among (driven c.pool (picked p.body t.statements)) s
+  pub drives : (s : ℕ) → is_among (numbers_of t.outs) s ≡ true → is_among (driven c.pool p.body) s ≡ true
   pub same : (env cur : List ℤ) (s : ℕ) → is_among (numbers_of t.outs) s ≡ true → at (put c.pool env p.body cur) s ≡ at (put c.pool env (picked p.body t.statements) cur) s
   pub program : IsProgram c.pool count t.exprs
   pub computed : AreAmong t.exprs (block_exprs (picked p.body t.statements))

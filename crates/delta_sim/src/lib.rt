@@ -18,6 +18,7 @@ mod expressions;
 mod given;
 mod place;
 mod places;
+mod plan;
 mod put;
 mod reading;
 mod settle;
