@@ -15,6 +15,7 @@ pub mod PlaceWalks
 pub mod Programs
 pub mod BitTurns
 pub mod Waking
+pub mod Taking
 pub mod Resting
 pub mod StatementTurns
 pub mod TaskValues

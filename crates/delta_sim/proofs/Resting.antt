@@ -156,7 +156,7 @@ module _ (c : Circuit) (flat : c.memories ≡ []) (rules : IsPool c.pool) (desig
         → at (delta c other new) s ≡ at (delta c st old) s
     task_kept st other old new inside is_marks was wakes asleep =
         let unread : (x : ℕ) → block_reads c.pool x body ≡ true → at new x ≡ at old x =
-            λ x reads. ⊎_elim (λ e. sym e) (λ (e : at old x ≢ at new x). absurd (false≢true (sym asleep ∙ wakes.wakes x j e (is.awake x j t task.p stands task.task.process reads)))) (cases_int (at old x) (at new x)) in
+        λ x reads. ⊎_elim (λ e. sym e) (λ (e : at old x ≢ at new x). absurd (false≢true (sym asleep ∙ wakes.wakes x j e (is.awake x j t task.p stands task.task.process reads)))) (cases_int (at old x) (at new x)) in
         task_at other new
         ∙ ap (λ xs. at xs s) (put_agrees c.pool new old rules body (starts c other 0 c.pool.signals) there unread)
         ∙ put_frame c.pool s old body (starts c other 0 c.pool.signals) (starts c st 0 c.pool.signals) (begun_long other ∙ sym (begun_long st), same_start other st inside)

@@ -73,7 +73,12 @@ pub record Wakes (table : List (List ℕ)) (old new : List ℤ) (was is : List B
   pub wakes : (s k : ℕ) → at old s ≢ at new s → is_among (readers_of table s) k ≡ true → slice_index_or is k false ≡ true
   pub sound : (k : ℕ) → slice_index_or is k false ≡ true → (slice_index_or was k false ≡ true) ⊎ ((s : ℕ) × (at old s ≢ at new s) × (is_among (readers_of table s) k ≡ true))
 
--- a task that waits drives the signal
+-- these signals with their numbers from others
+abbrev pub taken : List ℤ → List ℕ → List ℤ → List ℤ
+taken from [] env = env
+taken from (s ∷ ss) env = taken from ss (slice_set env s (at from s))
+
+-- no task that waits drives the signal
 abbrev pub IsUntouched : List Task → List Bool → ℕ → Type 0
 IsUntouched tasks marks s = (j : ℕ) (t : Task) → slice_get tasks j ≡ Some t → slice_index_or marks j false ≡ true → is_among (numbers_of t.outs) s ≡ false
 

@@ -41,14 +41,7 @@ pub fn put_task(
 
 // Carries out statements one after another.
 #[cycle(statements)]
-fn put_body(
-    design: &Design,
-    task: &Task,
-    env: &[Int],
-    nums: &[Int],
-    body: &Stmts,
-    cur: &mut [Int],
-)
+fn put_body(design: &Design, task: &Task, env: &[Int], nums: &[Int], body: &Stmts, cur: &mut [Int])
     requires read { IsRead design.now.pool env.now nums.now task.now.exprs }
     requires computed { AreAmong task.now.exprs (block_exprs body.now) }
     requires targets { AreTargetsOf design.now.pool (block_targets body.now) }
@@ -82,14 +75,7 @@ fn put_stmt(design: &Design, task: &Task, env: &[Int], nums: &[Int], s: &Stmt, c
 
 // Carries out the first arm whose condition is not 0.
 #[cycle(statements)]
-fn put_arms(
-    design: &Design,
-    task: &Task,
-    env: &[Int],
-    nums: &[Int],
-    arms: &Arms,
-    cur: &mut [Int],
-)
+fn put_arms(design: &Design, task: &Task, env: &[Int], nums: &[Int], arms: &Arms, cur: &mut [Int])
     requires read { IsRead design.now.pool env.now nums.now task.now.exprs }
     requires computed { AreAmong task.now.exprs (choices_exprs arms.now) }
     requires targets { AreTargetsOf design.now.pool (choices_targets arms.now) }
