@@ -17,6 +17,8 @@ pub mod BitTurns
 pub mod Waking
 pub mod Taking
 pub mod Resting
+pub mod DeltaSteps
+pub mod Counting
 pub mod StatementTurns
 pub mod TaskValues
 pub mod WritesFit

@@ -10,3 +10,4 @@ pub mod Tasks
 pub mod Waiting
 pub mod Walked
 pub mod Plans
+pub mod Settling

@@ -48,6 +48,8 @@ pub fn delta(
     ensures then { then.new ≡ record { marks = replicate (length plan.now.tasks) false; list = [] } }
     ensures woken { Wakes plan.now.processes env.old.items env.new.items woken.old.marks woken.new.marks }
 {
+    let _ = design.count();
+    let _ = design.processes();
     run_all(design, plan, waits, env.as_slice(), nums, next);
     take_all(plan, waits, next, env, then, woken);
     waits.clear();
