@@ -39,11 +39,11 @@ is_changed : (old new : List ℤ) (s : ℕ) → at old s ≢ at new s → change
 is_changed old new s h = tested (int_eq (at old s) (at new s)) refl
   where
     tested : (t : Bool) → int_eq (at old s) (at new s) ≡ t → not (int_eq (at old s) (at new s)) ≡ true
-    tested true e = ?
+    tested true e = absurd (h ((Decides-int_eq (at old s) (at new s)).0 e))
     tested false e = ap not e
 
 was_changed : (old new : List ℤ) (s : ℕ) → changed old new s ≡ true → at old s ≢ at new s
-was_changed old new s h e = ?
+was_changed old new s h e = false≢true (sym (ap not ((Decides-int_eq (at old s) (at new s)).1 e)) ∙ h)
 
 -- ---- places of a range
 
@@ -115,16 +115,16 @@ module _ (c : Circuit) (flat : c.memories ≡ []) where
     pub woken_count : (old new : List ℤ) (marks : List Bool) → Wakes plan.processes old new (replicate (length c.processes) false) marks → length marks ≡ length c.processes → count_by (λ b. b) marks ≡ woken c [] [] old new
     woken_count old new marks wakes long =
         count_same (is_woken c old new) marks c.processes long (λ k p stands. same_tests (slice_index_or marks k false) (is_woken c old new p)
-            (λ h. ⊎_elim
-            (λ (was : slice_index_or (replicate (length c.processes) false) k false ≡ true). absurd (false≢true (sym (none_marked (length c.processes) k) ∙ was)))
-            (λ (x : (s : ℕ) × (at old s ≢ at new s) × (is_among (readers_of plan.processes s) k ≡ true)).
-            let within = inside x.0 k x.2 in
-            let reads = sym (is.exact x.0 k p within stands) ∙ x.2 in
-            and_both (is_none p.domain) _ (and_left (is_none p.domain) (block_reads c.pool x.0 p.body) reads)
-            (range_place (λ s. changed old new s && block_reads c.pool s p.body) 0 (length c.pool.signals) x.0 (omega arith) (omega (arith, within)) (and_both (changed old new x.0) (block_reads c.pool x.0 p.body) (is_changed old new x.0 x.1) (and_right (is_none p.domain) (block_reads c.pool x.0 p.body) reads))))
-            (wakes.sound k h))
-            (λ h.
-            let r = range_some (λ s. changed old new s && block_reads c.pool s p.body) 0 (length c.pool.signals) (and_right (is_none p.domain) _ h) in
-            wakes.wakes r.0 k (was_changed old new r.0 (and_left (changed old new r.0) (block_reads c.pool r.0 p.body) r.2))
-            (is.exact r.0 k p (omega (arith, r.1)) stands ∙ and_both (is_none p.domain) (block_reads c.pool r.0 p.body) (and_left (is_none p.domain) _ h) (and_right (changed old new r.0) (block_reads c.pool r.0 p.body) r.2))))
+        (λ h. ⊎_elim
+        (λ (was : slice_index_or (replicate (length c.processes) false) k false ≡ true). absurd (false≢true (sym (none_marked (length c.processes) k) ∙ was)))
+        (λ (x : (s : ℕ) × (at old s ≢ at new s) × (is_among (readers_of plan.processes s) k ≡ true)).
+        let within = inside x.0 k x.2 in
+        let reads = sym (is.exact x.0 k p within stands) ∙ x.2 in
+        and_both (is_none p.domain) _ (and_left (is_none p.domain) (block_reads c.pool x.0 p.body) reads)
+        (range_place (λ s. changed old new s && block_reads c.pool s p.body) 0 (length c.pool.signals) x.0 (omega arith) (omega (arith, within)) (and_both (changed old new x.0) (block_reads c.pool x.0 p.body) (is_changed old new x.0 x.1) (and_right (is_none p.domain) (block_reads c.pool x.0 p.body) reads))))
+        (wakes.sound k h))
+        (λ h.
+        let r = range_some (λ s. changed old new s && block_reads c.pool s p.body) 0 (length c.pool.signals) (and_right (is_none p.domain) _ h) in
+        wakes.wakes r.0 k (was_changed old new r.0 (and_left (changed old new r.0) (block_reads c.pool r.0 p.body) r.2))
+        (is.exact r.0 k p (omega (arith, r.1)) stands ∙ and_both (is_none p.domain) (block_reads c.pool r.0 p.body) (and_left (is_none p.domain) _ h) (and_right (changed old new r.0) (block_reads c.pool r.0 p.body) r.2))))
         ∙ sym (woken_is old new)

@@ -119,7 +119,7 @@ module _ (c : Circuit) (flat : c.memories ≡ []) (rules : IsPool c.pool) (desig
       ⊎_elim
       (λ (w : slice_index_or marks v.j false ≡ true). inr (v.j, v.t, v.stands, w, v.drives))
       (λ (w : slice_index_or marks v.j false ≡ false). inl (λ j t there waits.
-          is.apart v.j j v.t t s v.stands there (λ f. false≢true (sym w ∙ ap (λ k. slice_index_or marks k false) f ∙ waits)) v.drives))
+      is.apart v.j j v.t t s v.stands there (λ f. false≢true (sym w ∙ ap (λ k. slice_index_or marks k false) f ∙ waits)) v.drives))
       (cases_Bool (slice_index_or marks v.j false)))
       (λ (comb : is_comb c s ≡ false). inl (λ j t there waits.
       ⊎_elim
@@ -184,8 +184,8 @@ module _ (tasks : List Task) where
       (λ (out' : is_among (numbers_of task.outs) s ≡ true). ap (λ xs. at xs s) e ∙ taken_at from (numbers_of task.outs) env s out' (below_of (length env) (numbers_of task.outs) s below out'))
       (λ (none : is_among (numbers_of task.outs) s ≡ false).
       let other : x ≢ j = λ f.
-          let alike : task ≡ t = let g : Some task ≡ Some t = sym stands ∙ ap (slice_get tasks) f ∙ there in cc in
-          false≢true (sym none ∙ ap (λ (y : Task). is_among (numbers_of y.outs) s) alike ∙ out) in
+      let alike : task ≡ t = let g : Some task ≡ Some t = sym stands ∙ ap (slice_get tasks) f ∙ there in cc in
+      false≢true (sym none ∙ ap (λ (y : Task). is_among (numbers_of y.outs) s) alike ∙ out) in
       ap (λ xs. at xs s) e ∙ taken_other from (numbers_of task.outs) env s none ∙ was j s t there (among_next list i j among other) out)
       (cases_Bool (is_among (numbers_of task.outs) s))
 

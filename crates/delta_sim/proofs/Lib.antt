@@ -19,6 +19,7 @@ pub mod Taking
 pub mod Resting
 pub mod DeltaSteps
 pub mod Counting
+pub mod Settles
 pub mod StatementTurns
 pub mod TaskValues
 pub mod WritesFit

@@ -19,5 +19,5 @@ nobody bound = record { marks = replicate bound false; list = [] }
 -- from an environment with the first, second and further deltas behind it, so many deltas in which a process runs, and
 -- so many runs, in a design without memories
 pub record AreCounts (c : Circuit) (old : List ℤ) (envs : List (List ℤ)) (deltas runs : ℕ) : Type 0 where
-  pub deltas : deltas ≡ deltas_of c [] [] old envs
-  pub runs : runs ≡ runs_of c [] [] old envs
+  pub many_deltas : deltas ≡ deltas_of c [] [] old envs
+  pub many_runs : runs ≡ runs_of c [] [] old envs

@@ -13,6 +13,7 @@ mod bits;
 mod compute;
 mod counter;
 mod delta;
+mod deltas;
 mod driven;
 mod edge;
 mod expressions;
