@@ -19,6 +19,8 @@ pub mod Taking
 pub mod Resting
 pub mod DeltaSteps
 pub mod Counting
+pub mod Applying
+pub mod Clocking
 pub mod Settles
 pub mod StatementTurns
 pub mod TaskValues

@@ -19,6 +19,7 @@ use Rattle.delta_sim.specs.Waiting.{Waiting, IsWaiting}
 use Rattle.delta_sim.specs.Woken.{woken, one_if_some, deltas_from, runs_from, deltas_of, runs_of}
 use Rattle.delta_sim.proofs.Counting.{woken_count, woken_same}
 use Rattle.delta_sim.proofs.Settling.{same_lists}
+use Rattle.delta_sim.proofs.WritesFit.{either}
 use Rattle.delta_sim.proofs.Waits.{none_marked, none_counted, all_false}
 
 -- none waits
@@ -153,5 +154,4 @@ pub awake : (w : Waiting) → IsWaiting w → (length w.list ≡ 0 → ⊥) → 
 awake w h some idle = some (h.count ∙ ap (count_by (λ b. b)) (all_false w.marks idle) ∙ none_counted (length w.marks))
 
 pub one_most : (n : ℕ) → one_if_some n ≤ 1
-one_most zero = omega arith
-one_most (suc n) = ?
+one_most n = either (λ k. k ≤ 1) (n == 0) 0 1 (omega arith) (omega arith)

@@ -7,8 +7,8 @@ ghost use Rattle.design_ir.specs.Values.{form, signal_form};
 ghost use Rattle.delta_sim.specs.Tasks.{IsRead, places_of};
 ghost use Rattle.delta_sim.specs.Walked.{place_of, IsWalked, signal_place, window, item_at};
 
+use crate::bits::SignalBit;
 use crate::expressions::size_of;
-use crate::places::SignalBit;
 use crate::task::Task;
 use amh_bits::Int;
 use design_ir::{Design, Expr, ExprId, Exprs, Ids, SigId};

@@ -34,6 +34,25 @@ pub fn take(
     }
 }
 
+/// The signals that a state gives take their numbers from what is held.
+pub fn take_given(
+    plan: &Plan,
+    held: &[Int],
+    env: &mut Vec<Int>,
+    waits: &mut Agenda,
+    woken: &mut Agenda,
+)
+    requires tasks { IsTable (length env.old.items) (length waits.old.marks) plan.now.readers }
+    requires processes { IsTable (length env.old.items) (length woken.old.marks) plan.now.processes }
+    requires below { AllByRecursion (λ s. s < length env.old.items) (numbers_of plan.now.given) }
+    requires long { length held.now ≡ length env.old.items }
+    ensures env { env.new.items ≡ taken held.now (numbers_of plan.now.given) env.old.items }
+    ensures waits { Wakes plan.now.readers env.old.items env.new.items waits.old.marks waits.new.marks }
+    ensures woken { Wakes plan.now.processes env.old.items env.new.items woken.old.marks woken.new.marks }
+{
+    take(plan, plan.given.as_slice(), held, env, waits, woken);
+}
+
 // One signal takes its number.
 fn take_one(
     plan: &Plan,
