@@ -1,5 +1,5 @@
 -- Where the deltas of an event begin, and that they end.
-use Rattle.std.specs.Prelude.{◌≡◌, ◌≢◌, refl, ℕ, zero, suc, ◌+◌, ◌<◌, ◌≤◌, if◌then◌else◌, Bool, true, false, List, [], ◌∷◌, length, replicate, ℤ, pos}
+use Rattle.std.specs.Prelude.{◌≡◌, ◌≢◌, refl, ℕ, zero, suc, ◌+◌, ◌<◌, ◌≤◌, if◌then◌else◌, Bool, true, false, List, [], ◌∷◌, ◌++◌, take, drop, length, ℤ}
 use Rattle.std.specs.List.{AllByRecursion}
 use Rattle.std.proofs.Common.{sym, ◌∙◌, ap, arith, subst, ⊎_elim}
 use Rattle.std.proofs.lemmas.Bool.{cases_Bool, false≢true}
@@ -65,6 +65,7 @@ fits_state c flat held fit = record { held = fit; rows = subst (λ ms. FitsRows 
 
 -- the environment with the event's change in it, and the deltas behind it
 pub record IsBegun (c : Circuit) (plan : Plan) (longest : ℕ) (held env first : List ℤ) (marks : List Bool) : Type 0 where
+  pub held_of : AreNumbersOf c held
   pub fit : FitsState c (state_of held)
   pub numbers : AreNumbersOf c first
   pub rests : Rests c (state_of held) plan.tasks marks first
@@ -89,6 +90,7 @@ module _ (c : Circuit) (flat : c.memories ≡ []) (rules : IsPool c.pool) (desig
       let ready : (t : ℕ) → is_comb c t ≡ false → at first t ≡ at (delta c new first) t = λ t h. ap (λ xs. at xs t) put_in ∙ begun.held t h ∙ ap (λ xs. at (delta c new xs) t) (sym put_in) in
       let kept : (t : ℕ) → is_held c t ≡ false → at first t ≡ at s.env t = λ t h. ap (λ xs. at xs t) first_is ∙ kept_at t h in
       record {
+        held_of = held_of;
         fit = fit;
         numbers = record { count = long; fits = subst (FitsSignals c.pool) (sym put_in) begun.whole.fits };
         rests = rests_first c flat rules design (length s.numbers) of.numbers.few s.plan of.plan old new s.env first was marks of.settled ready kept long (delta_length c new rules design first) wakes;
@@ -109,3 +111,12 @@ module _ (c : Circuit) (flat : c.memories ≡ []) (rules : IsPool c.pool) (desig
       ends_here new put_in (x ∷ rest) are few =
           let same : x ≡ first = are.0 ∙ sym put_in in
           record { rest = rest; are = subst (λ y. DeltasFrom c new y rest) same are.1; few = omega (arith, few) }
+
+-- the items of a list whose items were all put in
+pub vec_whole : (len : ℕ) (new items : List ℤ) → length new ≡ len → take len (new ++ drop (length new) items) ≡ new
+vec_whole len new items e = ap (λ n. take n (new ++ drop (length new) items)) (sym e) ∙ front new (drop (length new) items)
+  where
+    front : (xs ys : List ℤ) → take (length xs) (xs ++ ys) ≡ xs
+    front [] [] = refl
+    front [] (y ∷ ys) = refl
+    front (x ∷ xs) ys = ap (λ zs. x ∷ zs) (front xs ys)

@@ -18,16 +18,16 @@ pub fn hold(
     event: &Event,
     env: &[Int],
     nums: &mut Vec<Int>,
-    held: &mut [Int],
+    held: &mut Vec<Int>,
 )
     requires legal { IsLegal design.now event.now }
     requires plan { IsPlan design.now (length nums.old.items) plan.now }
     requires env { length env.now ≡ length design.now.pool.signals }
     requires env_fits { FitsSignals design.now.pool env.now }
     requires numbers { AreFitting design.now.pool nums.old.items }
-    requires signals { length held.old ≡ length design.now.pool.signals }
-    requires fits { FitsSignals design.now.pool held.old }
-    ensures held { held.new ≡ after design.now held.old env.now event.now }
+    requires signals { length held.old.items ≡ length design.now.pool.signals }
+    requires fits { FitsSignals design.now.pool held.old.items }
+    ensures held { held.new.items ≡ after design.now held.old.items env.now event.now }
     ensures count { length nums.new.items ≡ length nums.old.items }
     ensures numbers { AreFitting design.now.pool nums.new.items }
 {
