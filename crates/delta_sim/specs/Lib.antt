@@ -10,3 +10,4 @@ pub mod Waiting
 pub mod Walked
 pub mod Plans
 pub mod Settling
+pub mod Marks

@@ -61,6 +61,20 @@ abbrev mutual
   block_targets done = []
   block_targets (next s rest) = statement_targets s ++ block_targets rest
 
+-- ---- the right sides and conditions of statements
+abbrev mutual
+  pub statement_values : Statement → List ExprId
+  statement_values (assign target value place) = value ∷ []
+  statement_values (choose arms) = choices_values arms
+
+  pub choices_values : Choices → List ExprId
+  choices_values none = []
+  choices_values (arm condition body others) = condition ∷ (block_values body ++ choices_values others)
+
+  pub block_values : Block → List ExprId
+  block_values done = []
+  block_values (next s rest) = statement_values s ++ block_values rest
+
 abbrev pub AreTargetsOf : Pooled → List ExprId → Type 0
 AreTargetsOf p es = AllByRecursion (λ (e : ExprId). is_target p e.0 ≡ true) es
 

@@ -1,5 +1,7 @@
 // What is worked out of a design once.
-ghost use Rattle.std.specs.Prelude.{length, IfOk};
+ghost use Rattle.std.specs.Prelude.{◌≡◌, ◌<◌, ◌++◌, [], length, map, replicate, slice_get, Some, ℕ, IfOk, OnOk};
+ghost use Rattle.std.specs.List.{AllByRecursion, range_with_len};
+ghost use Rattle.design_ir.specs.Guards.{block_exprs};
 ghost use Rattle.delta_sim.specs.Plans.{IsPlan};
 
 use crate::plan::Plan;

@@ -23,6 +23,7 @@ mod plan;
 mod run;
 mod settle;
 mod sim;
+mod spread;
 mod statements;
 mod targets;
 mod task;

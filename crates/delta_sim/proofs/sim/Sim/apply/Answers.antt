@@ -148,8 +148,18 @@ returns-clause-lives g c = λ events stands.
     let begun = begins d c.requires.flat c.count.ensures.rules c.processes.ensures.rules _ of c.args.event.now c.requires.legal c.deltas_are_few.ensures held first i.waits.marks marks held_is first_is c.take_given.ensures.waits in
     let next_long = c.settle-self-inside.ensures.next ∙ sym of.next.count ∙ sym (ap length c.deref_mut.ensures.value) ∙ c.deref_mut.ensures.len in
     let settled = subst (λ xs. Settled d (state_of xs) c.settle-self-inside.new.env.items) c.as_slice-3.ensures.value c.settle-self-inside.ensures.settled in
-    let new : Simulated = record { held = c.hold.new.held.items; env = c.settle-self-inside.new.env.items; counts = c.settle-self-inside.result; longest = c.self.inside.longest; plan = c.self.inside.plan; numbers = c.settle-self-inside.new.nums.items;
-        next = take c.self.inside.next.len (c.settle-self-inside.new.next ++ drop (length c.settle-self-inside.new.next) c.self.inside.next.items); waits = c.settle-self-inside.new.waits; then = c.settle-self-inside.new.then; woken = c.settle-self-inside.new.woken } in
+    let new : Simulated = record {
+      held = c.hold.new.held.items;
+      env = c.settle-self-inside.new.env.items;
+      counts = c.settle-self-inside.result;
+      longest = c.self.inside.longest;
+      plan = c.self.inside.plan;
+      numbers = c.settle-self-inside.new.nums.items;
+      next = take c.self.inside.next.len (c.settle-self-inside.new.next ++ drop (length c.settle-self-inside.new.next) c.self.inside.next.items);
+      waits = c.settle-self-inside.new.waits;
+      then = c.settle-self-inside.new.then;
+      woken = c.settle-self-inside.new.woken;
+    } in
     let is_sim : IsSimOf d new = record {
       held = begun.held_of;
       env = record { count = c.settle-self-inside.ensures.signals; fits = c.settle-self-inside.ensures.fits };
@@ -180,8 +190,18 @@ returns-clause-counts g c =
     let none = ap (λ (w : Waiting). w.marks) of.woken in
     let wakes = subst (λ was. Wakes i.plan.processes i.env.items first was c.take_given.new.woken.marks) none c.take_given.ensures.woken in
     let are = subst (λ xs. DeltasFrom d (state_of xs) first rest) (sym c.as_slice-3.ensures.value) begun.ends.are in
-    let new : Simulated = record { held = c.hold.new.held.items; env = c.settle-self-inside.new.env.items; counts = c.settle-self-inside.result; longest = c.self.inside.longest; plan = c.self.inside.plan; numbers = c.settle-self-inside.new.nums.items;
-        next = take c.self.inside.next.len (c.settle-self-inside.new.next ++ drop (length c.settle-self-inside.new.next) c.self.inside.next.items); waits = c.settle-self-inside.new.waits; then = c.settle-self-inside.new.then; woken = c.settle-self-inside.new.woken } in
+    let new : Simulated = record {
+      held = c.hold.new.held.items;
+      env = c.settle-self-inside.new.env.items;
+      counts = c.settle-self-inside.result;
+      longest = c.self.inside.longest;
+      plan = c.self.inside.plan;
+      numbers = c.settle-self-inside.new.nums.items;
+      next = take c.self.inside.next.len (c.settle-self-inside.new.next ++ drop (length c.settle-self-inside.new.next) c.self.inside.next.items);
+      waits = c.settle-self-inside.new.waits;
+      then = c.settle-self-inside.new.then;
+      woken = c.settle-self-inside.new.woken;
+    } in
     let was : Simulated = record { held = i.held.items; env = i.env.items; counts = i.counts; longest = i.longest; plan = i.plan; numbers = i.numbers.items; next = i.next.items; waits = i.waits; then = i.then; woken = i.woken } in
     let here : Settles d was new = record { deltas = first ∷ rest; are = begun.deltas rest begun.ends.are; counts = c.settle-self-inside.ensures.counts i.env.items rest wakes are } in
     subst (λ (s : Simulated). Settles d s new) c.self.view_is here
