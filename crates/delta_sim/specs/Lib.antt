@@ -11,3 +11,4 @@ pub mod Walked
 pub mod Plans
 pub mod Settling
 pub mod Marks
+pub mod Compiled

@@ -1,5 +1,5 @@
 -- Expressions that are marked: those that are read, and targets.
-use Rattle.std.specs.Prelude.{◌≡◌, ℕ, ◌≤◌, Bool, true, false, List, [], ◌∷◌, slice_get, slice_index_or, Option, Some, None, if◌then◌else◌}
+use Rattle.std.specs.Prelude.{◌≡◌, ℕ, suc, ◌≤◌, ◌||◌, Bool, true, false, List, [], ◌∷◌, slice_get, slice_index_or, Option, Some, None, if◌then◌else◌}
 use Rattle.std.specs.List.{AllByRecursion}
 use Rattle.design_ir.specs.declared.ids.ExprId.{ExprId}
 use Rattle.design_ir.specs.declared.expr.Expr as expr
@@ -77,8 +77,15 @@ aims_after p k aims = if is_marked aims k then marked (names_at aimed_names p k)
 abbrev pub placed_after : Pooled → ℕ → List Bool → List Bool → List Bool
 placed_after p k aims values = if is_marked aims k then marked (names_at placing_names p k) values else values
 
--- and what expression k names
-abbrev pub values_after : Pooled → ℕ → List Bool → List Bool → List Bool
-values_after p k aims values =
-    let placed : List Bool = placed_after p k aims values in
-    if is_marked placed k then marked (names_at named p k) placed else placed
+-- the marks once what expression k names is marked
+abbrev pub named_after : Pooled → ℕ → List Bool → List Bool
+named_after p k values = if is_marked values k then marked (names_at named p k) values else values
+
+-- the marked expressions, in order
+abbrev pub listed_from : ℕ → List Bool → List Bool → List ExprId
+listed_from k [] values = []
+listed_from k (a ∷ aims) [] = []
+listed_from k (a ∷ aims) (v ∷ values) = if a || v then record { 0 = k } ∷ listed_from (suc k) aims values else listed_from (suc k) aims values
+
+abbrev pub listed_of : List Bool → List Bool → List ExprId
+listed_of aims values = listed_from 0 aims values

@@ -20,6 +20,7 @@ mod expressions;
 mod given;
 mod place;
 mod plan;
+mod roots;
 mod run;
 mod settle;
 mod sim;

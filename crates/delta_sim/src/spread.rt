@@ -3,7 +3,7 @@ ghost use Rattle.std.specs.Prelude.{◌≡◌, ◌<◌, ℕ, Bool, true, length,
 ghost use Rattle.design_ir.specs.Named.{named, AllBelow};
 ghost use Rattle.design_ir.specs.Targets.{is_target};
 ghost use Rattle.delta_sim.specs.Given.{marked};
-ghost use Rattle.delta_sim.specs.Marks.{aimed_names, placing_names, is_marked, aims_after, values_after, AreSpread, ReadOnly, Stays};
+ghost use Rattle.delta_sim.specs.Marks.{aimed_names, placing_names, is_marked, aims_after, placed_after, named_after, AreSpread, ReadOnly, Stays};
 ghost use Rattle.delta_sim.specs.Tasks.{places_of};
 
 use design_ir::{Design, Expr, ExprId, Exprs};
@@ -25,21 +25,32 @@ pub fn spread(design: &Design, aims: &mut Vec<bool>, values: &mut Vec<bool>)
     let mut k = design.count();
     while k > 0 {
         k -= 1;
-        spread_one(design, ExprId(k), aims, values);
+        spread_aims(design, ExprId(k), aims, values);
+        spread_values(design, ExprId(k), values);
     }
 }
 
-// Marks what one expression is made of.
-fn spread_one(design: &Design, k: ExprId, aims: &mut Vec<bool>, values: &mut Vec<bool>)
+// Marks what a target is made of, where expression k is a marked one.
+fn spread_aims(design: &Design, k: ExprId, aims: &mut Vec<bool>, values: &mut Vec<bool>)
     requires there { k.0 < length design.now.pool.exprs }
     requires aims { length aims.old.items ≡ length design.now.pool.exprs }
     requires values { length values.old.items ≡ length design.now.pool.exprs }
     ensures aims { aims.new.items ≡ aims_after design.now.pool k.0 aims.old.items }
-    ensures values { values.new.items ≡ values_after design.now.pool k.0 aims.old.items values.old.items }
+    ensures values { values.new.items ≡ placed_after design.now.pool k.0 aims.old.items values.old.items }
 {
+    let _ = design.count();
     if aims[k.0 as usize] {
         mark_aimed(design.at(k), aims, values);
     }
+}
+
+// Marks what expression k names, where it is marked.
+fn spread_values(design: &Design, k: ExprId, values: &mut Vec<bool>)
+    requires there { k.0 < length design.now.pool.exprs }
+    requires values { length values.old.items ≡ length design.now.pool.exprs }
+    ensures { values.new.items ≡ named_after design.now.pool k.0 values.old.items }
+{
+    let _ = design.count();
     if values[k.0 as usize] {
         mark_named(design.at(k), values);
     }
@@ -112,8 +123,8 @@ pub fn mark_all(items: &[ExprId], marks: &mut Vec<bool>)
     }
 }
 
-// Marks an expression.
-fn mark(e: ExprId, marks: &mut Vec<bool>)
+/// Marks an expression.
+pub fn mark(e: ExprId, marks: &mut Vec<bool>)
     requires { e.0 < length marks.old.items }
     ensures { marks.new.items ≡ slice_set marks.old.items e.0 true }
 {
