@@ -1,8 +1,9 @@
 -- What is worked out of one process.
-use Rattle.std.specs.Prelude.{◌≡◌, ℕ, ◌<◌, Bool, true, List, length, slice_get, Some}
+use Rattle.std.specs.Prelude.{◌≡◌, ℕ, ◌<◌, Bool, true, List, [], ◌∷◌, length, slice_get, Some}
 use Rattle.std.specs.List.{AllByRecursion}
 use Rattle.design_ir.specs.declared.expr.Expr as expr
 use Rattle.design_ir.specs.declared.expr.Expr.{Expr}
+use Rattle.design_ir.specs.declared.expr.Expr.TheVariants.{Const, Unary, Binary, Mux, Slice, Cat, Part, Pick, Cast, Matches, Reset}
 use Rattle.design_ir.specs.declared.ids.SigId.{SigId}
 use Rattle.design_ir.specs.declared.process.DesignProcess.{DesignProcess}
 use Rattle.design_ir.specs.Circuits.{Circuit, is_among}
@@ -26,3 +27,18 @@ pub record IsCompiled (c : Circuit) (p : DesignProcess) (x : Compiled) : Type 0 
   pub task : IsClockedTask c (length c.pool.exprs) x.task p
   pub below : AllByRecursion (λ s. s < length c.pool.signals) (numbers_of x.task.outs)
   pub reads : (s : ℕ) → is_among (numbers_of x.reads) s ≡ block_reads c.pool s p.body
+
+-- the signal that an expression is
+abbrev pub own_signal : Expr → List SigId
+own_signal (expr.TheVariants.Sig s) = s ∷ []
+own_signal (Const n f) = []
+own_signal (Unary op a) = []
+own_signal (Binary op a b) = []
+own_signal (Mux i a b) = []
+own_signal (Slice a low width) = []
+own_signal (Cat es) = []
+own_signal (Part a offset width stride) = []
+own_signal (Pick index es) = []
+own_signal (Cast a signed) = []
+own_signal (Matches a patterns) = []
+own_signal (Reset domain place) = []

@@ -1,8 +1,10 @@
 // What is worked out of a design once.
-ghost use Rattle.std.specs.Prelude.{◌≡◌, ◌<◌, ◌^◌, ◌↔◌, ℕ, [], true, length, slice_get, Some, IfOk};
+ghost use Rattle.std.specs.Prelude.{◌≡◌, ◌<◌, ◌^◌, ℕ, [], true, length, slice_get, Some, ◌++◌, ◌∷◌, if◌then◌else◌, IfOk, OnOk};
 ghost use Rattle.std.specs.List.{range_with_len};
+ghost use Rattle.design_ir.specs.declared.expr.Expr.TheVariants as expr;
+ghost use Rattle.design_ir.specs.declared.ids.SigId.{SigId};
 ghost use Rattle.design_ir.specs.Circuits.{is_among};
-ghost use Rattle.delta_sim.specs.Compiled.{IsCompiled, HoldsSignal};
+ghost use Rattle.delta_sim.specs.Compiled.{IsCompiled, HoldsSignal, own_signal};
 ghost use Rattle.delta_sim.specs.Driven.{AreTargets, numbers_of};
 ghost use Rattle.delta_sim.specs.Marks.{is_marked, listed_of};
 ghost use Rattle.delta_sim.specs.Plans.{IsPlan};
@@ -148,32 +150,50 @@ fn places(alloc: Global, count: u32) -> Result<Numbers, NoMemory>
 
 // The marked expressions, in order.
 fn program(alloc: Global, aims: &[bool], values: &[bool]) -> Result<Ids, NoMemory>
-    requires { length aims.now ≡ length values.now }
+    requires same { length aims.now ≡ length values.now }
+    requires few { length aims.now < 2 ^ 32 }
     ensures { IfOk result (λ list. list ≡ listed_of aims.now values.now) }
 {
     let mut list = Items::new(alloc);
     for k in 0..aims.len() {
-        if aims[k] || values[k] {
-            list.push(ExprId(k as u32))?;
-        }
+        add_marked(k as u32, aims[k] || values[k], &mut list)?;
     }
     Ok(list)
+}
+
+// Adds an expression where it is marked.
+fn add_marked(k: u32, is_marked: bool, list: &mut Ids) -> Result<(), NoMemory>
+    ensures { OnOk result (list.new ≡ list.old ++ (if is_marked then record { 0 = k } ∷ [] else [])) }
+{
+    if is_marked {
+        return list.push(ExprId(k));
+    }
+    Ok(())
 }
 
 // The signals of the marked expressions.
 fn signals_read(alloc: Global, design: &Design, values: &[bool]) -> Result<SigIds, NoMemory>
     requires { length values.now ≡ length design.now.pool.exprs }
-    ensures { IfOk result (λ list. (s : ℕ) → is_among (numbers_of list) s ≡ true ↔ HoldsSignal design.now.pool values.now s) }
+    ensures all { IfOk result (λ list. (k : ℕ) (s : SigId) → slice_get design.now.pool.exprs k ≡ Some (expr.Sig s) → is_marked values.now k ≡ true → is_among (numbers_of list) s.0 ≡ true) }
+    ensures only { IfOk result (λ list. (s : ℕ) → is_among (numbers_of list) s ≡ true → HoldsSignal design.now.pool values.now s) }
 {
     let mut list = Items::new(alloc);
     for k in 0..design.count() {
         if values[k as usize] {
-            if let Expr::Sig(s) = design.at(ExprId(k)) {
-                list.push(*s)?;
-            }
+            add_signal(design.at(ExprId(k)), &mut list)?;
         }
     }
     Ok(list)
+}
+
+// Adds the signal that an expression is.
+fn add_signal(e: &Expr, list: &mut SigIds) -> Result<(), NoMemory>
+    ensures { OnOk result (list.new ≡ list.old ++ own_signal e.now) }
+{
+    match e {
+        Expr::Sig(s) => list.push(*s),
+        _ => Ok(()),
+    }
 }
 
 // The marked signals.

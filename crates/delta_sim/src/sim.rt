@@ -19,8 +19,8 @@ use amh_host::{NoMemory, Steps};
 use comb_graph::{Ranks, deltas_are_few};
 use design_ir::{Design, DomainId, Event, Exprs, SigId};
 use std::alloc::Global;
-use std::marker::Model;
-use std::sync::ledger::Ledger;
+use std::marker::{Brand, Model};
+use std::sync::ledger::{Blank, Ledger};
 
 /// The numbers of a design's signals behind a list of events: those that its state holds, and those of the settled
 /// environment. Beside them stands what is worked out of the design once, and the room in which events are carried out.
@@ -47,6 +47,33 @@ impl Model for Sim {
 }
 
 impl Sim {
+    /// The design before any event, settled.
+    pub fn start(alloc: Global, design: &Design, ranks: &Ranks) -> Result<Sim, NoMemory>
+        requires flat { design.now.memories ≡ [] }
+        requires ranked { IsRanking design.now ranks.now }
+        ensures { IfOk result (Stands design.now []) }
+    {
+        let plan = plan_of(alloc, design)?;
+        let held = first_held(alloc, design)?;
+        let env = Vec::from_slice(alloc, held.as_slice())?;
+        let next = Vec::from_slice(alloc, held.as_slice())?;
+        let tasks = plan.tasks.len();
+        let mut sim = Sim {
+            held,
+            env,
+            counts: Counts { deltas: 0, runs: 0 },
+            longest: ranks.longest(),
+            plan,
+            numbers: vec![in alloc; Int::of_u128(0); design.count() as usize]?,
+            next,
+            waits: Agenda::new(alloc, tasks)?,
+            then: Agenda::new(alloc, tasks)?,
+            woken: Agenda::new(alloc, design.processes().len())?,
+        };
+        first_settled::<Brand>(&mut sim, design, Blank::new(1));
+        Ok(sim)
+    }
+
     /// What an event does. It takes no memory and is always Ok, and takes one step for each run of a process.
     pub fn apply<L: Ledger>(
         &mut self,
@@ -118,4 +145,72 @@ impl Sim {
     {
         self.counts
     }
+}
+
+// Settles a simulator that has had no event, with a counter of steps of its own.
+fn first_settled<L: Ledger>(sim: &mut Sim, design: &Design, blank: Blank)
+    requires blank { (blank.name ≡ L.name) × (blank.parts ≡ L.parts) × (0 < L.parts) }
+{
+    let mut steps = Steps::<L>::new(blank);
+    wake_all(sim.plan.tasks.len(), &mut sim.waits);
+    let _ = settle(
+        design,
+        &sim.plan,
+        sim.longest as u64 + 2,
+        sim.held.as_slice(),
+        &mut sim.env,
+        &mut sim.numbers,
+        &mut sim.next,
+        &mut sim.waits,
+        &mut sim.then,
+        &mut sim.woken,
+        &mut steps,
+    );
+}
+
+// Lets all tasks wait.
+fn wake_all(count: usize, waits: &mut Agenda)
+    requires { length waits.old.marks ≡ count }
+{
+    for k in 0..count {
+        waits.mark(k as u32);
+    }
+}
+
+// What is held before any event: clocks at 0, each other signal at its init.
+fn first_held(alloc: Global, design: &Design) -> Result<Vec<Int>, NoMemory>
+    ensures { IfOk result (λ v. v.items ≡ fold clock_low (map (λ x. x.init) design.now.pool.signals) design.now.domains) }
+{
+    let mut held = inits(alloc, design)?;
+    lower_clocks(design, &mut held);
+    Ok(held)
+}
+
+fn lower_clocks(design: &Design, held: &mut [Int])
+    ensures { held.new ≡ fold clock_low held.old design.now.domains }
+{
+    for d in 0..design.domains() {
+        let clk = design.domain(DomainId(d)).clk;
+        set_number(held, clk, Int::of_u128(0));
+    }
+}
+
+fn set_number(held: &mut [Int], sig: SigId, value: Int)
+    ensures { held.new ≡ slice_set held.old sig.0 value }
+{
+    let s = sig.0 as usize;
+    if s < held.len() {
+        held[s] = value;
+    }
+}
+
+// Each signal's init.
+fn inits(alloc: Global, design: &Design) -> Result<Vec<Int>, NoMemory>
+    ensures { IfOk result (λ v. v.items ≡ map (λ x. x.init) design.now.pool.signals) }
+{
+    let mut inits = Vec::new(alloc);
+    for s in 0..design.signals() {
+        inits.push(design.sig_at(SigId(s)).init)?;
+    }
+    Ok(inits)
 }
