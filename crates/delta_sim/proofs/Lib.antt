@@ -19,6 +19,7 @@ pub mod Taking
 pub mod Resting
 pub mod DeltaSteps
 pub mod Counting
+pub mod Compiling
 pub mod Rooting
 pub mod Spreading
 pub mod Applying

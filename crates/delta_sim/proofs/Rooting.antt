@@ -1,5 +1,5 @@
 -- Marks of the expressions that stand directly in statements.
-use Rattle.std.specs.Prelude.{◌≡◌, refl, ℕ, suc, ◌+◌, ◌<◌, ◌≤◌, ◌||◌, Bool, true, false, if◌then◌else◌, List, [], ◌∷◌, ◌++◌, map, drop, length, slice_get, slice_set, slice_index_or, Some}
+use Rattle.std.specs.Prelude.{◌≡◌, refl, ℕ, zero, suc, ◌+◌, ◌<◌, ◌≤◌, ◌||◌, Bool, true, false, if◌then◌else◌, List, [], ◌∷◌, ◌++◌, map, drop, length, slice_get, slice_set, slice_index_or, Some}
 use Rattle.std.specs.List.{AllByRecursion, range_with_len}
 use Rattle.std.proofs.Common.{sym, ◌∙◌, ap, arith, subst, get_or, add-one, append_assoc}
 use Rattle.std.proofs.lemmas.List.{at_drop_more, at_drop_all}
@@ -42,3 +42,32 @@ pub arm_values_turn : (arms : List Arm) (i : ℕ) (a : Arm) (m n o all : List Bo
 arm_values_turn arms i a m n o all h is e f known =
     ap (marked (places_of (choices_values (choices_of (drop (i + 1) arms))))) (f ∙ ap (marked (places_of (block_values a.body))) e)
     ∙ sym (ap (λ b. marked (places_of (choices_values b)) m) (choices_at arms i a h is) ∙ marked_both (block_values a.body) (choices_values (choices_of (drop (i + 1) arms))) (slice_set m a.condition.0 true)) ∙ known
+
+-- ---- lists that grow
+
+range_more : (a n : ℕ) → range_with_len a (suc n) ≡ range_with_len a n ++ (a + n) ∷ []
+range_more a zero = let e : a ≡ a + 0 = omega arith in ap (λ k. k ∷ []) e
+range_more a (suc n) = let e : a + 1 + n ≡ a + suc n = omega arith in ap (λ xs. a ∷ xs) (range_more (a + 1) n ∙ ap (λ k. range_with_len (a + 1) n ++ k ∷ []) e)
+
+pub range_turn : (i : ℕ) (now more : List ℕ) → now ≡ range_with_len 0 i → more ≡ now ++ i ∷ [] → more ≡ range_with_len 0 (i + 1)
+range_turn i now more known grown =
+    let e : 0 + i ≡ i = omega arith in
+    grown ∙ ap (λ xs. xs ++ i ∷ []) known ∙ ap (λ k. range_with_len 0 i ++ k ∷ []) (sym e) ∙ sym (range_more 0 i) ∙ ap (range_with_len 0) (sym (add-one i))
+
+pub listed_turn : (k : ℕ) (aims values : List Bool) (a v : Bool) (now more all : List ExprId) → k < length aims → length aims ≡ length values → a ≡ get_or aims k false → v ≡ get_or values k false → more ≡ now ++ (if a || v then record { 0 = k } ∷ [] else []) → now ++ listed_from k (drop k aims) (drop k values) ≡ all → more ++ listed_from (k + 1) (drop (k + 1) aims) (drop (k + 1) values) ≡ all
+listed_turn k aims values a v now more all h same ia iv grown known =
+    ap (λ xs. xs ++ rest) grown ∙ append_assoc now (if a || v then record { 0 = k } ∷ [] else []) rest ∙ ap (λ xs. now ++ xs) (one (a || v)) ∙ ap (λ xs. now ++ xs) (sym step) ∙ known
+  where
+    rest : List ExprId
+    rest = listed_from (k + 1) (drop (k + 1) aims) (drop (k + 1) values)
+
+    one : (t : Bool) → (if t then record { 0 = k } ∷ [] else []) ++ rest ≡ (if t then record { 0 = k } ∷ rest else rest)
+    one true = refl
+    one false = refl
+
+    step : listed_from k (drop k aims) (drop k values) ≡ (if a || v then record { 0 = k } ∷ rest else rest)
+    step =
+        at_drop_more (λ xs. listed_from k xs (drop k values)) aims k false h
+        ∙ at_drop_more (λ ys. listed_from k (get_or aims k false ∷ drop (k + 1) aims) ys) values k false (omega (arith, h, same))
+        ∙ ap (λ j. if get_or aims k false || get_or values k false then record { 0 = k } ∷ listed_from j (drop (k + 1) aims) (drop (k + 1) values) else listed_from j (drop (k + 1) aims) (drop (k + 1) values)) (sym (add-one k))
+        ∙ ap (λ t. if t || get_or values k false then record { 0 = k } ∷ rest else rest) (sym ia) ∙ ap (λ t. if a || t then record { 0 = k } ∷ rest else rest) (sym iv)

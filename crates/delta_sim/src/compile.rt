@@ -1,5 +1,5 @@
 // What is worked out of a design once.
-ghost use Rattle.std.specs.Prelude.{◌≡◌, ◌<◌, ◌^◌, ℕ, [], true, length, slice_get, Some, ◌++◌, ◌∷◌, if◌then◌else◌, IfOk, OnOk};
+ghost use Rattle.std.specs.Prelude.{◌≡◌, ◌<◌, ◌^◌, ℕ, [], true, length, slice_get, Some, ◌++◌, ◌∷◌, ◌||◌, if◌then◌else◌, IfOk, OnOk};
 ghost use Rattle.std.specs.List.{range_with_len};
 ghost use Rattle.design_ir.specs.declared.expr.Expr.TheVariants as expr;
 ghost use Rattle.design_ir.specs.declared.ids.SigId.{SigId};
@@ -156,16 +156,16 @@ fn program(alloc: Global, aims: &[bool], values: &[bool]) -> Result<Ids, NoMemor
 {
     let mut list = Items::new(alloc);
     for k in 0..aims.len() {
-        add_marked(k as u32, aims[k] || values[k], &mut list)?;
+        add_marked(k as u32, aims[k], values[k], &mut list)?;
     }
     Ok(list)
 }
 
 // Adds an expression where it is marked.
-fn add_marked(k: u32, is_marked: bool, list: &mut Ids) -> Result<(), NoMemory>
-    ensures { OnOk result (list.new ≡ list.old ++ (if is_marked then record { 0 = k } ∷ [] else [])) }
+fn add_marked(k: u32, is_aim: bool, is_value: bool, list: &mut Ids) -> Result<(), NoMemory>
+    ensures { OnOk result (list.new ≡ list.old ++ (if is_aim || is_value then record { 0 = k } ∷ [] else [])) }
 {
-    if is_marked {
+    if is_aim || is_value {
         return list.push(ExprId(k));
     }
     Ok(())
@@ -179,17 +179,18 @@ fn signals_read(alloc: Global, design: &Design, values: &[bool]) -> Result<SigId
 {
     let mut list = Items::new(alloc);
     for k in 0..design.count() {
-        if values[k as usize] {
-            add_signal(design.at(ExprId(k)), &mut list)?;
-        }
+        add_signal(design.at(ExprId(k)), values[k as usize], &mut list)?;
     }
     Ok(list)
 }
 
-// Adds the signal that an expression is.
-fn add_signal(e: &Expr, list: &mut SigIds) -> Result<(), NoMemory>
-    ensures { OnOk result (list.new ≡ list.old ++ own_signal e.now) }
+// Adds the signal that a marked expression is.
+fn add_signal(e: &Expr, is_marked: bool, list: &mut SigIds) -> Result<(), NoMemory>
+    ensures { OnOk result (list.new ≡ list.old ++ (if is_marked then own_signal e.now else [])) }
 {
+    if !is_marked {
+        return Ok(());
+    }
     match e {
         Expr::Sig(s) => list.push(*s),
         _ => Ok(()),
