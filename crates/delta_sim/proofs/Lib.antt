@@ -33,6 +33,7 @@ pub mod Starts
 pub mod Turns
 pub mod Settling
 pub mod Likes
+pub mod Listing
 pub mod TargetSignals
 pub mod DrivenLists
 pub mod ResetLaws
