@@ -13,6 +13,7 @@ pub mod Frames
 pub mod Waits
 pub mod PlaceWalks
 pub mod Programs
+pub mod ReadMarks
 pub mod BitTurns
 pub mod Waking
 pub mod Taking

@@ -143,7 +143,7 @@ aims_are p (Matches a patterns) k t h = absurd (false≢true h)
 aims_are p (Reset domain place) k t h = absurd (false≢true h)
 
 -- both kinds of names are among those that are named
-aimed_below : (k : ℕ) (x : Expr) → AllBelow k (named x) → AllBelow k (aimed_names x)
+pub aimed_below : (k : ℕ) (x : Expr) → AllBelow k (named x) → AllBelow k (aimed_names x)
 aimed_below k (Slice a low width) h = h
 aimed_below k (Cat es) h = h
 aimed_below k (Part a offset width stride) h = (h.0, tt)
@@ -157,7 +157,7 @@ aimed_below k (Mux i a b) h = tt
 aimed_below k (Matches a patterns) h = tt
 aimed_below k (Reset domain place) h = tt
 
-placing_below : (k : ℕ) (x : Expr) → AllBelow k (named x) → AllBelow k (placing_names x)
+pub placing_below : (k : ℕ) (x : Expr) → AllBelow k (named x) → AllBelow k (placing_names x)
 placing_below k (Part a offset width stride) h = (h.1.0, tt)
 placing_below k (Pick index es) h = (h.0, tt)
 placing_below k (Slice a low width) h = tt
