@@ -18,11 +18,13 @@ use Rattle.design_ir.specs.Trees.{Statement, assign, choose, Choices, none, arm,
 use Rattle.design_ir.proofs.Equations.{standing}
 use Rattle.design_ir.proofs.NumbersFit.{element}
 use Rattle.delta_sim.specs.Compiled.{HoldsSignal}
-use Rattle.delta_sim.specs.Marks.{aimed_names, placing_names, is_marked, AreMarked, AreSpread}
+use Rattle.delta_sim.specs.Marks.{aimed_names, placing_names, is_marked, AreMarked, AreSpread, ReadOnly}
 use Rattle.delta_sim.specs.Reads.{stands_step, stands_in, placing_step, places, statement_reads, choices_read, block_reads}
 use Rattle.delta_sim.specs.Tasks.{places_of, block_targets, statement_targets, choices_targets, block_values, statement_values, choices_values}
 use Rattle.delta_sim.proofs.Agrees.{stands_is, places_is, left, right}
-use Rattle.delta_sim.proofs.Spreading.{aimed_below, placing_below}
+use Rattle.delta_sim.specs.Driven.{numbers_of}
+use Rattle.delta_sim.specs.Given.{marked}
+use Rattle.delta_sim.proofs.Spreading.{aimed_below, placing_below, marks_back}
 
 or_cases : (a b : Bool) → (a || b) ≡ true → (a ≡ true) ⊎ (b ≡ true)
 or_cases true b e = inl refl
@@ -176,3 +178,28 @@ module _ (p : Pooled) (s j : ℕ) where
     block_target done m h = absurd (false≢true m)
     block_target (next x rest) m h =
         ⊎_elim (λ u. left (statement_reads p s x) (block_reads p s rest) (statement_target x u h)) (λ u. right (statement_reads p s x) (block_reads p s rest) (block_target rest u h)) (among_parts (statement_targets x) (block_targets rest) j m)
+
+-- marks that begin at the targets, right sides and conditions of statements read no more than they do
+pub first_only : (p : Pooled) (b : Block) (m n : List Bool) → ((j : ℕ) → is_marked m j ≡ false) → ((j : ℕ) → is_marked n j ≡ false) → ReadOnly p (marked (places_of (block_targets b)) m) (marked (places_of (block_values b)) n) (λ s. block_reads p s b)
+first_only p b m n none_m none_n = (
+    λ j s h t. ⊎_elim (λ (a : is_marked n j ≡ true). absurd (false≢true (sym (none_n j) ∙ a))) (λ (a : is_among (places_of (block_values b)) j ≡ true). block_value p s j b a t) (marks_back (places_of (block_values b)) n j h),
+    λ j s h t. ⊎_elim (λ (a : is_marked m j ≡ true). absurd (false≢true (sym (none_m j) ∙ a))) (λ (a : is_among (places_of (block_targets b)) j ≡ true). block_target p s j b a t) (marks_back (places_of (block_targets b)) m j h),
+)
+
+both : (a b : Bool) → (a ≡ true → b ≡ true) → (b ≡ true → a ≡ true) → a ≡ b
+both true b f g = sym (f refl)
+both false true f g = g refl
+both false false f g = refl
+
+-- the signals of the marked expressions are exactly what the statements read
+pub reads_exact : (p : Pooled) → IsPool p → (b : Block) (aims values : List Bool) → length aims ≡ length p.exprs → length values ≡ length p.exprs → AreSpread p 0 aims values → AreMarked aims (block_targets b) → AreMarked values (block_values b) → ReadOnly p aims values (λ s. block_reads p s b)
+    → (list : List SigId) → ((k : ℕ) (s : SigId) → slice_get p.exprs k ≡ Some (expr.TheVariants.Sig s) → is_marked values k ≡ true → is_among (numbers_of list) s.0 ≡ true) → ((s : ℕ) → is_among (numbers_of list) s ≡ true → HoldsSignal p values s)
+    → (s : ℕ) → is_among (numbers_of list) s ≡ block_reads p s b
+reads_exact p rules b aims values long long' closed a v only list all_in only_in s =
+    both (is_among (numbers_of list) s) (block_reads p s b)
+    (λ h.
+    let x = only_in s h in
+    only.0 x.k s x.marked (stands_is p s x.k (expr.TheVariants.Sig x.sig) rules x.is ∙ eq-eqb x.sig.0 s x.same))
+    (λ h.
+    let x = block_held p rules aims values long long' closed s b a v h in
+    subst (λ n. is_among (numbers_of list) n ≡ true) x.same (all_in x.k x.sig x.is x.marked))
