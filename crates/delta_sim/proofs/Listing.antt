@@ -1,6 +1,6 @@
 -- The marked expressions in order are a program in which all that is marked stands.
 use Rattle.std.specs.Prelude.{◌≡◌, refl, ℕ, zero, suc, ◌+◌, ◌<◌, ◌≤◌, ◌==◌, ◌||◌, if◌then◌else◌, Bool, true, false, List, [], ◌∷◌, ◌++◌, take, length, slice_get, slice_index_or, Some}
-use Rattle.std.specs.List.{AllByRecursion}
+use Rattle.std.specs.List.{AllByRecursion, range_with_len}
 use Rattle.std.proofs.Common.{sym, ◌∙◌, ap, arith, subst, ⊎_elim}
 use Rattle.std.proofs.lemmas.Bool.{cases_Bool, cases_lt, eq-eqb, false≢true}
 use Rattle.std.proofs.lemmas.List.{get_or_past}
@@ -14,11 +14,11 @@ use Rattle.design_ir.specs.Named.{named, AllBelow}
 use Rattle.design_ir.specs.Pools.{Pooled}
 use Rattle.design_ir.specs.PoolRules.{IsPool}
 use Rattle.design_ir.specs.Targets.{is_target, target_test}
-use Rattle.design_ir.specs.Trees.{Statement, assign, choose, Choices, none, arm, Block, done, next}
+use Rattle.design_ir.specs.Trees.{Statement, assign, choose, Choices, none, arm, Block, done, next, statements}
 use Rattle.design_ir.proofs.Equations.{standing}
 use Rattle.design_ir.proofs.TargetLaws.{is_target_is}
 use Rattle.delta_sim.specs.Marks.{aimed_names, placing_names, is_marked, AreMarked, AreSpread, listed_from, listed_of}
-use Rattle.delta_sim.specs.Tasks.{places_of, AreAmong, IsProgram}
+use Rattle.delta_sim.specs.Tasks.{places_of, AreAmong, IsProgram, statement_at, and_then, picked, block_targets, statement_targets, choices_targets, block_values, statement_values, choices_values}
 use Rattle.delta_sim.proofs.Agrees.{left, right}
 
 -- ---- what is listed
@@ -156,3 +156,48 @@ module _ (p : Pooled) (rules : IsPool p) (aims values : List Bool) (long : lengt
   pub all_among : (es : List ExprId) → AllBelow (length p.exprs) es → AllByRecursion (λ (e : ExprId). (is_marked aims e.0 || is_marked values e.0) ≡ true) es → AreAmong (listed_of aims values) es
   all_among [] b m = tt
   all_among (e ∷ es) b m = (subst (λ n. is_among (places_of (listed_of aims values)) n ≡ true) (from_zero e.0) (all_listed 0 aims values e.0 (omega (arith, b.0, long)) (omega (arith, b.0, long')) m.0), all_among es b.1 m.1)
+
+-- ---- all statements of a block
+
+whole_from : (b r : Block) (k : ℕ) → ((i : ℕ) → statement_at b (k + i) ≡ statement_at r i) → picked b (range_with_len k (length (statements r))) ≡ r
+whole_from b done k f = refl
+whole_from b (next x rest) k f =
+    let e : k ≡ k + 0 = omega arith in
+    ap (λ o. and_then o (picked b (range_with_len (k + 1) (length (statements rest))))) (ap (statement_at b) e ∙ f 0)
+    ∙ ap (next x) (whole_from b rest (k + 1) (λ i. (let g : k + 1 + i ≡ k + suc i = omega arith in ap (statement_at b) g) ∙ f (suc i)))
+
+pub whole : (b : Block) → picked b (range_with_len 0 (length (statements b))) ≡ b
+whole b = whole_from b b 0 (λ i. ap (statement_at b) (from_zero i))
+
+-- ---- what stands directly in statements
+
+module _ (aims values : List Bool) where
+  abbrev Either : List ExprId → Type 0
+  Either es = AllByRecursion (λ (e : ExprId). (is_marked aims e.0 || is_marked values e.0) ≡ true) es
+
+  both_parts : (xs ys : List ExprId) → Either xs → Either ys → Either (xs ++ ys)
+  both_parts [] ys h k = k
+  both_parts (x ∷ xs) ys h k = (h.0, both_parts xs ys h.1 k)
+
+  marked_parts : (m : List Bool) (xs ys : List ExprId) → AreMarked m (xs ++ ys) → AreMarked m xs × AreMarked m ys
+  marked_parts m [] ys h = (tt, h)
+  marked_parts m (x ∷ xs) ys h = let r = marked_parts m xs ys h.1 in ((h.0, r.0), r.1)
+
+  mutual
+    statement_either : (b : Statement) → AreMarked aims (statement_targets b) → AreMarked values (statement_values b) → Either (statement_exprs b)
+    statement_either (assign target value place) a v = (left (is_marked aims target.0) (is_marked values target.0) a.0, (right (is_marked aims value.0) (is_marked values value.0) v.0, tt))
+    statement_either (choose arms) a v = choices_either arms a v
+
+    choices_either : (b : Choices) → AreMarked aims (choices_targets b) → AreMarked values (choices_values b) → Either (choices_exprs b)
+    choices_either none a v = tt
+    choices_either (arm condition body others) a v =
+        let pa = marked_parts aims (block_targets body) (choices_targets others) a in
+        let pv = marked_parts values (block_values body) (choices_values others) v.1 in
+        (right (is_marked aims condition.0) (is_marked values condition.0) v.0, both_parts (block_exprs body) (choices_exprs others) (block_either body pa.0 pv.0) (choices_either others pa.1 pv.1))
+
+    pub block_either : (b : Block) → AreMarked aims (block_targets b) → AreMarked values (block_values b) → Either (block_exprs b)
+    block_either done a v = tt
+    block_either (next x rest) a v =
+        let pa = marked_parts aims (statement_targets x) (block_targets rest) a in
+        let pv = marked_parts values (statement_values x) (block_values rest) v in
+        both_parts (statement_exprs x) (block_exprs rest) (statement_either x pa.0 pv.0) (block_either rest pa.1 pv.1)
