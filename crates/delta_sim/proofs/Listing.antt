@@ -2,14 +2,14 @@
 use Rattle.std.specs.Prelude.{◌≡◌, refl, ℕ, zero, suc, ◌+◌, ◌<◌, ◌≤◌, ◌==◌, ◌||◌, if◌then◌else◌, Bool, true, false, List, [], ◌∷◌, ◌++◌, take, length, slice_get, slice_index_or, Some}
 use Rattle.std.specs.List.{AllByRecursion, range_with_len}
 use Rattle.std.proofs.Common.{sym, ◌∙◌, ap, arith, subst, ⊎_elim}
-use Rattle.std.proofs.lemmas.Bool.{cases_Bool, cases_lt, eq-eqb, false≢true}
+use Rattle.std.proofs.lemmas.Bool.{cases_Bool, cases_lt, eq-eqb, eqb-true, false≢true}
 use Rattle.std.proofs.lemmas.List.{get_or_past}
 use Rattle.design_ir.specs.declared.ids.ExprId.{ExprId}
 use Rattle.design_ir.specs.declared.expr.Expr as expr
 use Rattle.design_ir.specs.declared.expr.Expr.{Expr}
 use Rattle.design_ir.specs.declared.expr.Expr.TheVariants.{Const, Unary, Binary, Mux, Slice, Cat, Part, Pick, Cast, Matches, Reset}
 use Rattle.design_ir.specs.Circuits.{is_among}
-use Rattle.design_ir.specs.Guards.{block_exprs, statement_exprs, choices_exprs}
+use Rattle.design_ir.specs.Guards.{block_exprs, statement_exprs, choices_exprs, Guard, Guarded, guarded, guarded_in, guarded_arms}
 use Rattle.design_ir.specs.Named.{named, AllBelow}
 use Rattle.design_ir.specs.Pools.{Pooled}
 use Rattle.design_ir.specs.PoolRules.{IsPool}
@@ -18,8 +18,10 @@ use Rattle.design_ir.specs.Trees.{Statement, assign, choose, Choices, none, arm,
 use Rattle.design_ir.proofs.Equations.{standing}
 use Rattle.design_ir.proofs.TargetLaws.{is_target_is}
 use Rattle.delta_sim.specs.Marks.{aimed_names, placing_names, is_marked, AreMarked, AreSpread, listed_from, listed_of}
-use Rattle.delta_sim.specs.Tasks.{places_of, AreAmong, IsProgram, statement_at, and_then, picked, block_targets, statement_targets, choices_targets, block_values, statement_values, choices_values}
+use Rattle.delta_sim.specs.Tasks.{places_of, AreAmong, AreTargetsOf, IsProgram, statement_at, and_then, picked, block_targets, statement_targets, choices_targets, block_values, statement_values, choices_values}
+use Rattle.delta_sim.specs.Given.{marked}
 use Rattle.delta_sim.proofs.Agrees.{left, right}
+use Rattle.delta_sim.proofs.Spreading.{marks_back}
 
 -- ---- what is listed
 
@@ -201,3 +203,44 @@ module _ (aims values : List Bool) where
         let pa = marked_parts aims (statement_targets x) (block_targets rest) a in
         let pv = marked_parts values (statement_values x) (block_values rest) v in
         both_parts (statement_exprs x) (block_exprs rest) (statement_either x pa.0 pv.0) (block_either rest pa.1 pv.1)
+
+-- ---- targets
+
+guarded_parts : (q : Guarded → Type 0) (xs ys : List Guarded) → AllByRecursion q (xs ++ ys) → AllByRecursion q xs × AllByRecursion q ys
+guarded_parts q [] ys h = (tt, h)
+guarded_parts q (x ∷ xs) ys h = let r = guarded_parts q xs ys h.1 in ((h.0, r.0), r.1)
+
+module _ (p : Pooled) where
+  abbrev AimsAt : Guarded → Type 0
+  AimsAt g = is_target p g.target.0 ≡ true
+
+  targets_parts : (xs ys : List ExprId) → AreTargetsOf p xs → AreTargetsOf p ys → AreTargetsOf p (xs ++ ys)
+  targets_parts [] ys h k = k
+  targets_parts (x ∷ xs) ys h k = (h.0, targets_parts xs ys h.1 k)
+
+  mutual
+    statement_aims : (gs : List Guard) (b : Statement) → AllByRecursion AimsAt (guarded_in gs b) → AreTargetsOf p (statement_targets b)
+    statement_aims gs (assign target value place) h = (h.0, tt)
+    statement_aims gs (choose arms) h = choices_aims gs arms h
+
+    choices_aims : (gs : List Guard) (b : Choices) → AllByRecursion AimsAt (guarded_arms gs b) → AreTargetsOf p (choices_targets b)
+    choices_aims gs none h = tt
+    choices_aims gs (arm condition body others) h =
+        let r = guarded_parts AimsAt (guarded (gs ++ record { condition = condition; taken = true } ∷ []) body) (guarded_arms (gs ++ record { condition = condition; taken = false } ∷ []) others) h in
+        targets_parts (block_targets body) (choices_targets others) (block_aims (gs ++ record { condition = condition; taken = true } ∷ []) body r.0) (choices_aims (gs ++ record { condition = condition; taken = false } ∷ []) others r.1)
+
+    pub block_aims : (gs : List Guard) (b : Block) → AllByRecursion AimsAt (guarded gs b) → AreTargetsOf p (block_targets b)
+    block_aims gs done h = tt
+    block_aims gs (next x rest) h =
+        let r = guarded_parts AimsAt (guarded_in gs x) (guarded gs rest) h in
+        targets_parts (statement_targets x) (block_targets rest) (statement_aims gs x r.0) (block_aims gs rest r.1)
+
+  target_among : (es : List ExprId) (j : ℕ) → AreTargetsOf p es → is_among (places_of es) j ≡ true → is_target p j ≡ true
+  target_among [] j h m = absurd (false≢true m)
+  target_among (e ∷ es) j h m =
+      ⊎_elim (λ (t : (e.0 == j) ≡ true). ap (is_target p) (sym (eqb-true e.0 j t)) ∙ h.0) (λ (t : (e.0 == j) ≡ false). target_among es j h.1 (sym (ap (λ b. b || is_among (places_of es) j) t) ∙ m)) (cases_Bool (e.0 == j))
+
+  -- marks that begin at targets mark targets
+  pub first_targets : (es : List ExprId) (m : List Bool) → ((j : ℕ) → is_marked m j ≡ false) → AreTargetsOf p es → (j : ℕ) → is_marked (marked (places_of es) m) j ≡ true → is_target p j ≡ true
+  first_targets es m none_m are j h =
+      ⊎_elim (λ (a : is_marked m j ≡ true). absurd (false≢true (sym (none_m j) ∙ a))) (λ (a : is_among (places_of es) j ≡ true). target_among es j are a) (marks_back (places_of es) m j h)

@@ -1,7 +1,5 @@
-use Rattle.std.proofs.Common.{◌≡◌, refl, false, get_or}
+use Rattle.std.proofs.Common.{refl, false, get_or}
 use Rattle.delta_sim.proofs.Rooting.{listed_turn}
-use Rattle.delta_sim.proofs.Listing.{listed_program, all_among}
-use Rattle.delta_sim.proofs.ReadMarks.{block_held}
 use Rattle.delta_sim.proofs.compile.program.Goals as goal
 
 pub loop-k-preserved : goal.loop-k-preserved

@@ -1,4 +1,4 @@
-use Rattle.std.proofs.Common.{◌≡◌, refl, false, get_or}
+use Rattle.std.proofs.Common.{refl, false, get_or}
 use Rattle.delta_sim.proofs.Compiling.{signals_all, signals_only}
 use Rattle.delta_sim.proofs.compile.signals_read.Goals as goal
 
