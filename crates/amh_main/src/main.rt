@@ -1,8 +1,9 @@
 //! Amaranth HDL as one program. `main` makes the real host and calls `play` of amh_tool, whose clauses are what is proved.
 #![tactic(auto)]
 
-use amh_host::{NoMemory, RealHost, Words};
+use amh_host::{NoMemory, Words};
 use amh_tool::{Status, play};
+use disk_host::DiskHost;
 use std::alloc::Global;
 use std::env::Env;
 use std::io::ErrorKind;
@@ -13,7 +14,7 @@ fn main(rt: HostRuntime) -> ExitCode {
     let Ok(words) = command_words(&rt, alloc) else {
         return ExitCode::from(Status::NoMemory.code());
     };
-    let mut host = RealHost::new(rt);
+    let mut host = DiskHost::new(alloc, rt);
     ExitCode::from(play(alloc, &mut host, &words).code())
 }
 
