@@ -13,7 +13,7 @@ lines indented by four blanks. The parts are
     each fault how many calls of each kind there are
     done       the text that is said; refused, usage, fault, spent: the text that is warned
     KIND each  lines that are refused with this kind, each alone at the end of the design, at the place before which it has `@`; a line
-               that stands further in belongs to the one before it
+               that stands further in belongs to the one before it. `script each` has lines that are refused behind the script
     trace      the lines of the trace; `trace lines` how many there are of those of the last case, behind a fault
     rtlil      `there`, `whole`, `none` or `K lines`; without it `there` where the run is done, else `none`
 
@@ -76,6 +76,13 @@ def refused_with(case, kind, piece):
     return {form: head + [line.replace("@", "") for line in piece], "refused": f"top.py:{above + len(head) + row + 1}:{col + 1}: {kind}"}
 
 
+def refused_behind(case, line):
+    """The run of a case that is refused for this line behind its script."""
+    above = lines(case.get("script", [])).splitlines()
+    form = "module" if "module" in case else "design"
+    return {form: case[form], "script": above + [line], "refused": f"top.stim:{len(above) + 1}: script"}
+
+
 def expanded(case):
     """The runs of a case: itself where it has an answer, and one for each piece that is refused."""
     if any(status in case for status in CODES) or "each fault" in case:
@@ -83,7 +90,7 @@ def expanded(case):
     for name, part in case.items():
         if name.endswith(" each"):
             for piece in pieces_of(part):
-                yield refused_with(case, name.removesuffix(" each"), piece)
+                yield refused_behind(case, piece[0]) if name == "script each" else refused_with(case, name.removesuffix(" each"), piece)
 
 
 def lines(part, front=""):
