@@ -8,7 +8,7 @@ lines indented by four blanks. The parts are
     design     the lines of top.py; in their place `module` gives those between `m = Module()` and `top = m`, `example` names a design of
                examples/ with its script and its trace, and `page` is the number of a whole file shown in docs/LANGUAGE.md
     bytes      the bytes of top.py in escapes, in place of its lines; `times` repeats them
-    script     the lines of top.stim; without it the file is empty. `script bytes` gives them in escapes
+    script     the lines of top.stim; without it the file is empty. `script bytes` gives them in escapes, and `script times` repeats them
     fail       a call of the host that is to fail
     each fault how many calls of each kind there are
     done       the text that is said; refused, usage, fault, spent: the text that is warned
@@ -137,10 +137,14 @@ def design_of(case):
     return in_escapes(text).replace("|", "\\x7C")
 
 
+def times_of(case, part):
+    return f"*{case[part]}" if part in case else ""
+
+
 def question_of(case):
-    times = f"*{case['times']}" if "times" in case else ""
+    words = case.get("words", WORDS) if case.get("words") != "none" else ""
     script = case.get("script bytes", in_escapes(lines(case.get("script", []))))
-    fields = [case.get("words", WORDS) if case.get("words") != "none" else "", f"top.py{times}={design_of(case)}", f"top.stim={script}"]
+    fields = [words, f"top.py{times_of(case, 'times')}={design_of(case)}", f"top.stim{times_of(case, 'script times')}={script}"]
     if "fail" in case:
         fields.append(f"fail {case['fail']}")
     if "each fault" in case:
