@@ -8,6 +8,7 @@ pub mod GrownLaws
 pub mod LikeSamples
 pub mod ListLaws
 pub mod MachineLaws
+pub mod MachineSamples
 pub mod MachineSound
 pub mod Modules
 pub mod ObjectLaws

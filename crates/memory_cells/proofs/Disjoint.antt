@@ -27,10 +27,10 @@ three_bits P x y z p q r a b c d e f g h =
 abbrev pub AreDisjoint : ℕ → ℕ → Type 0
 AreDisjoint x y = (k : ℕ) → nat_bit x k * nat_bit y k ≡ 0
 
-half_bit : (n k : ℕ) → nat_bit (n / 2) k ≡ nat_bit n (suc k)
+pub half_bit : (n k : ℕ) → nat_bit (n / 2) k ≡ nat_bit n (suc k)
 half_bit n k = ap (λ x. x % 2) (shr-shr n 1 k ∙ ap (λ j. n / 2 ^ j) (omega arith))
 
-first_bit : (n : ℕ) → nat_bit n 0 ≡ n % 2
+pub first_bit : (n : ℕ) → nat_bit n 0 ≡ n % 2
 first_bit n = ap (λ x. x % 2) (div-one n)
 
 disjoint_halves : (x y : ℕ) → AreDisjoint x y → AreDisjoint (x / 2) (y / 2)

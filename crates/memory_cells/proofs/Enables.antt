@@ -37,11 +37,11 @@ enabled_below g (suc n) e =
     subst (λ x. x < 2 ^ (g * suc n)) (sym (above g n e)) (subst (λ i. enabled g n (e / 2) * 2 ^ g + e % 2 * (2 ^ g - 1) < 2 ^ i) j
     (joined_below (e % 2 * (2 ^ g - 1)) (enabled g n (e / 2)) g (g * n) (granule_below g e) (enabled_below g n (e / 2))))
 
-length-replicate : {A : Type 0} (n : ℕ) (a : A) → length (replicate n a) ≡ n
+pub length-replicate : {A : Type 0} (n : ℕ) (a : A) → length (replicate n a) ≡ n
 length-replicate zero a = refl
 length-replicate (suc n) a = ap suc (length-replicate n a)
 
-get-replicate : {A : Type 0} (n k : ℕ) (a : A) → k < n → slice_get (replicate n a) k ≡ Some a
+pub get-replicate : {A : Type 0} (n k : ℕ) (a : A) → k < n → slice_get (replicate n a) k ≡ Some a
 get-replicate zero k a h = absurd (omega (arith, h))
 get-replicate (suc n) zero a h = refl
 get-replicate (suc n) (suc k) a h = get-replicate n k a (omega (arith, h))

@@ -8,3 +8,6 @@ mod Rules
 mod Loops
 pub mod Masks
 pub mod Spike
+mod Spreads
+mod CarriedEnds
+pub mod ClockedSpike

@@ -26,7 +26,7 @@ use Rattle.memory_cells.specs.Carried.{Moment, CarriesWrite}
 
 -- ---- the design: clk, the address, word and enable of the write port, the address of the read port and its word
 
-abbrev port : MemWrite
+abbrev pub port : MemWrite
 port = record { domain = codes "sync"; addr = e 0; word = e 1; enable = e 2; granularity = 2 }
 
 abbrev memory : Memory
@@ -54,18 +54,18 @@ design = record {
 
 -- ---- the module: guards before the write and round the read
 
-abbrev plan : Plan
+abbrev pub plan : Plan
 plan = record { id = codes "\\m"; address = 2; width = 4; depth = 3; writes = 1 }
 
 -- each bit of the enable for a granule of two bits
-abbrev spread : List SigPart
+abbrev pub spread : List SigPart
 spread = parts.Wire (codes "\\n") 1 1 ∷ parts.Wire (codes "\\n") 1 1 ∷ parts.Wire (codes "\\n") 0 1 ∷ parts.Wire (codes "\\n") 0 1 ∷ []
 
-abbrev in_range : List ℕ → List ℕ → List ℕ → RtlCell
+abbrev pub in_range : List ℕ → List ℕ → List ℕ → RtlCell
 in_range id address y = binary Lt id 0 0 2 2 1 (whole address 2) (bits (true ∷ true ∷ [])) (whole y 1)
 
 -- 0 where the one bit of s is 0
-abbrev guard : List ℕ → ℕ → List SigPart → List ℕ → List ℕ → RtlCell
+abbrev pub guard : List ℕ → ℕ → List SigPart → List ℕ → List ℕ → RtlCell
 guard id width b s y = mux id width (bits (replicate width false)) b (whole s 1) (whole y width)
 
 module_cells : List RtlCell
@@ -95,13 +95,13 @@ inputs : Bool → List Bool → List Bool → Inputs
 inputs clk a r = (codes "\\clk", clk ∷ []) ∷ (codes "\\a", a) ∷ (codes "\\w", false ∷ false ∷ true ∷ true ∷ []) ∷ (codes "\\n", false ∷ true ∷ []) ∷ (codes "\\r", r) ∷ []
 
 -- the highest bit first
-seen : Wires → List (Option Bool)
+unfoldable pub seen : Wires → List (Option Bool)
 seen wires = wires (codes "\\d") 3 ∷ wires (codes "\\d") 2 ∷ wires (codes "\\d") 1 ∷ wires (codes "\\d") 0 ∷ []
 
-four : Bool → Bool → Bool → Bool → List (Option Bool)
+unfoldable pub four : Bool → Bool → Bool → Bool → List (Option Bool)
 four a b c d = Some a ∷ Some b ∷ Some c ∷ Some d ∷ []
 
-rise : Event
+unfoldable pub rise : Event
 rise = Edge (toggles 0 ∷ [])
 
 -- row 0 is 1 and row 2 is 3; the edge puts 12 into the upper half of row 2, which is 15 then; past the depth 0 is read; the next
@@ -111,13 +111,13 @@ design_runs : History design (gives 4 (pos 2) ∷ rise ∷ gives 4 (pos 3) ∷ r
 unfolding design numbers rise form num
 design_runs = (refl, (refl, (refl, (refl, (refl, (refl, (refl, refl)))))))
 
-two : List Bool
+unfoldable pub two : List Bool
 two = false ∷ true ∷ []
 
-three : List Bool
+unfoldable pub three : List Bool
 three = true ∷ true ∷ []
 
-none : List Bool
+unfoldable pub none : List Bool
 none = false ∷ false ∷ []
 
 module_runs : map seen (rtl_history lowered (inputs false two none) (inputs false two two ∷ inputs true two two ∷ inputs true two three ∷ inputs false two three ∷ inputs false three three ∷ inputs true three three ∷ inputs true three none ∷ []))
@@ -142,7 +142,7 @@ abbrev written : RtlCell
 written = write_cell plan (codes "$16") 0 (whole (codes "\\clk") 1) (whole (codes "$3") 4) (whole (codes "$2") 2) (whole (codes "\\w") 4)
 
 -- the same for each of four bits
-each : (P : ℕ → Type 0) → P 0 → P 1 → P 2 → P 3 → (k : ℕ) → k < 4 → P k
+pub each : (P : ℕ → Type 0) → P 0 → P 1 → P 2 → P 3 → (k : ℕ) → k < 4 → P k
 each P a b c d zero h = a
 each P a b c d (suc zero) h = b
 each P a b c d (suc (suc zero)) h = c

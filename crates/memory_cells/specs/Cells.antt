@@ -1,6 +1,6 @@
 -- The cells of a memory: its first rows, its write ports and its read ports.
 -- Source: Yosys manual, Cell library: memories; one `$meminit_v2`, no resets of reads, later write ports go first: own rules (docs/RULES.md).
-use Rattle.std.specs.Prelude.{ℕ, suc, Bool, true, false, List, [], ◌∷◌, ◌++◌, replicate, ℤ, codes}
+use Rattle.std.specs.Prelude.{ℕ, zero, suc, Bool, true, false, List, [], ◌∷◌, ◌++◌, replicate, ℤ, codes}
 use Rattle.shape_rules.specs.declared.cell.CellKind.TheVariants.{MemoryRead, MemoryWrite, MemoryInit}
 use Rattle.rtlil_text.specs.declared.sig.SigPart.{SigPart}
 use Rattle.rtlil_text.specs.declared.sig.SigPart.TheVariants as parts
@@ -93,3 +93,10 @@ pub record WritePort : Type 0 where
 abbrev pub write_cells : Plan → ℕ → List WritePort → List RtlCell
 write_cells p k [] = []
 write_cells p k (w ∷ ws) = write_cell p w.id k w.clock w.enable w.address w.word ∷ write_cells p (suc k) ws
+
+-- ---- the enable of a write port at its cell
+
+-- each of so many bits of a wire as often as its granule has bits, the highest first
+abbrev pub spread_spec : List ℕ → (granule count : ℕ) → List SigPart
+spread_spec id granule zero = []
+spread_spec id granule (suc n) = replicate granule (parts.Wire id n 1) ++ spread_spec id granule n

@@ -1,28 +1,32 @@
 -- What is proved of the cells of a memory.
 -- Internal: no rule of the language.
-use Rattle.std.specs.Prelude.{◌≡◌, ◌≤◌, ◌<◌, ◌*◌, ℕ, nat_lt, if◌then◌else◌, Bool, true, false, List, [], ◌∷◌, length, replicate, slice_get, ℤ, Option, Some, codes, max}
+use Rattle.std.specs.Prelude.{◌≡◌, ◌≤◌, ◌<◌, ◌*◌, ℕ, nat_lt, if◌then◌else◌, Bool, true, false, List, [], ◌∷◌, length, replicate, slice_get, ℤ, Option, Some, codes, max, ◌^◌, ◌&&◌, not}
 use Rattle.std.specs.List.{flat_map, AllByRecursion}
 use Rattle.shape_rules.specs.declared.cell.CellKind.TheVariants.{MemoryRead}
 use Rattle.design_ir.specs.declared.memory.MemWrite.{MemWrite}
 use Rattle.design_ir.specs.declared.memory.MemRead.{MemRead}
 use Rattle.design_ir.specs.declared.memory.Memory.{Memory}
-use Rattle.design_ir.specs.Circuits.{at}
-use Rattle.design_ir.specs.Rows.{enabled}
+use Rattle.design_ir.specs.Values.{num}
+use Rattle.design_ir.specs.Circuits.{at, option_test}
+use Rattle.design_ir.specs.declared.ids.ExprId.{ExprId}
+use Rattle.shape_rules.specs.Operators.{is_zero}
+use Rattle.rtlil_text.specs.declared.sig.SigPart.{SigPart}
+use Rattle.design_ir.specs.Rows.{enabled, enabled_bits}
 use Rattle.design_ir.specs.Designs.{IsGranularity}
-use Rattle.design_ir.specs.Steps.{write_row, read_word, reads_now}
+use Rattle.design_ir.specs.Steps.{port_rises, write_row, read_word, reads_now}
 use Rattle.std.specs.Prelude.{fold}
 use Rattle.rtlil_text.specs.declared.cell.RtlCell.{RtlCell}
 use Rattle.rtlil_text.specs.declared.module.RtlModule.{RtlModule}
-use Rattle.rtlil_text.specs.Sources.{Source, end_bits, bits_at, memory_id}
-use Rattle.rtlil_text.specs.Cells.{read, bits_number, number_bits}
+use Rattle.rtlil_text.specs.Sources.{Source, spec_bits, end_bits, bits_at, memory_id}
+use Rattle.rtlil_text.specs.Cells.{read, bit_at, bits_number, number_bits}
 use Rattle.rtlil_text.specs.Memories.{writes_of}
-use Rattle.rtlil_text.specs.Meaning.{State, memory_size, comb_bit}
-use Rattle.rtlil_text.specs.History.{data_bit, step, next_bit}
+use Rattle.rtlil_text.specs.Meaning.{State, memory_size, source_value, comb_bit}
+use Rattle.rtlil_text.specs.History.{Wires, wire_bit, acts, data_bit, step, next_bit}
 use Rattle.memory_cells.specs.Bits.{bit_of, is_set}
 use Rattle.memory_cells.specs.declared.plan.Plan.{Plan}
 use Rattle.memory_cells.specs.Plans.{guarded, through_from}
-use Rattle.memory_cells.specs.Cells.{init_cell}
-use Rattle.memory_cells.specs.Carried.{Moment, HasRows, CarryWrites, CarriesRead, address_at}
+use Rattle.memory_cells.specs.Cells.{init_cell, write_cell, clocked_read, spread_spec}
+use Rattle.memory_cells.specs.Carried.{Moment, HasRows, CarriesWrite, CarryWrites, CarriesRead, address_at}
 
 abbrev pub HaveGranules : Memory → Type 0
 HaveGranules m = AllByRecursion (λ (w : MemWrite). IsGranularity m w.granularity) m.writes
@@ -89,3 +93,29 @@ GuardedReadsFollow = (t : Moment) (m : Memory) (c : RtlCell) (r : MemRead) (rows
 -- what passes the guard is the read data
 abbrev pub GuardsShowTheWord : Type 0
 GuardsShowTheWord = (word : ℤ) (k : ℕ) (flag raw : Bool) → IsBehindGuard word k flag raw → (if flag then raw else false) ≡ bit_of word k
+
+-- ---- from the wires to what cells carry
+
+-- where a wire has the bits of an enable, its bits spread by granules are those that it lets through
+abbrev pub SpreadsCarry : Type 0
+SpreadsCarry = (wires : Wires) (id : List ℕ) (granule count enable k : ℕ) → ((i : ℕ) → i < count → wires id i ≡ Some (is_set enable i)) → k < granule * count
+    → bit_at (source_value wires) (spec_bits (spread_spec id granule count)) k ≡ Some (is_set (enabled granule count enable) k)
+
+-- a write cell carries what its port does, where the bits at its ends are the guarded address, the word, and the enable under the guard
+abbrev pub WriteCellsCarry : Type 0
+WriteCellsCarry = (t : Moment) (m : Memory) (w : MemWrite) (p : Plan) (id : List ℕ) (k : ℕ) (clock enable address word : List SigPart)
+    → acts t.rtl t.st t.old t.new (write_cell p id k clock enable address word) ≡ port_rises t.design t.env t.listed (Some w.domain)
+    → guarded m.depth (address_at t w.addr) < 2 ^ p.address
+    → read (source_value (wire_bit t.rtl t.st t.old)) (spec_bits address) ≡ Some (number_bits p.address (guarded m.depth (address_at t w.addr)))
+    → ((i : ℕ) → i < m.shape.width → bit_at (source_value (wire_bit t.rtl t.st t.old)) (spec_bits enable) i ≡ Some (nat_lt (address_at t w.addr) m.depth && is_set (enabled_bits t.design.pool t.env m w) i))
+    → ((i : ℕ) → i < m.shape.width → bit_at (source_value (wire_bit t.rtl t.st t.old)) (spec_bits word) i ≡ Some (bit_of (num t.design.pool t.env w.word.0) i))
+    → CarriesWrite t m (write_cell p id k clock enable address word) w
+
+-- a clocked read cell, likewise
+abbrev pub ReadCellsCarry : Type 0
+ReadCellsCarry = (t : Moment) (m : Memory) (r : MemRead) (p : Plan) (id : List ℕ) (through : List ℕ) (clock enable address word : List SigPart)
+    → acts t.rtl t.st t.old t.new (clocked_read p id through clock enable address word) ≡ port_rises t.design t.env t.listed r.domain
+    → guarded m.depth (address_at t r.addr) < 2 ^ p.address
+    → read (source_value (wire_bit t.rtl t.st t.old)) (spec_bits address) ≡ Some (number_bits p.address (guarded m.depth (address_at t r.addr)))
+    → bit_at (source_value (wire_bit t.rtl t.st t.old)) (spec_bits enable) 0 ≡ Some (option_test (λ (e : ExprId). not (is_zero (num t.design.pool t.env e.0))) r.enable)
+    → CarriesRead t m (clocked_read p id through clock enable address word) r

@@ -24,7 +24,7 @@ pub struct PortEnds {
 
 // ---- parts of cells
 
-fn copied(alloc: Global, text: &str) -> Result<Text, NoMemory>
+pub(crate) fn copied(alloc: Global, text: &str) -> Result<Text, NoMemory>
     ensures { IfOk result (λ copy. copy ≡ text.now) }
 {
     let mut copy = Text::new(alloc);

@@ -1,6 +1,6 @@
 // The laws of a memory's cells. The functions do nothing: their clauses are the laws.
 ghost use Rattle.memory_cells.specs.Fits.{InitsFit, WritesFit, CombReadsFit, ClockedReadsFit, MemoriesFit};
-ghost use Rattle.memory_cells.specs.Laws.{RowsBegin, EnablesSpread, RowsFollow, ReadsFollow, GuardsFollow, ClockedReadsFollow, GuardedReadsFollow, GuardsShowTheWord};
+ghost use Rattle.memory_cells.specs.Laws.{RowsBegin, EnablesSpread, RowsFollow, ReadsFollow, GuardsFollow, ClockedReadsFollow, GuardedReadsFollow, GuardsShowTheWord, SpreadsCarry, WriteCellsCarry, ReadCellsCarry};
 
 /// Before any event a memory has its first rows.
 pub fn rows_begin()
@@ -51,4 +51,13 @@ pub fn cells_keep_the_rules()
     ensures comb_reads { CombReadsFit }
     ensures clocked_reads { ClockedReadsFit }
     ensures memories { MemoriesFit }
+{}
+
+/// Where a wire has the bits of an enable, each of them for the bits of a granule at the end of a write cell, the cell gets
+/// exactly the enabled bits; and a cell carries what its port does where the bits at its ends are the guarded address, the
+/// word, and the enable.
+pub fn ends_carry_the_port()
+    ensures spreads { SpreadsCarry }
+    ensures writes { WriteCellsCarry }
+    ensures reads { ReadCellsCarry }
 {}

@@ -105,3 +105,4 @@ pub mod LowerModule
 pub mod FlatModules
 pub mod FirstBits
 pub mod FirstValues
+pub mod PortGuards

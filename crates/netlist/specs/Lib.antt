@@ -16,6 +16,7 @@ pub mod PoolsDrawn
 pub mod Drives
 pub mod Corresponds
 pub mod FirstValues
+pub mod PortGuards
 pub mod Plain
 pub mod Beyond
 pub mod Histories

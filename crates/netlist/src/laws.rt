@@ -1,4 +1,5 @@
 // The laws of the lowering. The functions do nothing: their clauses are the laws.
+ghost use Rattle.netlist.specs.PortGuards.{GuardsAreMade};
 ghost use Rattle.netlist.specs.Laws.{OperatorsAreMade, ExpressionsAreMade, ModulesKeepTheRules, ModulesCorrespond, ModulesHaveTheHistory};
 
 /// Where the wires of its operands carry two integers, the cells of an operator give its wire the operator's integer:
@@ -23,4 +24,10 @@ pub fn modules_are_sound()
 /// every bit of it has a value, whatever legal events come.
 pub fn modules_have_the_history()
     ensures { ModulesHaveTheHistory }
+{}
+
+/// Where the wire of a memory port's address carries a number, the guard's one bit says whether a row has it, and the cell
+/// behind it reads that number, or 0 past the depth.
+pub fn guards_are_made()
+    ensures { GuardsAreMade }
 {}
