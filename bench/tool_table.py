@@ -8,12 +8,12 @@ lines indented by four blanks. The parts are
     design     the lines of top.py; in their place `module` gives those between `m = Module()` and `top = m`, `example` names a design of
                examples/ with its script and its trace, and `page` is the number of a whole file shown in docs/LANGUAGE.md
     bytes      the bytes of top.py in escapes, in place of its lines; `times` repeats them
-    script     the lines of top.stim; without it the file is empty. `script bytes` gives them in escapes
+    script     the lines of top.stim; without it the file is empty. `script bytes` gives them in escapes, and `script times` repeats them
     fail       a call of the host that is to fail
     each fault how many calls of each kind there are
     done       the text that is said; refused, usage, fault, spent: the text that is warned
     KIND each  lines that are refused with this kind, each alone at the end of the design, at the place before which it has `@`; a line
-               that stands further in belongs to the one before it
+               that stands further in belongs to the one before it. `script each` has lines that are refused behind the script
     trace      the lines of the trace; `trace lines` how many there are of those of the last case, behind a fault
     rtlil      `there`, `whole`, `none` or `K lines`; without it `there` where the run is done, else `none`
 
@@ -76,6 +76,13 @@ def refused_with(case, kind, piece):
     return {form: head + [line.replace("@", "") for line in piece], "refused": f"top.py:{above + len(head) + row + 1}:{col + 1}: {kind}"}
 
 
+def refused_behind(case, line):
+    """The run of a case that is refused for this line behind its script."""
+    above = lines(case.get("script", [])).splitlines()
+    form = "module" if "module" in case else "design"
+    return {form: case[form], "script": above + [line], "refused": f"top.stim:{len(above) + 1}: script"}
+
+
 def expanded(case):
     """The runs of a case: itself where it has an answer, and one for each piece that is refused."""
     if any(status in case for status in CODES) or "each fault" in case:
@@ -83,7 +90,7 @@ def expanded(case):
     for name, part in case.items():
         if name.endswith(" each"):
             for piece in pieces_of(part):
-                yield refused_with(case, name.removesuffix(" each"), piece)
+                yield refused_behind(case, piece[0]) if name == "script each" else refused_with(case, name.removesuffix(" each"), piece)
 
 
 def lines(part, front=""):
@@ -130,10 +137,14 @@ def design_of(case):
     return in_escapes(text).replace("|", "\\x7C")
 
 
+def times_of(case, part):
+    return f"*{case[part]}" if part in case else ""
+
+
 def question_of(case):
-    times = f"*{case['times']}" if "times" in case else ""
+    words = case.get("words", WORDS) if case.get("words") != "none" else ""
     script = case.get("script bytes", in_escapes(lines(case.get("script", []))))
-    fields = [case.get("words", WORDS) if case.get("words") != "none" else "", f"top.py{times}={design_of(case)}", f"top.stim={script}"]
+    fields = [words, f"top.py{times_of(case, 'times')}={design_of(case)}", f"top.stim{times_of(case, 'script times')}={script}"]
     if "fail" in case:
         fields.append(f"fail {case['fail']}")
     if "each fault" in case:
