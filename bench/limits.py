@@ -1,15 +1,16 @@
 #!/usr/bin/env python3
-"""Runs the program at the edge of each limit and one past it, and prints what it answers, how long it takes and its peak memory:
+"""Runs the program at the edge of each limit and one past it, and prints what it answers, how much processor
+time it takes and its peak memory:
 `limits.py [NAMES]`, NAMES being the fronts of the names of the cases to run.
 
 The last column is `slow` past 10 seconds and `large` past 1 GiB. No part of the gate; AMH_TOOL names another built program.
 """
 import os
 import pathlib
-import subprocess
 import sys
 import tempfile
-import time
+
+from measured import measured
 
 TOOL = os.environ.get("AMH_TOOL") or str(pathlib.Path(__file__).resolve().parent.parent / "amh_tool")
 HEAD = "from amaranth import *\nm = Module()\n"
@@ -45,6 +46,19 @@ def wide(count):
     rest = (count - 3) % 4
     extra = "".join(f"x{k} = ~a\n" for k in range(rest))
     return HEAD + head + extra + f"for i in range({(count - 3) // 4}):\n    m.d.comb += y.eq(((a + b) ^ ~b) & a)\ntop = m\n", "set a 1\n"
+
+
+def bits(count):
+    """Registers of 128 bits; the clock and the reset have two more, and what is left is in one signal."""
+    whole, rest = divmod(count - 2, 128)
+    last = f"s.append(Signal({rest}))\n" if rest else ""
+    return HEAD + f's = [Signal(128) for i in range({whole})]\n{last}m.d.sync += [x.eq(~x) for x in s]\ntop = m\n', "edge sync\n" * 10
+
+
+def states(count):
+    """A machine that goes through its states in turn."""
+    return (HEAD + f"with m.FSM():\n    for i in range({count}):\n        with m.State(f\"S{{i}}\"):\n            j = (i + 1) % {count}\n"
+            + '            m.next = f"S{j}"\ntop = m\n'), "edge sync\n" * 1000
 
 
 def items(count):
@@ -94,6 +108,8 @@ CASES = [
     ("signals, a chain", chain, 16384),
     ("signals, registers", registers, 16384),
     ("signals, written", written_signals, 16384),
+    ("bits of signals", bits, 262144),
+    ("states", states, 256),
     ("expressions, deep", deep, 262144),
     ("expressions, wide", wide, 262144),
     ("items", items, 65536),
@@ -107,18 +123,6 @@ CASES = [
 ]
 
 
-def measured(folder):
-    """What the program says of the files in the folder, its seconds and its peak bytes."""
-    began = time.perf_counter()
-    with open(folder / "said", "w+b") as said:
-        run = subprocess.Popen([TOOL, "t.py", "t.il", "t.tr", "--play", "t.stim"], cwd=folder, stdout=said, stderr=said)
-        _, _, use = os.wait4(run.pid, 0)
-        run.returncode = 0
-        said.seek(0)
-        text = said.read().decode("utf-8", "replace").strip()
-    return text, time.perf_counter() - began, use.ru_maxrss * 1024
-
-
 def main():
     with tempfile.TemporaryDirectory() as room:
         folder = pathlib.Path(room)
@@ -129,7 +133,7 @@ def main():
                 design, script = make(count)
                 (folder / "t.py").write_text(design)
                 (folder / "t.stim").write_text(script)
-                text, took, peak = measured(folder)
+                text, took, peak = measured([TOOL, "t.py", "t.il", "t.tr", "--play", "t.stim"], folder)
                 verdict = ("slow " if took > SECONDS else "") + ("large" if peak > BYTES else "")
                 print(f"{name:20} {count:8} {took:8.2f} s {peak / (1 << 20):8.1f} MiB  {text[:60]:60} {verdict}", flush=True)
     return 0

@@ -26,6 +26,9 @@ from random_values import Signal
 def signals(dice, kind, front, shapes):
     made = []
     for k in range(dice.randint(1, 4)):
+        if shapes and made and dice.random() < 0.15:
+            made.append(Signal(f"{front}{kind}{k}", made[-1].shape, made[-1]))
+            continue
         if shapes and dice.random() < 0.6:
             made.append(Signal(f"{front}{kind}{k}", shapes.signal_shape()))
             continue
@@ -62,20 +65,36 @@ class Design:
     def init(self, s):
         return init_text(self.dice, s) if s not in self.inputs else ""
 
+    def making(self, s):
+        """The statement that makes a signal."""
+        call = f"Signal.like({s.like.name}" if s.like else f"Signal({s.shape.text}"
+        return f"{s.name} = {call}{self.init(s)})"
+
+
+def behind_what_they_are_like(made):
+    """The signals, each behind the one that it is made like."""
+    placed = []
+    for s in made:
+        line = [s]
+        while line[-1].like:
+            line.append(line[-1].like)
+        placed += [other for other in reversed(line) if other not in placed]
+    return placed
+
 
 def module_text(dice, options):
     design = Design(dice, options, "")
     lines = ["from amaranth import *"] + design.head() + ["m = Module()"]
     made = list(design.all)
     dice.shuffle(made)
-    lines += [f"{s.name} = Signal({s.shape.text}{design.init(s)})" for s in made]
+    lines += [design.making(s) for s in behind_what_they_are_like(made)]
     return lines + design.statements() + ["top = m"], design.inputs
 
 
 def object_text(dice, options):
     design = Design(dice, options, "self.")
     lines = ["from amaranth import *"] + design.head() + ["", "class Top(Elaboratable):", "    def __init__(self):"]
-    lines += [f"        {s.name} = Signal({s.shape.text}{design.init(s)})" for s in design.all]
+    lines += indented(indented([design.making(s) for s in design.all]))
     lines += ["", "    def elaborate(self, platform):", "        m = Module()"]
     lines += indented(indented(design.statements()))
     return lines + ["        return m", "", "top = Top()"], design.inputs

@@ -7,10 +7,10 @@ COMPARED = {"==", "!=", "<", "<=", ">", ">="}
 
 
 class Signal:
-    """What may be read by a name: how it is written, and its shape."""
+    """What may be read by a name: how it is written, and its shape; perhaps it is made like another."""
 
-    def __init__(self, name, shape):
-        self.name, self.shape = name, shape
+    def __init__(self, name, shape, like=None):
+        self.name, self.shape, self.like = name, shape, like
 
     @property
     def width(self):

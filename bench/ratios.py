@@ -4,16 +4,16 @@
 - elaboration of 10,000 statements beside another program, whose command the word `--beside COMMAND` gives;
 - 100,000 turns of loops of plain Python beside CPython.
 
-Each time is the least of three runs. Of loops, that of the same file without turns is taken off on both sides. No part of the gate;
+Each time is processor time, the least of three runs. Of loops, that of the same file without turns is taken off on both sides. No part of the gate;
 AMH_TOOL names another built program.
 """
 import os
 import pathlib
 import shlex
-import subprocess
 import sys
 import tempfile
-import time
+
+from measured import measured
 
 TOOL = os.environ.get("AMH_TOOL") or str(pathlib.Path(__file__).resolve().parent.parent / "amh_tool")
 HEAD = "from amaranth import *\nm = Module()\n"
@@ -64,14 +64,9 @@ def assigned_in_blocks(count):
 
 
 def seconds(command, folder):
-    """The least time of three runs, and what was said."""
-    least = None
-    for _ in range(3):
-        began = time.perf_counter()
-        ran = subprocess.run(command, cwd=folder, capture_output=True, text=True)
-        took = time.perf_counter() - began
-        least = took if least is None else min(least, took)
-    return least, (ran.stdout + ran.stderr).strip()[:60]
+    """The least processor time of three runs, and what was said."""
+    runs = [measured(command, folder) for _ in range(3)]
+    return min(took for _, took, _ in runs), runs[0][0][:60]
 
 
 def beside(folder, other):
