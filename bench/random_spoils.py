@@ -10,7 +10,7 @@ ANY = [
     (r"m\.d\.comb", "m.d.sync"),
     (r"m\.d\.sync", "m.d.comb"),
     (r"\+=", "="),
-    (r"(?<=\S) ", "", ),
+    (r"(?<=\S) ", ""),
 ]
 BLOCKS = [
     (r"m\.If\(", "m.Elif("),
