@@ -192,6 +192,11 @@ pub enum CallFrame {
         rest: Vals,
         place: Place,
     },
+    /// A sum, before these are added to it.
+    Summing {
+        rest: Vals,
+        place: Place,
+    },
     /// What an `__init__` gave.
     Initialised {
         object: ObjId,
