@@ -279,16 +279,27 @@ abbrev pub kept_bindings : Option ClassBody → List NamedVal
 kept_bindings None = []
 kept_bindings (Some b) = b.bindings
 
--- the functions that were defined in a body know its class, once there is one
-abbrev pub class_known : Seen → Option ScopeId → Val → Result (Unit {0} × Made) ValueStop
-class_known s None c = Ok (tt, s.own)
-class_known s (Some round) c = scope_bound s round.0 class_word c
+-- a class stands in the scope round its body, where the functions that the body defined find it
+abbrev pub known_as : Val → Result (Unit {0} × Made) ValueStop → Result (Val × Made) ValueStop
+known_as c (Ok x) = Ok (c, x.1)
+known_as c (Err e) = Err e
+
+abbrev pub class_known : Seen → Option ScopeId → Val → Result (Val × Made) ValueStop
+class_known s None c = Ok (c, s.own)
+class_known s (Some round) c = known_as c (scope_bound s round.0 class_word c)
+
+abbrev pub made_known : Seen → Option ScopeId → Result (Val × Made) ValueStop → Result (Val × Made) ValueStop
+made_known s round (Ok x) = class_known (record s { own = x.1 }) round x.0
+made_known s round (Err e) = Err e
+
+-- the class of what a scope binds, known to those functions
+abbrev pub known_class : Seen → Option Val → ScopeId → Result (Val × Made) ValueStop
+known_class s base scope = made_known s (seen_from s scope) (new_class s base scope.0)
 
 abbrev pub class_made : Known → Here → Val → List ℕ → List NamedVal → Place → Doing
 class_made k outer base name keywords p = λ w s.
-    making (λ t. new_class (heap_seen k t) (as_base base) s.here.scope.0) p
-    (λ c. making (λ t. class_known (heap_seen k t) (seen_from (heap_seen k s) s.here.scope) c) p
-    (λ _. class_bound k (over_thing (heap_seen k s) base) c base name keywords s.here.notes (kept_bindings s.here.body) p))
+    making (λ t. known_class (heap_seen k t) (as_base base) s.here.scope) p
+    (λ c. class_bound k (over_thing (heap_seen k s) base) c base name keywords s.here.notes (kept_bindings s.here.body) p)
     w (record s { here = outer })
 
 -- what a class body leaves

@@ -192,9 +192,10 @@ pub enum CallFrame {
         rest: Vals,
         place: Place,
     },
-    /// A sum, before these are added to it.
+    /// A sum, to which the items of a row are added from this number on.
     Summing {
-        rest: Vals,
+        row: Vals,
+        next: u64,
         place: Place,
     },
     /// What an `__init__` gave.
