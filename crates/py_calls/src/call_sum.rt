@@ -1,13 +1,11 @@
 // `sum`, which asks for its additions where there are things among what it adds.
-ghost use Rattle.std.specs.Prelude.{◌≡◌, ◌<◌, ◌≤◌, OnOk, Ok, drop};
+ghost use Rattle.std.specs.Prelude.{◌≡◌, ◌<◌, ◌≤◌, IfOk, OnOk, drop};
 ghost use Rattle.std.specs.List.{list_any};
 ghost use Rattle.py_values.specs.Heaps.{seen};
-ghost use Rattle.py_values.specs.Elements.{elements};
-ghost use Rattle.py_values.specs.Runs.{Answers};
 ghost use Rattle.py_frames.specs.Values.{is_thing, any_thing, adds_things, sum_start, sum_over, sum_asked, summed, built_over};
 ghost use Rattle.py_frames.specs.Frames.{GoesOn};
 
-use amh_host::Place;
+use amh_host::{NoMemory, Place};
 use py_frames::binds::refused;
 use py_frames::call_leaf::{give, raise};
 use py_frames::frame::{CallFrame, Frame, Now};
@@ -29,8 +27,8 @@ fn has_thing(vals: &[Val]) -> bool
 }
 
 // What `sum` goes over, where there are things among that or it begins with one.
-fn adds_things(going: &Going, frozen: &Frozen, args: &[Val]) -> Result<bool, ValueStop>
-    ensures { Answers result (Ok (adds_things (seen frozen.now going.now.state.heap) args.now)) }
+fn adds_things(going: &Going, frozen: &Frozen, args: &[Val]) -> Result<bool, NoMemory>
+    ensures { IfOk result (λ adds. adds ≡ adds_things (seen frozen.now going.now.state.heap) args.now) }
 {
     let (row, begins) = match args {
         [row] => (*row, false),
@@ -39,7 +37,7 @@ fn adds_things(going: &Going, frozen: &Frozen, args: &[Val]) -> Result<bool, Val
     };
     match going.state.heap.elements(frozen, row) {
         Ok(vals) => Ok(begins || has_thing(vals.as_slice())),
-        Err(ValueStop::NoMemory) => Err(ValueStop::NoMemory),
+        Err(ValueStop::NoMemory) => Err(NoMemory),
         Err(_) => Ok(begins),
     }
 }
@@ -95,6 +93,7 @@ pub fn summed(
 }
 
 // The additions of what `sum` goes over.
+#[tactic(auto, using(crate::proofs::SumLaws::asked_rules, py_frames::proofs::BeginLaws::turn_rules))]
 fn sum_asked(
     going: &mut Going,
     functions: &Functions,
@@ -127,6 +126,7 @@ fn sum_asked(
 }
 
 /// A builtin whose arguments are rows.
+#[tactic(auto, using(crate::proofs::SumLaws::over_rules, py_frames::proofs::BeginLaws::turn_rules))]
 pub fn built_over(
     going: &mut Going,
     functions: &Functions,
@@ -145,7 +145,7 @@ pub fn built_over(
         Builtin::Sum => match adds_things(going, frozen, vals.as_slice()) {
             Ok(true) => sum_asked(going, functions, frozen, vals.as_slice(), place, budget),
             Ok(false) => built(going, functions, frozen, Builtin::Sum, vals, place, budget),
-            Err(stop) => Err(refused(stop, place)),
+            Err(_) => Err(Halt::NoMemory),
         },
         b => built(going, functions, frozen, b, vals, place, budget),
     }
