@@ -35,7 +35,9 @@ use Rattle.py_frames.specs.Doing.{Doing, World, Known, give, stop, making, made,
 use Rattle.py_frames.specs.Asking.{request, ask}
 use Rattle.py_frames.specs.Functions.{function_at}
 use Rattle.py_frames.specs.Statements.{known}
-use Rattle.py_frames.specs.Values.{method_called, func_called, builtin_called, init_thing, on_names, attributes_bound, named_vals, named_names, class_word, super_of, super_called, with_func, without_arguments, without_keywords, length_called, magnitude_called, built, gone_over, initialised, code_called, is_async_body, made_object, object_made, class_called}
+use Rattle.py_values.specs.Names.{look_up}
+use Rattle.py_frames.specs.Async.{is_async_body}
+use Rattle.py_frames.specs.Values.{method_called, func_called, builtin_called, init_thing, on_names, attributes_bound, named_vals, named_names, class_word, super_of, super_called, with_func, without_arguments, without_keywords, length_called, magnitude_called, built, gone_over, initialised, code_called, made_object, object_made, class_called}
 use Rattle.py_frames.specs.Calling.{bound_method}
 use Rattle.py_calls.specs.Called.{kind_of, called_by_kind, callable_of, callable_code, callable_body, called_as, no_arguments, no_keywords, one_thing}
 use Rattle.py_frames.specs.Frames.{GoesOn, within, told}

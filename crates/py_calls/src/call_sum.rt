@@ -5,6 +5,7 @@ ghost use Rattle.py_values.specs.Heaps.{seen};
 ghost use Rattle.py_frames.specs.Values.{is_thing, any_thing, adds_things, sum_start, sum_over, sum_asked, summed, built_over};
 ghost use Rattle.py_frames.specs.Frames.{GoesOn};
 
+use amh_bits::Int;
 use amh_host::{NoMemory, Place};
 use py_frames::binds::refused;
 use py_frames::call_leaf::{give, raise};
@@ -13,7 +14,7 @@ use py_frames::functions::Functions;
 use py_frames::going::Going;
 use py_frames::operators::{built, is_thing, operated};
 use py_frames::state::Halt;
-use py_values::{Builtin, Frozen, Int, PyOp, Val, ValueStop, Vals};
+use py_values::{Builtin, Frozen, PyOp, Val, ValueStop, Vals};
 
 fn has_thing(vals: &[Val]) -> bool
     ensures { result ≡ list_any is_thing vals.now }
