@@ -44,6 +44,10 @@ AreCoded (c ∷ cs) (k ∷ v ∷ row) = (code_of k ≡ Some c) × AreCoded cs ro
 abbrev pub code_behind : List Code → List Val → Val → Option Code
 code_behind cs row k = if nat_eq (length row / 2) (length cs) && nat_eq (length row % 2) 0 then code_of k else None
 
+-- the codes that stay when the value at this place of the row changes
+abbrev pub codes_after : ℕ → List Code → List Code
+codes_after i cs = if nat_eq (i % 2) 0 then [] else cs
+
 -- a code goes last, or all stay
 abbrev pub AddsAtMost : Option Code → List Code → List Code → Type 0
 AddsAtMost None old new = new ≡ old

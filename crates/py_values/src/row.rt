@@ -1,6 +1,6 @@
 // A row of values, whose first keys are found by an index.
-ghost use Rattle.std.specs.Prelude.{◌≡◌, ◌++◌, ◌∷◌, [], ◌<◌, ◌*◌, ◌^◌, drop, length, IfSome, OnOk, OnErr};
-ghost use Rattle.py_values.specs.Keys.{has_code, code_behind, AddsAtMost};
+ghost use Rattle.std.specs.Prelude.{◌≡◌, ◌++◌, ◌∷◌, [], ◌<◌, ◌*◌, ◌^◌, ◌≤◌, drop, insert, remove, slice_set, slice_get, Some, length, IfSome, OnOk, OnErr};
+ghost use Rattle.py_values.specs.Keys.{has_code, code_behind, codes_after, AddsAtMost};
 ghost use Rattle.py_values.specs.Members.{value_place};
 
 use crate::codes::{Code, code_of};
@@ -74,6 +74,58 @@ impl Row {
         Ok(())
     }
 
+    /// How many values there are.
+    pub(crate) fn len(&self) -> usize
+        ensures { result ≡ length self.now }
+    {
+        self.items.len()
+    }
+
+    /// Puts a value in the place of another. Where it is a key that changes, no key is indexed any more.
+    pub(crate) fn set(&mut self, i: usize, item: Val)
+        requires { i < length self.old }
+        ensures { self.new ≡ slice_set self.old i item }
+    {
+        clear_for(&mut self.codes, i);
+        self.items.set(i, item);
+    }
+
+    /// Adds two values at the end, or none.
+    pub(crate) fn push_pair(&mut self, first: Val, second: Val) -> Result<(), NoMemory>
+        ensures ok { OnOk result (self.new ≡ self.old ++ first ∷ second ∷ []) }
+        ensures err { OnErr result (self.new ≡ self.old) }
+    {
+        self.items.push_pair(first, second)
+    }
+
+    /// Adds values at the end.
+    pub(crate) fn extend(&mut self, items: &[Val]) -> Result<(), NoMemory>
+        ensures ok { OnOk result (self.new ≡ self.old ++ items.now) }
+        ensures err { OnErr result (self.new ≡ self.old) }
+    {
+        self.items.extend(items)
+    }
+
+    /// Puts a value before the one at a place. No key is indexed any more.
+    pub(crate) fn insert(&mut self, i: usize, item: Val) -> Result<(), NoMemory>
+        requires { i ≤ length self.old }
+        ensures ok { OnOk result (self.new ≡ insert self.old i item) }
+        ensures err { OnErr result (self.new ≡ self.old) }
+    {
+        self.codes.clear();
+        self.items.insert(i, item)
+    }
+
+    /// Takes the value at a place out. No key is indexed any more.
+    pub(crate) fn remove(&mut self, i: usize) -> Val
+        requires { i < length self.old }
+        ensures taken { slice_get self.old i ≡ Some result }
+        ensures rest { self.new ≡ remove self.old i }
+    {
+        self.codes.clear();
+        self.items.remove(i)
+    }
+
     /// Adds a value at the end.
     pub(crate) fn push(&mut self, item: Val) -> Result<(), NoMemory>
         ensures ok { OnOk result (self.new ≡ self.old ++ item ∷ []) }
@@ -104,6 +156,15 @@ fn has_code(code: Code, k: Val) -> bool
     match code_of(k) {
         Some(c) => code == c,
         None => false,
+    }
+}
+
+// Takes all codes out, where a key stands at this place of the row.
+fn clear_for(codes: &mut IndexSet<Code>, i: usize)
+    ensures { codes.new.keys ≡ codes_after i codes.old.keys }
+{
+    if i % 2 == 0 {
+        codes.clear();
     }
 }
 
