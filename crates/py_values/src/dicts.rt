@@ -10,8 +10,8 @@ ghost use Rattle.py_values.specs.Dicts.{all_keys, put, put_all, pairs_pass, dict
 use crate::fresh::Fresh;
 use crate::heap::{Frozen, Heap, next_number};
 use crate::members::is_key;
-use crate::row::Row;
 use crate::range::{is_empty_range, span_of};
+use crate::row::Row;
 use crate::val::{ObjId, Val, ValueStop};
 use crate::vals::Vals;
 use std::alloc::Global;

@@ -4,8 +4,8 @@ ghost use Rattle.std.specs.Option.{option_copied};
 ghost use Rattle.py_values.specs.Heaps.{Made, nothing, seen, text_of, row_of, text_at, row_at, func_at};
 
 use crate::func::{Func, Scope};
-use crate::val::{FuncId, ObjId, StrId, Val, ValueStop};
 use crate::row::Row;
+use crate::val::{FuncId, ObjId, StrId, Val, ValueStop};
 use lists::Words;
 use std::alloc::Global;
 use std::marker::Model;

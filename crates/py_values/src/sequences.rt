@@ -7,9 +7,9 @@ ghost use Rattle.py_values.specs.Sequences.{span_between, span_given, span_row, 
 
 use crate::fresh::{Fresh, char_count};
 use crate::heap::{Frozen, Heap, next_number};
-use crate::row::Row;
 use crate::numbers::{is_zero, number_of};
 use crate::range::{Span, span_of};
+use crate::row::Row;
 use crate::spans::span_count;
 use crate::sums::{as_list, as_tuple};
 use crate::val::{ObjId, Val, ValueStop};

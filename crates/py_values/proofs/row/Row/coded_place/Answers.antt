@@ -1,5 +1,4 @@
-use Rattle.std.proofs.Common.{◌≡◌, ◌<◌, ◌*◌, ◌+◌, ◌≤◌, length, drop, ap, sym, subst, ◌∙◌, arith, Some, None, refl}
-use Rattle.std.specs.Prelude.{position}
+use Rattle.std.proofs.Common.{◌≡◌, ◌<◌, ◌*◌, ◌+◌, length, drop, ap, sym, subst, ◌∙◌, arith, refl}
 use Rattle.py_values.specs.declared.codes.Code.{Code}
 use Rattle.py_values.specs.declared.codes.Code.TheVariants.{Number, Thing}
 use Rattle.py_values.specs.Keys.{same_code, has_code}

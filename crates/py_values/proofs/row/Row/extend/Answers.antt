@@ -1,4 +1,3 @@
-use Rattle.std.proofs.Common.{[], ◌∷◌}
 use Rattle.py_values.proofs.KeyLaws.{coded_either}
 use Rattle.py_values.proofs.row.Row.extend.Goals as goal
 

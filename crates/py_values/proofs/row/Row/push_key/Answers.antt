@@ -1,4 +1,4 @@
-use Rattle.std.proofs.Common.{[], ◌∷◌, ◌++◌, ◌≡◌, ◌∙◌, sym, subst, ap}
+use Rattle.std.proofs.Common.{◌∙◌, sym, subst, ap}
 use Rattle.py_values.specs.Keys.{AreCoded, AddsAtMost, code_behind}
 use Rattle.py_values.proofs.KeyLaws.{coded_pushed}
 use Rattle.py_values.proofs.row.Row.push_key.Goals as goal

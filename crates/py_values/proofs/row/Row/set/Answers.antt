@@ -1,5 +1,4 @@
-use Rattle.std.proofs.Common.{◌≡◌, sym, subst}
-use Rattle.std.specs.Prelude.{slice_set}
+use Rattle.std.proofs.Common.{sym, subst}
 use Rattle.py_values.specs.Keys.{AreCoded}
 use Rattle.py_values.proofs.KeyLaws.{coded_set}
 use Rattle.py_values.proofs.row.Row.set.Goals as goal
