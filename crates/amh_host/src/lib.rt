@@ -2,15 +2,13 @@
 //!
 //! The trait `Host` says what a call changes: a finite map of files, the text said and the text warned, each
 //! told or not told, and a count of faults that never falls (specs/Seen.antt, specs/Calls.antt,
-//! specs/Causes.antt). `MemoryHost` tells everything and fails where it is told to; `RealHost` is the trusted
-//! edge and tells nothing of content. `read_whole` reads a file in pieces of 4,096 bytes and stops once a stated
-//! length is passed.
+//! specs/Causes.antt). `MemoryHost` tells everything and fails where it is told to. `read_whole` reads a file in
+//! pieces of 4,096 bytes and stops once a stated length is passed.
 #![tactic(auto)]
 
 mod host;
 mod memory;
 mod place;
-mod real;
 mod steps;
 mod whole;
 
@@ -18,6 +16,5 @@ pub use host::{Host, HostCall, HostStop};
 pub use lists::{Items, Names, NoMemory, Numbers, Text, Words};
 pub use memory::MemoryHost;
 pub use place::{Budget, Kind, Place};
-pub use real::RealHost;
 pub use steps::Steps;
 pub use whole::{Whole, read_whole};
