@@ -38,19 +38,19 @@ plain_or true s w m v place = refl
 plain_or false s w m v place = refl
 
 -- a value that was found in a class is made at once
-as_method-made : (k : Known) (o : Option Func) (v c : Val) (this : Option Val) (place : Place) (w : World) (s : State) → as_method k o v this c place w s ≡ made (bound_func (heap_seen k s) o v this c) place give w s
-as_method-made k None v c this place w s = refl
-as_method-made k (Some f) v c this place w s = plain_or (is_plain_code f.code f.this) s w (λ t. new_func (heap_seen k t) (method_of f this c)) v place
+as_method-made : (k : Known) (o : Option Func) (v : Val) (this : Option Val) (place : Place) (w : World) (s : State) → as_method k o v this place w s ≡ made (bound_func (heap_seen k s) o v this) place give w s
+as_method-made k None v this place w s = refl
+as_method-made k (Some f) v this place w s = plain_or (is_plain_code f.code f.this) s w (λ t. new_func (heap_seen k t) (method_of f this)) v place
 
-pub from_class-made : (k : Known) (v : Val) (this : Option Val) (c : Val) (place : Place) (w : World) (s : State) → from_class k v this c place w s ≡ made (bound_method (heap_seen k s) v this c) place give w s
-from_class-made k (val.Func f) this c place w s = as_method-made k (func_at (heap_seen k s) f.0) (val.Func f) c this place w s
-from_class-made k v this c place w s = refl
+pub from_class-made : (k : Known) (v : Val) (this : Option Val) (place : Place) (w : World) (s : State) → from_class k v this place w s ≡ made (bound_method (heap_seen k s) v this) place give w s
+from_class-made k (val.Func f) this place w s = as_method-made k (func_at (heap_seen k s) f.0) (val.Func f) this place w s
+from_class-made k v this place w s = refl
 
-pub from_class_made : (fns : Functions) (frozen : Made) (r : Result Now Halt) (x y : Going) (budget : ℕ) (v m c : Val) (this : Option Val) (place : Place) (heap : Made) → bound_method (seen frozen x.state.heap) v this c ≡ Ok (m, heap) → GoesOn fns frozen r (record x { state = record x.state { heap = heap } }) y budget (λ k. give m) → GoesOn fns frozen r x y budget (λ k. from_class k v this c place)
-from_class_made fns frozen r x y budget v m c this place heap e h =
-    same_runs fns frozen r x y budget (λ k. making (λ s. bound_method (heap_seen k s) v this c) place give) (λ k. from_class k v this c place)
-    (λ w. from_class-made (known (steps_of fns.program) frozen x.state.here.room) v this c place w x.state)
-    (made_ok fns frozen r x y budget heap place m (λ k s. bound_method (heap_seen k s) v this c) (λ z k. give z) e h)
+pub from_class_made : (fns : Functions) (frozen : Made) (r : Result Now Halt) (x y : Going) (budget : ℕ) (v m : Val) (this : Option Val) (place : Place) (heap : Made) → bound_method (seen frozen x.state.heap) v this ≡ Ok (m, heap) → GoesOn fns frozen r (record x { state = record x.state { heap = heap } }) y budget (λ k. give m) → GoesOn fns frozen r x y budget (λ k. from_class k v this place)
+from_class_made fns frozen r x y budget v m this place heap e h =
+    same_runs fns frozen r x y budget (λ k. making (λ s. bound_method (heap_seen k s) v this) place give) (λ k. from_class k v this place)
+    (λ w. from_class-made (known (steps_of fns.program) frozen x.state.here.room) v this place w x.state)
+    (made_ok fns frozen r x y budget heap place m (λ k s. bound_method (heap_seen k s) v this) (λ z k. give z) e h)
 
 pub told_asked : (fns : Functions) (frozen : Made) (r : Result Now Halt) (x y : Going) (budget n : ℕ) (v : Val) (name told : List ℕ) (place : Place) (q : Request) → told ≡ name → q ≡ request Attribute (v ∷ []) (name ∷ []) place → GoesOn fns frozen r x y budget (within (frame.Call (call.AttributeTold told place n)) (λ k. ask k q)) → GoesOn fns frozen r x y budget (λ k. told_attribute n k name place v)
 told_asked fns frozen r x y budget n v name told place q e1 e2 h =

@@ -35,7 +35,9 @@ use Rattle.py_frames.specs.Doing.{Doing, World, Known, give, stop, making, made,
 use Rattle.py_frames.specs.Asking.{request, ask}
 use Rattle.py_frames.specs.Functions.{function_at}
 use Rattle.py_frames.specs.Statements.{known}
-use Rattle.py_frames.specs.Values.{method_called, func_called, builtin_called, init_thing, on_names, attributes_bound, named_vals, named_names, super_of, super_called, with_func, without_arguments, without_keywords, length_called, magnitude_called, built, gone_over, initialised, code_called, is_async_body, made_object, object_made, class_called}
+use Rattle.py_values.specs.Names.{look_up}
+use Rattle.py_frames.specs.Async.{is_async_body}
+use Rattle.py_frames.specs.Values.{method_called, func_called, builtin_called, init_thing, on_names, attributes_bound, named_vals, named_names, class_word, super_of, super_called, with_func, without_arguments, without_keywords, length_called, magnitude_called, built, gone_over, initialised, code_called, made_object, object_made, class_called}
 use Rattle.py_frames.specs.Calling.{bound_method}
 use Rattle.py_calls.specs.Called.{kind_of, called_by_kind, callable_of, callable_code, callable_body, called_as, no_arguments, no_keywords, one_thing}
 use Rattle.py_frames.specs.Frames.{GoesOn, within, told}
@@ -45,7 +47,7 @@ use Rattle.py_calls.proofs.AttributeLaws.{from_class-made}
 pub init_asked : (fns : Functions) (frozen : Made) (r : Result Now Halt) (x y : Going) (budget : ℕ) (o : ObjId) (args : List Val) (keywords : List NamedVal) (place : Place) (v : Val) (q : Request) → q ≡ request InitBase (val.Object o ∷ (args ++ named_vals keywords)) (named_names keywords) place → GoesOn fns frozen r x y budget (within (frame.Call (call.InitNames o place v)) (λ k. ask k q)) → GoesOn fns frozen r x y budget (λ k. init_thing k o args keywords place (give v))
 init_asked fns frozen r x y budget o args keywords place v q e1 h = same_goes fns frozen r x y budget (λ z k. then_do (ask k z) (λ got. on_names got (λ names. attributes_bound k o names place (give v)))) q (request InitBase (val.Object o ∷ (args ++ named_vals keywords)) (named_names keywords) place) e1 h
 
-pub super_here : (fns : Functions) (frozen : Made) (r : Result Now Halt) (x y : Going) (budget : ℕ) (place : Place) (f : Option Func) → f ≡ super_of x.state.here.first x.state.here.home → GoesOn fns frozen r x y budget (λ k. with_func k f place) → GoesOn fns frozen r x y budget (λ k. super_called k None place)
+pub super_here : (fns : Functions) (frozen : Made) (r : Result Now Halt) (x y : Going) (budget : ℕ) (place : Place) (f : Option Func) → f ≡ super_of (seen frozen x.state.heap) x.state.here.first (look_up (seen frozen x.state.heap) x.state.here.scope.0 class_word) → GoesOn fns frozen r x y budget (λ k. with_func k f place) → GoesOn fns frozen r x y budget (λ k. super_called k None place)
 super_here fns frozen r x y budget place f e1 h = same_runs fns frozen r x y budget (λ k. with_func k f place) (λ k. super_called k None place) (λ w. ap (λ z. with_func (known (steps_of fns.program) frozen x.state.here.room) z place w x.state) (sym e1)) h
 
 bare-none : (args : List Val) (keywords : List NamedVal) (place : Place) (m : Doing) → no_arguments args keywords ≡ true → without_arguments args keywords place m ≡ m
@@ -156,14 +158,14 @@ pub init_found : (fns : Functions) (frozen : Made) (r : Result Now Halt) (x y : 
 init_found fns frozen r x y budget c o args keywords place i e1 h = looked fns frozen r x y budget (λ s. inherits s (codes "__init__") (record { 0 = c })) (λ z k. made_object k (record { 0 = o }) z args keywords place) i e1 h
 
 -- a method that was found is bound at once, and then called
-pub init_begun : (fns : Functions) (frozen : Made) (r : Result Now Halt) (x y : Going) (budget : ℕ) (o : ObjId) (v c m : Val) (args : List Val) (keywords : List NamedVal) (place : Place) (heap : Made) → bound_method (seen frozen x.state.heap) v (Some (val.Object o)) c ≡ Ok (m, heap) → GoesOn fns frozen r (record x { state = record x.state { heap = heap } }) y budget (within (frame.Call (call.Initialised o place)) (λ k. method_called k m args keywords place)) → GoesOn fns frozen r x y budget (λ k. made_object k o (inherited.Found v c) args keywords place)
+pub init_begun : (fns : Functions) (frozen : Made) (r : Result Now Halt) (x y : Going) (budget : ℕ) (o : ObjId) (v c m : Val) (args : List Val) (keywords : List NamedVal) (place : Place) (heap : Made) → bound_method (seen frozen x.state.heap) v (Some (val.Object o)) ≡ Ok (m, heap) → GoesOn fns frozen r (record x { state = record x.state { heap = heap } }) y budget (within (frame.Call (call.Initialised o place)) (λ k. method_called k m args keywords place)) → GoesOn fns frozen r x y budget (λ k. made_object k o (inherited.Found v c) args keywords place)
 init_begun fns frozen r x y budget o v c m args keywords place heap e h =
     same_runs fns frozen r x y budget
-    (λ k. making (λ s. bound_method (heap_seen k s) v (Some (val.Object o)) c) place (λ f. then_initialised k o f args keywords place))
+    (λ k. making (λ s. bound_method (heap_seen k s) v (Some (val.Object o))) place (λ f. then_initialised k o f args keywords place))
     (λ k. made_object k o (inherited.Found v c) args keywords place)
-    (λ w. ap (λ out. after out (λ got. on_value got (λ f. then_initialised (known (steps_of fns.program) frozen x.state.here.room) o f args keywords place) w)) (from_class-made (known (steps_of fns.program) frozen x.state.here.room) v (Some (val.Object o)) c place w x.state)
-    ∙ made-bind (bound_method (seen frozen x.state.heap) v (Some (val.Object o)) c) place (λ f. then_initialised (known (steps_of fns.program) frozen x.state.here.room) o f args keywords place) w x.state)
-    (made_ok fns frozen r x y budget heap place m (λ k s. bound_method (heap_seen k s) v (Some (val.Object o)) c) (λ f k. then_initialised k o f args keywords place) e h)
+    (λ w. ap (λ out. after out (λ got. on_value got (λ f. then_initialised (known (steps_of fns.program) frozen x.state.here.room) o f args keywords place) w)) (from_class-made (known (steps_of fns.program) frozen x.state.here.room) v (Some (val.Object o)) place w x.state)
+    ∙ made-bind (bound_method (seen frozen x.state.heap) v (Some (val.Object o))) place (λ f. then_initialised (known (steps_of fns.program) frozen x.state.here.room) o f args keywords place) w x.state)
+    (made_ok fns frozen r x y budget heap place m (λ k s. bound_method (heap_seen k s) v (Some (val.Object o))) (λ f k. then_initialised k o f args keywords place) e h)
   where
     then_initialised : Known → ObjId → Val → List Val → List NamedVal → Place → Doing
     then_initialised k o f args keywords place = do

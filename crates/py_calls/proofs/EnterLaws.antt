@@ -17,6 +17,7 @@ use Rattle.py_frames.specs.declared.request.NamedVal.{NamedVal}
 use Rattle.py_frames.specs.declared.request.Cause.TheVariants as cause
 use Rattle.py_frames.specs.declared.state.State.{State}
 use Rattle.py_frames.specs.declared.state.Here.{Here}
+use Rattle.py_frames.specs.declared.state.ClassBody.{ClassBody}
 use Rattle.py_frames.specs.declared.state.Halt.{Halt}
 use Rattle.py_frames.specs.declared.state.Halt.TheVariants.{Stopped}
 use Rattle.py_frames.specs.declared.frame.Now.{Now}
@@ -26,10 +27,10 @@ use Rattle.py_frames.specs.declared.frame.CallFrame.TheVariants as call
 use Rattle.py_frames.specs.declared.functions.Functions.{Functions}
 use Rattle.py_frames.specs.declared.going.Going.{Going}
 use Rattle.py_frames.specs.Doing.{World, Doing, Known, made, stop, cause_of, then_do}
-use Rattle.py_frames.specs.Functions.{function_at, parameters_met}
+use Rattle.py_frames.specs.Functions.{function_at, parameters_met, named_val}
 use Rattle.py_frames.specs.Own.{function_names}
 use Rattle.py_frames.specs.Tables.{described}
-use Rattle.py_frames.specs.Values.{bind_all, with_this}
+use Rattle.py_frames.specs.Values.{bind_all, with_this, with_binding, kept_in}
 use Rattle.py_frames.specs.Statements.{known, calls, entered, func_entered, code_entered, body_entered, body_run, with_met, parameters_of, run_all, call_ended, function_here, first_of}
 use Rattle.py_calls.specs.Entering.{runs_at, body_steps, runs_under}
 use Rattle.py_calls.specs.Binding_all.{after_set, names_bound}
@@ -118,21 +119,26 @@ body_pushed fns frozen r x y budget here there outer bound ss fs e1 e2 e3 h =
     let S : List Frame → Type 0 = λ z. GoesOn fns frozen r (record x { frames = z; state = record x.state { here = there; bound = bound } }) y budget (λ k. run_all k ss) in
     body-pushed fns frozen r x y budget here bound ss (subst P e1 (subst Q e2 (subst S e3 h)))
 
-bind-more : (k : Known) (xs : List NamedVal) (p : Place) (m : Doing) (w : World) (s : State) (heap : Made) (r : Result (Unit {0} × Made) ValueStop) → ((more : Made) → names_bound k.frozen s.here.scope.0 more xs ≡ Ok heap → bind_all k xs p m w (record s { heap = more; bound = s.bound + 1 }) ≡ m w (record s { heap = heap; bound = s.bound + 1 + length xs })) → after_set r (λ more. names_bound k.frozen s.here.scope.0 more xs) ≡ Ok heap → made r p (λ _ w2 s2. bind_all k xs p m w2 (record s2 { bound = s2.bound + 1 })) w s ≡ m w (record s { heap = heap; bound = s.bound + suc (length xs) })
-bind-more k xs p m w s heap (Ok t) h e = let q : s.bound + 1 + length xs ≡ s.bound + suc (length xs) = omega arith in h t.1 e ∙ ap (λ (n : ℕ). m w (record s { heap = heap; bound = n })) q
-bind-more k xs p m w s heap (Err v) h e = cc
+-- no class body keeps what a call binds
+kept-none : (h : Here) (x : NamedVal) → h.body ≡ None → with_binding x h ≡ h
+kept-none h x e = ap (λ (z : Option ClassBody). record h { body = z }) (ap (option_map (kept_in h.scope x)) e ∙ sym e)
 
-bind-ok : (k : Known) (xs : List NamedVal) (p : Place) (m : Doing) (w : World) (s : State) (heap : Made) → names_bound k.frozen s.here.scope.0 s.heap xs ≡ Ok heap → bind_all k xs p m w s ≡ m w (record s { heap = heap; bound = s.bound + length xs })
-bind-ok k [] p m w s heap e = let q : s.heap ≡ heap = cc in let z : s.bound ≡ s.bound + 0 = omega arith in ap (λ (h : Made). m w (record s { heap = h })) q ∙ ap (λ (n : ℕ). m w (record s { heap = heap; bound = n })) z
-bind-ok k (x ∷ xs) p m w s heap e = bind-more k xs p m w s heap (scope_bound (seen k.frozen s.heap) s.here.scope.0 x.name x.val) (λ more. bind-ok k xs p m w (record s { heap = more; bound = s.bound + 1 }) heap) e
+bind-more : (k : Known) (x : NamedVal) (xs : List NamedVal) (p : Place) (m : Doing) (w : World) (s : State) (heap : Made) (r : Result (Unit {0} × Made) ValueStop) → s.here.body ≡ None → ((more : Made) → names_bound k.frozen s.here.scope.0 more xs ≡ Ok heap → bind_all k xs p m w (record s { heap = more; bound = s.bound + 1 }) ≡ m w (record s { heap = heap; bound = s.bound + 1 + length xs })) → after_set r (λ more. names_bound k.frozen s.here.scope.0 more xs) ≡ Ok heap → made r p (λ _ w2 s2. bind_all k xs p m w2 (record s2 { bound = s2.bound + 1; here = with_binding (named_val x.name x.val) s2.here })) w s ≡ m w (record s { heap = heap; bound = s.bound + suc (length xs) })
+bind-more k x xs p m w s heap (Ok t) n h e = ap (λ (z : Here). bind_all k xs p m w (record s { heap = t.1; bound = s.bound + 1; here = z })) (kept-none s.here (named_val x.name x.val) n) ∙ let q : s.bound + 1 + length xs ≡ s.bound + suc (length xs) = omega arith in h t.1 e ∙ ap (λ (n : ℕ). m w (record s { heap = heap; bound = n })) q
+bind-more k x xs p m w s heap (Err v) n h e = cc
 
-bind-stop : (k : Known) (xs : List NamedVal) (p : Place) (m : Doing) (w : World) (s : State) (program : Steps) (frozen : Made) (room : ℕ) (fs : List Frame) (v : ValueStop) (r : Result (Unit {0} × Made) ValueStop) → ((more : Made) → names_bound k.frozen s.here.scope.0 more xs ≡ Err v → stops_as (finish program frozen room fs w (bind_all k xs p m w (record s { heap = more; bound = s.bound + 1 }))) ≡ Some (record { cause = cause_of v; place = p }, s.used)) → after_set r (λ more. names_bound k.frozen s.here.scope.0 more xs) ≡ Err v → stops_as (finish program frozen room fs w (made r p (λ _ w2 s2. bind_all k xs p m w2 (record s2 { bound = s2.bound + 1 })) w s)) ≡ Some (record { cause = cause_of v; place = p }, s.used)
-bind-stop k xs p m w s program frozen room fs v (Ok t) h e = h t.1 e
-bind-stop k xs p m w s program frozen room fs v (Err u) h e = let q : u ≡ v = cc in stops_as-finish program frozen room fs w (record { cause = cause_of u; place = p }) s ∙ ap (λ (z : ValueStop). Some (record { cause = cause_of z; place = p }, s.used)) q
+bind-ok : (k : Known) (xs : List NamedVal) (p : Place) (m : Doing) (w : World) (s : State) (heap : Made) → s.here.body ≡ None → names_bound k.frozen s.here.scope.0 s.heap xs ≡ Ok heap → bind_all k xs p m w s ≡ m w (record s { heap = heap; bound = s.bound + length xs })
+bind-ok k [] p m w s heap n e = let q : s.heap ≡ heap = cc in let z : s.bound ≡ s.bound + 0 = omega arith in ap (λ (h : Made). m w (record s { heap = h })) q ∙ ap (λ (n : ℕ). m w (record s { heap = heap; bound = n })) z
+bind-ok k (x ∷ xs) p m w s heap n e = bind-more k x xs p m w s heap (scope_bound (seen k.frozen s.heap) s.here.scope.0 x.name x.val) n (λ more. bind-ok k xs p m w (record s { heap = more; bound = s.bound + 1 }) heap n) e
 
-bind-err : (k : Known) (xs : List NamedVal) (p : Place) (m : Doing) (w : World) (s : State) (program : Steps) (frozen : Made) (room : ℕ) (fs : List Frame) (v : ValueStop) → names_bound k.frozen s.here.scope.0 s.heap xs ≡ Err v → stops_as (finish program frozen room fs w (bind_all k xs p m w s)) ≡ Some (record { cause = cause_of v; place = p }, s.used)
-bind-err k [] p m w s program frozen room fs v e = cc
-bind-err k (x ∷ xs) p m w s program frozen room fs v e = bind-stop k xs p m w s program frozen room fs v (scope_bound (seen k.frozen s.heap) s.here.scope.0 x.name x.val) (λ more. bind-err k xs p m w (record s { heap = more; bound = s.bound + 1 }) program frozen room fs v) e
+bind-stop : (k : Known) (x : NamedVal) (xs : List NamedVal) (p : Place) (m : Doing) (w : World) (s : State) (program : Steps) (frozen : Made) (room : ℕ) (fs : List Frame) (v : ValueStop) (r : Result (Unit {0} × Made) ValueStop) → s.here.body ≡ None → ((more : Made) → names_bound k.frozen s.here.scope.0 more xs ≡ Err v → stops_as (finish program frozen room fs w (bind_all k xs p m w (record s { heap = more; bound = s.bound + 1 }))) ≡ Some (record { cause = cause_of v; place = p }, s.used)) → after_set r (λ more. names_bound k.frozen s.here.scope.0 more xs) ≡ Err v → stops_as (finish program frozen room fs w (made r p (λ _ w2 s2. bind_all k xs p m w2 (record s2 { bound = s2.bound + 1; here = with_binding (named_val x.name x.val) s2.here })) w s)) ≡ Some (record { cause = cause_of v; place = p }, s.used)
+bind-stop k x xs p m w s program frozen room fs v (Ok t) n h e =
+    ap (λ (z : Here). stops_as (finish program frozen room fs w (bind_all k xs p m w (record s { heap = t.1; bound = s.bound + 1; here = z })))) (kept-none s.here (named_val x.name x.val) n) ∙ h t.1 e
+bind-stop k x xs p m w s program frozen room fs v (Err u) n h e = let q : u ≡ v = cc in stops_as-finish program frozen room fs w (record { cause = cause_of u; place = p }) s ∙ ap (λ (z : ValueStop). Some (record { cause = cause_of z; place = p }, s.used)) q
+
+bind-err : (k : Known) (xs : List NamedVal) (p : Place) (m : Doing) (w : World) (s : State) (program : Steps) (frozen : Made) (room : ℕ) (fs : List Frame) (v : ValueStop) → s.here.body ≡ None → names_bound k.frozen s.here.scope.0 s.heap xs ≡ Err v → stops_as (finish program frozen room fs w (bind_all k xs p m w s)) ≡ Some (record { cause = cause_of v; place = p }, s.used)
+bind-err k [] p m w s program frozen room fs v n e = cc
+bind-err k (x ∷ xs) p m w s program frozen room fs v n e = bind-stop k x xs p m w s program frozen room fs v (scope_bound (seen k.frozen s.heap) s.here.scope.0 x.name x.val) n (λ more. bind-err k xs p m w (record s { heap = more; bound = s.bound + 1 }) program frozen room fs v n) e
 
 -- no call may stand in as many others
 pub no_room_stops : (fns : Functions) (frozen : Made) (x : Going) (budget : ℕ) (f : Func) (args : List Val) (met : List NamedVal) (b : Body) (place : Place) → x.state.here.room < 1 → GoesOn fns frozen (Err (Stopped (record { cause = cause.Limit; place = place }))) x x budget (λ k. (runs_at k.program k.frozen x.state.here.room).run_body f args met b place)
@@ -147,18 +153,18 @@ moved-heap fns frozen r x y budget heap here bound ss h = h
 run-begun : (program : Steps) (frozen : Made) (room : ℕ) (f : Func) (args : List Val) (met : List NamedVal) (b : Body) (place : Place) (w : World) (s : State) (scope : ScopeId) (heap more : Made) → new_scope (seen frozen s.heap) f.scope false (function_names b) ≡ Ok (scope, heap) → names_bound frozen scope.0 heap met ≡ Ok more → body_run (known program frozen room) room f args met b place w s ≡ runs_under (known program frozen (suc room)) (function_here room f args scope) (s.bound + length met) (body_steps b) w (record s { heap = more })
 run-begun program frozen room f args met (Fun q name is_async params result body) place w s scope heap more e1 e2 =
     ap (λ z. made z place (λ scope w2 t. bind_all (known program frozen room) met place (then_do (run_all (known program frozen room) body) (call_ended s.here)) w2 (record t { here = function_here room f args scope })) w s) e1
-    ∙ bind-ok (known program frozen room) met place (then_do (run_all (known program frozen room) body) (call_ended s.here)) w (record s { heap = heap; here = function_here room f args scope }) more e2
+    ∙ bind-ok (known program frozen room) met place (then_do (run_all (known program frozen room) body) (call_ended s.here)) w (record s { heap = heap; here = function_here room f args scope }) more refl e2
 
-pub body_ok : (fns : Functions) (frozen : Made) (r : Result Now Halt) (x y : Going) (budget : ℕ) (f : Func) (args vals : List Val) (met same : List NamedVal) (b : Body) (place : Place) (room bound : ℕ) (scope : ScopeId) (heap more : Made) (own : List (List ℕ)) (first : Option Val) (notes : List NamedVal) (ss : Steps) → own ≡ function_names b → ss ≡ body_steps b → x.state.here.room ≡ suc room → bound ≡ x.state.bound + length met → vals ≡ args → first ≡ first_of vals → notes ≡ [] → new_scope (seen frozen x.state.heap) f.scope false own ≡ Ok (scope, heap) → same ≡ met → names_bound frozen scope.0 heap same ≡ Ok more → GoesOn fns frozen r (record x { state = record x.state { heap = more } }) y budget (λ k. runs_under k (record { scope = scope; home = f.home; first = first; notes = notes; room = room }) bound ss) → GoesOn fns frozen r x y budget (λ k. (runs_at k.program k.frozen x.state.here.room).run_body f args met b place)
+pub body_ok : (fns : Functions) (frozen : Made) (r : Result Now Halt) (x y : Going) (budget : ℕ) (f : Func) (args vals : List Val) (met same : List NamedVal) (b : Body) (place : Place) (room bound : ℕ) (scope : ScopeId) (heap more : Made) (own : List (List ℕ)) (first : Option Val) (notes : List NamedVal) (ss : Steps) → own ≡ function_names b → ss ≡ body_steps b → x.state.here.room ≡ suc room → bound ≡ x.state.bound + length met → vals ≡ args → first ≡ first_of vals → notes ≡ [] → new_scope (seen frozen x.state.heap) f.scope false own ≡ Ok (scope, heap) → same ≡ met → names_bound frozen scope.0 heap same ≡ Ok more → GoesOn fns frozen r (record x { state = record x.state { heap = more } }) y budget (λ k. runs_under k (record { scope = scope; first = first; body = None; notes = notes; room = room }) bound ss) → GoesOn fns frozen r x y budget (λ k. (runs_at k.program k.frozen x.state.here.room).run_body f args met b place)
 body_ok fns frozen r x y budget f args vals met same b place room bound scope heap more own first notes ss e1 e2 e3 e4 i1 i2 i3 e6 i4 e7 h =
     same_goes fns frozen r x y budget (λ (z : ℕ) k. (runs_at k.program k.frozen z).run_body f args met b place) (suc room) x.state.here.room (sym e3)
-    (same_runs fns frozen r x y budget (λ k w s. runs_under k (record { scope = scope; home = f.home; first = first; notes = notes; room = room }) bound ss w (record s { heap = more })) (λ k. body_run (known k.program k.frozen room) room f args met b place)
+    (same_runs fns frozen r x y budget (λ k w s. runs_under k (record { scope = scope; first = first; body = None; notes = notes; room = room }) bound ss w (record s { heap = more })) (λ k. body_run (known k.program k.frozen room) room f args met b place)
     (λ w. run-begun (steps_of fns.program) frozen room f args met b place w x.state scope heap more (ap (λ (z : List (List ℕ)). new_scope (seen frozen x.state.heap) f.scope false z) (sym e1) ∙ e6) (ap (names_bound frozen scope.0 heap) (sym i4) ∙ e7)
-    ∙ ap (λ (z : Option Val). runs_under (known (steps_of fns.program) frozen (suc room)) (record { scope = scope; home = f.home; first = z; notes = []; room = room }) (x.state.bound + length met) (body_steps b) w (record x.state { heap = more })) (sym (i2 ∙ ap first_of i1))
-    ∙ ap (λ (z : List NamedVal). runs_under (known (steps_of fns.program) frozen (suc room)) (record { scope = scope; home = f.home; first = first; notes = z; room = room }) (x.state.bound + length met) (body_steps b) w (record x.state { heap = more })) (sym i3)
-    ∙ ap (λ (z : ℕ). runs_under (known (steps_of fns.program) frozen (suc room)) (record { scope = scope; home = f.home; first = first; notes = notes; room = room }) z (body_steps b) w (record x.state { heap = more })) (sym e4)
-    ∙ ap (λ (z : Steps). runs_under (known (steps_of fns.program) frozen (suc room)) (record { scope = scope; home = f.home; first = first; notes = notes; room = room }) bound z w (record x.state { heap = more })) (sym e2))
-    (moved-heap fns frozen r x y budget more (record { scope = scope; home = f.home; first = first; notes = notes; room = room }) bound ss h))
+    ∙ ap (λ (z : Option Val). runs_under (known (steps_of fns.program) frozen (suc room)) (record { scope = scope; first = z; body = None; notes = []; room = room }) (x.state.bound + length met) (body_steps b) w (record x.state { heap = more })) (sym (i2 ∙ ap first_of i1))
+    ∙ ap (λ (z : List NamedVal). runs_under (known (steps_of fns.program) frozen (suc room)) (record { scope = scope; first = first; body = None; notes = z; room = room }) (x.state.bound + length met) (body_steps b) w (record x.state { heap = more })) (sym i3)
+    ∙ ap (λ (z : ℕ). runs_under (known (steps_of fns.program) frozen (suc room)) (record { scope = scope; first = first; body = None; notes = notes; room = room }) z (body_steps b) w (record x.state { heap = more })) (sym e4)
+    ∙ ap (λ (z : Steps). runs_under (known (steps_of fns.program) frozen (suc room)) (record { scope = scope; first = first; body = None; notes = notes; room = room }) bound z w (record x.state { heap = more })) (sym e2))
+    (moved-heap fns frozen r x y budget more (record { scope = scope; first = first; body = None; notes = notes; room = room }) bound ss h))
 
 -- a new scope is never refused
 pub scope_err : (fns : Functions) (frozen : Made) (x y : Going) (budget : ℕ) (f : Func) (args : List Val) (met : List NamedVal) (b : Body) (place : Place) (e : ValueStop) (own : List (List ℕ)) → Answers {A = ScopeId × Made} (Err e) (new_scope (seen frozen x.state.heap) f.scope false own) → GoesOn fns frozen (told (Err e) place) x y budget (λ k. (runs_at k.program k.frozen x.state.here.room).run_body f args met b place)
@@ -171,7 +177,7 @@ scope_err fns frozen x y budget f args met b place refusal.NoMemory own h = no_m
 run-stopped : (program : Steps) (frozen : Made) (room : ℕ) (f : Func) (args : List Val) (met : List NamedVal) (b : Body) (place : Place) (w : World) (s : State) (scope : ScopeId) (heap : Made) (top : ℕ) (fs : List Frame) (v : ValueStop) → new_scope (seen frozen s.heap) f.scope false (function_names b) ≡ Ok (scope, heap) → names_bound frozen scope.0 heap met ≡ Err v → stops_as (finish program frozen top fs w (body_run (known program frozen room) room f args met b place w s)) ≡ Some (record { cause = cause_of v; place = place }, s.used)
 run-stopped program frozen room f args met (Fun q name is_async params result body) place w s scope heap top fs v e1 e2 =
     ap (λ z. stops_as (finish program frozen top fs w (made z place (λ scope w2 t. bind_all (known program frozen room) met place (then_do (run_all (known program frozen room) body) (call_ended s.here)) w2 (record t { here = function_here room f args scope })) w s))) e1
-    ∙ bind-err (known program frozen room) met place (then_do (run_all (known program frozen room) body) (call_ended s.here)) w (record s { heap = heap; here = function_here room f args scope }) program frozen top fs v e2
+    ∙ bind-err (known program frozen room) met place (then_do (run_all (known program frozen room) body) (call_ended s.here)) w (record s { heap = heap; here = function_here room f args scope }) program frozen top fs v refl e2
 
 stopped-at : (fns : Functions) (frozen : Made) (x y : Going) (budget : ℕ) (f : Func) (args : List Val) (met : List NamedVal) (b : Body) (place : Place) (room : ℕ) (scope : ScopeId) (heap : Made) (e : ValueStop) → new_scope (seen frozen x.state.heap) f.scope false (function_names b) ≡ Ok (scope, heap) → Answers {A = Made} (Err e) (names_bound frozen scope.0 heap met) → y.state.used ≡ x.state.used → GoesOn fns frozen (told (Err e) place) x y budget (λ k. body_run (known k.program k.frozen room) room f args met b place)
 unfolding GoesOn

@@ -27,7 +27,8 @@ use Rattle.py_frames.specs.declared.going.Going.{Going}
 use Rattle.py_frames.specs.Doing.{Doing, Known, came, give, choose, heap_seen, ◌>>=◌}
 use Rattle.py_frames.specs.Asking.{request, asked, returned, callee_place}
 use Rattle.py_frames.specs.Statements.{known, call_ended, value_left}
-use Rattle.py_frames.specs.Values.{called, gone_over, is_async, is_async_func, is_async_code}
+use Rattle.py_frames.specs.Async.{is_async, is_async_func, is_async_code}
+use Rattle.py_frames.specs.Values.{called, gone_over}
 use Rattle.py_frames.specs.Expressions.{call_for, call_awaited, awaited}
 use Rattle.py_calls.specs.Awaiting.{is_async_by, is_async_of, is_async_in}
 use Rattle.py_frames.specs.Frames.{GoesOn, within, finish}
@@ -69,7 +70,7 @@ is_async-of k (Some f) = is_async-by k f.code
     is_async-by k (code.Def p) = refl
     is_async-by k (code.Builtin b) = refl
 
-is_async-in : (k : Known) (s : Seen) (v : Val) → is_async k s v ≡ is_async_in k.program s v
+pub is_async-in : (k : Known) (s : Seen) (v : Val) → is_async k s v ≡ is_async_in k.program s v
 is_async-in k s (val.Func f) = is_async-of k (func_at s f.0)
 is_async-in k s v = refl
 

@@ -9,3 +9,5 @@ pub mod BoundLaws
 pub mod MeetLaws
 pub mod EnterLaws
 pub mod CallOfLaws
+pub mod SuperLaws
+pub mod SumLaws

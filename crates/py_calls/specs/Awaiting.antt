@@ -9,7 +9,7 @@ use Rattle.py_values.specs.declared.func.Code.{Code}
 use Rattle.py_values.specs.declared.func.Code.TheVariants as code
 use Rattle.py_values.specs.Heaps.{Seen, func_at}
 use Rattle.py_frames.specs.Functions.{function_at}
-use Rattle.py_frames.specs.Values.{is_async_body}
+use Rattle.py_frames.specs.Async.{is_async_body}
 
 -- by the program alone
 abbrev pub is_async_by : Steps → Code → Bool

@@ -20,7 +20,8 @@ use Rattle.py_calls.specs.declared.call_kind.Callable.{Callable}
 use Rattle.py_calls.specs.declared.call_kind.Callable.TheVariants as callable
 use Rattle.py_frames.specs.Doing.{Doing, Known, give, stop}
 use Rattle.py_frames.specs.Functions.{function_at}
-use Rattle.py_frames.specs.Values.{without_arguments, without_keywords, super_called, init_this, length_called, magnitude_called, gone_over, with_this, builtin_called, is_async_body}
+use Rattle.py_frames.specs.Async.{is_async_body}
+use Rattle.py_frames.specs.Values.{without_arguments, without_keywords, super_called, init_this, length_called, magnitude_called, gone_over, with_this, builtin_called}
 
 -- how a builtin is called
 abbrev pub kind_of : Builtin → CallKind

@@ -7,7 +7,7 @@ use Rattle.py_values.specs.declared.op.Builtin.{Builtin}
 use Rattle.py_calls.specs.declared.call_gone.Gone.{Gone}
 use Rattle.py_calls.specs.declared.call_gone.Gone.TheVariants as gone
 use Rattle.py_frames.specs.Doing.{Doing, Known, ◌>>=◌}
-use Rattle.py_frames.specs.Values.{is_thing, goes_over, iterated, built, gone_over}
+use Rattle.py_frames.specs.Values.{is_thing, goes_over, iterated, built_over, gone_over}
 
 -- the first thing that a builtin goes over, with the arguments before it and behind it
 abbrev pub first_gone : Builtin → (n : ℕ) → List Val → List Val → Gone
@@ -22,5 +22,5 @@ thing_gone k b n done v rest place = do
 
 -- a builtin goes on by the first thing that it goes over
 abbrev pub gone_by : Known → Builtin → (n : ℕ) → Gone → Place → Doing
-gone_by k b n (gone.Whole vals) place = built k b vals place
+gone_by k b n (gone.Whole vals) place = built_over k b vals place
 gone_by k b n (gone.Thing done v rest) place = thing_gone k b n done v rest place

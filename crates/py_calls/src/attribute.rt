@@ -24,14 +24,13 @@ pub fn from_class(
     frozen: &Frozen,
     v: Val,
     this: Option<Val>,
-    c: Val,
     _place: Place,
     budget: u64,
 ) -> Result<Now, Halt>
-    ensures moves { GoesOn functions.now frozen.now result going.old going.new budget (λ k. from_class k v this c _place) }
+    ensures moves { GoesOn functions.now frozen.now result going.old going.new budget (λ k. from_class k v this _place) }
     ensures used { going.new.state.used ≡ going.old.state.used }
 {
-    let Ok(v) = method_val(&mut going.state.heap, frozen, going.alloc, v, this, c) else {
+    let Ok(v) = method_val(&mut going.state.heap, frozen, going.alloc, v, this) else {
         return Err(Halt::NoMemory);
     };
     give(going, functions, frozen, v, budget)
@@ -110,7 +109,7 @@ fn found_in(
     ensures used { going.new.state.used ≡ going.old.state.used }
 {
     match found {
-        Inherited::Found(v, c) => from_class(going, functions, frozen, v, this, c, place, budget),
+        Inherited::Found(v, _) => from_class(going, functions, frozen, v, this, place, budget),
         Inherited::Thing(_) => told_attribute(
             going, functions, frozen, x, name, place, rounds, budget,
         ),
@@ -134,13 +133,12 @@ fn found_of_object(
     ensures used { going.new.state.used ≡ going.old.state.used }
 {
     match found {
-        Inherited::Found(v, c) => from_class(
+        Inherited::Found(v, _) => from_class(
             going,
             functions,
             frozen,
             v,
             Some(x),
-            c,
             place,
             budget,
         ),

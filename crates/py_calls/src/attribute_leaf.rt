@@ -1,7 +1,7 @@
 // What attributes need of the heap alone.
 ghost use Rattle.std.specs.Prelude.{◌≡◌, IfOk, Ok};
 ghost use Rattle.py_values.specs.Heaps.{seen, row_at, func_at};
-ghost use Rattle.py_frames.specs.Values.{own_home, method_of, is_plain_code, list_method, dict_method, head_of, is_init};
+ghost use Rattle.py_frames.specs.Values.{method_of, is_plain_code, list_method, dict_method, head_of, is_init};
 ghost use Rattle.py_frames.specs.Calling.{bound_func, bound_method, is_super};
 
 use amh_host::NoMemory;
@@ -9,15 +9,6 @@ use py_frames::call_leaf::vals_of;
 use py_frames::going::Going;
 use py_values::{Builtin, Code, Frozen, Func, FuncId, Heap, ObjId, Val};
 use std::alloc::Global;
-
-fn own_home(home: Option<Val>, c: Val) -> Option<Val>
-    ensures { result ≡ own_home home c }
-{
-    match home {
-        Some(h) => Some(h),
-        None => Some(c),
-    }
-}
 
 // Whether a function stands for itself: it was neither bound nor is it a builtin.
 fn is_plain_code(code: Code, this: Option<Val>) -> bool
@@ -47,8 +38,8 @@ pub fn is_init(name: &str) -> bool
 }
 
 // The method that a function of a class becomes.
-fn method_of(alloc: Global, f: &Func, this: Option<Val>, c: Val) -> Result<Func, NoMemory>
-    ensures { IfOk result (λ method. method ≡ method_of f.now this c) }
+fn method_of(alloc: Global, f: &Func, this: Option<Val>) -> Result<Func, NoMemory>
+    ensures { IfOk result (λ method. method ≡ method_of f.now this) }
 {
     let Ok(defaults) = vals_of(alloc, f.defaults.as_slice()) else {
         return Err(NoMemory);
@@ -56,7 +47,7 @@ fn method_of(alloc: Global, f: &Func, this: Option<Val>, c: Val) -> Result<Func,
     Ok(Func {
         code: f.code,
         this,
-        home: own_home(f.home, c),
+        home: f.home,
         defaults,
         scope: f.scope,
     })
@@ -69,9 +60,8 @@ fn method_func(
     alloc: Global,
     id: FuncId,
     this: Option<Val>,
-    c: Val,
 ) -> Result<Val, NoMemory>
-    ensures { IfOk result (λ m. bound_func (seen frozen.now heap.old) (func_at (seen frozen.now heap.old) id.0) (Val.Func id) this c ≡ Ok (m, heap.new)) }
+    ensures { IfOk result (λ m. bound_func (seen frozen.now heap.old) (func_at (seen frozen.now heap.old) id.0) (Val.Func id) this ≡ Ok (m, heap.new)) }
 {
     let Some(f) = heap.func(frozen, id) else {
         return Ok(Val::Func(id));
@@ -79,7 +69,7 @@ fn method_func(
     if !is_plain_code(f.code, f.this) {
         return Ok(Val::Func(id));
     }
-    let Ok(method) = method_of(alloc, f, this, c) else {
+    let Ok(method) = method_of(alloc, f, this) else {
         return Err(NoMemory);
     };
     match heap.function(frozen, method) {
@@ -95,12 +85,11 @@ pub fn method_val(
     alloc: Global,
     v: Val,
     this: Option<Val>,
-    c: Val,
 ) -> Result<Val, NoMemory>
-    ensures { IfOk result (λ m. bound_method (seen frozen.now heap.old) v this c ≡ Ok (m, heap.new)) }
+    ensures { IfOk result (λ m. bound_method (seen frozen.now heap.old) v this ≡ Ok (m, heap.new)) }
 {
     match v {
-        Val::Func(id) => method_func(heap, frozen, alloc, id, this, c),
+        Val::Func(id) => method_func(heap, frozen, alloc, id, this),
         _ => Ok(v),
     }
 }

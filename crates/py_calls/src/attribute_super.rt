@@ -90,13 +90,12 @@ fn found_above(
     ensures used { going.new.state.used ≡ going.old.state.used }
 {
     match found {
-        Inherited::Found(v, c) => from_class(
+        Inherited::Found(v, _) => from_class(
             going,
             functions,
             frozen,
             v,
             Some(this),
-            c,
             place,
             budget,
         ),

@@ -130,7 +130,7 @@ fn init_called(
     frozen: &Frozen,
     o: ObjId,
     v: Val,
-    c: Val,
+    _c: Val,
     args: Vals,
     keywords: NamedVals,
     place: Place,
@@ -138,12 +138,12 @@ fn init_called(
 ) -> Result<Now, Halt>
     requires room { going.old.state.used < budget }
     requires table { IsTable functions.now }
-    ensures moves { GoesOn functions.now frozen.now result going.old going.new budget (λ k. made_object k o (inherited.Found v c) args keywords place) }
+    ensures moves { GoesOn functions.now frozen.now result going.old going.new budget (λ k. made_object k o (inherited.Found v _c) args keywords place) }
     ensures left { OnOk result (going.new.state.used < budget) }
     ensures grows { going.old.state.used ≤ going.new.state.used }
 {
     let this = Some(Val::Object(o));
-    let Ok(method) = method_val(&mut going.state.heap, frozen, going.alloc, v, this, c) else {
+    let Ok(method) = method_val(&mut going.state.heap, frozen, going.alloc, v, this) else {
         return Err(Halt::NoMemory);
     };
     match going

@@ -129,7 +129,11 @@ fn super_made(
     ensures moves { GoesOn functions.now frozen.now result going.old going.new budget (λ k. super_called k None place) }
     ensures used { going.new.state.used ≡ going.old.state.used }
 {
-    let f = super_of(going.alloc, going.state.here.first, going.state.here.home);
+    let class = going
+        .state
+        .heap
+        .look_up(frozen, going.state.here.scope, "class");
+    let f = super_of(going, frozen, going.state.here.first, class);
     with_func(going, functions, frozen, f, place, budget)
 }
 

@@ -113,8 +113,8 @@ fn body_run(
     };
     let here = Here {
         scope,
-        home: f.home,
         first: first_of(args.as_slice()),
+        body: None,
         notes: NamedVals::new(going.alloc),
         room,
     };

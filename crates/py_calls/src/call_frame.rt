@@ -9,7 +9,7 @@ ghost use Rattle.py_frames.specs.Statements.{value_left, call_ended};
 ghost use Rattle.py_frames.specs.Call_frames.{call_goes, call_value_goes};
 ghost use Rattle.py_calls.specs.Awaiting.{is_async_in};
 ghost use Rattle.py_tree.specs.Programs.{steps_of};
-ghost use Rattle.py_frames.specs.Values.{called};
+ghost use Rattle.py_frames.specs.Values.{called, summed};
 ghost use Rattle.py_frames.specs.Tables.{IsTable};
 ghost use Rattle.py_frames.specs.Frames.{GoesOn, KeepsRoom};
 
@@ -20,6 +20,7 @@ use crate::call_bind::attributes_bound;
 use crate::call_enter::enter;
 use crate::call_gone::gone_over;
 use crate::call_kind::is_async_at;
+use crate::call_sum::summed;
 use crate::trail::goes_along;
 use crate::trail_slice::part_came;
 use amh_host::Place;
@@ -59,8 +60,8 @@ fn callee_place(going: &Going, frozen: &Frozen, place: Place, callee: &Val) -> P
     }
 }
 
-// Whether a value is an `async` function.
-fn is_async(going: &Going, functions: &Functions, frozen: &Frozen, v: &Val) -> bool
+/// Whether a value is an `async` function.
+pub fn is_async(going: &Going, functions: &Functions, frozen: &Frozen, v: &Val) -> bool
     requires { IsTable functions.now }
     ensures { result ≡ is_async_in (steps_of functions.now.program) (seen frozen.now going.now.state.heap) v.now }
 {
@@ -402,6 +403,9 @@ fn call_value_goes(
             place,
         } => gone_more(
             going, functions, frozen, builtin, count, done, rest, v, place, budget,
+        ),
+        CallFrame::Summing { row, next, place } => summed(
+            going, functions, frozen, v, row, next, place, budget,
         ),
         CallFrame::Initialised { object, place } => initialised(
             going, functions, frozen, v, object, place, budget,

@@ -4,13 +4,14 @@ ghost use Rattle.py_frames.specs.Values.{goes_over, gone_over};
 ghost use Rattle.py_calls.specs.Going_over.{first_gone, thing_gone, gone_by};
 ghost use Rattle.py_frames.specs.Frames.{GoesOn};
 
+use crate::call_sum::built_over;
 use amh_host::{NoMemory, Place};
 use py_frames::attribute_store::iterated;
 use py_frames::call_leaf::vals_of;
 use py_frames::frame::{CallFrame, Frame, Now};
 use py_frames::functions::Functions;
 use py_frames::going::Going;
-use py_frames::operators::{built, is_thing};
+use py_frames::operators::is_thing;
 use py_frames::state::Halt;
 use py_values::{Builtin, Frozen, Val, Vals};
 use std::alloc::Global;
@@ -114,7 +115,7 @@ fn gone_by(
     ensures grows { going.old.state.used ≤ going.new.state.used }
 {
     match gone {
-        Gone::Whole(vals) => built(going, functions, frozen, builtin, vals, place, budget),
+        Gone::Whole(vals) => built_over(going, functions, frozen, builtin, vals, place, budget),
         Gone::Thing { done, thing, rest } => thing_gone(
             going, functions, frozen, builtin, count, done, thing, rest, place, budget,
         ),

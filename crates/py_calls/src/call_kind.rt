@@ -3,15 +3,19 @@ ghost use Rattle.std.specs.Prelude.{◌≡◌, ◌++◌, ◌∷◌, IfOk};
 ghost use Rattle.py_frames.specs.declared.request.Act.TheVariants.{CallThing, InitBase};
 ghost use Rattle.py_frames.specs.Asking.{request};
 ghost use Rattle.py_tree.specs.Programs.{steps_of};
+ghost use Rattle.py_values.specs.Heaps.{seen};
+ghost use Rattle.py_frames.specs.Async.{is_async_body};
 ghost use Rattle.py_frames.specs.Functions.{function_at};
 ghost use Rattle.py_frames.specs.Tables.{IsTable};
-ghost use Rattle.py_frames.specs.Values.{named_vals, named_names, with_this, super_of, is_async_body};
+ghost use Rattle.py_frames.specs.Values.{named_vals, named_names, with_this, stands_over, is_instance, super_func, super_of};
 ghost use Rattle.py_calls.specs.Called.{kind_of, no_arguments, no_keywords, one_thing};
 
 use amh_host::{Names, NoMemory, Place};
+use crate::attribute_leaf::first_of_row;
 use py_frames::functions::Functions;
+use py_frames::going::Going;
 use py_frames::request::{Act, NamedVal, NamedVals, Request};
-use py_values::{Builtin, Code, Func, Hw, ObjId, Val, Vals};
+use py_values::{Builtin, Code, Frozen, Func, Hw, LookUp, ObjId, Val, Vals};
 use std::alloc::Global;
 
 /// How a builtin is called.
@@ -114,19 +118,60 @@ pub fn one_thing(args: &Vals) -> Option<Hw>
     thing_in(args.as_slice())
 }
 
-/// What `super()` gives.
-pub fn super_of(alloc: Global, first: Option<Val>, home: Option<Val>) -> Option<Func>
-    ensures { result ≡ super_of first home }
+// Whether a class is another, or stands over it with so many classes between them at most.
+#[tactic(auto, using(crate::proofs::SuperLaws::over_rules))]
+fn stands_over(going: &Going, frozen: &Frozen, v: Val, c: ObjId, turns: u64) -> bool
+    ensures { result ≡ stands_over turns (seen frozen.now going.now.state.heap) v c }
 {
-    match (first, home) {
-        (Some(this), Some(c)) => Some(Func {
-            code: Code::Builtin(Builtin::Super),
-            this: Some(this),
-            home: Some(c),
-            defaults: Vals::new(alloc),
-            scope: None,
-        }),
-        _ => None,
+    let mut at = v;
+    for _turn in 0..turns {
+        let Val::Class(d) = at else {
+            return false;
+        };
+        if d.0 == c.0 {
+            return true;
+        }
+        at = first_of_row(going, frozen, d);
+    }
+    false
+}
+
+// Whether an object is of a class.
+fn is_instance(going: &Going, frozen: &Frozen, o: ObjId, c: ObjId) -> bool
+    ensures { result ≡ is_instance (seen frozen.now going.now.state.heap) o c }
+{
+    let class = first_of_row(going, frozen, o);
+    stands_over(going, frozen, class, c, o.0 as u64 + 1)
+}
+
+fn super_func(alloc: Global, o: ObjId, c: ObjId) -> Func
+    ensures { result ≡ super_func o c }
+{
+    Func {
+        code: Code::Builtin(Builtin::Super),
+        this: Some(Val::Object(o)),
+        home: Some(Val::Class(c)),
+        defaults: Vals::new(alloc),
+        scope: None,
+    }
+}
+
+/// What `super()` gives: of the class in whose body the function was defined, and of the function's first argument.
+pub fn super_of(
+    going: &Going,
+    frozen: &Frozen,
+    first: Option<Val>,
+    class: LookUp,
+) -> Option<Func>
+    ensures { result ≡ super_of (seen frozen.now going.now.state.heap) first class }
+{
+    let (Some(Val::Object(o)), LookUp::Found(Val::Class(c))) = (first, class) else {
+        return None;
+    };
+    if is_instance(going, frozen, o, c) {
+        Some(super_func(going.alloc, o, c))
+    } else {
+        None
     }
 }
 

@@ -19,6 +19,7 @@ pub mod call_kind;
 pub mod call_meet;
 pub mod call_of;
 pub mod call_part;
+pub mod call_sum;
 pub mod trail;
 pub mod trail_augment;
 pub mod trail_slice;

@@ -23,9 +23,10 @@ use Rattle.py_frames.specs.declared.going.Going.{Going}
 use Rattle.py_frames.specs.Statements.{known}
 use Rattle.py_frames.specs.Doing.{World, Halts, Doing, Known, spend_each, stop, give, making, made, heap_seen, cause_of}
 use Rattle.py_frames.specs.Parts.{place_of}
-use Rattle.py_frames.specs.Values.{truth_of, by_truth, bind}
+use Rattle.py_frames.specs.Values.{truth_of, by_truth, bind, with_binding}
 use Rattle.py_frames.specs.Expressions.{value_of, text_literal, dict_made}
 use Rattle.py_frames.specs.Begun.{cost_of, value_after, Spends}
+use Rattle.py_frames.specs.Functions.{named_val}
 use Rattle.py_frames.specs.Told.{TellsTruth, Binds}
 use Rattle.py_frames.specs.Expr_parts.{tuple_made}
 use Rattle.py_frames.specs.Frames.{finish, Moves, stops_as, told, GoesOn}
@@ -131,17 +132,17 @@ text_told fns frozen given x heap place budget text h = making_told fns frozen g
 
 -- ---- names
 
-pub bind_goes : (fns : Functions) (frozen : Made) (r : Result Now Halt) (x z y : Going) (budget : ℕ) (u : Unit {0}) (name : List ℕ) (v : Val) (p : Place) (m : Known → Doing) → Binds (Ok u) (scope_bound (seen frozen x.state.heap) x.state.here.scope.0 name v) p x z → GoesOn fns frozen r z y budget m → GoesOn fns frozen r x y budget (λ k. bind k name v p (m k))
+pub bind_goes : (fns : Functions) (frozen : Made) (r : Result Now Halt) (x z y : Going) (budget : ℕ) (u : Unit {0}) (name : List ℕ) (v : Val) (p : Place) (m : Known → Doing) → Binds (Ok u) (scope_bound (seen frozen x.state.heap) x.state.here.scope.0 name v) (named_val name v) p x z → GoesOn fns frozen r z y budget m → GoesOn fns frozen r x y budget (λ k. bind k name v p (m k))
 unfolding GoesOn
 bind_goes fns frozen r x z y budget u name v p m e h =
     let P : Going → Type 0 = λ g. GoesOn fns frozen r g y budget m in
-    let Q : Result (Unit {0} × Made) ValueStop → Type 0 = λ o. Moves (steps_of fns.program) frozen r y.frames y.state budget (λ w. finish (steps_of fns.program) frozen x.state.here.room x.frames w (made o p (λ _ w2 s2. m (known (steps_of fns.program) frozen x.state.here.room) w2 (record s2 { bound = s2.bound + 1 })) w x.state)) in
+    let Q : Result (Unit {0} × Made) ValueStop → Type 0 = λ o. Moves (steps_of fns.program) frozen r y.frames y.state budget (λ w. finish (steps_of fns.program) frozen x.state.here.room x.frames w (made o p (λ _ w2 s2. m (known (steps_of fns.program) frozen x.state.here.room) w2 (record s2 { bound = s2.bound + 1; here = with_binding (named_val name v) s2.here })) w x.state)) in
     subst Q (sym e.0) (subst P e.1 h)
 
-pub bind_stops : (fns : Functions) (frozen : Made) (h : Halt) (x z : Going) (budget : ℕ) (name : List ℕ) (v : Val) (p : Place) (m : Known → Doing) → Binds (Err h) (scope_bound (seen frozen x.state.heap) x.state.here.scope.0 name v) p x z → GoesOn fns frozen (Err h) x z budget (λ k. bind k name v p (m k))
+pub bind_stops : (fns : Functions) (frozen : Made) (h : Halt) (x z : Going) (budget : ℕ) (name : List ℕ) (v : Val) (p : Place) (m : Known → Doing) → Binds (Err h) (scope_bound (seen frozen x.state.heap) x.state.here.scope.0 name v) (named_val name v) p x z → GoesOn fns frozen (Err h) x z budget (λ k. bind k name v p (m k))
 unfolding GoesOn
 bind_stops fns frozen (Stopped stop) x z budget name v p m e = λ w q.
-    ap (λ (o : Result (Unit {0} × Made) ValueStop). stops_as (finish (steps_of fns.program) frozen x.state.here.room x.frames w (made o p (λ _ w2 s2. m (known (steps_of fns.program) frozen x.state.here.room) w2 (record s2 { bound = s2.bound + 1 })) w x.state))) e.1
+    ap (λ (o : Result (Unit {0} × Made) ValueStop). stops_as (finish (steps_of fns.program) frozen x.state.here.room x.frames w (made o p (λ _ w2 s2. m (known (steps_of fns.program) frozen x.state.here.room) w2 (record s2 { bound = s2.bound + 1; here = with_binding (named_val name v) s2.here })) w x.state))) e.1
     ∙ (stops_as-finish (steps_of fns.program) frozen x.state.here.room x.frames w (record { cause = cause_of e.0; place = p }) x.state
     ∙ (ap (λ (h : Stop). Some (h, x.state.used)) (sym e.2) ∙ ap (λ (n : ℕ). Some (stop, n)) (sym e.3)))
 bind_stops fns frozen (Asks r) x z budget name v p m e = absurd e

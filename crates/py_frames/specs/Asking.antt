@@ -17,6 +17,7 @@ use Rattle.py_frames.specs.declared.request.Answer.TheVariants as answer
 use Rattle.py_frames.specs.declared.request.Cause.TheVariants as cause
 use Rattle.py_frames.specs.declared.state.Halt.TheVariants as halt
 use Rattle.py_frames.specs.declared.state.Got.TheVariants.{Bound, Through}
+use Rattle.py_frames.specs.Async.{is_async}
 use Rattle.py_frames.specs.Doing.{Halts, Doing, Known, heap_seen, ◌>>=◌, came, give, stop, choose, making}
 
 abbrev pub request : Act → List Val → List (List ℕ) → Place → Request
@@ -76,6 +77,15 @@ callee_place s place _ = place
 abbrev pub returned : Seen → Place → Val → Val → Request
 returned s place callee v = request Returned (v ∷ []) [] (callee_place s place callee)
 
+-- A function that an answer calls is called as one of the program, so an `async` one is refused. Then its end is told.
+abbrev pub function_called : Known → (Request → Doing) → Request → Val → List Val → Doing
+function_called k again r callee args = λ w s.
+    choose (is_async k (heap_seen k s) callee) (stop cause.Raised r.place)
+    (do
+      v ← k.call callee args [] r.place
+      λ w s. again (returned (heap_seen k s) r.place callee v) w s)
+    w s
+
 -- ---- answers
 
 -- An answer is taken. `again` asks for the end of a function that it began.
@@ -85,9 +95,7 @@ answered k again act r (answer.Give v) = if_taken (takes_value act) r.place (giv
 answered k again act r (answer.GiveText text) = if_taken (takes_text act) r.place (making (λ s. new_text (heap_seen k s) text) r.place give)
 answered k again act r (answer.GiveList vals) = if_taken (takes_list act) r.place (making (λ s. new_tuple (heap_seen k s) vals) r.place give)
 answered k again act r (answer.Bind names) = if_taken (takes_names act) r.place (came (Bound names))
-answered k again act r (answer.Call callee args) = if_taken (takes_call act) r.place (do
-  v ← k.call callee args [] r.place
-  λ w s. again (returned (heap_seen k s) r.place callee v) w s)
+answered k again act r (answer.Call callee args) = if_taken (takes_call act) r.place (function_called k again r callee args)
 answered k again act r (answer.Through v) = if_taken (takes_through act) r.place (came (Through v))
 answered k again act r (answer.Refuse why) = stop why r.place
 

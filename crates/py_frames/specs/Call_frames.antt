@@ -1,6 +1,6 @@
 -- How the frames of calls, and of what trails a primary, go on.
 -- Internal: no rule of the language.
-use Rattle.std.specs.Prelude.{ℕ, zero, suc, List, [], ◌∷◌, ◌++◌, length}
+use Rattle.std.specs.Prelude.{ℕ, zero, suc, List, [], ◌∷◌, ◌++◌, length, drop}
 use Rattle.amh_host.specs.declared.place.Place.{Place}
 use Rattle.py_tree.specs.Seen.{tree}
 use Rattle.py_tree.specs.Programs.{step_of}
@@ -18,7 +18,7 @@ use Rattle.py_frames.specs.Doing.{Doing, Known, heap_seen, ◌>>=◌, on_value, 
 use Rattle.py_frames.specs.Asking.{asked, returned}
 use Rattle.py_frames.specs.Functions.{named_val}
 use Rattle.py_frames.specs.Parts.{operator_of, place_of, trailers_from, arguments_from}
-use Rattle.py_frames.specs.Values.{indexed, sliced, gone_over, on_through, attribute_in_rounds, initialised, attributes_bound, on_names, as_row}
+use Rattle.py_frames.specs.Values.{indexed, sliced, gone_over, summed, on_through, attribute_in_rounds, initialised, attributes_bound, on_names, as_row}
 use Rattle.py_frames.specs.Expressions.{perhaps_value, trailed, stored, reached, call_for, once_named, arguments_then, with_elements, awaited}
 use Rattle.py_frames.specs.Statements.{augment_along, call_ended}
 
@@ -96,6 +96,7 @@ call_value_goes k (call.Indexed x p) v = indexed k x v p
 call_value_goes k (call.Sliced node j x parts) v = parts_then k x (parts ++ v ∷ []) (perhaps_from (suc (length parts)) (slice_parts (trailers_from j (trailers_of (tree node))))) (place_of (tree node))
 call_value_goes k (call.Awaited p) v = awaited k v p
 call_value_goes k (call.GoneOver b n done rest p) v = gone_over k b n (done ++ v ∷ []) rest p
+call_value_goes k (call.Summing row n p) v = summed k v (drop n row) p
 call_value_goes k (call.Initialised o p) v = initialised v o p
 call_value_goes k (call.Answering act p callee n) v = λ w s. asked n k act (returned (heap_seen k s) p callee v) w s
 call_value_goes k (call.AttributeTold name p n) v = give v

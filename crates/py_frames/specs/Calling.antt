@@ -27,13 +27,13 @@ told_attribute n k name place y =
     then_do (ask k (request Attribute (y ∷ []) (name ∷ []) place)) (λ got. on_through got (λ v. attribute_in_rounds n k v name place))
 
 -- the method that a function of a class becomes, and the heap with it
-abbrev pub bound_func : Seen → Option Func → Val → Option Val → Val → Result (Val × Made) ValueStop
-bound_func s None v this c = Ok (v, s.own)
-bound_func s (Some f) v this c = if is_plain_code f.code f.this then new_func s (method_of f this c) else Ok (v, s.own)
+abbrev pub bound_func : Seen → Option Func → Val → Option Val → Result (Val × Made) ValueStop
+bound_func s None v this = Ok (v, s.own)
+bound_func s (Some f) v this = if is_plain_code f.code f.this then new_func s (method_of f this) else Ok (v, s.own)
 
-abbrev pub bound_method : Seen → Val → Option Val → Val → Result (Val × Made) ValueStop
-bound_method s (val.Func f) this c = bound_func s (func_at s f.0) (val.Func f) this c
-bound_method s v this c = Ok (v, s.own)
+abbrev pub bound_method : Seen → Val → Option Val → Result (Val × Made) ValueStop
+bound_method s (val.Func f) this = bound_func s (func_at s f.0) (val.Func f) this
+bound_method s v this = Ok (v, s.own)
 
 -- whether `super()` gave a function
 abbrev pub is_super : Code → Bool

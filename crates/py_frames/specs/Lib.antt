@@ -1,6 +1,7 @@
 pub mod Doing
 pub mod Own
 pub mod Functions
+pub mod Async
 pub mod Tables
 pub mod Times
 pub mod Parts

@@ -1,12 +1,13 @@
 -- What statements mean, and what a call of a function does.
 -- Source: Python reference 7, Simple statements, and 8, Compound statements; units and requests: own rules (docs/RULES.md).
-use Rattle.std.specs.Prelude.{ℕ, zero, suc, ◌+◌, ◌==◌, ◌&&◌, ◌||◌, not, Bool, true, false, List, [], ◌∷◌, ◌++◌, map, length, Option, Some, None, codes}
+use Rattle.std.specs.Prelude.{ℕ, zero, suc, ◌+◌, ◌==◌, ◌&&◌, ◌||◌, not, Bool, true, false, List, [], ◌∷◌, ◌++◌, map, length, Option, Some, None, Result, Ok, Err, codes}
 use Rattle.amh_host.specs.declared.place.Place.{Place}
 use Rattle.py_tree.specs.Tree.{Tree, Name, Trailed, Trees, none, some, Perhaps, absent, present, Trailers, no_trailer, trailer, Trailer, Attribute, Call, CallOf, Index, Slice}
 use Rattle.py_tree.specs.Steps.{Step, Pass, Break, Continue, Return, Assert, Raise, ImportAll, Import, Assign, Annotate, Augment, Evaluate, If, While, For, With, Def, Class, Steps, last, next, Branches, no_branch, branch, Otherwise, nothing_else, otherwise, Body, Fun, Import_name, Parameter, Named, Star, Bases, no_bases, bases}
 use Rattle.py_values.specs.declared.val.Val.{Val}
 use Rattle.py_values.specs.declared.val.Val.TheVariants as val
 use Rattle.py_values.specs.declared.val.ScopeId.{ScopeId}
+use Rattle.py_values.specs.declared.val.ValueStop.{ValueStop}
 use Rattle.py_values.specs.declared.op.PyOp.{PyOp}
 use Rattle.py_values.specs.declared.op.PyOp.TheVariants as op
 use Rattle.py_values.specs.declared.op.Builtin.TheVariants as builtins
@@ -18,13 +19,14 @@ use Rattle.py_values.specs.declared.objects.Inherited.{Inherited}
 use Rattle.py_values.specs.declared.objects.Inherited.TheVariants as inherited
 use Rattle.py_values.specs.Heaps.{Made, Seen, seen, row_at, func_at}
 use Rattle.py_values.specs.Bindings.{Binding}
-use Rattle.py_values.specs.Names.{new_func, new_scope, bindings_at, scope_at}
+use Rattle.py_values.specs.Names.{new_func, new_scope, bindings_at, scope_at, scope_bound}
 use Rattle.py_values.specs.Objects.{inherited as inherits, new_class}
 use Rattle.py_values.specs.Elements.{element}
 use Rattle.py_frames.specs.declared.request.Act.TheVariants as act
 use Rattle.py_frames.specs.declared.request.NamedVal.{NamedVal}
 use Rattle.py_frames.specs.declared.request.Cause.TheVariants.{Raised, Limit, Spent, Assert as Assertion}
 use Rattle.py_frames.specs.declared.state.Here.{Here}
+use Rattle.py_frames.specs.declared.state.ClassBody.{ClassBody}
 use Rattle.py_frames.specs.declared.state.Got.{Got}
 use Rattle.py_frames.specs.declared.state.Got.TheVariants.{Value, Bound, Through, Next, Broke, Continued, Returned}
 use Rattle.py_frames.specs.declared.frame.Purpose.{Purpose}
@@ -34,7 +36,7 @@ use Rattle.py_frames.specs.Asking.{request, ask, most}
 use Rattle.py_frames.specs.Own.{steps_names, function_names, imported_as}
 use Rattle.py_frames.specs.Functions.{function_at, parameters_met, named_val}
 use Rattle.py_frames.specs.Parts.{operator_of, place_of, trailer_count}
-use Rattle.py_frames.specs.Values.{bind, bind_all, read, truth_of, is_thing, operated, built, attribute, store_attribute, indexed, store_index, as_row, on_names, named_vals, with_this, sign_of}
+use Rattle.py_frames.specs.Values.{class_word, bind, bind_all, read, truth_of, is_thing, operated, built, attribute, store_attribute, indexed, store_index, as_row, on_names, named_vals, with_this, sign_of}
 use Rattle.py_frames.specs.Expressions.{value_of, perhaps_value, arguments_then, assign, trailed_one, list_of, on_element, if_row, seen_from, where_last, reach}
 
 -- ---- imports
@@ -273,10 +275,31 @@ abbrev pub as_base : Val → Option Val
 as_base val.None = None
 as_base v = Some v
 
+abbrev pub kept_bindings : Option ClassBody → List NamedVal
+kept_bindings None = []
+kept_bindings (Some b) = b.bindings
+
+-- a class stands in the scope round its body, where the functions that the body defined find it
+abbrev pub known_as : Val → Result (Unit {0} × Made) ValueStop → Result (Val × Made) ValueStop
+known_as c (Ok x) = Ok (c, x.1)
+known_as c (Err e) = Err e
+
+abbrev pub class_known : Seen → Option ScopeId → Val → Result (Val × Made) ValueStop
+class_known s None c = Ok (c, s.own)
+class_known s (Some round) c = known_as c (scope_bound s round.0 class_word c)
+
+abbrev pub made_known : Seen → Option ScopeId → Result (Val × Made) ValueStop → Result (Val × Made) ValueStop
+made_known s round (Ok x) = class_known (record s { own = x.1 }) round x.0
+made_known s round (Err e) = Err e
+
+-- the class of what a scope binds, known to those functions
+abbrev pub known_class : Seen → Option Val → ScopeId → Result (Val × Made) ValueStop
+known_class s base scope = made_known s (seen_from s scope) (new_class s base scope.0)
+
 abbrev pub class_made : Known → Here → Val → List ℕ → List NamedVal → Place → Doing
 class_made k outer base name keywords p = λ w s.
-    making (λ t. new_class (heap_seen k t) (as_base base) s.here.scope.0) p
-    (λ c. class_bound k (over_thing (heap_seen k s) base) c base name keywords s.here.notes (bound_names (bindings_at (heap_seen k s) s.here.scope.0)) p)
+    making (λ t. known_class (heap_seen k t) (as_base base) s.here.scope) p
+    (λ c. class_bound k (over_thing (heap_seen k s) base) c base name keywords s.here.notes (kept_bindings s.here.body) p)
     w (record s { here = outer })
 
 -- what a class body leaves
@@ -286,12 +309,18 @@ class_ended k outer base name keywords p got = λ w s. came got w (record s { he
 
 -- where a class body stands
 abbrev pub class_here : Here → ScopeId → Here
-class_here outer scope = record { scope = scope; home = None; first = None; notes = []; room = outer.room }
+class_here outer scope = record { scope = scope; first = None; body = Some (record { scope = scope; bindings = [] }); notes = []; room = outer.room }
 
-abbrev pub class_body : Known → Val → List ℕ → List NamedVal → List (List ℕ) → Doing → Place → Doing
-class_body k base name keywords own body p = λ w s.
-    making (λ t. new_scope (heap_seen k t) (seen_from (heap_seen k t) t.here.scope) true own) p
+abbrev pub class_within : Known → ScopeId → Val → List ℕ → List NamedVal → List (List ℕ) → Doing → Place → Doing
+class_within k round base name keywords own body p = λ w s.
+    making (λ t. new_scope (heap_seen k t) (Some round) true own) p
     (λ scope w2 t. then_do body (class_ended k s.here base name keywords p) w2 (record t { here = class_here s.here scope })) w s
+
+-- round the scope of the body stands one for the class alone
+abbrev pub class_body : Known → Val → List ℕ → List NamedVal → List (List ℕ) → Doing → Place → Doing
+class_body k base name keywords own body p =
+    making (λ s. new_scope (heap_seen k s) (seen_from (heap_seen k s) s.here.scope) false (class_word ∷ [])) p
+    (λ round. class_within k round base name keywords own body p)
 
 abbrev pub class_begun : Known → Option Val → List ℕ → List NamedVal → List (List ℕ) → Doing → Place → Doing
 class_begun k None name keywords own body p = stop Raised p
@@ -409,7 +438,7 @@ first_of (v ∷ vs) = Some v
 
 -- where a function's body stands; so many calls may still stand in it
 abbrev pub function_here : ℕ → Func → List Val → ScopeId → Here
-function_here room f args scope = record { scope = scope; home = f.home; first = first_of args; notes = []; room = room }
+function_here room f args scope = record { scope = scope; first = first_of args; body = None; notes = []; room = room }
 
 -- a function's body runs in a new scope, where its parameters are bound
 abbrev pub body_run : Known → ℕ → Func → List Val → List NamedVal → Body → Place → Doing

@@ -18,7 +18,9 @@ use Rattle.py_frames.specs.declared.leaf.Choosing.{Choosing}
 use Rattle.py_frames.specs.declared.leaf.PartAt.{PartAt}
 use Rattle.py_frames.specs.declared.leaf.PartAt.TheVariants.{Part, Past}
 use Rattle.py_frames.specs.declared.leaf.PartAt.TheVariants as no
+use Rattle.py_frames.specs.declared.request.NamedVal.{NamedVal}
 use Rattle.py_frames.specs.Doing.{cause_of}
+use Rattle.py_frames.specs.Values.{with_binding}
 
 -- a part of a node, where it has so many
 abbrev pub FoundTree : PartAt Expr → Option Tree → Type 0
@@ -46,12 +48,13 @@ abbrev pub TellsTruth : Result Bool Halt → Option Bool → Place → Type 0
 TellsTruth (Ok b) owed place = owed ≡ Some b
 TellsTruth (Err h) owed place = (owed ≡ None) × (h ≡ Stopped (record { cause = Raised; place = place }))
 
--- A name that is bound: the heap is what it is owed to be, and the count is one more. A stop changes nothing that is
+-- A name that is bound: the heap is what it is owed to be, the count is one more, and a class body keeps it. A stop changes nothing that is
 -- told of.
-abbrev pub Binds : Result (Unit {0}) Halt → Result (Unit {0} × Made) ValueStop → Place → Going → Going → Type 0
-Binds (Ok u) owed place before behind =
-    (owed ≡ Ok (tt, behind.state.heap)) × (behind ≡ record before { state = record before.state { heap = behind.state.heap; bound = before.state.bound + 1 } })
-Binds (Err (Stopped stop)) owed place before behind =
+abbrev pub Binds : Result (Unit {0}) Halt → Result (Unit {0} × Made) ValueStop → NamedVal → Place → Going → Going → Type 0
+Binds (Ok u) owed x place before behind =
+    (owed ≡ Ok (tt, behind.state.heap))
+    × (behind ≡ record before { state = record before.state { heap = behind.state.heap; bound = before.state.bound + 1; here = with_binding x before.state.here } })
+Binds (Err (Stopped stop)) owed x place before behind =
     (e : ValueStop) × (owed ≡ Err e) × (stop ≡ record { cause = cause_of e; place = place }) × (behind.state.used ≡ before.state.used)
-Binds (Err (Asks r)) owed place before behind = ⊥
-Binds (Err NoMemory) owed place before behind = ⊤
+Binds (Err (Asks r)) owed x place before behind = ⊥
+Binds (Err NoMemory) owed x place before behind = ⊤

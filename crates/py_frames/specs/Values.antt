@@ -1,14 +1,17 @@
 -- What is done with values, once they are there: operators, truth, indices, attributes and calls.
--- Source: Python reference 6.3, Primaries, 6.4, 3.2 (methods), 3.3.1 (__init__); requests for things: own rule (docs/RULES.md).
-use Rattle.std.specs.Prelude.{ℕ, zero, suc, ◌+◌, ◌==◌, ◌&&◌, ◌||◌, Bool, true, false, if◌then◌else◌, List, [], ◌∷◌, ◌++◌, map, length, Option, Some, None, codes}
+-- Source: Python reference 6.3, Primaries, 6.4, 3.2 (methods), 3.3.1 (__init__), 3.3.3.6 (the class cell that `super()` reads), library reference, Built-in
+-- Functions (sum, super); requests for things: own rule (docs/RULES.md).
+use Rattle.std.specs.Prelude.{ℕ, zero, suc, ◌+◌, ◌==◌, ◌&&◌, ◌||◌, Bool, true, false, if◌then◌else◌, List, [], ◌∷◌, ◌++◌, map, length, pos, Option, Some, None, option_map, Result, Ok, Err, codes}
+use Rattle.std.specs.List.{list_any}
 use Rattle.lists.specs.Texts.{text_eq}
 use Rattle.amh_host.specs.declared.place.Place.{Place}
-use Rattle.py_tree.specs.Steps.{Body, Fun}
 use Rattle.py_values.specs.declared.val.Val.{Val}
 use Rattle.py_values.specs.declared.val.Val.TheVariants as val
 use Rattle.py_values.specs.declared.val.Hw.{Hw}
 use Rattle.py_values.specs.declared.val.ObjId.{ObjId}
 use Rattle.py_values.specs.declared.val.FuncId.{FuncId}
+use Rattle.py_values.specs.declared.val.ScopeId.{ScopeId}
+use Rattle.py_values.specs.declared.val.ValueStop.{ValueStop}
 use Rattle.py_values.specs.declared.op.PyOp.{PyOp}
 use Rattle.py_values.specs.declared.op.PyOp.TheVariants as op
 use Rattle.py_values.specs.declared.op.Builtin.{Builtin}
@@ -25,22 +28,35 @@ use Rattle.py_values.specs.Runs.{free}
 use Rattle.py_values.specs.Truths.{truth}
 use Rattle.py_values.specs.Operators.{operate}
 use Rattle.py_values.specs.Builtins.{builtin}
+use Rattle.py_values.specs.Elements.{elements}
 use Rattle.py_values.specs.Names.{new_func, look_up, scope_bound}
 use Rattle.py_values.specs.Objects.{attributes, attribute_in, inherited as inherits, new_object, attribute_set}
 use Rattle.py_frames.specs.declared.request.Act.TheVariants.{Attribute, SetAttribute, CallThing, Index, SetIndex, Operator, Length, Iterate, InitBase}
 use Rattle.py_frames.specs.declared.request.NamedVal.{NamedVal}
 use Rattle.py_frames.specs.declared.request.Cause.TheVariants.{Raised, Spent}
+use Rattle.py_frames.specs.declared.state.Here.{Here}
+use Rattle.py_frames.specs.declared.state.ClassBody.{ClassBody}
 use Rattle.py_frames.specs.declared.state.Got.{Got}
 use Rattle.py_frames.specs.declared.state.Got.TheVariants.{Bound, Through, Next}
-use Rattle.py_frames.specs.Doing.{Doing, Known, heap_seen, ◌>>=◌, on_value, came, give, stop, choose, with_value, making, made, charging, then_do}
+use Rattle.py_frames.specs.Doing.{Doing, Known, heap_seen, ◌>>=◌, on_value, came, give, stop, choose, with_value, cause_of, making, made, charging, then_do}
 use Rattle.py_frames.specs.Asking.{request, ask, most}
-use Rattle.py_frames.specs.Functions.{function_at}
+use Rattle.py_frames.specs.Async.{is_async_code}
+use Rattle.py_frames.specs.Functions.{named_val}
 
 -- ---- names
 
+-- A class body keeps what it binds, each binding in its order, also of a name that it bound before. What a comprehension in it binds is
+-- its own: that has another scope.
+abbrev pub kept_in : ScopeId → NamedVal → ClassBody → ClassBody
+kept_in scope x b = if b.scope.0 == scope.0 then record b { bindings = b.bindings ++ x ∷ [] } else b
+
+abbrev pub with_binding : NamedVal → Here → Here
+with_binding x here = record here { body = option_map (kept_in here.scope x) here.body }
+
 -- binds a name where the evaluation stands
 abbrev pub bind : Known → List ℕ → Val → Place → Doing → Doing
-bind k name v place m = λ w s. made (scope_bound (heap_seen k s) s.here.scope.0 name v) place (λ _ w2 s2. m w2 (record s2 { bound = s2.bound + 1 })) w s
+bind k name v place m = λ w s. made (scope_bound (heap_seen k s) s.here.scope.0 name v) place
+    (λ _ w2 s2. m w2 (record s2 { bound = s2.bound + 1; here = with_binding (named_val name v) s2.here })) w s
 
 abbrev pub bind_all : Known → List NamedVal → Place → Doing → Doing
 bind_all k [] place m = m
@@ -163,9 +179,44 @@ goes_over b n i = false
 abbrev pub iterated : Known → Val → Place → Doing
 iterated k v place = ask k (request Iterate (v ∷ []) [] place)
 
+-- additions from the left, each as the operator asks for it
+abbrev pub summed : Known → Val → List Val → Place → Doing
+summed k total [] place = give total
+summed k total (x ∷ xs) place = do
+  t ← operated k op.Add total x place
+  summed k t xs place
+
+-- things among the elements that `sum` goes over, or what it begins with
+abbrev pub any_thing : Result (List Val) ValueStop → Bool
+any_thing (Ok vs) = list_any is_thing vs
+any_thing (Err e) = false
+
+abbrev pub adds_things : Seen → List Val → Bool
+adds_things s (row ∷ []) = any_thing (elements s row)
+adds_things s (row ∷ start ∷ []) = is_thing start || any_thing (elements s row)
+adds_things s vals = false
+
+-- what `sum` begins with
+abbrev pub sum_start : List Val → Val
+sum_start (start ∷ []) = start
+sum_start vals = val.Int (pos 0)
+
+abbrev pub sum_over : Known → Result (List Val) ValueStop → Val → Place → Doing
+sum_over k (Ok vs) start place = summed k start vs place
+sum_over k (Err e) start place = stop (cause_of e) place
+
+abbrev pub sum_asked : Known → List Val → Place → Doing
+sum_asked k (row ∷ more) place = λ w s. sum_over k (elements (heap_seen k s) row) (sum_start more) place w s
+sum_asked k [] place = stop Raised place
+
+-- a builtin whose arguments are rows: `sum` asks for its additions where there are things among what it adds
+abbrev pub built_over : Known → Builtin → List Val → Place → Doing
+built_over k builtins.Sum vals place = λ w s. choose (adds_things (heap_seen k s) vals) (sum_asked k vals place) (built k builtins.Sum vals place) w s
+built_over k b vals place = built k b vals place
+
 -- the things that are gone over become tuples of their elements, and then the builtin goes on
 abbrev pub gone_over : Known → Builtin → (n : ℕ) → List Val → List Val → Place → Doing
-gone_over k b n done [] place = built k b done place
+gone_over k b n done [] place = built_over k b done place
 gone_over k b n done (v ∷ vs) place = choose (is_thing v && goes_over b n (length done))
     (do
       t ← iterated k v place
@@ -174,28 +225,24 @@ gone_over k b n done (v ∷ vs) place = choose (is_thing v && goes_over b n (len
 
 -- ---- attributes
 
-abbrev pub own_home : Option Val → Val → Option Val
-own_home None c = Some c
-own_home (Some h) c = Some h
-
--- a function that is read from a class knows the class, and is bound to the object that it is read through
-abbrev pub method_of : Func → Option Val → Val → Func
-method_of f this c = record f { this = this; home = own_home f.home c }
+-- a function that is read from a class is bound to the object that it is read through
+abbrev pub method_of : Func → Option Val → Func
+method_of f this = record f { this = this }
 
 abbrev pub is_plain_code : Code → Option Val → Bool
 is_plain_code (code.Def p) None = true
 is_plain_code (code.Def p) (Some v) = false
 is_plain_code (code.Builtin b) this = false
 
-abbrev pub as_method : Known → Option Func → Val → Option Val → Val → Place → Doing
-as_method k None v this c place = give v
-as_method k (Some f) v this c place =
-    choose (is_plain_code f.code f.this) (making (λ s. new_func (heap_seen k s) (method_of f this c)) place give) (give v)
+abbrev pub as_method : Known → Option Func → Val → Option Val → Place → Doing
+as_method k None v this place = give v
+as_method k (Some f) v this place =
+    choose (is_plain_code f.code f.this) (making (λ s. new_func (heap_seen k s) (method_of f this)) place give) (give v)
 
 -- a value that was found in a class
-abbrev pub from_class : Known → Val → Option Val → Val → Place → Doing
-from_class k (val.Func f) this c place = λ w s. as_method k (func_at (heap_seen k s) f.0) (val.Func f) this c place w s
-from_class k v this c place = give v
+abbrev pub from_class : Known → Val → Option Val → Place → Doing
+from_class k (val.Func f) this place = λ w s. as_method k (func_at (heap_seen k s) f.0) (val.Func f) this place w s
+from_class k v this place = give v
 
 abbrev pub bound_builtin : Builtin → Val → Func
 bound_builtin b this = record { code = code.Builtin b; this = Some this; home = None; defaults = []; scope = None }
@@ -239,7 +286,7 @@ abbrev pub super_nothing : Known → Val → List ℕ → Place → Doing
 super_nothing k this name place = choose (is_init name) (builtin_method k (Some builtins.InitNothing) this place) (stop Raised place)
 
 abbrev pub found_above : Known → (Val → Doing) → Val → List ℕ → Place → Inherited → Doing
-found_above k ask_for this name place (inherited.Found v c) = from_class k v (Some this) c place
+found_above k ask_for this name place (inherited.Found v c) = from_class k v (Some this) place
 found_above k ask_for this name place (inherited.Thing h) = super_thing k ask_for this name place
 found_above k ask_for this name place inherited.Nowhere = super_nothing k this name place
 
@@ -267,7 +314,7 @@ of_func k ask_for None name place = stop Raised place
 of_func k ask_for (Some f) name place = func_attribute k ask_for f.code f name place
 
 abbrev pub found_in : Known → (Val → Doing) → Val → Option Val → Place → Inherited → Doing
-found_in k ask_for x this place (inherited.Found v c) = from_class k v this c place
+found_in k ask_for x this place (inherited.Found v c) = from_class k v this place
 found_in k ask_for x this place (inherited.Thing h) = ask_for x
 found_in k ask_for x this place inherited.Nowhere = stop Raised place
 
@@ -353,17 +400,35 @@ abbrev pub without_arguments : List Val → List NamedVal → Place → Doing �
 without_arguments [] [] place m = m
 without_arguments args keywords place m = stop Raised place
 
--- what `super()` gives: the class whose method runs, and its object
-abbrev pub super_of : Option Val → Option Val → Option Func
-super_of (Some this) (Some c) = Some (record { code = code.Builtin builtins.Super; this = Some this; home = Some c; defaults = []; scope = None })
-super_of this home = None
+-- Functions that are defined in the body of a class find the class in a scope round that body, under a word of the language, which no
+-- program binds or reads.
+abbrev pub class_word : List ℕ
+class_word = codes "class"
+
+-- whether a class is another, or stands over it with so many classes between them at most
+unfoldable pub stands_over : ℕ → Seen → Val → ObjId → Bool
+stands_over zero s v c = false
+stands_over (suc n) s (val.Class d) c = (d.0 == c.0) || stands_over n s (head_of (row_at s d.0)) c
+stands_over (suc n) s v c = false
+
+-- whether an object is of a class, by its own class or a base of that: a base was made before its class
+abbrev pub is_instance : Seen → ObjId → ObjId → Bool
+is_instance s o c = stands_over (o.0 + 1) s (head_of (row_at s o.0)) c
+
+abbrev pub super_func : ObjId → ObjId → Func
+super_func o c = record { code = code.Builtin builtins.Super; this = Some (val.Object o); home = Some (val.Class c); defaults = []; scope = None }
+
+-- what `super()` gives: the class in whose body the function was defined, and the function's first argument, which is an object of it
+abbrev pub super_of : Seen → Option Val → LookUp → Option Func
+super_of s (Some (val.Object o)) (lookup.Found (val.Class c)) = if is_instance s o c then Some (super_func o c) else None
+super_of s first found = None
 
 abbrev pub with_func : Known → Option Func → Place → Doing
 with_func k None place = stop Raised place
 with_func k (Some f) place = making (λ s. new_func (heap_seen k s) f) place give
 
 abbrev pub super_called : Known → Option Val → Place → Doing
-super_called k None place = λ w s. with_func k (super_of s.here.first s.here.home) place w s
+super_called k None place = λ w s. with_func k (super_of (heap_seen k s) s.here.first (look_up (heap_seen k s) s.here.scope.0 class_word)) place w s
 super_called k (Some this) place = stop Raised place
 
 abbrev pub with_this : Option Val → List Val → List Val
@@ -397,22 +462,6 @@ builtin_called k builtins.Print this args keywords place = give val.None
 builtin_called k b this args keywords place = without_keywords keywords place (plain_called k b (with_this this args) place)
 
 -- an `async` function is called under `await` alone
-abbrev pub is_async_body : Option Body → Bool
-is_async_body None = false
-is_async_body (Some (Fun p name is_async params result body)) = is_async
-
-abbrev pub is_async_code : Known → Code → Bool
-is_async_code k (code.Def p) = is_async_body (function_at p k.program)
-is_async_code k (code.Builtin b) = false
-
-abbrev pub is_async_func : Known → Option Func → Bool
-is_async_func k None = false
-is_async_func k (Some f) = is_async_code k f.code
-
-abbrev pub is_async : Known → Seen → Val → Bool
-is_async k s (val.Func f) = is_async_func k (func_at s f.0)
-is_async k s _ = false
-
 abbrev pub code_called : Known → Code → FuncId → Func → List Val → List NamedVal → Place → Doing
 code_called k (code.Def p) id f args keywords place = choose (is_async_code k (code.Def p)) (stop Raised place) (k.call (val.Func id) args keywords place)
 code_called k (code.Builtin b) id f args keywords place = builtin_called k b f.this args keywords place
@@ -437,7 +486,7 @@ method_called k v args keywords place = stop Raised place
 
 abbrev pub made_object : Known → ObjId → Inherited → List Val → List NamedVal → Place → Doing
 made_object k o (inherited.Found v c) args keywords place = do
-  method ← from_class k v (Some (val.Object o)) c place
+  method ← from_class k v (Some (val.Object o)) place
   r ← method_called k method args keywords place
   initialised r o place
 made_object k o (inherited.Thing h) args keywords place = init_thing k o args keywords place (give (val.Object o))

@@ -40,7 +40,7 @@ abbrev pub first_heap : Made
 first_heap = record nothing { texts = codes "__main__" ∷ []; funcs = builtin_funcs; scopes = module_scope ∷ [] }
 
 abbrev pub first_here : Here
-first_here = record { scope = record { 0 = 0 }; home = None; first = None; notes = []; room = deepest }
+first_here = record { scope = record { 0 = 0 }; first = None; body = None; notes = []; room = deepest }
 
 abbrev pub first_state : State
 first_state = record { heap = first_heap; here = first_here; used = 0; bound = 0; taken = 0 }

@@ -192,6 +192,12 @@ pub enum CallFrame {
         rest: Vals,
         place: Place,
     },
+    /// A sum, to which the items of a row are added from this number on.
+    Summing {
+        row: Vals,
+        next: u64,
+        place: Place,
+    },
     /// What an `__init__` gave.
     Initialised {
         object: ObjId,

@@ -7,8 +7,8 @@ ghost use Rattle.py_frames.specs.Expressions.{seen_from, seen_of};
 use crate::going::Going;
 use py_values::{Frozen, Scope, ScopeId};
 
-// The scope that the functions of a body see.
-fn seen_of(found: Option<&Scope>, here: ScopeId) -> Option<ScopeId>
+/// The scope that the functions of a body see.
+pub fn seen_of(found: Option<&Scope>, here: ScopeId) -> Option<ScopeId>
     ensures { result ≡ seen_of (option_copied found.entry) here }
 {
     match found {

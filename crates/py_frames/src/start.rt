@@ -33,8 +33,8 @@ fn first_here(alloc: Global) -> Here
 {
     Here {
         scope: ScopeId(0),
-        home: None,
         first: None,
+        body: None,
         notes: NamedVals::new(alloc),
         room: DEEPEST,
     }

@@ -3,14 +3,21 @@
 use crate::request::{NamedVals, Request, Stop};
 use py_values::{Heap, ScopeId, Val};
 
+/// What a class body has bound in its scope, each binding in its order.
+#[derive(Drop)]
+pub struct ClassBody {
+    pub scope: ScopeId,
+    pub bindings: NamedVals,
+}
+
 /// Where an evaluation stands: the scope in which names are bound and sought, and what belongs to the function there.
 #[derive(Drop)]
 pub struct Here {
     pub scope: ScopeId,
-    /// The class whose method runs, for `super()`.
-    pub home: Option<Val>,
     /// The first argument of the function that runs.
     pub first: Option<Val>,
+    /// The class body that runs, and what it has bound.
+    pub body: Option<ClassBody>,
     /// The annotations of the class body that runs, in order.
     pub notes: NamedVals,
     /// How many calls may still stand in one another.

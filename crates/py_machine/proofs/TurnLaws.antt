@@ -78,6 +78,7 @@ keeps_room room (call.Sliced node j x parts) e = refl
 keeps_room room (call.Awaited p) e = refl
 keeps_room room (call.AttributeTold name p n) e = refl
 keeps_room room (call.GoneOver b n done rest p) e = refl
+keeps_room room (call.Summing row n p) e = refl
 keeps_room room (call.Initialised o p) e = refl
 keeps_room room (call.InitNames o p r) e = refl
 keeps_room room (call.CallEnd outer) e = absurd (true≢false e)

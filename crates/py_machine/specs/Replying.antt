@@ -4,7 +4,9 @@ use Rattle.amh_host.specs.declared.place.Place.{Place}
 use Rattle.py_values.specs.declared.val.Val.{Val}
 use Rattle.py_values.specs.Places.{new_text, new_tuple}
 use Rattle.py_frames.specs.declared.request.Act.{Act}
-use Rattle.py_frames.specs.Doing.{Doing, Known, heap_seen, ◌>>=◌, give, making}
+use Rattle.py_frames.specs.declared.request.Cause.TheVariants.{Raised}
+use Rattle.py_frames.specs.Doing.{Doing, Known, heap_seen, ◌>>=◌, give, stop, choose, making}
+use Rattle.py_frames.specs.Async.{is_async}
 use Rattle.py_frames.specs.Asking.{asked, returned}
 
 -- a new string
@@ -16,7 +18,12 @@ abbrev pub list_given : Known → List Val → Place → Doing
 list_given k vals place = making (λ s. new_tuple (heap_seen k s) vals) place give
 
 -- a function is called, and its end is asked
-abbrev pub call_answered : Known → ℕ → Act → Val → List Val → Place → Doing
-call_answered k rounds act callee args place = do
+abbrev pub call_told : Known → ℕ → Act → Val → List Val → Place → Doing
+call_told k rounds act callee args place = do
   v ← k.call callee args [] place
   λ w s. asked rounds k act (returned (heap_seen k s) place callee v) w s
+
+-- an `async` function is none that an answer calls
+abbrev pub call_answered : Known → ℕ → Act → Val → List Val → Place → Doing
+call_answered k rounds act callee args place = λ w s.
+    choose (is_async k (heap_seen k s) callee) (stop Raised place) (call_told k rounds act callee args place) w s

@@ -3,13 +3,13 @@ ghost use Rattle.std.specs.Prelude.{◌≡◌, ◌<◌, ◌≤◌, [], OnOk};
 ghost use Rattle.py_frames.specs.declared.state.Got.TheVariants as got;
 ghost use Rattle.py_frames.specs.Doing.{came, give, stop};
 ghost use Rattle.py_frames.specs.Asking.{answered, asked, request, if_taken, takes_value, takes_text, takes_list, takes_names, takes_call, takes_through};
-ghost use Rattle.py_machine.specs.Replying.{text_given, list_given, call_answered};
+ghost use Rattle.py_machine.specs.Replying.{text_given, list_given, call_told, call_answered};
 ghost use Rattle.py_frames.specs.Tables.{IsTable};
 ghost use Rattle.py_frames.specs.Frames.{GoesOn};
 
 use amh_host::{Place, Text};
 use py_calls::call_enter::enter;
-use py_calls::call_frame::came;
+use py_calls::call_frame::{came, is_async};
 use py_frames::call_leaf::{give, raise};
 use py_frames::expr_values::{new_text, new_tuple};
 use py_frames::frame::{CallFrame, Frame, Now};
@@ -199,7 +199,7 @@ fn call_begun(
 ) -> Result<Now, Halt>
     requires room { going.old.state.used < budget }
     requires table { IsTable functions.now }
-    ensures moves { GoesOn functions.now frozen.now result going.old going.new budget (λ k. call_answered k rounds act callee.now args place) }
+    ensures moves { GoesOn functions.now frozen.now result going.old going.new budget (λ k. call_told k rounds act callee.now args place) }
     ensures left { OnOk result (going.new.state.used < budget) }
     ensures grows { going.old.state.used ≤ going.new.state.used }
 {
@@ -216,6 +216,33 @@ fn call_begun(
         ),
         Err(_) => Err(Halt::NoMemory),
     }
+}
+
+// A function begins, unless it is `async`.
+#[tactic(auto, using(crate::proofs::ReplyLaws::call_rules, py_frames::proofs::BeginLaws::turn_rules))]
+fn call_let(
+    going: &mut Going,
+    functions: &Functions,
+    frozen: &Frozen,
+    act: Act,
+    callee: &Val,
+    args: Vals,
+    rounds: u64,
+    place: Place,
+    budget: u64,
+) -> Result<Now, Halt>
+    requires room { going.old.state.used < budget }
+    requires table { IsTable functions.now }
+    ensures moves { GoesOn functions.now frozen.now result going.old going.new budget (λ k. call_answered k rounds act callee.now args place) }
+    ensures left { OnOk result (going.new.state.used < budget) }
+    ensures grows { going.old.state.used ≤ going.new.state.used }
+{
+    if is_async(going, functions, frozen, callee) {
+        return raise(going, functions, frozen, place, budget);
+    }
+    call_begun(
+        going, functions, frozen, act, callee, args, rounds, place, budget,
+    )
 }
 
 // The call of a function.
@@ -238,7 +265,7 @@ fn call_given(
     ensures grows { going.old.state.used ≤ going.new.state.used }
 {
     if takes_call(act) {
-        call_begun(
+        call_let(
             going, functions, frozen, act, &callee, args, rounds, place, budget,
         )
     } else {

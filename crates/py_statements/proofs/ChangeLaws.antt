@@ -35,6 +35,7 @@ use Rattle.py_frames.specs.Parts.{place_of}
 use Rattle.py_frames.specs.Values.{is_thing, operated, built, bind, indexed, store_attribute, store_index}
 use Rattle.py_frames.specs.Expressions.{value_of}
 use Rattle.py_frames.specs.Stmt_frames.{Change, change_of, with_change, index_came, old_came, right_came, new_stored, name_stored}
+use Rattle.py_frames.specs.Functions.{named_val}
 use Rattle.py_frames.specs.Told.{Binds}
 use Rattle.py_statements.specs.Augmented.{grown, instead, is_a_name}
 use Rattle.py_frames.specs.Frames.{told, GoesOn, within}
@@ -134,7 +135,7 @@ stored_beside fns frozen x budget t z e =
     same_total fns frozen (Ok (Came got.Next)) x x budget (λ k. came got.Next) (λ k. name_stored k t z)
     (λ w. ap (λ (d : Doing). d w x.state) (sym (other_target (known (steps_of fns.program) frozen x.state.here.room) t z e))) (came_goes fns frozen x budget got.Next)
 
-pub bound_next : (fns : Functions) (frozen : Made) (x y : Going) (budget : ℕ) (u : Unit {0}) (name : List ℕ) (v : Val) (p : Place) → Binds (Ok u) (scope_bound (seen frozen x.state.heap) x.state.here.scope.0 name v) p x y → GoesOn fns frozen (Ok (Came got.Next)) x y budget (λ k. bind k name v p (came got.Next))
+pub bound_next : (fns : Functions) (frozen : Made) (x y : Going) (budget : ℕ) (u : Unit {0}) (name : List ℕ) (v : Val) (p : Place) → Binds (Ok u) (scope_bound (seen frozen x.state.heap) x.state.here.scope.0 name v) (named_val name v) p x y → GoesOn fns frozen (Ok (Came got.Next)) x y budget (λ k. bind k name v p (came got.Next))
 bound_next fns frozen x y budget u name v p e = bind_goes fns frozen (Ok (Came got.Next)) x y y budget u name v p (λ k. came got.Next) e (came_goes fns frozen y budget got.Next)
 
 pub stored_name : (fns : Functions) (frozen : Made) (r : Result Now Halt) (x y : Going) (budget : ℕ) (c : Change) (what : Changed) (z : Val) → what ≡ changed.Name → GoesOn fns frozen r x y budget (λ k. name_stored k c.target z) → GoesOn fns frozen r x y budget (λ k. new_stored k c what z)

@@ -9,8 +9,6 @@ use Rattle.py_values.specs.declared.val.ScopeId.{ScopeId}
 use Rattle.py_values.specs.declared.val.ValueStop.{ValueStop}
 use Rattle.py_values.specs.declared.val.ValueStop.TheVariants as refusal
 use Rattle.py_values.specs.Heaps.{Made, seen}
-use Rattle.py_values.specs.Names.{bindings_at}
-use Rattle.py_values.specs.Objects.{new_class}
 use Rattle.py_values.specs.Runs.{Answers, paired}
 use Rattle.py_frames.specs.declared.request.NamedVal.{NamedVal}
 use Rattle.py_frames.specs.declared.request.Request.{Request}
@@ -30,7 +28,7 @@ use Rattle.py_frames.specs.Doing.{Doing, Known, after, on_value, came, stop, mad
 use Rattle.py_frames.specs.Asking.{request, ask}
 use Rattle.py_frames.specs.Values.{bind, named_vals}
 use Rattle.py_frames.specs.Binding.{refused}
-use Rattle.py_frames.specs.Statements.{known, as_base, over_thing, bound_names, with_mark, class_bound, class_ended}
+use Rattle.py_frames.specs.Statements.{known, as_base, over_thing, known_class, kept_bindings, with_mark, class_bound, class_ended}
 use Rattle.py_frames.specs.Def_frames.{class_left, class_told}
 use Rattle.py_statements.specs.Def_begun.{GoesUnder, class_built, class_over, is_next}
 use Rattle.py_frames.specs.Frames.{finish, stops_as, GoesOn, within}
@@ -55,7 +53,7 @@ making_refused fns frozen x y budget refusal.NoMemory heap p m f a u = no_memory
 
 -- ---- what a body leaves
 
-left_next : (fns : Functions) (frozen : Made) (r : Result Now Halt) (x z : Going) (budget : ℕ) (p : Place) (name : List ℕ) (b : Bases) (ss : Steps) (base : Val) (kw : List NamedVal) (outer : Here) → GoesOn fns frozen r (record x { state = record x.state { here = outer } }) z budget (λ k. class_built k x.state.here.scope base name kw x.state.here.notes p) → GoesUnder outer.room fns frozen r x z budget (λ k. class_left k (Class p name b ss) base kw outer Next)
+left_next : (fns : Functions) (frozen : Made) (r : Result Now Halt) (x z : Going) (budget : ℕ) (p : Place) (name : List ℕ) (b : Bases) (ss : Steps) (base : Val) (kw : List NamedVal) (outer : Here) → GoesOn fns frozen r (record x { state = record x.state { here = outer } }) z budget (λ k. class_built k x.state.here.scope base name kw x.state.here.notes (kept_bindings x.state.here.body) p) → GoesUnder outer.room fns frozen r x z budget (λ k. class_left k (Class p name b ss) base kw outer Next)
 unfolding GoesOn GoesUnder
 left_next fns frozen (Ok now) x z budget p name b ss base kw outer h = h
 left_next fns frozen (Err (Stopped stop)) x z budget p name b ss base kw outer h = h
@@ -70,7 +68,7 @@ left_back fns frozen (Err (Stopped stop)) x z budget outer got h = h
 left_back fns frozen (Err (Asks a)) x z budget outer got h = h
 left_back fns frozen (Err NoMemory) x z budget outer got h = h
 
-ended_here : (fns : Functions) (frozen : Made) (r : Result Now Halt) (x z : Going) (budget : ℕ) (p : Place) (name : List ℕ) (b : Bases) (ss : Steps) (t : Step) (base : Val) (kw : List NamedVal) (outer : Here) (got : Got) → t ≡ Class p name b ss → is_next got ≡ true → GoesOn fns frozen r (record x { state = record x.state { here = outer } }) z budget (λ k. class_built k x.state.here.scope base name kw x.state.here.notes p) → GoesUnder outer.room fns frozen r x z budget (λ k. class_left k t base kw outer got)
+ended_here : (fns : Functions) (frozen : Made) (r : Result Now Halt) (x z : Going) (budget : ℕ) (p : Place) (name : List ℕ) (b : Bases) (ss : Steps) (t : Step) (base : Val) (kw : List NamedVal) (outer : Here) (got : Got) → t ≡ Class p name b ss → is_next got ≡ true → GoesOn fns frozen r (record x { state = record x.state { here = outer } }) z budget (λ k. class_built k x.state.here.scope base name kw x.state.here.notes (kept_bindings x.state.here.body) p) → GoesUnder outer.room fns frozen r x z budget (λ k. class_left k t base kw outer got)
 ended_here fns frozen r x z budget p name b ss t base kw outer Next e1 e2 h =
     let N : Step → Type 0 = λ j. GoesUnder outer.room fns frozen r x z budget (λ k. class_left k j base kw outer Next) in
     subst N (sym e1) (left_next fns frozen r x z budget p name b ss base kw outer h)
@@ -81,11 +79,12 @@ ended_here fns frozen r x z budget p name b ss t base kw outer Broke e1 e2 h = c
 ended_here fns frozen r x z budget p name b ss t base kw outer Continued e1 e2 h = cc
 ended_here fns frozen r x z budget p name b ss t base kw outer (Returned v) e1 e2 h = cc
 
-pub ended_next : (fns : Functions) (frozen : Made) (r : Result Now Halt) (x z : Going) (budget : ℕ) (p : Place) (name : List ℕ) (b : Bases) (ss : Steps) (t : Step) (base : Val) (kw : List NamedVal) (outer inner here : Here) (got : Got) → t ≡ Class p name b ss → is_next got ≡ true → inner ≡ x.state.here → here ≡ outer → GoesOn fns frozen r (record x { state = record x.state { here = here } }) z budget (λ k. class_built k inner.scope base name kw inner.notes p) → GoesUnder outer.room fns frozen r x z budget (λ k. class_left k t base kw outer got)
-ended_next fns frozen r x z budget p name b ss t base kw outer inner here got e1 e2 e3 e4 h =
-    let I : Here → Type 0 = λ g. GoesOn fns frozen r (record x { state = record x.state { here = here } }) z budget (λ k. class_built k g.scope base name kw g.notes p) in
-    let H : Here → Type 0 = λ g. GoesOn fns frozen r (record x { state = record x.state { here = g } }) z budget (λ k. class_built k x.state.here.scope base name kw x.state.here.notes p) in
-    ended_here fns frozen r x z budget p name b ss t base kw outer got e1 e2 (subst H e4 (subst I e3 h))
+pub ended_next : (fns : Functions) (frozen : Made) (r : Result Now Halt) (x z : Going) (budget : ℕ) (p : Place) (name : List ℕ) (b : Bases) (ss : Steps) (t : Step) (base : Val) (kw : List NamedVal) (outer inner here : Here) (got : Got) (bs : List NamedVal) → t ≡ Class p name b ss → is_next got ≡ true → inner ≡ x.state.here → here ≡ outer → bs ≡ kept_bindings inner.body → GoesOn fns frozen r (record x { state = record x.state { here = here } }) z budget (λ k. class_built k inner.scope base name kw inner.notes bs p) → GoesUnder outer.room fns frozen r x z budget (λ k. class_left k t base kw outer got)
+ended_next fns frozen r x z budget p name b ss t base kw outer inner here got bs e1 e2 e3 e4 e5 h =
+    let I : Here → Type 0 = λ g. GoesOn fns frozen r (record x { state = record x.state { here = here } }) z budget (λ k. class_built k g.scope base name kw g.notes (kept_bindings g.body) p) in
+    let B : List NamedVal → Type 0 = λ g. GoesOn fns frozen r (record x { state = record x.state { here = here } }) z budget (λ k. class_built k inner.scope base name kw inner.notes g p) in
+    let H : Here → Type 0 = λ g. GoesOn fns frozen r (record x { state = record x.state { here = g } }) z budget (λ k. class_built k x.state.here.scope base name kw x.state.here.notes (kept_bindings x.state.here.body) p) in
+    ended_here fns frozen r x z budget p name b ss t base kw outer got e1 e2 (subst H e4 (subst I e3 (subst B e5 h)))
 
 ended_back : (k : Known) (outer : Here) (base : Val) (name : List ℕ) (kw : List NamedVal) (p : Place) (got : Got) → is_next got ≡ false → class_ended k outer base name kw p got ≡ (λ w s. came got w (record s { here = outer }))
 ended_back k outer base name kw p Next e = cc
@@ -118,50 +117,49 @@ under_no_memory room fns frozen x y budget m = tt
 -- ---- the class
 
 -- the class, by whether it stands over a thing
-built_as : (fns : Functions) (frozen : Made) (r : Result Now Halt) (x y : Going) (budget : ℕ) (p : Place) (name : List ℕ) (scope : ScopeId) (base : Val) (kw notes : List NamedVal) (o : Bool) → over_thing (seen frozen x.state.heap) base ≡ o → GoesOn fns frozen r x y budget (λ k. making (λ t. new_class (heap_seen k t) (as_base base) scope.0) p (λ c. class_bound k o c base name kw notes (bound_names (bindings_at (seen frozen x.state.heap) scope.0)) p)) → GoesOn fns frozen r x y budget (λ k. class_built k scope base name kw notes p)
-built_as fns frozen r x y budget p name scope base kw notes o e h =
+built_as : (fns : Functions) (frozen : Made) (r : Result Now Halt) (x y : Going) (budget : ℕ) (p : Place) (name : List ℕ) (scope : ScopeId) (base : Val) (kw notes bs : List NamedVal) (o : Bool) → over_thing (seen frozen x.state.heap) base ≡ o → GoesOn fns frozen r x y budget (λ k. making (λ t. known_class (heap_seen k t) (as_base base) scope) p (λ c. class_bound k o c base name kw notes bs p)) → GoesOn fns frozen r x y budget (λ k. class_built k scope base name kw notes bs p)
+built_as fns frozen r x y budget p name scope base kw notes bs o e h =
     let K : Known = known (steps_of fns.program) frozen x.state.here.room in
-    here_same fns frozen r x y budget (λ k. making (λ t. new_class (heap_seen k t) (as_base base) scope.0) p (λ c. class_bound k o c base name kw notes (bound_names (bindings_at (seen frozen x.state.heap) scope.0)) p)) (λ k. class_built k scope base name kw notes p)
-    (λ w. ap (λ z. making (λ t. new_class (heap_seen K t) (as_base base) scope.0) p (λ c. class_bound K z c base name kw notes (bound_names (bindings_at (seen frozen x.state.heap) scope.0)) p) w x.state) e) h
+    here_same fns frozen r x y budget (λ k. making (λ t. known_class (heap_seen k t) (as_base base) scope) p (λ c. class_bound k o c base name kw notes bs p)) (λ k. class_built k scope base name kw notes bs p)
+    (λ w. ap (λ z. making (λ t. known_class (heap_seen K t) (as_base base) scope) p (λ c. class_bound K z c base name kw notes bs p) w x.state) e) h
 
-pub built_over : (fns : Functions) (frozen : Made) (r : Result Now Halt) (x y : Going) (budget : ℕ) (p : Place) (name : List ℕ) (scope : ScopeId) (base : Val) (kw notes : List NamedVal) → over_thing (seen frozen x.state.heap) base ≡ true → GoesOn fns frozen r x y budget (λ k. class_over k scope base name kw notes p) → GoesOn fns frozen r x y budget (λ k. class_built k scope base name kw notes p)
-built_over fns frozen r x y budget p name scope base kw notes e h =
-    built_as fns frozen r x y budget p name scope base kw notes true e
-    (here_same fns frozen r x y budget (λ k. class_over k scope base name kw notes p) (λ k. making (λ t. new_class (heap_seen k t) (as_base base) scope.0) p (λ c. class_bound k true c base name kw notes (bound_names (bindings_at (seen frozen x.state.heap) scope.0)) p)) (λ w. refl) h)
+pub built_over : (fns : Functions) (frozen : Made) (r : Result Now Halt) (x y : Going) (budget : ℕ) (p : Place) (name : List ℕ) (scope : ScopeId) (base : Val) (kw notes bs : List NamedVal) → over_thing (seen frozen x.state.heap) base ≡ true → GoesOn fns frozen r x y budget (λ k. class_over k scope base name kw notes bs p) → GoesOn fns frozen r x y budget (λ k. class_built k scope base name kw notes bs p)
+built_over fns frozen r x y budget p name scope base kw notes bs e h =
+    built_as fns frozen r x y budget p name scope base kw notes bs true e
+    (here_same fns frozen r x y budget (λ k. class_over k scope base name kw notes bs p) (λ k. making (λ t. known_class (heap_seen k t) (as_base base) scope) p (λ c. class_bound k true c base name kw notes bs p)) (λ w. refl) h)
 
-pub built_plain : (fns : Functions) (frozen : Made) (r : Result Now Halt) (x z : Going) (budget : ℕ) (p : Place) (name word : List ℕ) (scope : ScopeId) (base : Val) (kw notes : List NamedVal) (o : Option Val) (c : Val) (heap : Made) → word ≡ name → over_thing (seen frozen x.state.heap) base ≡ false → o ≡ as_base base → new_class (seen frozen x.state.heap) o scope.0 ≡ Ok (c, heap) → GoesOn fns frozen r (record x { state = record x.state { heap = heap } }) z budget (λ k. bind k word c p (came Next)) → GoesOn fns frozen r x z budget (λ k. class_built k scope base name kw notes p)
-built_plain fns frozen r x z budget p name word scope base kw notes o c heap e0 e1 e2 e3 h =
+pub built_plain : (fns : Functions) (frozen : Made) (r : Result Now Halt) (x z : Going) (budget : ℕ) (p : Place) (name word : List ℕ) (scope : ScopeId) (base : Val) (kw notes bs : List NamedVal) (o : Option Val) (c : Val) (heap : Made) → word ≡ name → over_thing (seen frozen x.state.heap) base ≡ false → o ≡ as_base base → known_class (seen frozen x.state.heap) o scope ≡ Ok (c, heap) → GoesOn fns frozen r (record x { state = record x.state { heap = heap } }) z budget (λ k. bind k word c p (came Next)) → GoesOn fns frozen r x z budget (λ k. class_built k scope base name kw notes bs p)
+built_plain fns frozen r x z budget p name word scope base kw notes bs o c heap e0 e1 e2 e3 h =
     let N : List ℕ → Type 0 = λ g. GoesOn fns frozen r (record x { state = record x.state { heap = heap } }) z budget (λ k. bind k g c p (came Next)) in
-    built_as fns frozen r x z budget p name scope base kw notes false e1
-    (making_goes fns frozen r x z budget heap c p (λ k t. new_class (heap_seen k t) (as_base base) scope.0) (λ k d. bind k name d p (came Next))
-    (ap (λ g. new_class (seen frozen x.state.heap) g scope.0) (sym e2) ∙ e3) (subst N e0 h))
+    built_as fns frozen r x z budget p name scope base kw notes bs false e1
+    (making_goes fns frozen r x z budget heap c p (λ k t. known_class (heap_seen k t) (as_base base) scope) (λ k d. bind k name d p (came Next))
+    (ap (λ g. known_class (seen frozen x.state.heap) g scope) (sym e2) ∙ e3) (subst N e0 h))
 
-pub built_refused : (fns : Functions) (frozen : Made) (x y : Going) (budget : ℕ) (p : Place) (name : List ℕ) (scope : ScopeId) (base : Val) (kw notes : List NamedVal) (o : Option Val) (e : ValueStop) (heap : Made) → over_thing (seen frozen x.state.heap) base ≡ false → o ≡ as_base base → Answers (paired (Err e) heap) (new_class (seen frozen x.state.heap) o scope.0) → y.state.used ≡ x.state.used → GoesOn fns frozen (Err (refused e p)) x y budget (λ k. class_built k scope base name kw notes p)
-built_refused fns frozen x y budget p name scope base kw notes o e heap e1 e2 a u =
-    let A : Option Val → Type 0 = λ g. Answers (paired (Err e) heap) (new_class (seen frozen x.state.heap) g scope.0) in
-    built_as fns frozen (Err (refused e p)) x y budget p name scope base kw notes false e1
-    (making_refused fns frozen x y budget e heap p (λ k t. new_class (heap_seen k t) (as_base base) scope.0) (λ k d. bind k name d p (came Next)) (subst A e2 a) u)
+pub built_refused : (fns : Functions) (frozen : Made) (x y : Going) (budget : ℕ) (p : Place) (name : List ℕ) (scope : ScopeId) (base : Val) (kw notes bs : List NamedVal) (o : Option Val) (e : ValueStop) (heap : Made) → over_thing (seen frozen x.state.heap) base ≡ false → o ≡ as_base base → Answers (paired (Err e) heap) (known_class (seen frozen x.state.heap) o scope) → y.state.used ≡ x.state.used → GoesOn fns frozen (Err (refused e p)) x y budget (λ k. class_built k scope base name kw notes bs p)
+built_refused fns frozen x y budget p name scope base kw notes bs o e heap e1 e2 a u =
+    let A : Option Val → Type 0 = λ g. Answers (paired (Err e) heap) (known_class (seen frozen x.state.heap) g scope) in
+    built_as fns frozen (Err (refused e p)) x y budget p name scope base kw notes bs false e1
+    (making_refused fns frozen x y budget e heap p (λ k t. known_class (heap_seen k t) (as_base base) scope) (λ k d. bind k name d p (came Next)) (subst A e2 a) u)
 
 -- the store is told of a class over a thing
-pub over_asks : (fns : Functions) (frozen : Made) (r : Result Now Halt) (x z : Going) (budget : ℕ) (p : Place) (name word : List ℕ) (b : Bases) (ss : Steps) (t : Step) (node : Stmt) (scope : ScopeId) (base : Val) (kw notes bs : List NamedVal) (o : Option Val) (c : Val) (heap : Made) (q : Request) → word ≡ name → t ≡ Class p name b ss → step_of node ≡ t → o ≡ as_base base → new_class (seen frozen x.state.heap) o scope.0 ≡ Ok (c, heap) → bs ≡ bound_names (bindings_at (seen frozen x.state.heap) scope.0) → q ≡ request act.ClassMade (c ∷ base ∷ (named_vals kw ++ (named_vals notes ++ named_vals bs))) (word ∷ (with_mark (codes "=") kw ++ (with_mark (codes ":") notes ++ with_mark (codes ".") bs))) p → GoesOn fns frozen r (record x { state = record x.state { heap = heap } }) z budget (within (frame.Def (def.ClassTold node)) (λ k. ask k q)) → GoesOn fns frozen r x z budget (λ k. class_over k scope base name kw notes p)
-over_asks fns frozen r x z budget p name word b ss t node scope base kw notes bs o c heap q e0 e1 e2 e3 e4 e5 e6 h =
+pub over_asks : (fns : Functions) (frozen : Made) (r : Result Now Halt) (x z : Going) (budget : ℕ) (p : Place) (name word : List ℕ) (b : Bases) (ss : Steps) (t : Step) (node : Stmt) (scope : ScopeId) (base : Val) (kw notes bs : List NamedVal) (o : Option Val) (c : Val) (heap : Made) (q : Request) → word ≡ name → t ≡ Class p name b ss → step_of node ≡ t → o ≡ as_base base → known_class (seen frozen x.state.heap) o scope ≡ Ok (c, heap) → q ≡ request act.ClassMade (c ∷ base ∷ (named_vals kw ++ (named_vals notes ++ named_vals bs))) (word ∷ (with_mark (codes "=") kw ++ (with_mark (codes ":") notes ++ with_mark (codes ".") bs))) p → GoesOn fns frozen r (record x { state = record x.state { heap = heap } }) z budget (within (frame.Def (def.ClassTold node)) (λ k. ask k q)) → GoesOn fns frozen r x z budget (λ k. class_over k scope base name kw notes bs p)
+over_asks fns frozen r x z budget p name word b ss t node scope base kw notes bs o c heap q e0 e1 e2 e3 e4 e6 h =
     let y : Going = record x { state = record x.state { heap = heap } } in
     let S : Step → Type 0 = λ g. GoesOn fns frozen r y z budget (λ k w s. after (ask k q w s) (λ got. on_value got (class_told k g) w)) in
     let R : Request → Type 0 = λ g. GoesOn fns frozen r y z budget (λ k w s. after (ask k g w s) (λ got. on_value got (λ v. bind k name v p (came Next)) w)) in
     let W : List ℕ → Type 0 = λ g. GoesOn fns frozen r y z budget (λ k w s. after (ask k (request act.ClassMade (c ∷ base ∷ (named_vals kw ++ (named_vals notes ++ named_vals bs))) (g ∷ (with_mark (codes "=") kw ++ (with_mark (codes ":") notes ++ with_mark (codes ".") bs))) p) w s) (λ got. on_value got (λ v. bind k name v p (came Next)) w)) in
-    let B : List NamedVal → Type 0 = λ g. GoesOn fns frozen r y z budget (λ k. class_bound k true c base name kw notes g p) in
-    let f : Known → Val → Doing = λ k d. class_bound k true d base name kw notes (bound_names (bindings_at (seen frozen x.state.heap) scope.0)) p in
-    here_same fns frozen r x z budget (λ k. making (λ g. new_class (heap_seen k g) (as_base base) scope.0) p (f k)) (λ k. class_over k scope base name kw notes p) (λ w. refl)
-    (making_goes fns frozen r x z budget heap c p (λ k g. new_class (heap_seen k g) (as_base base) scope.0) f
-    (ap (λ g. new_class (seen frozen x.state.heap) g scope.0) (sym e3) ∙ e4)
-    (subst B e5 (subst W e0 (subst R e6 (subst S (e2 ∙ e1) h)))))
+    let f : Known → Val → Doing = λ k d. class_bound k true d base name kw notes bs p in
+    here_same fns frozen r x z budget (λ k. making (λ g. known_class (heap_seen k g) (as_base base) scope) p (f k)) (λ k. class_over k scope base name kw notes bs p) (λ w. refl)
+    (making_goes fns frozen r x z budget heap c p (λ k g. known_class (heap_seen k g) (as_base base) scope) f
+    (ap (λ g. known_class (seen frozen x.state.heap) g scope) (sym e3) ∙ e4)
+    (subst W e0 (subst R e6 (subst S (e2 ∙ e1) h))))
 
-pub over_refused : (fns : Functions) (frozen : Made) (x y : Going) (budget : ℕ) (p : Place) (name : List ℕ) (scope : ScopeId) (base : Val) (kw notes : List NamedVal) (o : Option Val) (e : ValueStop) (heap : Made) → o ≡ as_base base → Answers (paired (Err e) heap) (new_class (seen frozen x.state.heap) o scope.0) → y.state.used ≡ x.state.used → GoesOn fns frozen (Err (refused e p)) x y budget (λ k. class_over k scope base name kw notes p)
-over_refused fns frozen x y budget p name scope base kw notes o e heap e2 a u =
-    let A : Option Val → Type 0 = λ g. Answers (paired (Err e) heap) (new_class (seen frozen x.state.heap) g scope.0) in
-    let f : Known → Val → Doing = λ k d. class_bound k true d base name kw notes (bound_names (bindings_at (seen frozen x.state.heap) scope.0)) p in
-    here_same fns frozen (Err (refused e p)) x y budget (λ k. making (λ g. new_class (heap_seen k g) (as_base base) scope.0) p (f k)) (λ k. class_over k scope base name kw notes p) (λ w. refl)
-    (making_refused fns frozen x y budget e heap p (λ k t. new_class (heap_seen k t) (as_base base) scope.0) f (subst A e2 a) u)
+pub over_refused : (fns : Functions) (frozen : Made) (x y : Going) (budget : ℕ) (p : Place) (name : List ℕ) (scope : ScopeId) (base : Val) (kw notes bs : List NamedVal) (o : Option Val) (e : ValueStop) (heap : Made) → o ≡ as_base base → Answers (paired (Err e) heap) (known_class (seen frozen x.state.heap) o scope) → y.state.used ≡ x.state.used → GoesOn fns frozen (Err (refused e p)) x y budget (λ k. class_over k scope base name kw notes bs p)
+over_refused fns frozen x y budget p name scope base kw notes bs o e heap e2 a u =
+    let A : Option Val → Type 0 = λ g. Answers (paired (Err e) heap) (known_class (seen frozen x.state.heap) g scope) in
+    let f : Known → Val → Doing = λ k d. class_bound k true d base name kw notes bs p in
+    here_same fns frozen (Err (refused e p)) x y budget (λ k. making (λ g. known_class (heap_seen k g) (as_base base) scope) p (f k)) (λ k. class_over k scope base name kw notes bs p) (λ w. refl)
+    (making_refused fns frozen x y budget e heap p (λ k t. known_class (heap_seen k t) (as_base base) scope) f (subst A e2 a) u)
 
 pub ruleset ended_rules = (ended_next, ended_other)
 

@@ -36,10 +36,10 @@ use Rattle.py_frames.specs.Doing.{Doing, Known, after, on_value, stop, choose, m
 use Rattle.py_frames.specs.Functions.{named_val}
 use Rattle.py_frames.specs.Own.{steps_names}
 use Rattle.py_frames.specs.Parts.{arguments_from, place_of}
-use Rattle.py_frames.specs.Values.{as_row}
+use Rattle.py_frames.specs.Values.{as_row, class_word}
 use Rattle.py_frames.specs.Expressions.{value_of, arguments_then, on_elements, seen_from, once_named}
 use Rattle.py_frames.specs.Binding.{refused}
-use Rattle.py_frames.specs.Statements.{known, run_all, base_of, over_thing, are_keywords, class_begun, class_body, class_ended, class_here}
+use Rattle.py_frames.specs.Statements.{known, run_all, base_of, over_thing, are_keywords, class_begun, class_body, class_within, class_ended, class_here}
 use Rattle.py_frames.specs.Stmt_begun.{run_after}
 use Rattle.py_frames.specs.Call_frames.{argument_came, elements_came}
 use Rattle.py_frames.specs.Def_frames.{class_arguments, class_place, class_given, class_left}
@@ -281,15 +281,24 @@ begun_lacks fns frozen r x y budget p name ss kw base e1 e2 h =
 pub begun_on : (fns : Functions) (frozen : Made) (r : Result Now Halt) (x y : Going) (budget : ℕ) (p : Place) (name : List ℕ) (ss : Steps) (kw : List NamedVal) (base : Val) (c : Bool) → c ≡ (are_keywords kw && not (over_thing (seen frozen x.state.heap) base)) → c ≡ false → GoesOn fns frozen r x y budget (λ k. class_body k base name kw (steps_names ss) (run_all k ss) p) → GoesOn fns frozen r x y budget (λ k. class_begun k (Some base) name kw (steps_names ss) (run_all k ss) p)
 begun_on fns frozen r x y budget p name ss kw base c e1 e2 h = begun_as fns frozen r x y budget p name ss kw base false (sym e2 ∙ e1) h
 
--- the scope is made
-pub body_makes : (fns : Functions) (frozen : Made) (r : Result Now Halt) (x z : Going) (budget : ℕ) (p : Place) (name : List ℕ) (ss : Steps) (kw : List NamedVal) (base : Val) (own : List (List ℕ)) (outside : Option ScopeId) (id : ScopeId) (heap : Made) → own ≡ steps_names ss → outside ≡ seen_from (seen frozen x.state.heap) x.state.here.scope → new_scope (seen frozen x.state.heap) outside true own ≡ Ok (id, heap) → GoesOn fns frozen r (record x { state = record x.state { heap = heap } }) z budget (λ k. class_inside k id base name kw (run_all k ss) p) → GoesOn fns frozen r x z budget (λ k. class_body k base name kw (steps_names ss) (run_all k ss) p)
-body_makes fns frozen r x z budget p name ss kw base own outside id heap e1 e2 e3 h =
-    let m : Known → State → Result (ScopeId × Made) ValueStop = λ k t. new_scope (heap_seen k t) (seen_from (heap_seen k t) t.here.scope) true (steps_names ss) in
+-- the scope round the body is made
+pub body_makes : (fns : Functions) (frozen : Made) (r : Result Now Halt) (x z : Going) (budget : ℕ) (p : Place) (name : List ℕ) (ss : Steps) (kw : List NamedVal) (base : Val) (own : List (List ℕ)) (outside : Option ScopeId) (round : ScopeId) (heap : Made) → own ≡ class_word ∷ [] → outside ≡ seen_from (seen frozen x.state.heap) x.state.here.scope → new_scope (seen frozen x.state.heap) outside false own ≡ Ok (round, heap) → GoesOn fns frozen r (record x { state = record x.state { heap = heap } }) z budget (λ k. class_within k round base name kw (steps_names ss) (run_all k ss) p) → GoesOn fns frozen r x z budget (λ k. class_body k base name kw (steps_names ss) (run_all k ss) p)
+body_makes fns frozen r x z budget p name ss kw base own outside round heap e1 e2 e3 h =
+    let m : Known → State → Result (ScopeId × Made) ValueStop = λ k t. new_scope (heap_seen k t) (seen_from (heap_seen k t) t.here.scope) false (class_word ∷ []) in
+    let f : Known → ScopeId → Doing = λ k id. class_within k id base name kw (steps_names ss) (run_all k ss) p in
+    let q : m (known (steps_of fns.program) frozen x.state.here.room) x.state ≡ Ok (round, heap) =
+    ap (λ o. new_scope (seen frozen x.state.heap) (seen_from (seen frozen x.state.heap) x.state.here.scope) false o) (sym e1) ∙ (ap (λ o. new_scope (seen frozen x.state.heap) o false own) (sym e2) ∙ e3) in
+    making_goes fns frozen r x z budget heap round p m f q h
+
+-- the scope of the body is made
+pub within_makes : (fns : Functions) (frozen : Made) (r : Result Now Halt) (x z : Going) (budget : ℕ) (p : Place) (name : List ℕ) (ss : Steps) (kw : List NamedVal) (base : Val) (own : List (List ℕ)) (round id : ScopeId) (heap : Made) → own ≡ steps_names ss → new_scope (seen frozen x.state.heap) (Some round) true own ≡ Ok (id, heap) → GoesOn fns frozen r (record x { state = record x.state { heap = heap } }) z budget (λ k. class_inside k id base name kw (run_all k ss) p) → GoesOn fns frozen r x z budget (λ k. class_within k round base name kw (steps_names ss) (run_all k ss) p)
+within_makes fns frozen r x z budget p name ss kw base own round id heap e1 e3 h =
+    let m : Known → State → Result (ScopeId × Made) ValueStop = λ k t. new_scope (heap_seen k t) (Some round) true (steps_names ss) in
     let f : Known → ScopeId → Doing = λ k scope w2 t. then_do (run_all k ss) (class_ended k x.state.here base name kw p) w2 (record t { here = class_here x.state.here scope }) in
     let y : Going = record x { state = record x.state { heap = heap } } in
     let q : m (known (steps_of fns.program) frozen x.state.here.room) x.state ≡ Ok (id, heap) =
-    ap (λ o. new_scope (seen frozen x.state.heap) (seen_from (seen frozen x.state.heap) x.state.here.scope) true o) (sym e1) ∙ (ap (λ o. new_scope (seen frozen x.state.heap) o true own) (sym e2) ∙ e3) in
-    here_same fns frozen r x z budget (λ k. making (m k) p (f k)) (λ k. class_body k base name kw (steps_names ss) (run_all k ss) p) (λ w. refl)
+    ap (λ o. new_scope (seen frozen x.state.heap) (Some round) true o) (sym e1) ∙ e3 in
+    here_same fns frozen r x z budget (λ k. making (m k) p (f k)) (λ k. class_within k round base name kw (steps_names ss) (run_all k ss) p) (λ w. refl)
     (making_goes fns frozen r x z budget heap id p m f q
     (here_same fns frozen r y z budget (λ k. class_inside k id base name kw (run_all k ss) p) (λ k. f k id) (λ w. refl) h))
 
@@ -335,5 +344,7 @@ pub ruleset based_rules = (base_lacks, base_is)
 pub ruleset begun_rules = (begun_on)
 
 pub ruleset body_rules = (body_makes, no_memory)
+
+pub ruleset within_rules = (within_makes, no_memory)
 
 pub ruleset inside_rules = (class_runs, no_memory)

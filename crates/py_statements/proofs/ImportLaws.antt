@@ -25,6 +25,7 @@ use Rattle.py_frames.specs.Asking.{request, ask}
 use Rattle.py_frames.specs.Own.{imported_as}
 use Rattle.py_frames.specs.Values.{bind, bind_all, on_names}
 use Rattle.py_frames.specs.Statements.{imported, dotted, with_dots}
+use Rattle.py_frames.specs.Functions.{named_val}
 use Rattle.py_frames.specs.Told.{Binds}
 use Rattle.py_frames.specs.Stmt_begun.{run_after}
 use Rattle.py_frames.specs.Stmt_frames.{imports_from, imported_at, import_came}
@@ -110,13 +111,13 @@ at_import fns frozen r x y budget n p path xs zs t v e1 e2 h =
 pub import_none : (fns : Functions) (frozen : Made) (r : Result Now Halt) (x y : Going) (budget n : ℕ) (p : Place) (path : List (List ℕ)) (xs : List Import_name) (t : Step) (v : Val) → t ≡ Import p path xs → imports_from n xs ≡ [] → GoesOn fns frozen r x y budget (λ k. came Next) → GoesOn fns frozen r x y budget (λ k. imported_at k n t v)
 import_none fns frozen r x y budget n p path xs t v e1 e2 h = at_import fns frozen r x y budget n p path xs [] t v e1 e2 h
 
-pub import_binds : (fns : Functions) (frozen : Made) (r : Result Now Halt) (x y z : Going) (budget n : ℕ) (p : Place) (path : List (List ℕ)) (xs : List Import_name) (i : Import_name) (t : Step) (v : Val) (u : Unit {0}) (name : List ℕ) → t ≡ Import p path xs → imports_from n xs ≡ i ∷ imports_from (n + 1) xs → name ≡ imported_as i.name i.bound → Binds (Ok u) (scope_bound (seen frozen x.state.heap) x.state.here.scope.0 name v) p x y → GoesOn fns frozen r y z budget (λ k. imported k (dotted path) p (imports_from (n + 1) xs)) → GoesOn fns frozen r x z budget (λ k. imported_at k n t v)
+pub import_binds : (fns : Functions) (frozen : Made) (r : Result Now Halt) (x y z : Going) (budget n : ℕ) (p : Place) (path : List (List ℕ)) (xs : List Import_name) (i : Import_name) (t : Step) (v : Val) (u : Unit {0}) (name : List ℕ) → t ≡ Import p path xs → imports_from n xs ≡ i ∷ imports_from (n + 1) xs → name ≡ imported_as i.name i.bound → Binds (Ok u) (scope_bound (seen frozen x.state.heap) x.state.here.scope.0 name v) (named_val name v) p x y → GoesOn fns frozen r y z budget (λ k. imported k (dotted path) p (imports_from (n + 1) xs)) → GoesOn fns frozen r x z budget (λ k. imported_at k n t v)
 import_binds fns frozen r x y z budget n p path xs i t v u name e1 e2 e3 b h =
     let Q : List ℕ → Type 0 = λ j. GoesOn fns frozen r x z budget (λ k. bind k j v p (imported k (dotted path) p (imports_from (n + 1) xs))) in
     at_import fns frozen r x z budget n p path xs (i ∷ imports_from (n + 1) xs) t v e1 e2
     (subst Q e3 (bind_goes fns frozen r x y z budget u name v p (λ k. imported k (dotted path) p (imports_from (n + 1) xs)) b h))
 
-pub import_refused : (fns : Functions) (frozen : Made) (e : Halt) (x y : Going) (budget n : ℕ) (p : Place) (path : List (List ℕ)) (xs : List Import_name) (i : Import_name) (t : Step) (v : Val) (name : List ℕ) → t ≡ Import p path xs → imports_from n xs ≡ i ∷ imports_from (n + 1) xs → name ≡ imported_as i.name i.bound → Binds (Err e) (scope_bound (seen frozen x.state.heap) x.state.here.scope.0 name v) p x y → GoesOn fns frozen (Err e) x y budget (λ k. imported_at k n t v)
+pub import_refused : (fns : Functions) (frozen : Made) (e : Halt) (x y : Going) (budget n : ℕ) (p : Place) (path : List (List ℕ)) (xs : List Import_name) (i : Import_name) (t : Step) (v : Val) (name : List ℕ) → t ≡ Import p path xs → imports_from n xs ≡ i ∷ imports_from (n + 1) xs → name ≡ imported_as i.name i.bound → Binds (Err e) (scope_bound (seen frozen x.state.heap) x.state.here.scope.0 name v) (named_val name v) p x y → GoesOn fns frozen (Err e) x y budget (λ k. imported_at k n t v)
 import_refused fns frozen e x y budget n p path xs i t v name e1 e2 e3 b =
     let Q : List ℕ → Type 0 = λ j. GoesOn fns frozen (Err e) x y budget (λ k. bind k j v p (imported k (dotted path) p (imports_from (n + 1) xs))) in
     at_import fns frozen (Err e) x y budget n p path xs (i ∷ imports_from (n + 1) xs) t v e1 e2

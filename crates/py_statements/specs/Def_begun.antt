@@ -8,8 +8,6 @@ use Rattle.py_tree.specs.Steps.{Step, Parameter, Named, Star, Body, Fun}
 use Rattle.py_values.specs.declared.val.Val.{Val}
 use Rattle.py_values.specs.declared.val.ScopeId.{ScopeId}
 use Rattle.py_values.specs.Heaps.{Made}
-use Rattle.py_values.specs.Names.{bindings_at}
-use Rattle.py_values.specs.Objects.{new_class}
 use Rattle.py_frames.specs.declared.request.NamedVal.{NamedVal}
 use Rattle.py_frames.specs.declared.state.Halt.{Halt}
 use Rattle.py_frames.specs.declared.state.Got.{Got}
@@ -24,7 +22,7 @@ use Rattle.py_frames.specs.Parts.{arguments_from}
 use Rattle.py_frames.specs.Values.{as_row}
 use Rattle.py_frames.specs.Expressions.{list_of}
 use Rattle.py_frames.specs.Call_frames.{elements_came}
-use Rattle.py_frames.specs.Statements.{known, dropped, as_base, over_thing, class_bound, bound_names, class_ended, class_here}
+use Rattle.py_frames.specs.Statements.{known, dropped, as_base, over_thing, known_class, class_bound, class_ended, class_here}
 use Rattle.py_frames.specs.Def_frames.{function_bound, class_arguments, class_place, class_given}
 use Rattle.py_frames.specs.Frames.{Moves, finish}
 
@@ -58,10 +56,10 @@ GoesUnder room functions frozen result before behind budget meant =
     (λ w. finish (steps_of functions.program) frozen room before.frames w (meant (known (steps_of functions.program) frozen room) w before.state))
 
 -- a class whose body stood in a scope, where the evaluation stands again outside
-abbrev pub class_built : Known → ScopeId → Val → List ℕ → (keywords notes : List NamedVal) → Place → Doing
-class_built k scope base name keywords notes p = λ w s.
-    making (λ t. new_class (heap_seen k t) (as_base base) scope.0) p
-    (λ c. class_bound k (over_thing (heap_seen k s) base) c base name keywords notes (bound_names (bindings_at (heap_seen k s) scope.0)) p) w s
+abbrev pub class_built : Known → ScopeId → Val → List ℕ → (keywords notes bindings : List NamedVal) → Place → Doing
+class_built k scope base name keywords notes bindings p = λ w s.
+    making (λ t. known_class (heap_seen k t) (as_base base) scope) p
+    (λ c. class_bound k (over_thing (heap_seen k s) base) c base name keywords notes bindings p) w s
 
 -- the annotation of what a function gives
 abbrev pub result_of : Body → Perhaps
@@ -95,10 +93,10 @@ class_starred k step n vs keywords v = do
   elements_came k (class_place step) vs keywords (arguments_from n (class_arguments step)) row (class_given k step)
 
 -- the same over a thing
-abbrev pub class_over : Known → ScopeId → Val → List ℕ → (keywords notes : List NamedVal) → Place → Doing
-class_over k scope base name keywords notes p = λ w s.
-    making (λ t. new_class (heap_seen k t) (as_base base) scope.0) p
-    (λ c. class_bound k true c base name keywords notes (bound_names (bindings_at (heap_seen k s) scope.0)) p) w s
+abbrev pub class_over : Known → ScopeId → Val → List ℕ → (keywords notes bindings : List NamedVal) → Place → Doing
+class_over k scope base name keywords notes bindings p =
+    making (λ s. known_class (heap_seen k s) (as_base base) scope) p
+    (λ c. class_bound k true c base name keywords notes bindings p)
 
 -- whether a body went to its end
 abbrev pub is_next : Got → Bool

@@ -3,12 +3,15 @@ ghost use Rattle.std.specs.Prelude.{◌≡◌, option_map};
 ghost use Rattle.py_tree.specs.Seen.{trailer_of};
 ghost use Rattle.py_tree.specs.Programs.{step_of, steps_of};
 ghost use Rattle.py_tree.specs.Steps.{Class, bases_of};
-ghost use Rattle.py_frames.specs.Statements.{as_base};
+ghost use Rattle.py_values.specs.Heaps.{seen};
+ghost use Rattle.py_values.specs.Runs.{Answers, paired};
+ghost use Rattle.py_frames.specs.Expressions.{seen_from};
+ghost use Rattle.py_frames.specs.Statements.{as_base, kept_bindings, class_known, known_class};
 ghost use Rattle.py_frames.specs.Def_frames.{class_left, class_told};
 ghost use Rattle.py_statements.specs.Def_begun.{GoesUnder, class_built, class_over, is_next};
 ghost use Rattle.py_frames.specs.Frames.{GoesOn};
 
-use crate::class_words::{class_request, names_bound};
+use crate::class_words::class_request;
 use crate::classes::over_thing;
 use py_frames::binds::{name_bound, refused};
 use py_frames::call_leaf::ask_under;
@@ -17,10 +20,12 @@ use py_frames::functions::Functions;
 use py_frames::going::Going;
 use py_frames::leaf::copied;
 use py_frames::request::NamedVals;
-use py_frames::state::{Got, Halt, Here};
+use py_frames::scopes::seen_of;
+use py_frames::state::{ClassBody, Got, Halt, Here};
 use py_frames::stmt_plain::comes;
 use py_tree::{Block, Name, Stmt, StmtKind, Trailer};
-use py_values::{Frozen, ScopeId, Val};
+use py_values::{Frozen, Heap, ScopeId, Val, ValueStop};
+use std::alloc::Global;
 use std::mem;
 
 // The base of a class, where it has one.
@@ -40,6 +45,57 @@ fn is_next(got: &Got) -> bool
     match got {
         Got::Next => true,
         _ => false,
+    }
+}
+
+// What a class body has bound.
+fn kept_bindings(alloc: Global, body: Option<ClassBody>) -> NamedVals
+    ensures { result ≡ kept_bindings body }
+{
+    match body {
+        Some(body) => body.bindings,
+        None => NamedVals::new(alloc),
+    }
+}
+
+// The scope round the scope of a class body.
+fn scope_round(heap: &Heap, frozen: &Frozen, scope: ScopeId) -> Option<ScopeId>
+    ensures { result ≡ seen_from (seen frozen.now heap.now) scope }
+{
+    seen_of(heap.scope_at(frozen, scope), scope)
+}
+
+// A class stands in the scope round its body.
+fn class_known(
+    heap: &mut Heap,
+    frozen: &Frozen,
+    round: Option<ScopeId>,
+    c: Val,
+) -> Result<Val, ValueStop>
+    ensures { Answers (paired result heap.new) (class_known (seen frozen.now heap.old) round c) }
+{
+    let Some(round) = round else {
+        return Ok(c);
+    };
+    match heap.bind(frozen, round, "class", copied(&c)) {
+        Ok(()) => Ok(c),
+        Err(stop) => Err(stop),
+    }
+}
+
+// The class of what a scope binds, known to the functions of its body.
+fn known_class(
+    heap: &mut Heap,
+    frozen: &Frozen,
+    base: Option<Val>,
+    scope: ScopeId,
+) -> Result<Val, ValueStop>
+    ensures { Answers (paired result heap.new) (known_class (seen frozen.now heap.old) base scope) }
+{
+    let round = scope_round(heap, frozen, scope);
+    match heap.class(frozen, base, scope) {
+        Ok(c) => class_known(heap, frozen, round, c),
+        Err(stop) => Err(stop),
     }
 }
 
@@ -105,6 +161,7 @@ fn class_ended(
             base,
             keywords,
             inner.notes,
+            kept_bindings(going.alloc, inner.body),
             budget,
         );
     }
@@ -125,19 +182,20 @@ fn class_built(
     base: Val,
     keywords: NamedVals,
     notes: NamedVals,
+    bindings: NamedVals,
     budget: u64,
 ) -> Result<Now, Halt>
     requires { step_of s.now ≡ Class s.now.place name.now (bases_of (option_map trailer_of arguments.now)) (steps_of body.now) }
-    ensures moves { GoesOn functions.now frozen.now result going.old going.new budget (λ k. class_built k scope base name.now keywords notes s.now.place) }
+    ensures moves { GoesOn functions.now frozen.now result going.old going.new budget (λ k. class_built k scope base name.now keywords notes bindings s.now.place) }
     ensures used { going.new.state.used ≡ going.old.state.used }
 {
     if over_thing(&going.state.heap, frozen, &base) {
         return class_over(
             going, functions, frozen, s, name, arguments, body, scope, base, keywords, notes,
-            budget,
+            bindings, budget,
         );
     }
-    match going.state.heap.class(frozen, as_base(base), scope) {
+    match known_class(&mut going.state.heap, frozen, as_base(base), scope) {
         Ok(c) => name_bound(going, functions, frozen, name.as_str(), c, s.place, budget),
         Err(stop) => Err(refused(stop, s.place)),
     }
@@ -157,23 +215,22 @@ fn class_over(
     base: Val,
     keywords: NamedVals,
     notes: NamedVals,
+    bindings: NamedVals,
     budget: u64,
 ) -> Result<Now, Halt>
     requires { step_of s.now ≡ Class s.now.place name.now (bases_of (option_map trailer_of _arguments.now)) (steps_of _body.now) }
-    ensures moves { GoesOn functions.now frozen.now result going.old going.new budget (λ k. class_over k scope base name.now keywords notes s.now.place) }
+    ensures moves { GoesOn functions.now frozen.now result going.old going.new budget (λ k. class_over k scope base name.now keywords notes bindings s.now.place) }
     ensures used { going.new.state.used ≡ going.old.state.used }
 {
     let Ok(stmt) = s.share() else {
         return Err(Halt::NoMemory);
     };
-    let Ok(bindings) = names_bound(going.alloc, &going.state.heap, frozen, scope) else {
-        return Err(Halt::NoMemory);
-    };
-    match going
-        .state
-        .heap
-        .class(frozen, as_base(copied(&base)), scope)
-    {
+    match known_class(
+        &mut going.state.heap,
+        frozen,
+        as_base(copied(&base)),
+        scope,
+    ) {
         Err(stop) => Err(refused(stop, s.place)),
         Ok(c) => {
             let Ok(request) = class_request(

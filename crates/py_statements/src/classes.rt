@@ -1,15 +1,17 @@
 // A class whose arguments are there: its base, its scope and its body.
-ghost use Rattle.std.specs.Prelude.{◌≡◌, ◌∷◌, [], option_map, Some};
+ghost use Rattle.std.specs.Prelude.{◌≡◌, ◌∷◌, [], option_map, Some, IfOk};
 ghost use Rattle.py_tree.specs.Seen.{trailer_of};
 ghost use Rattle.py_tree.specs.Programs.{step_of, steps_of};
 ghost use Rattle.py_tree.specs.Steps.{Class, bases_of};
 ghost use Rattle.py_values.specs.Heaps.{seen};
 ghost use Rattle.py_frames.specs.Own.{steps_names};
-ghost use Rattle.py_frames.specs.Statements.{run_all, base_of, over_thing, ends_at_thing, are_keywords, class_begun, class_body};
+ghost use Rattle.py_frames.specs.Statements.{run_all, base_of, over_thing, ends_at_thing, are_keywords, class_begun, class_body, class_within};
+ghost use Rattle.py_frames.specs.Values.{class_word};
 ghost use Rattle.py_frames.specs.Def_frames.{class_given};
 ghost use Rattle.py_statements.specs.Def_begun.{class_inside};
 ghost use Rattle.py_frames.specs.Frames.{GoesOn};
 
+use amh_host::{Names, NoMemory};
 use py_frames::block::block_under;
 use py_frames::frame::{DefFrame, Frame, Now};
 use py_frames::functions::Functions;
@@ -17,10 +19,11 @@ use py_frames::going::Going;
 use py_frames::own::own_names;
 use py_frames::request::{Cause, NamedVals};
 use py_frames::scopes::seen_from;
-use py_frames::state::{Got, Halt, Here};
+use py_frames::state::{ClassBody, Got, Halt, Here};
 use py_frames::stmt_plain::{comes, stops};
 use py_tree::{Block, Name, Stmt, StmtKind, Trailer};
 use py_values::{Frozen, Heap, Inherited, OwnNames, ScopeId, Val, Vals};
+use std::alloc::Global;
 use std::mem;
 
 // The base of a class, where it may have these arguments.
@@ -157,7 +160,7 @@ fn class_begun(
     )
 }
 
-// Its scope is made.
+// The scope round its body is made, in which the class will stand.
 #[tactic(auto, using(crate::proofs::ClassLaws::body_rules))]
 fn class_body(
     going: &mut Going,
@@ -175,14 +178,55 @@ fn class_body(
     ensures moves { GoesOn functions.now frozen.now result going.old going.new budget (λ k. class_body k base name.now keywords (steps_names (steps_of body.now)) (run_all k (steps_of body.now)) s.now.place) }
     ensures used { going.new.state.used ≡ going.old.state.used }
 {
+    let Ok(own) = class_alone(going.alloc) else {
+        return Err(Halt::NoMemory);
+    };
+    let enclosing = seen_from(going, frozen);
+    match going.state.heap.scope(frozen, enclosing, false, own) {
+        Ok(round) => class_within(
+            going, functions, frozen, s, name, arguments, body, round, base, keywords, budget,
+        ),
+        Err(_) => Err(Halt::NoMemory),
+    }
+}
+
+// The name under which a class stands alone.
+fn class_alone(alloc: Global) -> Result<OwnNames, NoMemory>
+    ensures { IfOk result (λ own. own ≡ class_word ∷ []) }
+{
+    let mut names = Names::new(alloc);
+    let Ok(()) = names.push("class") else {
+        return Err(NoMemory);
+    };
+    OwnNames::new(alloc, names)
+}
+
+// The scope of its body is made.
+#[tactic(auto, using(crate::proofs::ClassLaws::within_rules))]
+fn class_within(
+    going: &mut Going,
+    functions: &Functions,
+    frozen: &Frozen,
+    s: &Stmt,
+    name: &Name,
+    arguments: &Option<Trailer>,
+    body: &Block,
+    round: ScopeId,
+    base: Val,
+    keywords: NamedVals,
+    budget: u64,
+) -> Result<Now, Halt>
+    requires { step_of s.now ≡ Class s.now.place name.now (bases_of (option_map trailer_of arguments.now)) (steps_of body.now) }
+    ensures moves { GoesOn functions.now frozen.now result going.old going.new budget (λ k. class_within k round base name.now keywords (steps_names (steps_of body.now)) (run_all k (steps_of body.now)) s.now.place) }
+    ensures used { going.new.state.used ≡ going.old.state.used }
+{
     let Ok(names) = own_names(going.alloc, body) else {
         return Err(Halt::NoMemory);
     };
     let Ok(own) = OwnNames::new(going.alloc, names) else {
         return Err(Halt::NoMemory);
     };
-    let enclosing = seen_from(going, frozen);
-    match going.state.heap.scope(frozen, enclosing, true, own) {
+    match going.state.heap.scope(frozen, Some(round), true, own) {
         Ok(scope) => class_inside(
             going, functions, frozen, s, name, arguments, body, scope, base, keywords, budget,
         ),
@@ -214,8 +258,11 @@ fn class_inside(
     };
     let here = Here {
         scope,
-        home: None,
         first: None,
+        body: Some(ClassBody {
+            scope,
+            bindings: NamedVals::new(going.alloc),
+        }),
         notes: NamedVals::new(going.alloc),
         room: going.state.here.room,
     };

@@ -18,3 +18,4 @@ pub mod SliceLaws
 pub mod TupleLaws
 pub mod ElementsAre
 pub mod SamplesSequences
+pub mod KeyLaws

@@ -21,3 +21,4 @@ pub mod Sequences
 pub mod Indices
 pub mod Lists
 pub mod Builtins
+pub mod Keys

@@ -121,7 +121,7 @@ impl Heap {
         if self.pair_passes(frozen, self.own_row(i)) {
             return Err(ValueStop::Limit);
         }
-        let Ok(()) = self.rows[i].push_pair(key, v) else {
+        let Ok(()) = self.rows[i].push_key(&key, v) else {
             return Err(ValueStop::NoMemory);
         };
         self.items += 1;
@@ -133,7 +133,7 @@ impl Heap {
         requires { i < length self.old.rows }
         ensures { Answers (paired result self.new) (key_set_at (seen frozen.now self.old) (Some i) key.now v) }
     {
-        match self.key_place(frozen, key, self.own_row(i)) {
+        match self.key_place(frozen, key, &self.rows[i]) {
             Some(k) => self.set_own(i, Some(k), v),
             None => self.add_key(frozen, i, *key, v),
         }

@@ -11,6 +11,7 @@ use crate::fresh::Fresh;
 use crate::heap::{Frozen, Heap, next_number};
 use crate::members::is_key;
 use crate::range::{is_empty_range, span_of};
+use crate::row::Row;
 use crate::val::{ObjId, Val, ValueStop};
 use crate::vals::Vals;
 use std::alloc::Global;
@@ -76,15 +77,15 @@ fn two_of(row: &[Val]) -> Option<(Val, Val)>
 
 impl Heap {
     // Puts a key and its value into the row of a dict.
-    fn put(&self, frozen: &Frozen, row: &mut Vals, k: &Val, v: Val) -> Result<(), ValueStop>
+    fn put(&self, frozen: &Frozen, row: &mut Row, k: &Val, v: Val) -> Result<(), ValueStop>
         ensures { Answers (paired result row.new) (Ok (tt, put (seen frozen.now self.now) row.old k.now v)) }
     {
-        match self.key_place(frozen, k, row.as_slice()) {
+        match self.key_place(frozen, k, row) {
             Some(i) => {
                 row.set(i, v);
                 Ok(())
             }
-            None => match row.push_pair(*k, v) {
+            None => match row.push_key(k, v) {
                 Ok(()) => Ok(()),
                 Err(_) => Err(ValueStop::NoMemory),
             },
@@ -92,10 +93,10 @@ impl Heap {
     }
 
     // The row of a dict of these keys and values.
-    fn put_all(&self, frozen: &Frozen, pairs: &[Val]) -> Result<Vals, ValueStop>
+    fn put_all(&self, frozen: &Frozen, pairs: &[Val]) -> Result<Row, ValueStop>
         ensures { Answers result (Ok (put_all (seen frozen.now self.now) [] pairs.now)) }
     {
-        let mut row = Vals::new(self.alloc);
+        let mut row = Row::of(self.alloc, Vals::new(self.alloc));
         for i in 0..pairs.len() / 2 {
             match self.put(frozen, &mut row, &pairs[2 * i], pairs[2 * i + 1]) {
                 Ok(()) => {}
@@ -113,7 +114,7 @@ impl Heap {
     }
 
     // A new dict of this row.
-    fn dict_row(&mut self, frozen: &Frozen, row: Vals) -> Result<Val, ValueStop>
+    fn dict_row(&mut self, frozen: &Frozen, row: Row) -> Result<Val, ValueStop>
         ensures { Answers (paired result self.new) (dict_row (seen frozen.now self.old) row) }
     {
         let count = row.len() / 2;
@@ -258,9 +259,8 @@ impl Heap {
         if !is_key(*k) {
             return Err(ValueStop::Raised);
         }
-        let row = self.row(frozen, o);
-        match self.key_place(frozen, k, row) {
-            Some(i) => Ok(row[i]),
+        match self.dict_place(frozen, k, o) {
+            Some(i) => Ok(self.row(frozen, o)[i]),
             None => Ok(default),
         }
     }

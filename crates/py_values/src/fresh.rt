@@ -6,6 +6,7 @@ ghost use Rattle.py_values.specs.Runs.{Answers, paired};
 ghost use Rattle.py_values.specs.Places.{new_text, new_row, placed, row_passes, text_passes};
 
 use crate::heap::{Frozen, Heap, next_number};
+use crate::row::Row;
 use crate::val::{ObjId, StrId, Val, ValueStop};
 use crate::vals::Vals;
 use lists::Text;
@@ -70,7 +71,7 @@ impl Heap {
         let Ok(id) = next_number(frozen.made.rows.len(), self.rows.len()) else {
             return Err(ValueStop::NoMemory);
         };
-        let Ok(()) = self.rows.push(row) else {
+        let Ok(()) = self.rows.push(Row::of(self.alloc, row)) else {
             return Err(ValueStop::NoMemory);
         };
         self.items += count as u32;

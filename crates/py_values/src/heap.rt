@@ -1,11 +1,11 @@
 // What a machine made, and what stands before it.
-ghost use Rattle.std.specs.Prelude.{◌≡◌, ◌+◌, ◌<◌, ◌≤◌, length, [], IfOk, IfErr, Some, slice_get};
+ghost use Rattle.std.specs.Prelude.{◌≡◌, ◌+◌, ◌<◌, ◌≤◌, length, [], IfOk, IfErr, Some, slice_get, unwrap_or};
 ghost use Rattle.std.specs.Option.{option_copied};
 ghost use Rattle.py_values.specs.Heaps.{Made, nothing, seen, text_of, row_of, text_at, row_at, func_at};
 
 use crate::func::{Func, Scope};
+use crate::row::Row;
 use crate::val::{FuncId, ObjId, StrId, Val, ValueStop};
-use crate::vals::Vals;
 use lists::Words;
 use std::alloc::Global;
 use std::marker::Model;
@@ -15,7 +15,7 @@ use std::marker::Model;
 pub struct Heap {
     pub(crate) alloc: Global,
     pub(crate) texts: Words,
-    pub(crate) rows: Vec<Vals>,
+    pub(crate) rows: Vec<Row>,
     pub(crate) funcs: Vec<Func>,
     pub(crate) scopes: Vec<Scope>,
     pub(crate) chars: u32,
@@ -122,6 +122,19 @@ impl Heap {
             frozen.made.own_row(i)
         } else {
             self.own_row(i - before)
+        }
+    }
+
+    /// The row of a number, with its index. `None` exactly for a number that stands for none.
+    pub(crate) fn indexed_row<'a>(&'a self, frozen: &'a Frozen, o: ObjId) -> Option<&'a Row>
+        ensures { unwrap_or (option_copied result) [] ≡ row_at (seen frozen.now self.now) o.0 }
+    {
+        let before = frozen.made.rows.len();
+        let i = o.0 as usize;
+        if i < before {
+            frozen.made.rows.get(i)
+        } else {
+            self.rows.get(i - before)
         }
     }
 

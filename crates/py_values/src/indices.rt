@@ -115,14 +115,14 @@ fn character_shown(alloc: Global, text: &str, n: Option<Int>) -> Result<Fresh, V
 
 impl Heap {
     // The value of a key in the row of a dict.
-    fn key_item(&self, frozen: &Frozen, k: Val, row: &[Val]) -> Option<Val>
-        ensures { result ≡ key_item (seen frozen.now self.now) k row.now }
+    fn key_item(&self, frozen: &Frozen, k: Val, o: ObjId) -> Option<Val>
+        ensures { result ≡ key_item (seen frozen.now self.now) k (row_at (seen frozen.now self.now) o.0) }
     {
         if !is_key(k) {
             return None;
         }
-        match self.key_place(frozen, &k, row) {
-            Some(i) => Some(row[i]),
+        match self.dict_place(frozen, &k, o) {
+            Some(i) => Some(self.row(frozen, o)[i]),
             None => None,
         }
     }
@@ -137,7 +137,7 @@ impl Heap {
                 self.row(frozen, o),
                 number_of(i),
             )),
-            Val::Dict(o) => value_shown(self.key_item(frozen, i, self.row(frozen, o))),
+            Val::Dict(o) => value_shown(self.key_item(frozen, i, o)),
             Val::Range(o) => value_shown(number_at(self.row(frozen, o), number_of(i))),
             _ => Err(ValueStop::Raised),
         }

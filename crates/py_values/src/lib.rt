@@ -16,6 +16,7 @@
 mod bindings;
 mod builtin;
 mod change;
+mod codes;
 mod dicts;
 mod elements;
 mod equality;
@@ -32,6 +33,7 @@ mod op;
 mod operate;
 mod powers;
 mod range;
+mod row;
 mod scalars;
 mod scopes;
 mod sequences;

@@ -8,12 +8,14 @@ ghost use Rattle.py_values.specs.Runs.{Charged, later, free, given};
 ghost use Rattle.py_values.specs.Equality.{equal};
 ghost use Rattle.py_values.specs.Members.{has_part, in_text, any_equal, is_key, agrees, same_key, value_place, is_there, in_dict, in_span, member};
 
+use crate::codes::code_of;
 use crate::equality::{Pair, pair_of};
 use crate::heap::{Frozen, Heap};
 use crate::numbers::number_of;
 use crate::range::{in_range, span_of};
+use crate::row::Row;
 use crate::spend::spend;
-use crate::val::{Val, ValueStop};
+use crate::val::{ObjId, Val, ValueStop};
 use amh_host::Budget;
 
 // Whether a text begins with another at a place.
@@ -107,7 +109,30 @@ impl Heap {
     }
 
     /// The place of the value of a key in the row of a dict.
-    pub(crate) fn key_place(&self, frozen: &Frozen, k: &Val, row: &[Val]) -> Option<usize>
+    #[tactic(auto, using(crate::proofs::KeyLaws::place_by_code))]
+    pub(crate) fn key_place(&self, frozen: &Frozen, k: &Val, row: &Row) -> Option<usize>
+        ensures place { result ≡ value_place (same_key (seen frozen.now self.now) k.now) 0 row.now }
+        ensures within { IfSome result (λ i. i < length row.now) }
+    {
+        match code_of(*k) {
+            Some(code) => row.coded_place(code),
+            None => self.walked_key(frozen, k, row.as_slice()),
+        }
+    }
+
+    /// The place of the value of a key in a dict.
+    pub(crate) fn dict_place(&self, frozen: &Frozen, k: &Val, o: ObjId) -> Option<usize>
+        ensures place { result ≡ value_place (same_key (seen frozen.now self.now) k.now) 0 (row_at (seen frozen.now self.now) o.0) }
+        ensures within { IfSome result (λ i. i < length (row_at (seen frozen.now self.now) o.0)) }
+    {
+        match self.indexed_row(frozen, o) {
+            Some(row) => self.key_place(frozen, k, row),
+            None => None,
+        }
+    }
+
+    // The same, by a walk.
+    fn walked_key(&self, frozen: &Frozen, k: &Val, row: &[Val]) -> Option<usize>
         ensures place { result ≡ value_place (same_key (seen frozen.now self.now) k.now) 0 row.now }
         ensures within { IfSome result (λ i. i < length row.now) }
     {
@@ -119,11 +144,11 @@ impl Heap {
         None
     }
 
-    fn in_dict(&self, frozen: &Frozen, k: &Val, row: &[Val]) -> Option<bool>
-        ensures { free (given result) ≡ in_dict (seen frozen.now self.now) k.now row.now }
+    fn in_dict(&self, frozen: &Frozen, k: &Val, o: ObjId) -> Option<bool>
+        ensures { free (given result) ≡ in_dict (seen frozen.now self.now) k.now (row_at (seen frozen.now self.now) o.0) }
     {
         if is_key(*k) {
-            Some(self.key_place(frozen, k, row).is_some())
+            Some(self.dict_place(frozen, k, o).is_some())
         } else {
             None
         }
@@ -143,7 +168,7 @@ impl Heap {
         match b {
             Val::Str(x) => given(self.in_text(frozen, a, self.text(frozen, x))),
             Val::List(o) | Val::Tuple(o) => self.any_equal(frozen, &a, self.row(frozen, o), left),
-            Val::Dict(o) => given(self.in_dict(frozen, &a, self.row(frozen, o))),
+            Val::Dict(o) => given(self.in_dict(frozen, &a, o)),
             Val::Range(o) => given(in_span(a, self.row(frozen, o))),
             _ => Err(ValueStop::Raised),
         }

@@ -11,6 +11,7 @@ use crate::change::own_number;
 use crate::equality::same_bytes;
 use crate::fresh::char_count;
 use crate::heap::{Frozen, Heap, next_number};
+use crate::row::Row;
 use crate::val::{Hw, ObjId, ScopeId, StrId, Val, ValueStop};
 use crate::vals::Vals;
 use lists::Words;
@@ -209,7 +210,7 @@ impl Heap {
         let Ok(id) = next_number(frozen.made.rows.len(), self.rows.len()) else {
             return Err(ValueStop::NoMemory);
         };
-        let Ok(()) = self.rows.push(row) else {
+        let Ok(()) = self.rows.push(Row::of(self.alloc, row)) else {
             return Err(ValueStop::NoMemory);
         };
         self.items += count as u32;

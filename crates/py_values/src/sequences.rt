@@ -9,6 +9,7 @@ use crate::fresh::{Fresh, char_count};
 use crate::heap::{Frozen, Heap, next_number};
 use crate::numbers::{is_zero, number_of};
 use crate::range::{Span, span_of};
+use crate::row::Row;
 use crate::spans::span_count;
 use crate::sums::{as_list, as_tuple};
 use crate::val::{ObjId, Val, ValueStop};
@@ -77,7 +78,7 @@ impl Heap {
         let Ok(row) = span_row(self.alloc, r) else {
             return Err(ValueStop::NoMemory);
         };
-        let Ok(()) = self.rows.push(row) else {
+        let Ok(()) = self.rows.push(Row::of(self.alloc, row)) else {
             return Err(ValueStop::NoMemory);
         };
         Ok(Val::Range(ObjId(id)))

@@ -78,6 +78,7 @@ impl Vals {
     /// Adds two values at the end, or none.
     pub fn push_pair(&mut self, first: Val, second: Val) -> Result<(), NoMemory>
         ensures ok { OnOk result (self.new ≡ self.old ++ first ∷ second ∷ []) }
+        ensures err { OnErr result (self.new ≡ self.old) }
     {
         match self.items.extend_from_slice(&[first, second]) {
             Ok(()) => Ok(()),

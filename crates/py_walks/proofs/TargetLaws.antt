@@ -29,6 +29,7 @@ use Rattle.py_frames.specs.Expressions.{value_of, assign, assign_each, stored, r
 use Rattle.py_frames.specs.Expr_parts.{tree_at, is_trailed}
 use Rattle.py_frames.specs.Call_frames.{trailers_of}
 use Rattle.py_frames.specs.Begun.{cost_of, Spends}
+use Rattle.py_frames.specs.Functions.{named_val}
 use Rattle.py_frames.specs.Told.{Binds}
 use Rattle.py_frames.specs.Walk_frames.{targets_in, unpacked}
 use Rattle.py_walks.specs.Walk_parts.{TellsElements, is_target}
@@ -42,15 +43,15 @@ use Rattle.py_walks.proofs.WalkLaws.{under_frame, next_left, next_on, counts_hol
 
 -- ---- names
 
-pub name_bound : (fns : Functions) (frozen : Made) (x z : Going) (budget : ℕ) (p : Place) (name text : List ℕ) (t : Tree) (v : Val) (u : Unit {0}) → t ≡ Name p name → text ≡ name → Binds (Ok u) (scope_bound (seen frozen x.state.heap) x.state.here.scope.0 text v) p x z → GoesOn fns frozen (Ok (Came Next)) x z budget (λ k. assign k t v)
+pub name_bound : (fns : Functions) (frozen : Made) (x z : Going) (budget : ℕ) (p : Place) (name text : List ℕ) (t : Tree) (v : Val) (u : Unit {0}) → t ≡ Name p name → text ≡ name → Binds (Ok u) (scope_bound (seen frozen x.state.heap) x.state.here.scope.0 text v) (named_val text v) p x z → GoesOn fns frozen (Ok (Came Next)) x z budget (λ k. assign k t v)
 name_bound fns frozen x z budget p name text t v u e q b =
-    let N : List ℕ → Type 0 = λ i. Binds (Ok u) (scope_bound (seen frozen x.state.heap) x.state.here.scope.0 i v) p x z in
+    let N : List ℕ → Type 0 = λ i. Binds (Ok u) (scope_bound (seen frozen x.state.heap) x.state.here.scope.0 i v) (named_val i v) p x z in
     let P : Tree → Type 0 = λ a. GoesOn fns frozen (Ok (Came Next)) x z budget (λ k. assign k a v) in
     subst P (sym e) (bind_goes fns frozen (Ok (Came Next)) x z z budget u name v p (λ k. came Next) (subst N q b) (came_goes fns frozen z budget Next))
 
-pub name_refused : (fns : Functions) (frozen : Made) (h : Halt) (x z : Going) (budget : ℕ) (p : Place) (name text : List ℕ) (t : Tree) (v : Val) → t ≡ Name p name → text ≡ name → Binds (Err h) (scope_bound (seen frozen x.state.heap) x.state.here.scope.0 text v) p x z → GoesOn fns frozen (Err h) x z budget (λ k. assign k t v)
+pub name_refused : (fns : Functions) (frozen : Made) (h : Halt) (x z : Going) (budget : ℕ) (p : Place) (name text : List ℕ) (t : Tree) (v : Val) → t ≡ Name p name → text ≡ name → Binds (Err h) (scope_bound (seen frozen x.state.heap) x.state.here.scope.0 text v) (named_val text v) p x z → GoesOn fns frozen (Err h) x z budget (λ k. assign k t v)
 name_refused fns frozen h x z budget p name text t v e q b =
-    let N : List ℕ → Type 0 = λ i. Binds (Err h) (scope_bound (seen frozen x.state.heap) x.state.here.scope.0 i v) p x z in
+    let N : List ℕ → Type 0 = λ i. Binds (Err h) (scope_bound (seen frozen x.state.heap) x.state.here.scope.0 i v) (named_val i v) p x z in
     let P : Tree → Type 0 = λ a. GoesOn fns frozen (Err h) x z budget (λ k. assign k a v) in
     subst P (sym e) (bind_stops fns frozen h x z budget name v p (λ k. came Next) (subst N q b))
 

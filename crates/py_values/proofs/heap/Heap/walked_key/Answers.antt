@@ -2,7 +2,7 @@ use Rattle.std.proofs.Common.{◌≡◌, ◌*◌, false, sym, ◌∙◌, arith}
 use Rattle.py_values.specs.Heaps.{seen}
 use Rattle.py_values.specs.Members.{same_key}
 use Rattle.py_values.proofs.MemberLaws.{place_more, place_end}
-use Rattle.py_values.proofs.heap.Heap.key_place.Goals as goal
+use Rattle.py_values.proofs.heap.Heap.walked_key.Goals as goal
 
 pub loop-i-preserved : goal.loop-i-preserved
 loop-i-preserved c =

@@ -1,7 +1,7 @@
 use Rattle.std.proofs.Common.{◌≡◌, ◌*◌, drop}
 use Rattle.py_values.specs.Heaps.{seen}
 use Rattle.py_values.specs.Members.{same_key, value_place}
-use Rattle.py_values.proofs.heap.Heap.key_place.Given as goal
+use Rattle.py_values.proofs.heap.Heap.walked_key.Given as goal
 
 abbrev pub invariant-loop-i : goal.invariant-loop-i
 invariant-loop-i l =

@@ -1,0 +1,23 @@
+-- Whether a class stands over another, base by base.
+use Rattle.std.proofs.Common.{◌≡◌, ℕ, zero, suc, ◌==◌, ◌||◌, Bool, true, false, refl, ap, ◌∙◌, sym}
+use Rattle.py_values.specs.declared.val.Val.{Val}
+use Rattle.py_values.specs.declared.val.Val.TheVariants as val
+use Rattle.py_values.specs.declared.val.ObjId.{ObjId}
+use Rattle.py_values.specs.Heaps.{Seen, row_at}
+use Rattle.py_frames.specs.Values.{stands_over, head_of}
+
+turn : (n : ℕ) (s : Seen) (d c : ObjId) → stands_over (suc n) s (val.Class d) c ≡ ((d.0 == c.0) || stands_over n s (head_of (row_at s d.0)) c)
+unfolding stands_over
+turn n s d c = refl
+
+pub over_same : (n m : ℕ) (s : Seen) (d c : ObjId) → n ≡ suc m → (d.0 == c.0) ≡ true → stands_over n s (val.Class d) c ≡ true
+over_same n m s d c e q = ap (λ k. stands_over k s (val.Class d) c) e ∙ turn m s d c ∙ ap (λ (b : Bool). b || stands_over m s (head_of (row_at s d.0)) c) q
+
+pub over_base : (n m : ℕ) (s : Seen) (d c : ObjId) (base : Val) (b : Bool) → n ≡ suc m → (d.0 == c.0) ≡ false → base ≡ head_of (row_at s d.0) → stands_over m s base c ≡ b → stands_over n s (val.Class d) c ≡ b
+over_base n m s d c base b e q h g = ap (λ k. stands_over k s (val.Class d) c) e ∙ turn m s d c ∙ ap (λ (z : Bool). z || stands_over m s (head_of (row_at s d.0)) c) q ∙ ap (λ (z : Val). stands_over m s z c) (sym h) ∙ g
+
+pub over_none : (n : ℕ) (s : Seen) (v : Val) (c : ObjId) → n ≡ 0 → stands_over n s v c ≡ false
+unfolding stands_over
+over_none n s v c e = ap (λ k. stands_over k s v c) e
+
+pub ruleset over_rules = (over_same, over_base, over_none)

@@ -1,0 +1,153 @@
+// `sum`, which asks for its additions where there are things among what it adds.
+ghost use Rattle.std.specs.Prelude.{◌≡◌, ◌<◌, ◌≤◌, IfOk, OnOk, drop};
+ghost use Rattle.std.specs.List.{list_any};
+ghost use Rattle.py_values.specs.Heaps.{seen};
+ghost use Rattle.py_frames.specs.Values.{is_thing, any_thing, adds_things, sum_start, sum_over, sum_asked, summed, built_over};
+ghost use Rattle.py_frames.specs.Frames.{GoesOn};
+
+use amh_bits::Int;
+use amh_host::{NoMemory, Place};
+use py_frames::binds::refused;
+use py_frames::call_leaf::{give, raise};
+use py_frames::frame::{CallFrame, Frame, Now};
+use py_frames::functions::Functions;
+use py_frames::going::Going;
+use py_frames::operators::{built, is_thing, operated};
+use py_frames::state::Halt;
+use py_values::{Builtin, Frozen, PyOp, Val, ValueStop, Vals};
+
+fn has_thing(vals: &[Val]) -> bool
+    ensures { result ≡ list_any is_thing vals.now }
+{
+    for v in vals {
+        if is_thing(v) {
+            return true;
+        }
+    }
+    false
+}
+
+// What `sum` goes over, where there are things among that or it begins with one.
+fn adds_things(going: &Going, frozen: &Frozen, args: &[Val]) -> Result<bool, NoMemory>
+    ensures { IfOk result (λ adds. adds ≡ adds_things (seen frozen.now going.now.state.heap) args.now) }
+{
+    let (row, begins) = match args {
+        [row] => (*row, false),
+        [row, start] => (*row, is_thing(start)),
+        _ => return Ok(false),
+    };
+    match going.state.heap.elements(frozen, row) {
+        Ok(vals) => Ok(begins || has_thing(vals.as_slice())),
+        Err(ValueStop::NoMemory) => Err(NoMemory),
+        Err(_) => Ok(begins),
+    }
+}
+
+// What `sum` begins with.
+fn sum_start(more: &[Val]) -> Val
+    ensures { result ≡ sum_start more.now }
+{
+    match more {
+        [start] => *start,
+        _ => Val::Int(Int::of_u128(0)),
+    }
+}
+
+/// Additions from the left, each as the operator asks for it, from the item of this number on.
+#[tactic(auto, using(crate::proofs::SumLaws::summed_rules, py_frames::proofs::BeginLaws::turn_rules))]
+pub fn summed(
+    going: &mut Going,
+    functions: &Functions,
+    frozen: &Frozen,
+    total: Val,
+    row: Vals,
+    next: u64,
+    place: Place,
+    budget: u64,
+) -> Result<Now, Halt>
+    requires { going.old.state.used < budget }
+    ensures moves { GoesOn functions.now frozen.now result going.old going.new budget (λ k. summed k total (drop next row) place) }
+    ensures left { OnOk result (going.new.state.used < budget) }
+    ensures grows { going.old.state.used ≤ going.new.state.used }
+{
+    if next >= row.len() as u64 {
+        return give(going, functions, frozen, total, budget);
+    }
+    let x = row.as_slice()[next as usize];
+    let next = next + 1;
+    match going
+        .frames
+        .push(Frame::Call(CallFrame::Summing { row, next, place }))
+    {
+        Ok(()) => operated(
+            going,
+            functions,
+            frozen,
+            PyOp::Add,
+            &total,
+            &x,
+            place,
+            budget,
+        ),
+        Err(_) => Err(Halt::NoMemory),
+    }
+}
+
+// The additions of what `sum` goes over.
+#[tactic(auto, using(crate::proofs::SumLaws::asked_rules, py_frames::proofs::BeginLaws::turn_rules))]
+fn sum_asked(
+    going: &mut Going,
+    functions: &Functions,
+    frozen: &Frozen,
+    args: &[Val],
+    place: Place,
+    budget: u64,
+) -> Result<Now, Halt>
+    requires { going.old.state.used < budget }
+    ensures moves { GoesOn functions.now frozen.now result going.old going.new budget (λ k. sum_asked k args.now place) }
+    ensures left { OnOk result (going.new.state.used < budget) }
+    ensures grows { going.old.state.used ≤ going.new.state.used }
+{
+    let [row, more @ ..] = args else {
+        return raise(going, functions, frozen, place, budget);
+    };
+    match going.state.heap.elements(frozen, *row) {
+        Ok(vals) => summed(
+            going,
+            functions,
+            frozen,
+            sum_start(more),
+            vals,
+            0,
+            place,
+            budget,
+        ),
+        Err(stop) => Err(refused(stop, place)),
+    }
+}
+
+/// A builtin whose arguments are rows.
+#[tactic(auto, using(crate::proofs::SumLaws::over_rules, py_frames::proofs::BeginLaws::turn_rules))]
+pub fn built_over(
+    going: &mut Going,
+    functions: &Functions,
+    frozen: &Frozen,
+    builtin: Builtin,
+    vals: Vals,
+    place: Place,
+    budget: u64,
+) -> Result<Now, Halt>
+    requires { going.old.state.used < budget }
+    ensures moves { GoesOn functions.now frozen.now result going.old going.new budget (λ k. built_over k builtin vals place) }
+    ensures left { OnOk result (going.new.state.used < budget) }
+    ensures grows { going.old.state.used ≤ going.new.state.used }
+{
+    match builtin {
+        Builtin::Sum => match adds_things(going, frozen, vals.as_slice()) {
+            Ok(true) => sum_asked(going, functions, frozen, vals.as_slice(), place, budget),
+            Ok(false) => built(going, functions, frozen, Builtin::Sum, vals, place, budget),
+            Err(_) => Err(Halt::NoMemory),
+        },
+        b => built(going, functions, frozen, b, vals, place, budget),
+    }
+}
