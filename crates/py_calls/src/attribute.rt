@@ -133,15 +133,7 @@ fn found_of_object(
     ensures used { going.new.state.used ≡ going.old.state.used }
 {
     match found {
-        Inherited::Found(v, _) => from_class(
-            going,
-            functions,
-            frozen,
-            v,
-            Some(x),
-            place,
-            budget,
-        ),
+        Inherited::Found(v, _) => from_class(going, functions, frozen, v, Some(x), place, budget),
         Inherited::Thing(_) => told_attribute(
             going, functions, frozen, x, name, place, rounds, budget,
         ),

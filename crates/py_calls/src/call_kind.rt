@@ -10,8 +10,8 @@ ghost use Rattle.py_frames.specs.Tables.{IsTable};
 ghost use Rattle.py_frames.specs.Values.{named_vals, named_names, with_this, stands_over, is_instance, super_func, super_of};
 ghost use Rattle.py_calls.specs.Called.{kind_of, no_arguments, no_keywords, one_thing};
 
-use amh_host::{Names, NoMemory, Place};
 use crate::attribute_leaf::first_of_row;
+use amh_host::{Names, NoMemory, Place};
 use py_frames::functions::Functions;
 use py_frames::going::Going;
 use py_frames::request::{Act, NamedVal, NamedVals, Request};
@@ -157,12 +157,7 @@ fn super_func(alloc: Global, o: ObjId, c: ObjId) -> Func
 }
 
 /// What `super()` gives: of the class in whose body the function was defined, and of the function's first argument.
-pub fn super_of(
-    going: &Going,
-    frozen: &Frozen,
-    first: Option<Val>,
-    class: LookUp,
-) -> Option<Func>
+pub fn super_of(going: &Going, frozen: &Frozen, first: Option<Val>, class: LookUp) -> Option<Func>
     ensures { result ≡ super_of (seen frozen.now going.now.state.heap) first class }
 {
     let (Some(Val::Object(o)), LookUp::Found(Val::Class(c))) = (first, class) else {

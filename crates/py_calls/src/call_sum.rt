@@ -1,6 +1,5 @@
 // `sum`, which asks for its additions where there are things among what it adds.
 ghost use Rattle.std.specs.Prelude.{◌≡◌, ◌<◌, ◌≤◌, IfOk, OnOk, drop};
-ghost use Rattle.std.specs.List.{list_any};
 ghost use Rattle.py_values.specs.Heaps.{seen};
 ghost use Rattle.py_frames.specs.Values.{is_thing, any_thing, adds_things, sum_start, sum_over, sum_asked, summed, built_over};
 ghost use Rattle.py_frames.specs.Frames.{GoesOn};
@@ -12,20 +11,9 @@ use py_frames::call_leaf::{give, raise};
 use py_frames::frame::{CallFrame, Frame, Now};
 use py_frames::functions::Functions;
 use py_frames::going::Going;
-use py_frames::operators::{built, is_thing, operated};
+use py_frames::operators::{built, has_thing, is_thing, operated};
 use py_frames::state::Halt;
-use py_values::{Builtin, Frozen, PyOp, Val, ValueStop, Vals};
-
-fn has_thing(vals: &[Val]) -> bool
-    ensures { result ≡ list_any is_thing vals.now }
-{
-    for v in vals {
-        if is_thing(v) {
-            return true;
-        }
-    }
-    false
-}
+use py_values::{Builtin, Frozen, PyOp, Val, Vals, ValueStop};
 
 // What `sum` goes over, where there are things among that or it begins with one.
 fn adds_things(going: &Going, frozen: &Frozen, args: &[Val]) -> Result<bool, NoMemory>

@@ -80,10 +80,10 @@ compare_none fns frozen x budget n v p ls q =
     let Q : Links → Type 0 = λ z. GoesOn fns frozen (Ok (Came (got.Value v))) x x budget (λ k. compared k p z v) in
     subst Q (sym (links_from_none n ls q)) (value_goes fns frozen x budget v)
 
-pub comparing_next : (fns : Functions) (frozen : Made) (r : Result Now Halt) (x y : Going) (budget : ℕ) (n : ℕ) (v b : Val) (p : Place) (node : Expr) (o : Operator) (t : Tree) → Some (o, t) ≡ link_at n (links_of (tree node)) → p ≡ place_of (tree node) → GoesOn fns frozen r x y budget (within (frame.Expr (expr.Decided node n b)) (λ k. operated k (operator_of o) v b p)) → GoesOn fns frozen r x y budget (λ k. comparing k (place_of (tree node)) (links_from n (links_of (tree node))) v b)
+pub comparing_next : (fns : Functions) (frozen : Made) (r : Result Now Halt) (x y : Going) (budget : ℕ) (n : ℕ) (v b : Val) (p : Place) (node : Expr) (o : Operator) (t : Tree) → Some (o, t) ≡ link_at n (links_of (tree node)) → p ≡ place_of (tree node) → GoesOn fns frozen r x y budget (within (frame.Expr (expr.Decided node n b)) (λ k. related k (operator_of o) v b p)) → GoesOn fns frozen r x y budget (λ k. comparing k (place_of (tree node)) (links_from n (links_of (tree node))) v b)
 comparing_next fns frozen r x y budget n v b p node o t q ep h =
     let Q : Links → Type 0 = λ z. GoesOn fns frozen r x y budget (λ k. comparing k (place_of (tree node)) z v b) in
-    let S : Place → Type 0 = λ z. GoesOn fns frozen r x y budget (within (frame.Expr (expr.Decided node n b)) (λ k. operated k (operator_of o) v b z)) in
+    let S : Place → Type 0 = λ z. GoesOn fns frozen r x y budget (within (frame.Expr (expr.Decided node n b)) (λ k. related k (operator_of o) v b z)) in
     subst Q (sym (links_from_some n (links_of (tree node)) o t q)) (subst S ep h)
 
 pub comparing_none : (fns : Functions) (frozen : Made) (x : Going) (budget n : ℕ) (v b : Val) (p : Place) (ls : Links) → None ≡ link_at n ls → GoesOn fns frozen (Ok (Came (got.Value v))) x x budget (λ k. comparing k p (links_from n ls) v b)
@@ -171,13 +171,13 @@ link_pushed fns frozen r x y budget g n m v p node o t sign e q ep es eg h =
     link_next fns frozen r x y budget n m v p node o t e q ep
     (pushed fns frozen r x y budget (frame.Expr (expr.Linked node m)) (within (frame.Expr (expr.Right (operator_of o) v p)) (λ k. value_of k Plain t)) refl (subst Q es (subst R eg h)))
 
-pub comparing_pushed : (fns : Functions) (frozen : Made) (r : Result Now Halt) (x y : Going) (budget : ℕ) (g : Going) (n : ℕ) (v b kept : Val) (p : Place) (node : Expr) (o : Operator) (t : Tree) (sign : PyOp) → Some (o, t) ≡ link_at n (links_of (tree node)) → p ≡ place_of (tree node) → sign ≡ operator_of o → kept ≡ b → g ≡ record x { frames = frame.Expr (expr.Decided node n kept) ∷ x.frames } → GoesOn fns frozen r g y budget (λ k. operated k sign v b p) → GoesOn fns frozen r x y budget (λ k. comparing k (place_of (tree node)) (links_from n (links_of (tree node))) v b)
+pub comparing_pushed : (fns : Functions) (frozen : Made) (r : Result Now Halt) (x y : Going) (budget : ℕ) (g : Going) (n : ℕ) (v b kept : Val) (p : Place) (node : Expr) (o : Operator) (t : Tree) (sign : PyOp) → Some (o, t) ≡ link_at n (links_of (tree node)) → p ≡ place_of (tree node) → sign ≡ operator_of o → kept ≡ b → g ≡ record x { frames = frame.Expr (expr.Decided node n kept) ∷ x.frames } → GoesOn fns frozen r g y budget (λ k. related k sign v b p) → GoesOn fns frozen r x y budget (λ k. comparing k (place_of (tree node)) (links_from n (links_of (tree node))) v b)
 comparing_pushed fns frozen r x y budget g n v b kept p node o t sign q ep es ek eg h =
-    let Q : PyOp → Type 0 = λ z. GoesOn fns frozen r (record x { frames = frame.Expr (expr.Decided node n kept) ∷ x.frames }) y budget (λ k. operated k z v b p) in
-    let R : Going → Type 0 = λ z. GoesOn fns frozen r z y budget (λ k. operated k sign v b p) in
-    let S : Val → Type 0 = λ z. GoesOn fns frozen r x y budget (within (frame.Expr (expr.Decided node n z)) (λ k. operated k (operator_of o) v b p)) in
+    let Q : PyOp → Type 0 = λ z. GoesOn fns frozen r (record x { frames = frame.Expr (expr.Decided node n kept) ∷ x.frames }) y budget (λ k. related k z v b p) in
+    let R : Going → Type 0 = λ z. GoesOn fns frozen r z y budget (λ k. related k sign v b p) in
+    let S : Val → Type 0 = λ z. GoesOn fns frozen r x y budget (within (frame.Expr (expr.Decided node n z)) (λ k. related k (operator_of o) v b p)) in
     comparing_next fns frozen r x y budget n v b p node o t q ep
-    (subst S ek (pushed fns frozen r x y budget (frame.Expr (expr.Decided node n kept)) (λ k. operated k (operator_of o) v b p) refl (subst Q es (subst R eg h))))
+    (subst S ek (pushed fns frozen r x y budget (frame.Expr (expr.Decided node n kept)) (λ k. related k (operator_of o) v b p) refl (subst Q es (subst R eg h))))
 
 -- the same, by a truth that was tested
 

@@ -1,4 +1,5 @@
 pub mod ExprChains
 pub mod ExprFormat
 pub mod ExprTimes
+pub mod SeekLaws
 pub mod ExprArms

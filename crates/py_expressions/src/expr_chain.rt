@@ -10,6 +10,7 @@ ghost use Rattle.py_frames.specs.Expressions.{linked, compared, joined};
 ghost use Rattle.py_frames.specs.Expr_frames.{links_of, operand_place, first_operand, comparing, decided};
 ghost use Rattle.py_frames.specs.Frames.{GoesOn};
 
+use crate::seek::related;
 use amh_host::Place;
 use py_frames::expr_values::truth_of;
 use py_frames::frame::{ExprFrame, Frame, Now};
@@ -18,7 +19,6 @@ use py_frames::going::{Going, spend, wait_for};
 use py_frames::leaf::{
     PartAt, copied, following, goes_on, link_at, operand_place, operator_of, place_of,
 };
-use py_frames::operators::operated;
 use py_frames::state::{Got, Halt};
 use py_tree::{Expr, Link};
 use py_values::{Frozen, Val};
@@ -111,7 +111,7 @@ fn more_compared(
     let Ok(()) = going.frames.push(frame) else {
         return Err(Halt::NoMemory);
     };
-    operated(going, functions, frozen, op, left, right, place, budget)
+    related(going, functions, frozen, op, left, right, place, budget)
 }
 
 /// The comparison of this number, both of whose operands have come.

@@ -9,6 +9,7 @@ ghost use Rattle.py_frames.specs.Frames.{GoesOn};
 
 use crate::expr_chain::{comparing, decided, next_comparison, next_joined, next_link};
 use crate::expr_items::{next_item, next_pair, pair_value};
+use crate::seek::element_compared;
 use amh_host::Place;
 use py_frames::expr_values::truth;
 use py_frames::frame::{ExprFrame, Frame, Now, Purpose};
@@ -204,6 +205,15 @@ pub fn expr_goes(
         ExprFrame::Decided { node, at, right } => {
             comparison_came(going, functions, frozen, node, at, right, v, budget)
         }
+        ExprFrame::Seeking {
+            sign,
+            sought,
+            row,
+            next,
+            place,
+        } => element_compared(
+            going, functions, frozen, sign, sought, row, next, place, v, budget,
+        ),
         ExprFrame::Joined { node, at } => {
             next_joined(going, functions, frozen, node, at, v, budget)
         }

@@ -10,4 +10,5 @@ pub mod expr_goes;
 pub mod expr_items;
 pub mod expr_kinds;
 pub mod expr_operands;
+pub mod seek;
 pub mod times;

@@ -1,10 +1,11 @@
 -- How the frames of expressions go on, in the words of the meaning of expressions.
 -- Internal: no rule of the language.
-use Rattle.std.specs.Prelude.{ℕ, zero, suc, List, [], ◌∷◌, ◌++◌}
+use Rattle.std.specs.Prelude.{ℕ, zero, suc, List, [], ◌∷◌, ◌++◌, drop}
 use Rattle.amh_host.specs.declared.place.Place.{Place}
 use Rattle.py_tree.specs.Seen.{tree}
 use Rattle.py_tree.specs.Tree.{Tree, Tuple, Display, Dict, Power, Binary, Compare, Boolean, Choice, Trees, none, Links, no_link, link, Pairs, no_pair, pair}
 use Rattle.py_values.specs.declared.val.Val.{Val}
+use Rattle.py_values.specs.declared.val.Val.TheVariants as val
 use Rattle.py_values.specs.declared.op.PyOp.TheVariants as op
 use Rattle.py_values.specs.Places.{new_tuple}
 use Rattle.py_frames.specs.declared.request.Cause.TheVariants.{Raised}
@@ -13,7 +14,7 @@ use Rattle.py_frames.specs.declared.frame.ExprFrame.{ExprFrame}
 use Rattle.py_frames.specs.declared.frame.ExprFrame.TheVariants as expr
 use Rattle.py_frames.specs.Doing.{Doing, Known, heap_seen, ◌>>=◌, give, stop, choose, making, spend}
 use Rattle.py_frames.specs.Parts.{operator_of, place_of, trees_from, links_from, pairs_from}
-use Rattle.py_frames.specs.Values.{truth_of, operated, turned}
+use Rattle.py_frames.specs.Values.{truth_of, operated, related, sought, turned}
 use Rattle.py_frames.specs.Expressions.{value_of, values_then, pairs_then, linked, compared, joined, where_more, list_made, dict_made}
 
 -- ---- items of displays
@@ -75,7 +76,7 @@ decided k p ls y z = where_more ls (give z) (truth_of k z p (λ b. choose b (spe
 abbrev pub comparing : Known → Place → Links → Val → Val → Doing
 comparing k p no_link x y = give x
 comparing k p (link o t ls) x y = do
-  z ← operated k (operator_of o) x y p
+  z ← related k (operator_of o) x y p
   decided k p ls y z
 
 -- how a frame goes on with the value that it waits for
@@ -90,5 +91,6 @@ expr_goes k (expr.Linked node n) v = linked k (place_of (tree node)) (links_from
 expr_goes k (expr.Compared node n) v = compared k (place_of (tree node)) (links_from n (links_of (tree node))) v
 expr_goes k (expr.Comparing node n x) v = comparing k (place_of (tree node)) (links_from n (links_of (tree node))) x v
 expr_goes k (expr.Decided node n y) v = decided k (place_of (tree node)) (links_from (suc n) (links_of (tree node))) y v
+expr_goes k (expr.Seeking sign a row n p) v = truth_of k v p (λ found. choose found (give (val.Bool sign)) (sought k sign a (drop n row) p))
 expr_goes k (expr.Joined node n) v = joined k (operand_place n (first_operand (tree node)) (links_of (tree node))) (links_from n (links_of (tree node))) v
 expr_goes k (expr.Chosen node) v = chosen k (tree node) v

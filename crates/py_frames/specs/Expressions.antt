@@ -289,7 +289,7 @@ abbrev mutual
   compared k p no_link x = give x
   compared k p (link o t ls) x = do
     y ← value_of k Plain t
-    z ← operated k (operator_of o) x y p
+    z ← related k (operator_of o) x y p
     where_more ls (give z) (truth_of k z p (λ b. choose b (spend p (compared k p ls y)) (give z)))
 
   -- a chain of `and` or of `or`; q is the place of the operand that x is the value of

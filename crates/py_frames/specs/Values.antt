@@ -149,6 +149,53 @@ operated k o a b place =
     choose (asks_operator o a b) (ask k (request Operator (a ∷ b ∷ []) (sign_of o ∷ []) place))
     (charging (λ s. operate k.frozen s.heap o a b) place give)
 
+-- ---- `in` a list or a tuple with things
+
+-- a thing and itself
+abbrev pub is_same_thing : Val → Val → Bool
+is_same_thing (val.Hw a) (val.Hw b) = nat_eq a.0 b.0
+is_same_thing _ _ = false
+
+-- whether the value is this element, or `==` holds of the two; else what follows
+abbrev pub matched : Known → Bool → Val → Val → Place → Doing → Doing
+matched k sign a x place rest = choose (is_same_thing a x) (give (val.Bool sign)) (do
+  t ← operated k op.Eq a x place
+  truth_of k t place (λ found. choose found (give (val.Bool sign)) rest))
+
+-- whether the value is an element, which are compared with it one after the other; each pair costs one
+abbrev pub sought : Known → Bool → Val → List Val → Place → Doing
+sought k sign a [] place = give (val.Bool (not sign))
+sought k sign a (x ∷ xs) place = spend place (matched k sign a x place (sought k sign a xs place))
+
+abbrev pub sought_among : Known → Bool → Val → Result (List Val) ValueStop → Place → Doing
+sought_among k sign a (Ok vs) place = sought k sign a vs place
+sought_among k sign a (Err e) place = stop (cause_of e) place
+
+-- things among the elements that `sum` or `in` goes over
+abbrev pub any_thing : Result (List Val) ValueStop → Bool
+any_thing (Ok vs) = list_any is_thing vs
+any_thing (Err e) = false
+
+abbrev pub is_row : Val → Bool
+is_row (val.List o) = true
+is_row (val.Tuple o) = true
+is_row _ = false
+
+-- whether `in` compares with a thing: it is sought among the elements of a list or a tuple, or is one of them
+abbrev pub seeks_things : Seen → Val → Val → Bool
+seeks_things s a b = is_row b && (is_thing a || any_thing (elements s b))
+
+-- `in` or `not in`
+abbrev pub contained : Known → Bool → PyOp → Val → Val → Place → Doing
+contained k sign o a b place = λ w s.
+    choose (seeks_things (heap_seen k s) a b) (sought_among k sign a (elements (heap_seen k s) b) place) (operated k o a b place) w s
+
+-- an operator that compares two operands
+abbrev pub related : Known → PyOp → Val → Val → Place → Doing
+related k op.In a b place = contained k true op.In a b place
+related k op.NotIn a b place = contained k false op.NotIn a b place
+related k o a b place = operated k o a b place
+
 -- an operator of one operand
 abbrev pub turned : Known → PyOp → Val → Place → Doing
 turned k o a place =
@@ -187,10 +234,6 @@ summed k total (x ∷ xs) place = do
   summed k t xs place
 
 -- things among the elements that `sum` goes over, or what it begins with
-abbrev pub any_thing : Result (List Val) ValueStop → Bool
-any_thing (Ok vs) = list_any is_thing vs
-any_thing (Err e) = false
-
 abbrev pub adds_things : Seen → List Val → Bool
 adds_things s (row ∷ []) = any_thing (elements s row)
 adds_things s (row ∷ start ∷ []) = is_thing start || any_thing (elements s row)

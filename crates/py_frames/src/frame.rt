@@ -116,6 +116,14 @@ pub enum ExprFrame {
         at: u64,
         right: Val,
     },
+    /// Whether a value equals the element before the one of this number, of a list or a tuple in which it is sought.
+    Seeking {
+        sign: bool,
+        sought: Val,
+        row: Vals,
+        next: u64,
+        place: Place,
+    },
     /// The operand before the `and` or `or` of this number.
     Joined {
         node: Expr,

@@ -1,5 +1,6 @@
 // Operators and builtins on values: of a thing the store is asked, and else the heap gives the value, at its cost.
 ghost use Rattle.std.specs.Prelude.{◌≡◌, ◌<◌, ◌≤◌, ◌-◌, ◌∷◌, [], IfOk, OnOk};
+ghost use Rattle.std.specs.List.{list_any};
 ghost use Rattle.py_frames.specs.declared.request.Act.TheVariants as act;
 ghost use Rattle.py_frames.specs.Asking.{request};
 ghost use Rattle.py_frames.specs.Doing.{charging, give};
@@ -24,6 +25,18 @@ pub fn is_thing(v: &Val) -> bool
         Val::Hw(_) => true,
         _ => false,
     }
+}
+
+/// Whether there is a thing of the store among the values.
+pub fn has_thing(vals: &[Val]) -> bool
+    ensures { result ≡ list_any is_thing vals.now }
+{
+    for v in vals {
+        if is_thing(v) {
+            return true;
+        }
+    }
+    false
 }
 
 /// Whether the store is asked for an operator.

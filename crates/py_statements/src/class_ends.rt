@@ -225,12 +225,7 @@ fn class_over(
     let Ok(stmt) = s.share() else {
         return Err(Halt::NoMemory);
     };
-    match known_class(
-        &mut going.state.heap,
-        frozen,
-        as_base(copied(&base)),
-        scope,
-    ) {
+    match known_class(&mut going.state.heap, frozen, as_base(copied(&base)), scope) {
         Err(stop) => Err(refused(stop, s.place)),
         Ok(c) => {
             let Ok(request) = class_request(
