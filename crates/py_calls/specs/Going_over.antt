@@ -1,8 +1,9 @@
 -- Words for builtins that go over the elements of things.
 -- Internal: no rule of the language.
-use Rattle.std.specs.Prelude.{ℕ, ◌&&◌, if◌then◌else◌, List, [], ◌∷◌, ◌++◌, length}
+use Rattle.std.specs.Prelude.{ℕ, ◌&&◌, if◌then◌else◌, List, [], ◌∷◌, ◌++◌, length, pos}
 use Rattle.amh_host.specs.declared.place.Place.{Place}
 use Rattle.py_values.specs.declared.val.Val.{Val}
+use Rattle.py_values.specs.declared.val.Val.TheVariants as val
 use Rattle.py_values.specs.declared.op.Builtin.{Builtin}
 use Rattle.py_calls.specs.declared.call_gone.Gone.{Gone}
 use Rattle.py_calls.specs.declared.call_gone.Gone.TheVariants as gone
@@ -13,6 +14,11 @@ use Rattle.py_frames.specs.Values.{is_thing, goes_over, iterated, built_over, go
 abbrev pub first_gone : Builtin → (n : ℕ) → List Val → List Val → Gone
 first_gone b n done [] = gone.Whole done
 first_gone b n done (v ∷ vs) = if is_thing v && goes_over b n (length done) then gone.Thing done v vs else first_gone b n (done ++ v ∷ []) vs
+
+-- what `sum` begins with, by all of its arguments
+abbrev pub start_of : List Val → Val
+start_of (row ∷ start ∷ []) = start
+start_of vals = val.Int (pos 0)
 
 -- the elements of a thing, and then the builtin goes on
 abbrev pub thing_gone : Known → Builtin → (n : ℕ) → List Val → Val → List Val → Place → Doing

@@ -24,8 +24,8 @@ use py_tree::Block;
 use py_values::{Code, Frozen, Func, FuncId, Val, Vals};
 use std::mem::replace;
 
-// The first of the arguments.
-fn first_of(args: &[Val]) -> Option<Val>
+/// The first of the arguments.
+pub fn first_of(args: &[Val]) -> Option<Val>
     ensures { result ≡ first_of args.now }
 {
     match args {

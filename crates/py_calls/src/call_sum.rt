@@ -1,9 +1,11 @@
 // `sum`, which asks for its additions where there are things among what it adds.
 ghost use Rattle.std.specs.Prelude.{◌≡◌, ◌<◌, ◌≤◌, IfOk, OnOk, drop};
 ghost use Rattle.py_values.specs.Heaps.{seen};
-ghost use Rattle.py_frames.specs.Values.{is_thing, any_thing, adds_things, sum_start, sum_over, sum_asked, summed, built_over};
+ghost use Rattle.py_frames.specs.Values.{adds_things, sum_asked, summed, built_over};
+ghost use Rattle.py_calls.specs.Going_over.{start_of};
 ghost use Rattle.py_frames.specs.Frames.{GoesOn};
 
+use crate::call_enter::first_of;
 use amh_bits::Int;
 use amh_host::{NoMemory, Place};
 use py_frames::binds::refused;
@@ -32,17 +34,17 @@ fn adds_things(going: &Going, frozen: &Frozen, args: &[Val]) -> Result<bool, NoM
 }
 
 // What `sum` begins with.
-fn sum_start(more: &[Val]) -> Val
-    ensures { result ≡ sum_start more.now }
+fn start_of(args: &[Val]) -> Val
+    ensures { result ≡ start_of args.now }
 {
-    match more {
-        [start] => *start,
+    match args {
+        [_, start] => *start,
         _ => Val::Int(Int::of_u128(0)),
     }
 }
 
 /// Additions from the left, each as the operator asks for it, from the item of this number on.
-#[tactic(auto, using(crate::proofs::SumLaws::summed_rules, py_frames::proofs::BeginLaws::turn_rules))]
+#[tactic(auto, using(crate::proofs::SumLaws::summed_none, py_frames::proofs::BeginLaws::turn_rules))]
 pub fn summed(
     going: &mut Going,
     functions: &Functions,
@@ -82,7 +84,7 @@ pub fn summed(
 }
 
 // The additions of what `sum` goes over.
-#[tactic(auto, using(crate::proofs::SumLaws::asked_rules, py_frames::proofs::BeginLaws::turn_rules))]
+#[tactic(auto, using(crate::proofs::SumLaws::asked_none, py_frames::proofs::BeginLaws::turn_rules))]
 fn sum_asked(
     going: &mut Going,
     functions: &Functions,
@@ -96,26 +98,20 @@ fn sum_asked(
     ensures left { OnOk result (going.new.state.used < budget) }
     ensures grows { going.old.state.used ≤ going.new.state.used }
 {
-    let [row, more @ ..] = args else {
+    let Some(row) = first_of(args) else {
         return raise(going, functions, frozen, place, budget);
     };
-    match going.state.heap.elements(frozen, *row) {
+    let start = start_of(args);
+    match going.state.heap.elements(frozen, row) {
         Ok(vals) => summed(
-            going,
-            functions,
-            frozen,
-            sum_start(more),
-            vals,
-            0,
-            place,
-            budget,
+            going, functions, frozen, start, vals, 0, place, budget,
         ),
         Err(stop) => Err(refused(stop, place)),
     }
 }
 
 /// A builtin whose arguments are rows.
-#[tactic(auto, using(crate::proofs::SumLaws::over_rules, py_frames::proofs::BeginLaws::turn_rules))]
+#[tactic(auto, using(py_frames::proofs::BeginLaws::turn_rules))]
 pub fn built_over(
     going: &mut Going,
     functions: &Functions,

@@ -23,7 +23,7 @@ use Rattle.py_frames.specs.Statements.{known}
 use Rattle.py_frames.specs.Doing.{World, Outcome, Done, Halts, Doing, Known, after, on_value, ◌>>=◌, give, choose, spend_each}
 use Rattle.py_frames.specs.Expressions.{value_of, pairs_then, linked, compared, joined, goes_on as carries_on, dict_made}
 use Rattle.py_frames.specs.Parts.{place_of, operator_of, links_from, pairs_from}
-use Rattle.py_frames.specs.Values.{truth_of, operated}
+use Rattle.py_frames.specs.Values.{truth_of, operated, related}
 use Rattle.py_frames.specs.Told.{TellsTruth}
 use Rattle.py_frames.specs.Expr_parts.{link_at}
 use Rattle.py_frames.specs.Expr_frames.{links_of, operand_place, first_operand, decided, comparing}

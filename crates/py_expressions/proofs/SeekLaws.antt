@@ -1,5 +1,5 @@
 -- A value that is sought among elements, one after the other.
-use Rattle.std.proofs.Common.{◌≡◌, ℕ, ◌+◌, ◌<◌, ◌≤◌, refl, ap, ◌∙◌, sym, subst, Bool, true, false, not, List, ◌∷◌, length, get_or, drop, Result, Ok, Err}
+use Rattle.std.proofs.Common.{◌≡◌, ℕ, ◌+◌, ◌<◌, ◌≤◌, refl, ap, ◌∙◌, sym, subst, Bool, true, false, not, List, ◌∷◌, length, get_or, drop, Some, Result, Ok, Err}
 use Rattle.std.proofs.lemmas.List.{drop_more, drop_all}
 use Rattle.amh_host.specs.declared.place.Place.{Place}
 use Rattle.py_tree.specs.Programs.{steps_of}
@@ -58,8 +58,6 @@ contained_refused fns frozen x budget sign o a v place refusal.Limit t h = conta
 contained_refused fns frozen x budget sign o a v place refusal.Spent t h = absurd h
 contained_refused fns frozen x budget sign o a v place refusal.NoMemory t h = no_memory fns frozen x x budget (λ k. contained k sign o a v place)
 
-pub ruleset contained_rules = (contained_plain, contained_goes, contained_refused)
-
 -- ---- from one element on
 
 pub sought_none : (fns : Functions) (frozen : Made) (r : Result Now Halt) (x y : Going) (budget n : ℕ) (sign : Bool) (a : Val) (row : List Val) (place : Place) → length row ≤ n → GoesOn fns frozen r x y budget (λ k. give (val.Bool (not sign))) → GoesOn fns frozen r x y budget (λ k. sought k sign a (drop n row) place)
@@ -82,8 +80,6 @@ sought_stops fns frozen halt x y budget n sign a v row place e q s =
     sought_next fns frozen (Err halt) x y budget n sign a v row place e q
     (spent_stops fns frozen halt x y budget 1 place (λ k. matched k sign a v place (sought k sign a (drop (n + 1) row) place)) s)
 
-pub ruleset sought_rules = (sought_none, sought_goes, sought_stops)
-
 -- ---- one element
 
 abbrev compared : Known → Bool → Val → Val → Place → Doing → Doing
@@ -101,8 +97,6 @@ matched_other fns frozen r x y budget n sign a v row place e h =
     let P : Bool → Type 0 = λ z. GoesOn fns frozen r x y budget (λ k. choose z (give (val.Bool sign)) (compared k sign a v place (sought k sign a (drop n row) place))) in
     subst P (sym e) h
 
-pub ruleset matched_rules = (matched_same, matched_other)
-
 -- ---- what a comparison gave
 
 abbrev by-found : Bool → Val → List Val → ℕ → Place → Known → Bool → Doing
@@ -111,11 +105,9 @@ by-found sign a row n place k found = choose found (give (val.Bool sign)) (sough
 pub compared_stops : (fns : Functions) (frozen : Made) (halt : Halt) (x : Going) (budget n : ℕ) (sign : Bool) (a v : Val) (row : List Val) (place : Place) → TellsTruth (Err halt) (truth (seen frozen x.state.heap) v) place → GoesOn fns frozen (Err halt) x x budget (λ k. truth_of k v place (λ found. choose found (give (val.Bool sign)) (sought k sign a (drop n row) place)))
 compared_stops fns frozen halt x budget n sign a v row place e = truth_stops fns frozen halt x budget v place (by-found sign a row n place) e
 
-pub compared_found : (fns : Functions) (frozen : Made) (x : Going) (budget n : ℕ) (sign : Bool) (a v : Val) (row : List Val) (place : Place) → TellsTruth (Ok true) (truth (seen frozen x.state.heap) v) place → GoesOn fns frozen (Ok (Came (Value (val.Bool sign)))) x x budget (λ k. truth_of k v place (λ found. choose found (give (val.Bool sign)) (sought k sign a (drop n row) place)))
-compared_found fns frozen x budget n sign a v row place e =
-    truth_goes fns frozen (Ok (Came (Value (val.Bool sign)))) x x budget true v place (by-found sign a row n place) e (give_goes fns frozen x budget (val.Bool sign))
+pub compared_found : (fns : Functions) (frozen : Made) (x : Going) (budget n : ℕ) (sign found : Bool) (a v : Val) (row : List Val) (place : Place) → TellsTruth (Ok found) (truth (seen frozen x.state.heap) v) place → found ≡ true → GoesOn fns frozen (Ok (Came (Value (val.Bool sign)))) x x budget (λ k. truth_of k v place (λ found. choose found (give (val.Bool sign)) (sought k sign a (drop n row) place)))
+compared_found fns frozen x budget n sign found a v row place e q =
+    truth_goes fns frozen (Ok (Came (Value (val.Bool sign)))) x x budget true v place (by-found sign a row n place) (e ∙ ap Some q) (give_goes fns frozen x budget (val.Bool sign))
 
-pub compared_next : (fns : Functions) (frozen : Made) (r : Result Now Halt) (x y : Going) (budget n : ℕ) (sign : Bool) (a v : Val) (row : List Val) (place : Place) → TellsTruth (Ok false) (truth (seen frozen x.state.heap) v) place → GoesOn fns frozen r x y budget (λ k. sought k sign a (drop n row) place) → GoesOn fns frozen r x y budget (λ k. truth_of k v place (λ found. choose found (give (val.Bool sign)) (sought k sign a (drop n row) place)))
-compared_next fns frozen r x y budget n sign a v row place e h = truth_goes fns frozen r x y budget false v place (by-found sign a row n place) e h
-
-pub ruleset compared_rules = (compared_stops, compared_found, compared_next)
+pub compared_next : (fns : Functions) (frozen : Made) (r : Result Now Halt) (x y : Going) (budget n : ℕ) (sign found : Bool) (a v : Val) (row : List Val) (place : Place) → TellsTruth (Ok found) (truth (seen frozen x.state.heap) v) place → found ≡ false → GoesOn fns frozen r x y budget (λ k. sought k sign a (drop n row) place) → GoesOn fns frozen r x y budget (λ k. truth_of k v place (λ found. choose found (give (val.Bool sign)) (sought k sign a (drop n row) place)))
+compared_next fns frozen r x y budget n sign found a v row place e q h = truth_goes fns frozen r x y budget false v place (by-found sign a row n place) (e ∙ ap Some q) h

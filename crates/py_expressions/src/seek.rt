@@ -71,7 +71,7 @@ fn seeks_things(going: &Going, frozen: &Frozen, a: &Val, b: &Val) -> bool
     }
 }
 
-#[tactic(auto, using(crate::proofs::SeekLaws::contained_rules))]
+#[tactic(auto, using(crate::proofs::SeekLaws::contained_plain))]
 fn contained(
     going: &mut Going,
     functions: &Functions,
@@ -108,7 +108,6 @@ fn is_same_thing(a: &Val, b: &Val) -> bool
 }
 
 // A value, which is sought among the elements from the one of this number on.
-#[tactic(auto, using(crate::proofs::SeekLaws::sought_rules, py_frames::proofs::BeginLaws::no_memory))]
 fn sought(
     going: &mut Going,
     functions: &Functions,
@@ -147,7 +146,7 @@ fn sought(
 }
 
 // The value and one element; the others stand from this number on.
-#[tactic(auto, using(crate::proofs::SeekLaws::matched_rules, py_frames::proofs::BeginLaws::turn_rules))]
+#[tactic(auto, using(crate::proofs::SeekLaws::matched_other, py_frames::proofs::BeginLaws::turn_rules))]
 fn matched(
     going: &mut Going,
     functions: &Functions,
@@ -182,7 +181,6 @@ fn matched(
 }
 
 /// What the comparison with one element gave decides whether the next one is compared.
-#[tactic(auto, using(crate::proofs::SeekLaws::compared_rules))]
 pub fn element_compared(
     going: &mut Going,
     functions: &Functions,

@@ -25,6 +25,9 @@ returns-in-Comparing-clause-moves c = frame_as _ _ _ _ _ _ _ _ _ c.in-Comparing.
 pub returns-in-Decided-clause-moves : goal.returns-in-Decided-clause-moves
 returns-in-Decided-clause-moves c = frame_as _ _ _ _ _ _ _ _ _ c.in-Decided.is c.comparison_came.ensures.moves
 
+pub returns-in-Seeking-clause-moves : goal.returns-in-Seeking-clause-moves
+returns-in-Seeking-clause-moves c = frame_as _ _ _ _ _ _ _ _ _ c.in-Seeking.is c.element_compared.ensures.moves
+
 pub returns-in-Joined-clause-moves : goal.returns-in-Joined-clause-moves
 returns-in-Joined-clause-moves c = frame_as _ _ _ _ _ _ _ _ _ c.in-Joined.is c.next_joined.ensures.moves
 
