@@ -158,7 +158,7 @@ top_ports = refl
 
 -- before its `__init__` a component has none, and is no top
 no_ports : component_ports with_gate.held.store (record { 0 = 1 }) ≡ None
-unfolding identifiers thing class object bit with_wiring with_in with_out with_component with_a with_b with_y gate_names gate_vals with_gate rows
+unfolding thing class object bit with_wiring with_in with_out with_component with_a with_b with_y gate_names gate_vals with_gate rows
 no_ports = refl
 
 -- a name twice raises, and so does `signature`
