@@ -11,13 +11,14 @@ unfolding stands_over
 turn n s d c = refl
 
 pub over_same : (n m : ℕ) (s : Seen) (d c : ObjId) → n ≡ suc m → (d.0 == c.0) ≡ true → stands_over n s (val.Class d) c ≡ true
-over_same n m s d c e q = ap (λ k. stands_over k s (val.Class d) c) e ∙ turn m s d c ∙ ap (λ (b : Bool). b || stands_over m s (head_of (row_at s d.0)) c) q
+over_same n m s d c e q = ap (λ (k : ℕ). stands_over k s (val.Class d) c) e ∙ turn m s d c ∙ ap (λ (b : Bool). b || stands_over m s (head_of (row_at s d.0)) c) q
 
-pub over_base : (n m : ℕ) (s : Seen) (d c : ObjId) (base : Val) (b : Bool) → n ≡ suc m → (d.0 == c.0) ≡ false → base ≡ head_of (row_at s d.0) → stands_over m s base c ≡ b → stands_over n s (val.Class d) c ≡ b
-over_base n m s d c base b e q h g = ap (λ k. stands_over k s (val.Class d) c) e ∙ turn m s d c ∙ ap (λ (z : Bool). z || stands_over m s (head_of (row_at s d.0)) c) q ∙ ap (λ (z : Val). stands_over m s z c) (sym h) ∙ g
+pub over_base : (n m : ℕ) (s : Seen) (d c : ObjId) (base : Val) → n ≡ suc m → (d.0 == c.0) ≡ false → base ≡ head_of (row_at s d.0) → stands_over n s (val.Class d) c ≡ stands_over m s base c
+over_base n m s d c base e q h = ap (λ (k : ℕ). stands_over k s (val.Class d) c) e ∙ turn m s d c ∙ ap (λ (z : Bool). z || stands_over m s (head_of (row_at s d.0)) c) q ∙ ap (λ (z : Val). stands_over m s z c) (sym h)
 
 pub over_none : (n : ℕ) (s : Seen) (v : Val) (c : ObjId) → n ≡ 0 → stands_over n s v c ≡ false
-unfolding stands_over
-over_none n s v c e = ap (λ k. stands_over k s v c) e
-
-pub ruleset over_rules = (over_same, over_base, over_none)
+over_none n s v c e = ap (λ (k : ℕ). stands_over k s v c) e ∙ no-turn s v c
+  where
+    no-turn : (s : Seen) (v : Val) (c : ObjId) → stands_over 0 s v c ≡ false
+    unfolding stands_over
+    no-turn s v c = refl

@@ -35,7 +35,7 @@ use Rattle.py_frames.specs.Functions.{named_val, is_given}
 use Rattle.py_frames.specs.Times.{decimal_time, divided_time}
 use Rattle.py_frames.specs.Parts.{operator_of, prefix_of, place_of, tree_count, link_count, trailer_count}
 use Rattle.py_frames.specs.Async.{is_async}
-use Rattle.py_frames.specs.Values.{bind, read, truth_of, is_thing, operated, turned, attribute, store_attribute, indexed, sliced, store_index, called, as_row}
+use Rattle.py_frames.specs.Values.{bind, read, truth_of, is_thing, operated, related, turned, attribute, store_attribute, indexed, sliced, store_index, called, as_row}
 
 -- ---- leaves
 

@@ -19,7 +19,7 @@ use Rattle.py_values.specs.declared.objects.Inherited.{Inherited}
 use Rattle.py_values.specs.declared.objects.Inherited.TheVariants as inherited
 use Rattle.py_values.specs.Heaps.{Made, Seen, seen, row_at, func_at}
 use Rattle.py_values.specs.Bindings.{Binding}
-use Rattle.py_values.specs.Names.{new_func, new_scope, bindings_at, scope_at, scope_bound}
+use Rattle.py_values.specs.Names.{new_func, new_scope, scope_at, scope_bound}
 use Rattle.py_values.specs.Objects.{inherited as inherits, new_class}
 use Rattle.py_values.specs.Elements.{element}
 use Rattle.py_frames.specs.declared.request.Act.TheVariants as act

@@ -1,7 +1,7 @@
 -- What is done with values, once they are there: operators, truth, indices, attributes and calls.
 -- Source: Python reference 6.3, Primaries, 6.4, 3.2 (methods), 3.3.1 (__init__), 3.3.3.6 (the class cell that `super()` reads), library reference, Built-in
 -- Functions (sum, super); requests for things: own rule (docs/RULES.md).
-use Rattle.std.specs.Prelude.{ℕ, zero, suc, ◌+◌, ◌==◌, ◌&&◌, ◌||◌, Bool, true, false, if◌then◌else◌, List, [], ◌∷◌, ◌++◌, map, length, pos, Option, Some, None, option_map, Result, Ok, Err, codes}
+use Rattle.std.specs.Prelude.{ℕ, zero, suc, ◌+◌, ◌==◌, ◌&&◌, ◌||◌, not, Bool, true, false, if◌then◌else◌, List, [], ◌∷◌, ◌++◌, map, length, pos, Option, Some, None, option_map, Result, Ok, Err, codes}
 use Rattle.std.specs.List.{list_any}
 use Rattle.lists.specs.Texts.{text_eq}
 use Rattle.amh_host.specs.declared.place.Place.{Place}
@@ -38,7 +38,7 @@ use Rattle.py_frames.specs.declared.state.Here.{Here}
 use Rattle.py_frames.specs.declared.state.ClassBody.{ClassBody}
 use Rattle.py_frames.specs.declared.state.Got.{Got}
 use Rattle.py_frames.specs.declared.state.Got.TheVariants.{Bound, Through, Next}
-use Rattle.py_frames.specs.Doing.{Doing, Known, heap_seen, ◌>>=◌, on_value, came, give, stop, choose, with_value, cause_of, making, made, charging, then_do}
+use Rattle.py_frames.specs.Doing.{Doing, Known, heap_seen, ◌>>=◌, on_value, came, give, stop, choose, with_value, cause_of, making, made, charging, then_do, spend}
 use Rattle.py_frames.specs.Asking.{request, ask, most}
 use Rattle.py_frames.specs.Async.{is_async_code}
 use Rattle.py_frames.specs.Functions.{named_val}
@@ -153,7 +153,7 @@ operated k o a b place =
 
 -- a thing and itself
 abbrev pub is_same_thing : Val → Val → Bool
-is_same_thing (val.Hw a) (val.Hw b) = nat_eq a.0 b.0
+is_same_thing (val.Hw a) (val.Hw b) = a.0 == b.0
 is_same_thing _ _ = false
 
 -- whether the value is this element, or `==` holds of the two; else what follows
