@@ -2,6 +2,7 @@
 use Rattle.std.specs.Prelude.{◌≡◌, refl, ℕ, true, false, List, [], ◌∷◌, pos, negsuc, Ok, Err, codes}
 use Rattle.std.specs.Fmt.{digits}
 use Rattle.shape_rules.specs.Forms.{Form, unsigned, signed_form}
+use Rattle.identifiers.proofs.Computing.{identifiers}
 use Rattle.data_layouts.specs.declared.field.Field.{Field}
 use Rattle.design_ir.specs.declared.signal.Sig.{Sig}
 use Rattle.design_ir.specs.declared.expr.Expr.TheVariants as expr
@@ -95,7 +96,7 @@ ends = record { exprs = 4; things = 13 }
 -- `class Cmd(data.Struct)` with `op: Op` and `val: signed(4)`
 cmd_made : class_made heap ends things (class ∷ hw 0 ∷ hw 4 ∷ hw 5 ∷ []) (codes "Cmd" ∷ codes ":op" ∷ codes ":val" ∷ [])
     ≡ Ok (record { exprs = []; things = thing.Layout cmd ∷ []; answer = answer.Give (hw 13) })
-unfolding heap made id hw class things ends cmd field op_enumeration three_of_five pair
+unfolding identifiers heap made id hw class things ends cmd field op_enumeration three_of_five pair
 cmd_made = refl
 
 -- a binding raises, and so do a keyword, and a name that stands twice
@@ -104,7 +105,7 @@ unfolding heap made id hw class things ends cmd field op_enumeration three_of_fi
 binding_raises = refl
 
 twice_raises : class_made heap ends things (class ∷ hw 0 ∷ val.Int (pos 128) ∷ val.Int (pos 129) ∷ []) (codes "Cmd" ∷ codes ":op" ∷ codes ":op" ∷ []) ≡ Err cause.Raised
-unfolding heap made id hw class things ends cmd field op_enumeration three_of_five pair
+unfolding identifiers heap made id hw class things ends cmd field op_enumeration three_of_five pair
 twice_raises = refl
 
 -- `UnionLayout({"a": 3, "b": 8})` has 8 bits
@@ -114,7 +115,7 @@ union_is : called heap pool things (hw 2 ∷ val.Dict (record { 0 = 0 }) ∷ [])
       things = thing.Layout (record { layout = record { fields = field (codes "a") 0 (unsigned 3) ∷ field (codes "b") 0 (unsigned 8) ∷ []; width = 8 }; readings = reading.Plain ∷ reading.Plain ∷ []; is_array = false }) ∷ [];
       answer = answer.Give (hw 13);
     })
-unfolding heap made id hw things pool cmd field op_enumeration three_of_five pair
+unfolding identifiers heap made id hw things pool cmd field op_enumeration three_of_five pair
 union_is = refl
 
 -- `ArrayLayout(5, 3)` has 15 bits
@@ -125,11 +126,11 @@ array_is = refl
 
 -- a name with a blank raises before the width of its shape is told, and 129 bits together are too wide
 no_name : called heap pool things (hw 1 ∷ val.Dict (record { 0 = 1 }) ∷ []) [] ≡ Err cause.Raised
-unfolding heap made id hw things pool cmd field op_enumeration three_of_five pair
+unfolding identifiers heap made id hw things pool cmd field op_enumeration three_of_five pair
 no_name = refl
 
 too_wide : called heap pool things (hw 1 ∷ val.Dict (record { 0 = 2 }) ∷ []) [] ≡ Err cause.Width
-unfolding heap made id hw things pool cmd field op_enumeration three_of_five pair
+unfolding identifiers heap made id hw things pool cmd field op_enumeration three_of_five pair
 too_wide = refl
 
 -- 256 items without bits raise, 129 with one are too wide, and a length below 0 raises

@@ -15,7 +15,7 @@ use Rattle.elab_eval.specs.declared.members.NamedMember.{NamedMember}
 use Rattle.elab_eval.specs.declared.members.ComponentClass.{ComponentClass}
 use Rattle.elab_eval.specs.declared.members.Member.{Member}
 use Rattle.elab_eval.specs.Classes.{is_keyword}
-use Rattle.elab_eval.specs.Names.{is_name}
+use Rattle.identifiers.specs.Identifiers.{is_identifier}
 use Rattle.elab_eval.specs.Stores.{Stored, kept_of}
 use Rattle.elab_eval.specs.ComponentClasses.{member_of, value_before, member_before, behind_members, annotated}
 use Rattle.elab_eval.specs.Interfaces.{are_named, string_in, named_before, members_of_row}
@@ -78,7 +78,7 @@ among_more names name q =
     ∙ sym (list_any-append (text_eq q) names (name ∷ []) ∙ or_true (list_any (text_eq q) names) (text_eq q name))
 
 -- a name in the form of one that stands not before
-pub named_more : (before : List (List ℕ)) (ms : List NamedMember) (i : ℕ) (m : NamedMember) → i < length ms → get_or ms i m ≡ m → is_name m.name ≡ true → list_any (text_eq m.name) before ≡ false → are_named before (drop i ms) ≡ are_named (before ++ m.name ∷ []) (drop (i + 1) ms)
+pub named_more : (before : List (List ℕ)) (ms : List NamedMember) (i : ℕ) (m : NamedMember) → i < length ms → get_or ms i m ≡ m → is_identifier m.name ≡ true → list_any (text_eq m.name) before ≡ false → are_named before (drop i ms) ≡ are_named (before ++ m.name ∷ []) (drop (i + 1) ms)
 named_more before ms i m h same formed apart =
     at_drop_more (are_named before) ms i m h
     ∙ ap (λ (x : NamedMember). are_named before (x ∷ drop (i + 1) ms)) same

@@ -8,6 +8,7 @@
 --     top = Gate()
 use Rattle.std.specs.Prelude.{◌≡◌, refl, ℕ, Bool, true, false, List, [], ◌∷◌, pos, Some, None, codes}
 use Rattle.shape_rules.specs.Forms.{unsigned}
+use Rattle.identifiers.proofs.Computing.{identifiers}
 use Rattle.py_values.specs.declared.val.Val.{Val}
 use Rattle.py_values.specs.declared.val.Val.TheVariants as val
 use Rattle.py_values.specs.Heaps.{Seen, nothing, seen}
@@ -148,11 +149,11 @@ gate_ports = port (codes "a") 0 true ∷ port (codes "b") 1 true ∷ port (codes
 
 top_bound : (with_top.answer ≡ answer.Bind (bound (codes "a") (thing 7) ∷ bound (codes "b") (thing 8) ∷ bound (codes "y") (thing 9) ∷ bound (codes "signature") (thing 10) ∷ []))
     × (with_top.held.pool.signals ≡ bit_signal (codes "a") ∷ bit_signal (codes "b") ∷ bit_signal (codes "y") ∷ [])
-unfolding thing class object bit with_wiring with_in with_out with_component with_a with_b with_y gate_names gate_vals with_gate rows with_top bound bit_signal members_in
+unfolding identifiers thing class object bit with_wiring with_in with_out with_component with_a with_b with_y gate_names gate_vals with_gate rows with_top bound bit_signal members_in
 top_bound = (refl, refl)
 
 top_ports : component_ports with_top.held.store (record { 0 = 1 }) ≡ Some (Members gate_ports)
-unfolding thing class object bit with_wiring with_in with_out with_component with_a with_b with_y gate_names gate_vals with_gate rows with_top port gate_ports members_in
+unfolding identifiers thing class object bit with_wiring with_in with_out with_component with_a with_b with_y gate_names gate_vals with_gate rows with_top port gate_ports members_in
 top_ports = refl
 
 -- before its `__init__` a component has none, and is no top
@@ -163,7 +164,7 @@ no_ports = refl
 -- a name twice raises, and so does `signature`
 twice : ((init_answered rows (object 1 ∷ []) [] (class_answered (class 0 ∷ thing 3 ∷ thing 4 ∷ thing 5 ∷ []) (codes "Gate" ∷ codes ":a" ∷ codes ":a" ∷ []) with_y.held).held).answer ≡ answer.Refuse Raised)
     × ((init_answered rows (object 1 ∷ []) [] (class_answered (class 0 ∷ thing 3 ∷ thing 4 ∷ []) (codes "Gate" ∷ codes ":signature" ∷ []) with_y.held).held).answer ≡ answer.Refuse Raised)
-unfolding thing class object bit with_wiring with_in with_out with_component with_a with_b with_y rows members_in
+unfolding identifiers thing class object bit with_wiring with_in with_out with_component with_a with_b with_y rows members_in
 twice = (refl, refl)
 
 -- ---- members by a dict, row 2: {"x": thing 4}
@@ -172,11 +173,11 @@ dict_rows : Seen
 dict_rows = seen nothing (record nothing { texts = codes "x" ∷ []; rows = (thing 3 ∷ []) ∷ (class 0 ∷ []) ∷ (val.Str (record { 0 = 0 }) ∷ thing 4 ∷ []) ∷ [] })
 
 by_dict : (init_answered dict_rows (object 1 ∷ val.Dict (record { 0 = 2 }) ∷ []) [] with_gate.held).answer ≡ answer.Bind (bound (codes "x") (thing 7) ∷ bound (codes "signature") (thing 8) ∷ [])
-unfolding thing class object bit with_wiring with_in with_out with_component with_a with_b with_y gate_names gate_vals with_gate dict_rows bound
+unfolding identifiers thing class object bit with_wiring with_in with_out with_component with_a with_b with_y gate_names gate_vals with_gate dict_rows bound
 by_dict = refl
 
 -- and by the signature of another component, which stands at thing 10
 by_signature : (init_answered rows (object 1 ∷ thing 10 ∷ []) [] with_top.held).answer
     ≡ answer.Bind (bound (codes "a") (thing 11) ∷ bound (codes "b") (thing 12) ∷ bound (codes "y") (thing 13) ∷ bound (codes "signature") (thing 14) ∷ [])
-unfolding thing class object bit with_wiring with_in with_out with_component with_a with_b with_y gate_names gate_vals with_gate rows with_top bound members_in
+unfolding identifiers thing class object bit with_wiring with_in with_out with_component with_a with_b with_y gate_names gate_vals with_gate rows with_top bound members_in
 by_signature = refl

@@ -24,7 +24,8 @@ use Rattle.elab_eval.specs.declared.kept.HdlName.{HdlName}
 use Rattle.elab_eval.specs.declared.kept.Kept.TheVariants as kept
 use Rattle.elab_eval.specs.declared.members.NamedMember.{NamedMember}
 use Rattle.elab_eval.specs.declared.interfaces.Interface.{Interface}
-use Rattle.elab_eval.specs.Names.{is_name}
+use Rattle.identifiers.specs.Identifiers.{is_identifier}
+use Rattle.identifiers.proofs.NameLaws.{identifier_is_name}
 use Rattle.elab_eval.specs.Calls.{Called, first_or, behind_first}
 use Rattle.elab_eval.specs.Stores.{Held, Answered, refused, next_thing, thing_given}
 use Rattle.elab_eval.specs.Signals.{signal_passes, with_signal}
@@ -35,7 +36,7 @@ use Rattle.elab_eval.specs.Classes.{class_made, base_called}
 use Rattle.elab_eval.specs.Interfaces.{are_named, are_members, member_signal, with_member, member_bound, no_interface, interface_made, interface_given, members_given, component_called, component_class, init_as, init_of, init_answered, signature_name}
 use Rattle.elab_eval.specs.Sound.{IsKept, IsSound}
 use Rattle.elab_eval.proofs.GrownLaws.{all_and, pool_grown, things_grown, read_held, keeping_sound}
-use Rattle.elab_eval.proofs.PortLaws.{and_split, name_stands, all_put, ports_stay, port_more}
+use Rattle.elab_eval.proofs.PortLaws.{and_split, all_put, ports_stay, port_more}
 
 -- ---- names and members
 
@@ -116,9 +117,9 @@ module _ (o : ObjId) (all : List NamedMember) where
     ports = all_put (ArePorts h.pool) h.store.components.objects o.0 x.ports s.ports ports;
   }
   interface_sound before x (m ∷ ms) h s ports named =
-      let parts = and_split (is_name m.name) _ named in
+      let parts = and_split (is_identifier m.name) _ named in
       let rest = and_split (not (list_any (text_eq m.name) before)) (are_named (before ++ m.name ∷ []) ms) parts.1 in
-      let name = name_stands m.name parts.0 in
+      let name = identifier_is_name m.name parts.0 in
       elim (signal_passes h m.member.shape.form.width) as (λ b. let given : Answered = cond b (refused Limit h) (unlimited m.member.shape.reading (member_signal m) h) in
       IsSound (member_bound (λ y g. interface_made o all y ms g) m (length h.pool.signals) x given.answer given.held).held) [
         | true ↦ s

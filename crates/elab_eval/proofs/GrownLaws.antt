@@ -1,11 +1,11 @@
 -- What is held stays sound when it grows.
 use Rattle.std.proofs.Common.{◌≡◌, ℕ, zero, suc, ◌<◌, ◌≤◌, refl, ap, ◌∙◌, sym, subst, true, List, [], ◌∷◌, ◌++◌, length, Some, arith, true≢false}
-use Rattle.std.specs.Prelude.{slice_get, slice_set, All, IsTrue}
+use Rattle.std.specs.Prelude.{slice_get, slice_set, codes, IsTrue}
 use Rattle.std.specs.List.{AllByRecursion, list_all}
-use Rattle.std.proofs.lemmas.Bool.{and_parts}
-use Rattle.std.proofs.lemmas.List.Elements.{All-nil, All-cons}
+use Rattle.std.proofs.lemmas.List.Elements.{All-append}
+use Rattle.std.proofs.lemmas.List.Sums.{AllPass-from_list_all}
 use Rattle.std.proofs.lemmas.List.{length-append}
-use Rattle.lists.specs.Names.{IsName, starts_name, continues_name}
+use Rattle.lists.specs.Names.{IsName, continues_name}
 use Rattle.design_ir.specs.declared.signal.Sig.{Sig}
 use Rattle.design_ir.specs.declared.ids.ExprId.{ExprId}
 use Rattle.design_ir.specs.declared.expr.Expr.{Expr}
@@ -28,7 +28,6 @@ use Rattle.elab_eval.specs.declared.kept.Kept.TheVariants as kept_as
 use Rattle.elab_eval.specs.declared.kept.Top.{Top}
 use Rattle.elab_eval.specs.Stores.{Held, kept_given}
 use Rattle.elab_eval.specs.Sound.{IsAssigned, IsBegin, IsKept, IsOpening, IsTold, IsBuilt, IsMachine, IsSound}
-use Rattle.elab_eval.specs.Names.{is_name}
 use Rattle.elab_eval.specs.declared.state_machines.OwnMachine.{OwnMachine}
 use Rattle.elab_eval.proofs.Pools.{IsGrown, target_stays, there_stays}
 use Rattle.elab_eval.proofs.Modules.{all_each}
@@ -192,11 +191,17 @@ keeping_sound h k s held = record {
   kept = all_and (IsKept h.pool) h.store.kept (k ∷ []) s.kept (held, tt);
 }
 
--- a name that has the form of one
-pub name_is : (name : List ℕ) → is_name name ≡ true → IsName name
-name_is [] e = absurd (true≢false (sym e))
-name_is (b ∷ bs) e = let parts = and_parts (starts_name b) (list_all continues_name bs) e in record { first = b; rest = bs; whole = refl; starts = parts.0; continues = all_pass bs parts.1 }
-  where
-    all_pass : (bs : List ℕ) → list_all continues_name bs ≡ true → All (λ b. IsTrue (continues_name b)) bs
-    all_pass [] e = All-nil (λ b. IsTrue (continues_name b))
-    all_pass (b ∷ bs) e = let parts = and_parts (continues_name b) (list_all continues_name bs) e in All-cons (λ b. IsTrue (continues_name b)) b bs parts.0 (all_pass bs parts.1)
+-- ---- names
+
+pub sync_name : IsName (codes "sync")
+sync_name = record { first = 115; rest = codes "ync"; whole = refl; starts = refl; continues = AllPass-from_list_all continues_name (codes "ync") refl }
+
+-- a name with more letters behind it
+pub name_more : (name more : List ℕ) → IsName name → list_all continues_name more ≡ true → IsName (name ++ more)
+name_more name more n h = record {
+  first = n.first;
+  rest = n.rest ++ more;
+  whole = ap (λ xs. xs ++ more) n.whole;
+  starts = n.starts;
+  continues = All-append (λ b. IsTrue (continues_name b)) n.rest more n.continues (AllPass-from_list_all continues_name more h);
+}

@@ -4,6 +4,7 @@ use Rattle.shape_rules.specs.Forms.{unsigned, signed_form}
 use Rattle.design_ir.specs.declared.signal.Sig.{Sig}
 use Rattle.design_ir.specs.declared.expr.Expr.TheVariants as expr
 use Rattle.design_ir.specs.Values.{form}
+use Rattle.identifiers.proofs.Computing.{identifiers}
 use Rattle.py_values.specs.declared.val.Val.{Val}
 use Rattle.py_values.specs.declared.val.Val.TheVariants as val
 use Rattle.py_values.specs.Heaps.{Seen, seen, nothing}
@@ -37,25 +38,25 @@ made vals keywords = like_called heap (called (hw 9 ∷ vals) (codes "b" ∷ key
 
 -- of a signal its shape, its init and whether it is reset
 of_signal : (made (hw 0 ∷ []) []).held.pool.signals ≡ a ∷ record { name = codes "b"; shape = signed_form 3; init = pos 2; reset_less = true } ∷ []
-unfolding hw heap a held made form
+unfolding identifiers hw heap a held made form
 of_signal = refl
 
 -- an init is wrapped to the shape: 7 is -1
 with_init : (made (hw 0 ∷ val.Int (pos 7) ∷ []) (codes "init" ∷ [])).held.pool.signals ≡ a ∷ record { name = codes "b"; shape = signed_form 3; init = negsuc 0; reset_less = true } ∷ []
-unfolding hw heap a held made form
+unfolding identifiers hw heap a held made form
 with_init = refl
 
 -- of another value, and of a number, the shape alone
 of_bit : (made (hw 1 ∷ []) []).held.pool.signals ≡ a ∷ record { name = codes "b"; shape = unsigned 1; init = pos 0; reset_less = false } ∷ []
-unfolding hw heap a held made form
+unfolding identifiers hw heap a held made form
 of_bit = refl
 
 of_number : (made (val.Int (pos 5) ∷ []) []).held.pool.signals ≡ a ∷ record { name = codes "b"; shape = unsigned 3; init = pos 0; reset_less = false } ∷ []
-unfolding hw heap a held made first_from
+unfolding identifiers hw heap a held made first_from
 of_number = refl
 
 -- no value, None, and a keyword of `Signal` alone
 refused_calls : ((made [] []).answer ≡ answer.Refuse Raised) × ((made (val.None ∷ []) []).answer ≡ answer.Refuse Raised)
     × ((made (hw 0 ∷ val.Int (pos 1) ∷ []) (codes "shape" ∷ [])).answer ≡ answer.Refuse Raised)
-unfolding hw heap a held made form
+unfolding identifiers hw heap a held made form
 refused_calls = (refl, refl, refl)

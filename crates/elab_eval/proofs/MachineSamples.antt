@@ -6,6 +6,7 @@
 use Rattle.std.specs.Prelude.{◌≡◌, refl, ℕ, true, false, List, [], ◌∷◌, pos, Some, None, codes}
 use Rattle.amh_host.specs.declared.place.Place.{Place}
 use Rattle.shape_rules.specs.Forms.{unsigned}
+use Rattle.identifiers.proofs.Computing.{identifiers}
 use Rattle.py_values.specs.declared.val.Val.TheVariants as val
 use Rattle.py_frames.specs.declared.request.Answer.TheVariants as answer
 use Rattle.py_frames.specs.declared.request.Cause.TheVariants.{Raised}
@@ -43,7 +44,7 @@ behind_b = moved state_ends 0 (line 4) in_b.held
 
 -- directly in the machine stand states alone, and in a state what may stand in any block
 places : (in_machine 0 begun.held.store.machines ≡ true) × (in_machine 0 in_a.held.store.machines ≡ false) × (in_machine 0 behind_a.held.store.machines ≡ true)
-unfolding line held begun in_a to_b behind_a blocks_of
+unfolding identifiers line held begun in_a to_b behind_a blocks_of
 places = (refl, refl, refl)
 
 -- the state B is never entered: this is told where `next` mentions it
@@ -51,7 +52,7 @@ undefined : Answered
 undefined = moved machine_ends 0 (line 1) behind_a.held
 
 told_at_mention : (undefined.answer ≡ answer.Refuse Raised) × (undefined.held.store.told ≡ Some (line 3))
-unfolding line held begun in_a to_b behind_a undefined blocks_of least_width
+unfolding identifiers line held begun in_a to_b behind_a undefined blocks_of least_width
 told_at_mention = (refl, refl)
 
 -- entered twice, a state is told at its second call
@@ -59,7 +60,7 @@ twice : Answered
 twice = moved (state_begins (codes "A") (line 4)) 0 (line 4) behind_a.held
 
 told_at_call : (twice.answer ≡ answer.Refuse Raised) × (twice.held.store.told ≡ Some (line 4))
-unfolding line held begun in_a to_b behind_a twice blocks_of
+unfolding identifiers line held begun in_a to_b behind_a twice blocks_of
 told_at_call = (refl, refl)
 
 -- two states have one bit, and the first that was entered has number 0
@@ -70,7 +71,7 @@ register : Sig
 register = record { name = codes "fsm_state"; shape = unsigned 1; init = pos 0; reset_less = false }
 
 settled : (ended.answer ≡ answer.Give val.None) × (ended.held.pool.signals ≡ register ∷ [])
-unfolding line held begun in_a to_b behind_a in_b behind_b ended register blocks_of least_width
+unfolding identifiers line held begun in_a to_b behind_a in_b behind_b ended register blocks_of least_width
 settled = (refl, refl)
 
 -- behind its end no state stands in it
@@ -78,5 +79,5 @@ late : Answered
 late = moved (state_begins (codes "C") (line 5)) 0 (line 5) ended.held
 
 ended_for_good : late.answer ≡ answer.Refuse Raised
-unfolding line held begun in_a to_b behind_a in_b behind_b ended late blocks_of least_width
+unfolding identifiers line held begun in_a to_b behind_a in_b behind_b ended late blocks_of least_width
 ended_for_good = refl

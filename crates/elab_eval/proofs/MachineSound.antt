@@ -2,7 +2,6 @@
 use Rattle.std.proofs.Common.{◌≡◌, ℕ, zero, suc, ◌<◌, ◌≤◌, refl, ap, ◌∙◌, sym, subst, Bool, true, false, List, [], ◌∷◌, ◌++◌, length, Option, Some, None, Result, Ok, Err, ℤ, arith, true≢false, append-nil}
 use Rattle.std.specs.Prelude.{◌==◌, if◌then◌else◌, get_or, pos, slice_get, slice_set, codes, ◌&&◌, ◌||◌, not}
 use Rattle.std.specs.List.{AllByRecursion, list_all}
-use Rattle.std.proofs.lemmas.Bool.{and_parts}
 use Rattle.std.proofs.lemmas.List.{length-append}
 use Rattle.lists.specs.Names.{IsName, starts_name, continues_name}
 use Rattle.lists.specs.Texts.{text_eq}
@@ -37,7 +36,8 @@ use Rattle.elab_eval.specs.declared.kept.MachinePart.TheVariants as part
 use Rattle.elab_eval.specs.declared.kept.Kept.TheVariants as kept
 use Rattle.elab_eval.specs.declared.state_machines.OwnMachine.{OwnMachine}
 use Rattle.elab_eval.specs.declared.state_machines.MachineArguments.{MachineArguments}
-use Rattle.elab_eval.specs.Names.{is_name}
+use Rattle.identifiers.specs.Identifiers.{is_identifier}
+use Rattle.identifiers.proofs.NameLaws.{identifier_is_name}
 use Rattle.elab_eval.specs.Calls.{Called}
 use Rattle.elab_eval.specs.Stores.{Held, Answered, refused}
 use Rattle.elab_eval.specs.Sides.{part_given}
@@ -47,7 +47,7 @@ use Rattle.elab_eval.specs.Sound.{IsKept, IsTold, IsBuilt, IsMachine, IsSound}
 use Rattle.elab_eval.proofs.Pools.{IsGrown, signal_there}
 use Rattle.std.proofs.lemmas.Bool.Decides.{nat_tests}
 use Rattle.elab_eval.proofs.Modules.{all_each}
-use Rattle.elab_eval.proofs.GrownLaws.{all_and, pool_grown, things_grown, keeping_sound, built_stays, kept_stays, told_module, module_built, machine_stays, name_is}
+use Rattle.elab_eval.proofs.GrownLaws.{all_and, pool_grown, things_grown, keeping_sound, built_stays, kept_stays, told_module, module_built, machine_stays, sync_name, name_more}
 use Rattle.elab_eval.proofs.PortLaws.{objects_stay}
 
 if_sound : (b : Bool) (x y : Answered) → IsSound x.held → IsSound y.held → IsSound (if b then x else y).held
@@ -146,14 +146,6 @@ chain_sound q m r None bs there f h = h
 chain_sound q m r (Some b) bs there f h =
     told_module q m (chain_ended r b) bs (told_more q (and_step b (Enter (opening.Switch r))) Leave (told_more q b (Enter (opening.Switch r)) (f b refl) there) tt) h
 
-list_all_and : (p : ℕ → Bool) (xs ys : List ℕ) → list_all p xs ≡ true → list_all p ys ≡ true → list_all p (xs ++ ys) ≡ true
-list_all_and p [] ys h g = g
-list_all_and p (x ∷ xs) ys h g = let parts = and_parts (p x) (list_all p xs) h in rw (parts.0) (list_all_and p xs ys parts.1 g)
-
-name_more : (name : List ℕ) → is_name name ≡ true → is_name (name ++ codes "_state") ≡ true
-name_more [] e = absurd (true≢false (sym e))
-name_more (b ∷ bs) e = let parts = and_parts (starts_name b) (list_all continues_name bs) e in rw (parts.0) (list_all_and continues_name bs (codes "_state") parts.1 refl)
-
 get_last : (es : List Expr) (e : Expr) → slice_get (es ++ e ∷ []) (length es) ≡ Some e
 get_last [] e = refl
 get_last (x ∷ es) e = get_last es e
@@ -194,11 +186,11 @@ put_before [] x k e lt at = absurd (omega (arith, lt))
 put_before (y ∷ es) x zero e lt at = at
 put_before (y ∷ es) x (suc k) e lt at = put_before es x k e (omega (arith, lt)) at
 
-begun_sound : (m : ℕ) (name : List ℕ) (init : Option (List ℕ)) (p : Place) (h : Held) → IsPool h.pool → IsSound h → is_name name ≡ true → IsSound (with_machine m name init p h)
+begun_sound : (m : ℕ) (name : List ℕ) (init : Option (List ℕ)) (p : Place) (h : Held) → IsPool h.pool → IsSound h → is_identifier name ≡ true → IsSound (with_machine m name init p h)
 begun_sound m name init p h rules t named =
     let q : Pooled = with_register h.pool name in
     let u : IsSound (record h { pool = q }) =
-    pool_grown h q (no_bits (name ++ codes "_state") ∷ []) (expr.Sig (record { 0 = length h.pool.signals }) ∷ []) t refl refl (name_is (name ++ codes "_state") (name_more name named), tt) in record {
+    pool_grown h q (no_bits (name ++ codes "_state") ∷ []) (expr.Sig (record { 0 = length h.pool.signals }) ∷ []) t refl refl (name_more name (codes "_state") (identifier_is_name name named) refl, tt) in record {
       names = u.names;
       things = u.things;
       kept = u.kept;
@@ -208,21 +200,21 @@ begun_sound m name init p h rules t named =
         record {
           register = get_last h.pool.exprs (expr.Sig (record { 0 = length h.pool.signals }));
           target = target_last (signal_added h.pool (no_bits (name ++ codes "_state"))) (record { 0 = length h.pool.signals });
-          side = name_is (codes "sync") refl;
+          side = sync_name;
           front = λ k e lt at. fresh_signal h.pool k e rules (put_before h.pool.exprs (expr.Sig (record { 0 = length h.pool.signals })) k e lt at);
         },
         tt,
       );
     }
 
-made_sound : (m : ℕ) (name : List ℕ) (init : Option (List ℕ)) (p : Place) (h : Held) → IsPool h.pool → IsSound h → is_name name ≡ true → IsSound (machine_made m name init p h).held
+made_sound : (m : ℕ) (name : List ℕ) (init : Option (List ℕ)) (p : Place) (h : Held) → IsPool h.pool → IsSound h → is_identifier name ≡ true → IsSound (machine_made m name init p h).held
 made_sound m name init p h rules t named =
     unless_sound (new_refusal h.pool) p _ h t (keeping_sound (with_machine m name init p h) (kept.OfMachine (part.Running (length h.store.machines))) (begun_sound m name init p h rules t named) tt)
 
 begins_sound : (m : ℕ) (name : List ℕ) (init : Option (List ℕ)) (p : Place) (h : Held) → IsPool h.pool → IsSound h → IsSound (machine_begun m name init p h).held
-begins_sound m name init p h rules t = by_place (is_placed m (slice_get h.store.modules m) h.store.machines) (is_name name) refl
+begins_sound m name init p h rules t = by_place (is_placed m (slice_get h.store.modules m) h.store.machines) (is_identifier name) refl
   where
-    by_place : (b c : Bool) → is_name name ≡ c → IsSound (if not b || not c then refused Raised h else machine_made m name init p h).held
+    by_place : (b c : Bool) → is_identifier name ≡ c → IsSound (if not b || not c then refused Raised h else machine_made m name init p h).held
     by_place false c e = t
     by_place true false e = t
     by_place true true e = made_sound m name init p h rules t e

@@ -21,7 +21,6 @@ use Rattle.design_ir.proofs.Growth.{all_append, length_more}
 use Rattle.clock_domains.specs.declared.top.TopPorts.{TopPorts}
 use Rattle.clock_domains.specs.declared.top.TopPorts.TheVariants.{Members}
 use Rattle.clock_domains.specs.Resolvable.{IsPortOf, ArePorts, AreTopPorts}
-use Rattle.elab_eval.specs.Names.{is_name}
 use Rattle.elab_eval.specs.ComponentTops.{made_ports}
 use Rattle.elab_eval.proofs.Modules.{all_each}
 
@@ -30,13 +29,6 @@ use Rattle.elab_eval.proofs.Modules.{all_each}
 pub and_split : (a b : Bool) → (a && b) ≡ true → (a ≡ true) × (b ≡ true)
 and_split true b e = (refl, e)
 and_split false b e = absurd (true≢false (sym e))
-
--- what passes the test has the form of a name
-pub name_stands : (name : List ℕ) → is_name name ≡ true → IsName name
-name_stands [] e = absurd (true≢false (sym e))
-name_stands (b ∷ bs) e =
-    let parts = and_split (starts_name b) (list_all continues_name bs) e in
-    record { first = b; rest = bs; whole = refl; starts = parts.0; continues = AllPass-from_list_all continues_name bs parts.1 }
 
 -- ---- entries of a table
 

@@ -8,6 +8,7 @@ use Rattle.std.specs.Prelude.{◌≡◌, refl, ℕ, Bool, true, false, List, [],
 use Rattle.shape_rules.specs.Forms.{unsigned, signed_form}
 use Rattle.design_ir.specs.declared.signal.Sig.{Sig}
 use Rattle.design_ir.specs.Values.{form}
+use Rattle.identifiers.proofs.Computing.{identifiers}
 use Rattle.py_values.specs.declared.val.Val.{Val}
 use Rattle.py_values.specs.declared.val.Val.TheVariants as val
 use Rattle.py_values.specs.Heaps.{Seen, seen, nothing}
@@ -71,7 +72,7 @@ with_c = signal_called heap (call (codes "c") (hw 2 ∷ []) []) held
 
 c_given : (with_c.answer ≡ answer.Give (hw 3)) × (with_c.held.pool.signals ≡ signal (codes "c") 6 0 ∷ [])
     × (with_c.held.store.things ≡ op ∷ sub ∷ cmd ∷ thing.View (record { 0 = 2 }) (record { 0 = 0 }) ∷ [])
-unfolding hw heap op sub cmd held call signal with_c
+unfolding identifiers hw heap op sub cmd held call signal with_c
 c_given = (refl, refl, refl)
 
 -- `s = Signal(Op, init=Op.SUB)` is a value of the enumeration, and begins at the number of the member
@@ -80,7 +81,7 @@ with_s = signal_called heap (call (codes "s") (hw 0 ∷ hw 1 ∷ []) (codes "ini
 
 s_given : (with_s.answer ≡ answer.Give (hw 4)) × (with_s.held.pool.signals ≡ signal (codes "c") 6 0 ∷ signal (codes "s") 2 2 ∷ [])
     × (with_s.held.store.things ≡ op ∷ sub ∷ cmd ∷ thing.View (record { 0 = 2 }) (record { 0 = 0 }) ∷ thing.Numbered (record { 0 = 0 }) (record { 0 = 1 }) ∷ [])
-unfolding hw heap op sub cmd held call signal with_c with_s
+unfolding identifiers hw heap op sub cmd held call signal with_c with_s
 s_given = (refl, refl, refl)
 
 -- a signal of another shape may begin at a member too, but at no enumeration, layout or signal
@@ -88,12 +89,12 @@ inits : ((signal_called heap (call (codes "n") (val.Int (pos 8) ∷ hw 1 ∷ [])
     × ((signal_called heap (call (codes "n") (hw 0 ∷ hw 0 ∷ []) (codes "init" ∷ [])) held).answer ≡ answer.Refuse Raised)
     × ((signal_called heap (call (codes "n") (hw 0 ∷ hw 2 ∷ []) (codes "init" ∷ [])) held).answer ≡ answer.Refuse Raised)
     × ((signal_called heap (call (codes "n") (hw 0 ∷ hw 4 ∷ []) (codes "init" ∷ [])) with_s.held).answer ≡ answer.Refuse Raised)
-unfolding hw heap op sub cmd held call signal with_c with_s
+unfolding identifiers hw heap op sub cmd held call signal with_c with_s
 inits = (refl, refl, refl, refl)
 
 -- a member and a view are no shapes
 no_shapes : ((signal_called heap (call (codes "n") (hw 1 ∷ []) []) held).answer ≡ answer.Refuse Raised) × ((signal_called heap (call (codes "n") (hw 3 ∷ []) []) with_c.held).answer ≡ answer.Refuse Raised)
-unfolding hw heap op sub cmd held call with_c
+unfolding identifiers hw heap op sub cmd held call with_c
 no_shapes = (refl, refl)
 
 -- ---- `Signal.like`
@@ -114,12 +115,12 @@ like_given : (last_thing (like (hw 3 ∷ []) []).held.store.things ≡ thing.Vie
     × ((like (hw 4 ∷ []) []).held.pool.signals ≡ signal (codes "c") 6 0 ∷ signal (codes "s") 2 2 ∷ signal (codes "t") 2 2 ∷ [])
     × ((like (hw 3 ∷ hw 1 ∷ []) (codes "init" ∷ [])).held.pool.signals ≡ signal (codes "c") 6 0 ∷ signal (codes "s") 2 2 ∷ signal (codes "t") 6 2 ∷ [])
     × ((like (hw 1 ∷ []) []).held.pool.signals ≡ signal (codes "c") 6 0 ∷ signal (codes "s") 2 2 ∷ signal (codes "t") 2 0 ∷ [])
-unfolding hw heap op sub cmd held call signal with_c with_s like last_thing form
+unfolding identifiers hw heap op sub cmd held call signal with_c with_s like last_thing form
 like_given = (refl, refl, refl, refl, refl, refl)
 
 -- an enumeration and a layout are no values
 no_values : ((like (hw 0 ∷ []) []).answer ≡ answer.Refuse Raised) × ((like (hw 2 ∷ []) []).answer ≡ answer.Refuse Raised)
-unfolding hw heap op sub cmd held call with_c with_s like
+unfolding identifiers hw heap op sub cmd held call with_c with_s like
 no_values = (refl, refl)
 
 -- ---- members of interfaces
@@ -146,7 +147,7 @@ ports_given = (refl, refl, refl)
 
 -- of an object's attributes a view over a signal is the signal
 view_is_signal : (held_signal with_s.held (hw 3) ≡ Some (record { 0 = 0 })) × (held_signal with_s.held (hw 4) ≡ Some (record { 0 = 1 })) × (held_signal with_s.held (hw 2) ≡ None)
-unfolding hw heap op sub cmd held call with_c with_s
+unfolding identifiers hw heap op sub cmd held call with_c with_s
 view_is_signal = (refl, refl, refl)
 
 -- ---- blocks
@@ -155,13 +156,13 @@ view_is_signal = (refl, refl, refl)
 cases_given : (case_patterns heap with_s.held (record { 0 = 1 }) (hw 1 ∷ val.Int (pos 1) ∷ []) ≡ Some (record { mask = 3; bits = 2 } ∷ record { mask = 3; bits = 1 } ∷ []))
     × (case_patterns heap with_s.held (record { 0 = 0 }) (hw 1 ∷ []) ≡ Some (record { mask = 63; bits = 2 } ∷ []))
     × (case_patterns heap with_s.held (record { 0 = 1 }) (hw 0 ∷ []) ≡ None)
-unfolding hw heap op sub cmd held call with_c with_s form
+unfolding identifiers hw heap op sub cmd held call with_c with_s form
 cases_given = (refl, refl, refl)
 
 -- `m.If(c)` and `m.Switch(c)` take the value under the view, which is expression 0
 blocks_given : ((condition_called 0 named.If (hw 3 ∷ []) [] with_s.held).held.store.kept ≡ kept.Block 0 (begin.If (record { 0 = 0 })) ∷ [])
     × ((condition_called 0 named.Switch (hw 3 ∷ []) [] with_s.held).held.store.kept ≡ kept.Block 0 (begin.Switch (record { 0 = 0 })) ∷ [])
-unfolding hw heap op sub cmd held call with_c with_s
+unfolding identifiers hw heap op sub cmd held call with_c with_s
 blocks_given = (refl, refl)
 
 -- ---- names: `from amaranth.lib import data`, `data.Struct` and `from amaranth.lib.data import Struct`

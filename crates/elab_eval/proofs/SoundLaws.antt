@@ -55,7 +55,8 @@ use Rattle.elab_eval.specs.declared.kept.Equation.{Equation}
 use Rattle.elab_eval.specs.declared.tops.Calling.{Calling}
 use Rattle.elab_eval.specs.declared.shapes.Shaped.{Shaped}
 use Rattle.elab_eval.specs.declared.signals.SignalArguments.{SignalArguments}
-use Rattle.elab_eval.specs.Names.{is_name}
+use Rattle.identifiers.specs.Identifiers.{is_identifier}
+use Rattle.identifiers.proofs.NameLaws.{identifier_is_name}
 use Rattle.elab_eval.specs.Stores.{Stored, Held, Answered, refused, kept_given, kept_of}
 use Rattle.elab_eval.specs.Calls.{Called, called}
 use Rattle.elab_eval.specs.Imports.{is_hdl, is_utils, own_named, star_names, hdl_thing, hdl_imported, bound_answer, all_bound, imported, import_answered}
@@ -77,7 +78,7 @@ use Rattle.elab_eval.specs.Likes.{liked, like_placed, like_arguments, like_init,
 use Rattle.elab_eval.specs.Sound.{IsEquation, IsBegin, IsKept, IsOpening, IsTold, IsBuilt, IsSound}
 use Rattle.elab_eval.proofs.Pools.{IsGrown, target_stays, there_stays}
 use Rattle.elab_eval.proofs.SideLaws.{equations_stand, kept_stands}
-use Rattle.elab_eval.proofs.GrownLaws.{all_and, name_is, pool_grown, things_grown, read_held, keeping_sound, built_stays, told_module, module_built, with_top_sound}
+use Rattle.elab_eval.proofs.GrownLaws.{all_and, sync_name, pool_grown, things_grown, read_held, keeping_sound, built_stays, told_module, module_built, with_top_sound}
 use Rattle.elab_eval.specs.OpenMachines.{in_machine}
 use Rattle.elab_eval.specs.StateMachines.{part_named}
 use Rattle.elab_eval.proofs.MachineSound as machine
@@ -148,14 +149,14 @@ module_sound c h s =
       modules = all_and (IsBuilt h.pool) h.store.modules (record { name = []; steps = [] } ∷ []) s.modules (record { steps = tt }, tt);
     } tt) s
 
-formed_name : (text name : List ℕ) → formed text ≡ Some name → is_name name ≡ true
-formed_name text name e = by_test (is_name text) refl e
+formed_name : (text name : List ℕ) → formed text ≡ Some name → is_identifier name ≡ true
+formed_name text name e = by_test (is_identifier text) refl e
   where
-    by_test : (b : Bool) → is_name text ≡ b → (if b then Some text else None) ≡ Some name → is_name name ≡ true
-    by_test true t e = let same : text ≡ name = cc in ap is_name (sym same) ∙ t
+    by_test : (b : Bool) → is_identifier text ≡ b → (if b then Some text else None) ≡ Some name → is_identifier name ≡ true
+    by_test true t e = let same : text ≡ name = cc in ap is_identifier (sym same) ∙ t
     by_test false t e = absurd (true≢false (ap is_some (sym e)))
 
-given_name : (s : Seen) (call : List ℕ) (o : Option Val) (name : List ℕ) → signal_name s call o ≡ Some name → is_name name ≡ true
+given_name : (s : Seen) (call : List ℕ) (o : Option Val) (name : List ℕ) → signal_name s call o ≡ Some name → is_identifier name ≡ true
 given_name s call None name e = formed_name (call_name call) name e
 given_name s call (Some val.None) name e = formed_name (call_name call) name e
 given_name s call (Some (val.Str x)) name e = formed_name (text_at s x.0) name e
@@ -179,11 +180,11 @@ put_sound r x h s named =
     (things_grown (with_signal x h) (read_as r (record { 0 = length h.pool.exprs }) ∷ []) grown
     (read_held (length q.exprs) r (record { 0 = length h.pool.exprs }) (omega (arith, length-append h.pool.exprs (expr.Sig (record { 0 = length h.pool.signals }) ∷ []))), tt))
 
-shaped_sound : (name : List ℕ) (n : ℤ) (r : Bool) (f : Result Shaped Cause) (h : Held) → IsSound h → is_name name ≡ true → IsSound (signal_shaped name n r f h).held
-shaped_sound name n r (Ok x) h s named = put_sound x.reading (signal_of name x.form n r) h s (name_is name named)
+shaped_sound : (name : List ℕ) (n : ℤ) (r : Bool) (f : Result Shaped Cause) (h : Held) → IsSound h → is_identifier name ≡ true → IsSound (signal_shaped name n r f h).held
+shaped_sound name n r (Ok x) h s named = put_sound x.reading (signal_of name x.form n r) h s (identifier_is_name name named)
 shaped_sound name n r (Err why) h s named = s
 
-said_sound : (name : Option (List ℕ)) (n : Option ℤ) (r : Option Bool) (f : Result Shaped Cause) (h : Held) → IsSound h → ((x : List ℕ) → name ≡ Some x → is_name x ≡ true) → IsSound (signal_said name n r f h).held
+said_sound : (name : Option (List ℕ)) (n : Option ℤ) (r : Option Bool) (f : Result Shaped Cause) (h : Held) → IsSound h → ((x : List ℕ) → name ≡ Some x → is_identifier x ≡ true) → IsSound (signal_said name n r f h).held
 said_sound (Some name) (Some n) (Some r) f h s named = shaped_sound name n r f h s (named name refl)
 said_sound None n r f h s named = s
 said_sound (Some name) None r f h s named = s
@@ -640,7 +641,7 @@ index_stores_sound s (x ∷ i ∷ v ∷ w ∷ vs) h t = t
 
 side_named : (d : DomainName) → IsNamedSide (side_of d)
 side_named domain.Comb = tt
-side_named domain.Sync = name_is (codes "sync") refl
+side_named domain.Sync = sync_name
 
 put_sound_by : (h : Held) (why : Option Cause) (m : ℕ) (b : Built) (d : DomainName) (q : Equation) → IsSound h → IsBuilt h.pool b → IsEquation h.pool q → IsSound (record h { store = (statement_put why h.store (store_with_statement m b d q h.store)).0 })
 put_sound_by h (Some why) m b d q t k e = t

@@ -3,6 +3,7 @@
 use Rattle.std.specs.Prelude.{ℕ, ◌&&◌, not, Bool, true, false, if◌then◌else◌, List, [], ◌∷◌, ◌++◌, length, slice_get, Option, Some, None, option_map, codes}
 use Rattle.std.specs.List.{list_any}
 use Rattle.lists.specs.Texts.{text_eq}
+use Rattle.identifiers.specs.Identifiers.{is_identifier}
 use Rattle.py_values.specs.declared.val.Val.{Val}
 use Rattle.py_values.specs.declared.val.Val.TheVariants as val
 use Rattle.py_values.specs.declared.val.ObjId.{ObjId}
@@ -19,7 +20,6 @@ use Rattle.elab_eval.specs.declared.members.NamedMember.{NamedMember}
 use Rattle.elab_eval.specs.declared.members.Member.{Member}
 use Rattle.elab_eval.specs.declared.interfaces.Interface.{Interface}
 use Rattle.elab_eval.specs.Calls.{first_or, behind_first}
-use Rattle.elab_eval.specs.Names.{is_name}
 use Rattle.elab_eval.specs.Components.{class_at, class_members, with_interface}
 use Rattle.elab_eval.specs.ComponentClasses.{member_of, member_before}
 use Rattle.elab_eval.specs.Signals.{signal_of, signal_given}
@@ -61,10 +61,10 @@ members_given s store class vs = None
 abbrev pub signature_name : List ℕ
 signature_name = codes "signature"
 
--- each name has the form of one, and stands not before
+-- each name is an identifier, and stands not before
 abbrev pub are_named : List (List ℕ) → List NamedMember → Bool
 are_named before [] = true
-are_named before (m ∷ ms) = is_name m.name && (not (list_any (text_eq m.name) before) && are_named (before ++ m.name ∷ []) ms)
+are_named before (m ∷ ms) = is_identifier m.name && (not (list_any (text_eq m.name) before) && are_named (before ++ m.name ∷ []) ms)
 
 -- an object has its signature under this name, so no member may have it
 abbrev pub are_members : List NamedMember → Bool

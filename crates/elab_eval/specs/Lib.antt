@@ -14,7 +14,6 @@ pub mod Interfaces
 pub mod Kept
 pub mod Libraries
 pub mod Members
-pub mod Names
 pub mod Moves
 pub mod OpenMachines
 pub mod ObjectTops

@@ -3,6 +3,7 @@ use Rattle.std.specs.Prelude.{ℕ, nat_le, ◌||◌, if◌then◌else◌, Bool, 
 use Rattle.lists.specs.Texts.{text_eq}
 use Rattle.amh_bits.specs.Patterns.{wrap}
 use Rattle.shape_rules.specs.Forms.{Form, unsigned}
+use Rattle.identifiers.specs.Identifiers.{is_identifier}
 use Rattle.py_values.specs.declared.val.Val.{Val}
 use Rattle.py_values.specs.declared.val.Val.TheVariants as val
 use Rattle.py_values.specs.Heaps.{Seen, text_at}
@@ -20,7 +21,6 @@ use Rattle.amh_things.specs.Members.{counted}
 use Rattle.elab_eval.specs.declared.shapes.Shaped.{Shaped}
 use Rattle.elab_eval.specs.declared.signals.SignalArguments.{SignalArguments}
 use Rattle.elab_eval.specs.declared.kept.Kept.TheVariants as kept
-use Rattle.elab_eval.specs.Names.{is_name}
 use Rattle.elab_eval.specs.Calls.{Called}
 use Rattle.elab_eval.specs.Shapes.{shaped_meant}
 use Rattle.elab_eval.specs.Stores.{Stored, Held, Answered, refused, thing_given, kept_given}
@@ -81,7 +81,7 @@ call_name [] = codes "sig"
 call_name (b ∷ bs) = b ∷ bs
 
 abbrev pub formed : List ℕ → Option (List ℕ)
-formed name = if is_name name then Some name else None
+formed name = if is_identifier name then Some name else None
 
 abbrev pub signal_name : Seen → List ℕ → Option Val → Option (List ℕ)
 signal_name s name None = formed (call_name name)

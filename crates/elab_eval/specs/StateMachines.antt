@@ -3,6 +3,7 @@
 use Rattle.std.specs.Prelude.{ℕ, nat_lt, ◌+◌, ◌==◌, ◌&&◌, ◌||◌, not, Bool, true, false, if◌then◌else◌, List, [], ◌∷◌, ◌++◌, length, drop, slice_get, slice_set, Option, Some, None, option_and_then, option_map, Result, Ok, Err, codes}
 use Rattle.std.specs.List.{list_all}
 use Rattle.lists.specs.Texts.{text_eq}
+use Rattle.identifiers.specs.Identifiers.{is_identifier}
 use Rattle.py_values.specs.declared.val.StrId.{StrId}
 use Rattle.py_values.specs.declared.val.Val.{Val}
 use Rattle.py_values.specs.declared.val.Val.TheVariants as val
@@ -32,7 +33,6 @@ use Rattle.elab_eval.specs.declared.kept.StateCall.{StateCall}
 use Rattle.elab_eval.specs.declared.kept.Kept.TheVariants as kept
 use Rattle.elab_eval.specs.declared.state_machines.OwnMachine.{OwnMachine}
 use Rattle.elab_eval.specs.declared.state_machines.MachineArguments.{MachineArguments}
-use Rattle.elab_eval.specs.Names.{is_name}
 use Rattle.elab_eval.specs.Counts.{statement_count}
 use Rattle.elab_eval.specs.Calls.{Called}
 use Rattle.elab_eval.specs.Stores.{Stored, Held, Answered, refused, refused_at, given, thing_given, kept_given}
@@ -92,9 +92,9 @@ init_said None = Some None
 init_said (Some val.None) = Some None
 init_said (Some v) = option_map Some (state_string v)
 
--- the name of an `FSM`, which is a string in the form of a name
+-- the name of an `FSM`, which is a string that is an identifier
 abbrev pub name_string : Seen → Val → Option StrId
-name_string s (val.Str x) = if is_name (text_at s x.0) then Some x else None
+name_string s (val.Str x) = if is_identifier (text_at s x.0) then Some x else None
 name_string s v = None
 
 abbrev pub name_said : Seen → Option Val → Option (Option StrId)
@@ -185,7 +185,7 @@ is_placed m (Some b) machines = not (in_switch (built_blocks b).around) && not (
 
 abbrev pub machine_begun : ℕ → List ℕ → Option (List ℕ) → Place → Held → Answered
 machine_begun m name init p h =
-    if not (is_placed m (slice_get h.store.modules m) h.store.machines) || not (is_name name) then refused Raised h else machine_made m name init p h
+    if not (is_placed m (slice_get h.store.modules m) h.store.machines) || not (is_identifier name) then refused Raised h else machine_made m name init p h
 
 abbrev pub machine_entered : Seen → MachineCall → Held → Answered
 machine_entered s c h = machine_begun c.of (register_name s c.name) (init_name s c.init) c.place h

@@ -15,11 +15,11 @@ use crate::components::copied;
 use crate::imports::named_val;
 use crate::kept::Kept;
 use crate::members::{Members, NamedMember};
-use crate::names::is_name;
 use crate::store::{Elaboration, Store};
 use amh_host::Text;
 use amh_things::thing::Reading;
 use design_ir::{Expr, Exprs, PoolStop, Port, Ports, Sig, SigId};
+use identifiers::is_identifier;
 use lists::NoMemory;
 use py_frames::request::{Answer, Cause, NamedVal, NamedVals, Request};
 use py_values::{Frozen, Heap, ObjId, Val};
@@ -165,7 +165,7 @@ impl Store {
 
 // ---- their names
 
-// Whether each name has the form of one, stands not before, and is not `signature`.
+// Whether each name is an identifier, stands not before, and is not `signature`.
 fn are_members(alloc: Global, members: &[NamedMember]) -> Result<bool, NoMemory>
     ensures { IfOk result (λ all. all ≡ are_members members.now) }
 {
@@ -173,7 +173,7 @@ fn are_members(alloc: Global, members: &[NamedMember]) -> Result<bool, NoMemory>
     names.insert(String::from_str(alloc, "signature")?)?;
     for m in members {
         let name = m.name.as_str();
-        if !is_name(name) || names.contains(name) {
+        if !is_identifier(alloc, name)? || names.contains(name) {
             return Ok(false);
         }
         names.insert(String::from_str(alloc, name)?)?;

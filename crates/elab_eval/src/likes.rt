@@ -167,7 +167,7 @@ impl Elaboration {
         let Some(args) = like_arguments(call) else {
             return self.refuse(Cause::Raised);
         };
-        let Some(name) = signal_name(heap, frozen, call.name, args.name) else {
+        let Some(name) = signal_name(self.alloc, heap, frozen, call.name, args.name)? else {
             return self.refuse(Cause::Raised);
         };
         let signal = self.liked_signal(v);

@@ -12,17 +12,19 @@ ghost use Rattle.elab_eval.specs.Held.{held_of, Gives};
 
 use crate::calls::Called;
 use crate::kept::Kept;
-use crate::names::{is_name, is_text};
+use crate::names::is_text;
 use crate::shapes::Shaped;
 use crate::store::Elaboration;
 use amh_bits::Int;
 use amh_host::Text;
 use amh_things::thing::Reading;
 use design_ir::Sig;
+use identifiers::is_identifier;
 use lists::NoMemory;
 use py_frames::request::{Answer, Cause};
 use py_values::{Frozen, Heap, Val};
 use shape_rules::Shape;
+use std::alloc::Global;
 
 /// The arguments of a signal, where they are given.
 #[derive(Clone, Copy, Debug, PartialEq, Eq, Drop)]
@@ -134,26 +136,31 @@ fn call_name(name: &str) -> &str
     if name.is_empty() { "sig" } else { name }
 }
 
-// A name, where it has the form of one.
-fn formed(name: &str) -> Option<&str>
-    ensures { option_copied result ≡ formed name.now }
+// A name, where it is an identifier.
+fn formed(alloc: Global, name: &str) -> Result<Option<&str>, NoMemory>
+    ensures { IfOk result (λ formed_name. option_copied formed_name ≡ formed name.now) }
 {
-    if is_name(name) { Some(name) } else { None }
+    if is_identifier(alloc, name)? {
+        Ok(Some(name))
+    } else {
+        Ok(None)
+    }
 }
 
 /// The name that a signal is to have.
 pub(crate) fn signal_name<'a>(
+    alloc: Global,
     heap: &'a Heap,
     frozen: &'a Frozen,
     call: &'a str,
     given: Option<Val>,
-) -> Option<&'a str>
-    ensures { option_copied result ≡ signal_name (seen frozen.now heap.now) call.now given }
+) -> Result<Option<&'a str>, NoMemory>
+    ensures { IfOk result (λ name. option_copied name ≡ signal_name (seen frozen.now heap.now) call.now given) }
 {
     match given {
-        None | Some(Val::None) => formed(call_name(call)),
-        Some(Val::Str(x)) => formed(heap.text(frozen, x)),
-        _ => None,
+        None | Some(Val::None) => formed(alloc, call_name(call)),
+        Some(Val::Str(x)) => formed(alloc, heap.text(frozen, x)),
+        _ => Ok(None),
     }
 }
 
@@ -190,7 +197,7 @@ impl Elaboration {
         let Some(args) = signal_arguments(call) else {
             return self.refuse(Cause::Raised);
         };
-        let Some(name) = signal_name(heap, frozen, call.name, args.name) else {
+        let Some(name) = signal_name(self.alloc, heap, frozen, call.name, args.name)? else {
             return self.refuse(Cause::Raised);
         };
         let Some(init) = self.signal_init(args.init) else {

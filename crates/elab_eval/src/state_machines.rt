@@ -11,15 +11,17 @@ ghost use Rattle.elab_eval.specs.Held.{held_of, Gives};
 use crate::calls::Called;
 use crate::kept::{Kept, MachineCall, MachinePart, StateCall};
 use crate::machine_moves::Action;
-use crate::names::{is_name, is_text};
+use crate::names::is_text;
 use crate::store::Elaboration;
 use amh_host::Place;
 use amh_things::thing::Reading;
 use design_ir::{ExprId, Exprs};
 use fsm_lowering::{Fsm, FsmStop};
+use identifiers::is_identifier;
 use lists::NoMemory;
 use py_frames::request::{Answer, Cause};
 use py_values::{Frozen, Heap, StrId, Val};
+use std::alloc::Global;
 
 /// A state machine, and its module.
 #[derive(Drop)]
@@ -144,13 +146,22 @@ fn state_string(v: Val) -> Option<StrId>
     }
 }
 
-// A string that has the form of a name.
-fn name_string(heap: &Heap, frozen: &Frozen, v: Val) -> Option<StrId>
-    ensures { result ≡ name_string (seen frozen.now heap.now) v }
+// A string that is an identifier.
+fn name_string(
+    alloc: Global,
+    heap: &Heap,
+    frozen: &Frozen,
+    v: Val,
+) -> Result<Option<StrId>, NoMemory>
+    ensures { IfOk result (λ name. name ≡ name_string (seen frozen.now heap.now) v) }
 {
-    match v {
-        Val::Str(x) if is_name(heap.text(frozen, x)) => Some(x),
-        _ => None,
+    let Val::Str(x) = v else {
+        return Ok(None);
+    };
+    if is_identifier(alloc, heap.text(frozen, x))? {
+        Ok(Some(x))
+    } else {
+        Ok(None)
     }
 }
 
@@ -165,12 +176,20 @@ fn init_said(given: Option<Val>) -> Option<Option<StrId>>
 }
 
 // The name, where it is given.
-fn name_said(heap: &Heap, frozen: &Frozen, given: Option<Val>) -> Option<Option<StrId>>
-    ensures { result ≡ name_said (seen frozen.now heap.now) given }
+fn name_said(
+    alloc: Global,
+    heap: &Heap,
+    frozen: &Frozen,
+    given: Option<Val>,
+) -> Result<Option<Option<StrId>>, NoMemory>
+    ensures { IfOk result (λ said. said ≡ name_said (seen frozen.now heap.now) given) }
 {
     match given {
-        None => Some(None),
-        Some(v) => Some(Some(name_string(heap, frozen, v)?)),
+        None => Ok(Some(None)),
+        Some(v) => match name_string(alloc, heap, frozen, v)? {
+            Some(name) => Ok(Some(Some(name))),
+            None => Ok(None),
+        },
     }
 }
 
@@ -265,7 +284,7 @@ impl Elaboration {
         if !is_sync(heap, frozen, args.domain) {
             return self.refuse(Cause::Raised);
         }
-        match name_said(heap, frozen, args.name) {
+        match name_said(self.alloc, heap, frozen, args.name)? {
             Some(name) => self.give_kept(Kept::OfMachine(MachinePart::Called(MachineCall {
                 of,
                 init,
@@ -346,7 +365,7 @@ impl Elaboration {
     {
         let name = register_name(heap, frozen, call.name);
         let init = init_name(heap, frozen, call.init);
-        if !self.store.has_place(call.of) || !is_name(name) {
+        if !self.store.has_place(call.of) || !is_identifier(self.alloc, name)? {
             return self.refuse(Cause::Raised);
         }
         self.begin_machine(call.of, name, init, call.place)

@@ -1,9 +1,10 @@
 -- `StructLayout(members)`, `UnionLayout(members)` and `ArrayLayout(elem_shape, length)`. Amaranth standard library reference 0.5, "Data structures":
--- members are a dict from names to shapes. That a name has the form of one of the source, and that an array of more than 255 items without bits
+-- members are a dict from names to shapes. That a name is an identifier, and that an array of more than 255 items without bits
 -- raises, are own rules.
 use Rattle.std.specs.Prelude.{ℕ, ◌*◌, ◌||◌, not, nat_lt, Bool, true, false, if◌then◌else◌, ℤ, pos, negsuc, List, [], ◌∷◌, map, replicate, is_some, Option, Some, None, Result, Ok, Err, codes}
 use Rattle.std.specs.List.{list_any}
 use Rattle.shape_rules.specs.Forms.{Form, unsigned}
+use Rattle.identifiers.specs.Identifiers.{is_identifier}
 use Rattle.data_layouts.specs.declared.field.Member.{Member}
 use Rattle.data_layouts.specs.declared.refusal.LayoutStop.{LayoutStop}
 use Rattle.data_layouts.specs.declared.refusal.LayoutStop.TheVariants.{Repeated}
@@ -27,7 +28,6 @@ use Rattle.amh_things.specs.Meant.{shape_meant}
 use Rattle.amh_things.specs.Arguments.{Arguments, argument, fits}
 use Rattle.layout_acts.specs.declared.layouts.LayoutKind.{LayoutKind}
 use Rattle.layout_acts.specs.declared.layouts.LayoutKind.TheVariants as kind
-use Rattle.layout_acts.specs.Names.{is_name}
 
 -- ---- members: names, each with what is to be a shape
 
@@ -59,7 +59,7 @@ form_or_none (Ok f) = f
 form_or_none (Err why) = unsigned 0
 
 abbrev pub is_no_member : Seen → List Thing → NamedVal → Bool
-is_no_member s things m = not (is_name m.name) || is_no_shape (shape_meant s things m.val)
+is_no_member s things m = not (is_identifier m.name) || is_no_shape (shape_meant s things m.val)
 
 abbrev pub has_wide_shape : Seen → List Thing → NamedVal → Bool
 has_wide_shape s things m = is_wide (shape_meant s things m.val)

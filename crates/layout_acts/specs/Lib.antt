@@ -1,5 +1,4 @@
 pub mod Enumerations
-pub mod Names
 pub mod Layouts
 pub mod StructClasses
 pub mod Views

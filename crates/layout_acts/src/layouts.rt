@@ -11,7 +11,6 @@ ghost use Rattle.amh_things.specs.Plans.{IsPlanned, MakesThings};
 ghost use Rattle.amh_things.specs.Things.{reading_given};
 ghost use Rattle.layout_acts.specs.Layouts.{text_in, members_of_row, is_wide, is_no_shape, form_or_none, is_no_member, has_wide_shape, member_of, reading_of, laid, laid_refusal, layout_where, layout_of, members_laid, members_given, members_called, items_laid, array_laid, array_given, array_called};
 
-use crate::names::is_name;
 use amh_bits::Int;
 use amh_host::Text;
 use amh_things::arguments::Arguments;
@@ -23,6 +22,7 @@ use amh_things::shown::Shown;
 use amh_things::thing::{LayoutThing, Reading, Readings, Thing};
 use amh_things::values::Values;
 use data_layouts::{Layout, LayoutStop, Member, Members};
+use identifiers::is_identifier;
 use lists::NoMemory;
 use py_frames::request::{Cause, NamedVal, NamedVals};
 use py_values::Val;
@@ -137,7 +137,7 @@ fn all_gathered(
     let mut readings = Readings::new(alloc);
     let mut wide = false;
     for m in given {
-        if !is_name(m.name.as_str()) {
+        if !is_identifier(alloc, m.name.as_str())? {
             return Ok(None);
         }
         let Some(has) = member_shape(values, shown, &m.val) else {

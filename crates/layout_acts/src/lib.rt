@@ -10,7 +10,6 @@ pub mod enumerations;
 mod fields;
 mod laws;
 pub mod layouts;
-pub mod names;
 pub mod struct_classes;
 pub mod views;
 

@@ -8,7 +8,7 @@ use Rattle.std.specs.Ordering.{nat_cmp}
 use Rattle.std.proofs.lemmas.Map.Text.{btree_set_updates_text}
 use Rattle.lists.specs.Texts.{text_eq}
 use Rattle.elab_eval.specs.Interfaces.{signature_name}
-use Rattle.elab_eval.specs.Names.{is_name}
+use Rattle.identifiers.specs.Identifiers.{is_identifier}
 use Rattle.elab_eval.proofs.ComponentLaws.{among_more, named_more}
 use Rattle.elab_eval.proofs.interfaces.are_members.Goals as goal
 
@@ -35,7 +35,7 @@ loop-m-preserved c =
     let names = c.loop-m.names in
     let key : string_bytes c.in_ok-from_str-2.field-0 ≡ m.name = c.in_ok-from_str-2.ensures.ok ∙ c.as_str-name.ensures in
     let put = btree_set_updates_text (string_bytes c.in_ok-from_str-2.field-0) names c.insert-in-loop-m.new.self true c.in_ok-insert-2.ensures.updates in
-    let formed : is_name m.name ≡ true = ap is_name (sym c.as_str-name.ensures) ∙ sym c.if-not-is_name.ensures in
+    let formed : is_identifier m.name ≡ true = ap is_identifier (sym c.as_str-name.ensures) ∙ sym c.in_ok-is_identifier.ensures.value in
     let apart : list_any (text_eq m.name) before ≡ false =
     sym (c.loop-m.invariant.2 m.name) ∙ ap (contains_text names) (sym c.as_str-name.ensures) ∙ sym c.contains.ensures ∙ c.if-contains.false in (
       before ++ m.name ∷ [],

@@ -1,0 +1,5 @@
+pub mod Computing
+pub mod FormLaws
+pub mod IdentifierLaws
+pub mod NameLaws
+mod Samples
