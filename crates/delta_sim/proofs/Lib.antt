@@ -21,6 +21,9 @@ pub mod Resting
 pub mod DeltaSteps
 pub mod Counting
 pub mod Compiling
+pub mod SignalsInside
+pub mod CompiledTasks
+pub mod PlanTables
 pub mod Rooting
 pub mod Spreading
 pub mod Applying

@@ -22,11 +22,13 @@ pub record HoldsSignal (p : Pooled) (marks : List Bool) (s : ℕ) : Type 0 where
   pub same : sig.0 ≡ s
   pub marked : is_marked marks k ≡ true
 
--- the task of all statements of a process, and the signals that they read
-pub record IsCompiled (c : Circuit) (p : DesignProcess) (x : Compiled) : Type 0 where
+-- the task of all statements of process k, and the signals that they read
+pub record IsCompiled (c : Circuit) (k : ℕ) (p : DesignProcess) (x : Compiled) : Type 0 where
+  pub process : x.task.process ≡ k
   pub task : IsClockedTask c (length c.pool.exprs) x.task p
   pub below : AllByRecursion (λ s. s < length c.pool.signals) (numbers_of x.task.outs)
   pub reads : (s : ℕ) → is_among (numbers_of x.reads) s ≡ block_reads c.pool s p.body
+  pub reads_below : AllByRecursion (λ s. s < length c.pool.signals) (numbers_of x.reads)
 
 -- the signal that an expression is
 abbrev pub own_signal : Expr → List SigId

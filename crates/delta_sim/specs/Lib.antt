@@ -12,3 +12,4 @@ pub mod Plans
 pub mod Settling
 pub mod Marks
 pub mod Compiled
+pub mod Tables

@@ -1,4 +1,4 @@
-// What is worked out of a design once.
+// What is worked out of one process.
 ghost use Rattle.std.specs.Prelude.{◌≡◌, ◌<◌, ◌^◌, ℕ, [], true, length, slice_get, Some, ◌++◌, ◌∷◌, ◌||◌, if◌then◌else◌, IfOk, OnOk};
 ghost use Rattle.std.specs.List.{range_with_len};
 ghost use Rattle.design_ir.specs.declared.expr.Expr.TheVariants as expr;
@@ -7,111 +7,25 @@ ghost use Rattle.design_ir.specs.Circuits.{is_among};
 ghost use Rattle.delta_sim.specs.Compiled.{IsCompiled, HoldsSignal, own_signal};
 ghost use Rattle.delta_sim.specs.Driven.{AreTargets, numbers_of};
 ghost use Rattle.delta_sim.specs.Marks.{is_marked, listed_of};
-ghost use Rattle.delta_sim.specs.Plans.{IsPlan};
 
 use crate::driven::driven;
-use crate::given::given_signals;
-use crate::plan::Plan;
 use crate::roots::mark_body;
 use crate::spread::spread;
-use crate::targets::{SigIds, all_targets};
+use crate::targets::SigIds;
 use crate::task::Task;
-use amh_host::{Items, NoMemory, Numbers};
+use amh_host::{Items, NoMemory};
 use design_ir::{Design, DesignProcess, Expr, ExprId, Exprs, Ids, SigId};
 use std::alloc::Global;
 
-/// The plan of a design.
-pub fn plan_of(alloc: Global, design: &Design) -> Result<Plan, NoMemory>
-    requires { design.now.memories ≡ [] }
-    ensures { IfOk result (IsPlan design.now (length design.now.pool.exprs)) }
-{
-    let targets = all_targets(alloc, design)?;
-    let given = given_signals(alloc, design, targets.as_slice())?;
-    let given = listed(alloc, given.as_slice())?;
-    let mut tables = Tables::new(alloc, design.signals() as usize)?;
-    for k in 0..design.processes().len() {
-        tables.add(alloc, design, targets.as_slice(), k)?;
-    }
-    Ok(Plan {
-        given,
-        clocked: tables.clocked,
-        tasks: tables.tasks,
-        readers: all_items(alloc, tables.readers)?,
-        processes: all_items(alloc, tables.processes)?,
-    })
-}
-
-// What grows from process to process.
-#[derive(Drop)]
-struct Tables {
-    clocked: Items<Task>,
-    tasks: Items<Task>,
-    readers: Vec<Numbers>,
-    processes: Vec<Numbers>,
-}
-
-impl Tables {
-    fn new(alloc: Global, signals: usize) -> Result<Tables, NoMemory> {
-        let mut readers = Vec::new(alloc);
-        let mut processes = Vec::new(alloc);
-        for _ in 0..signals {
-            readers.push(Items::new(alloc))?;
-            processes.push(Items::new(alloc))?;
-        }
-        Ok(Tables {
-            clocked: Items::new(alloc),
-            tasks: Items::new(alloc),
-            readers,
-            processes,
-        })
-    }
-
-    // Adds what is known of one process more.
-    fn add(
-        &mut self,
-        alloc: Global,
-        design: &Design,
-        targets: &[SigIds],
-        k: usize,
-    ) -> Result<(), NoMemory>
-        requires there { k < length design.now.processes }
-        requires targets { AreTargets design.now.pool (length design.now.pool.exprs) targets.now }
-    {
-        let p = design.processes().get(k);
-        let compiled = compile(alloc, design, targets, k as u32, p)?;
-        if p.domain.is_some() {
-            return self.clocked.push(compiled.task);
-        }
-        self.clocked.push(no_task(alloc))?;
-        for s in compiled.reads.as_slice() {
-            let i = s.0 as usize;
-            if i < self.readers.len() && i < self.processes.len() {
-                self.readers[i].push(self.tasks.len() as u32)?;
-                self.processes[i].push(k as u32)?;
-            }
-        }
-        self.tasks.push(compiled.task)
-    }
-}
-
-fn no_task(alloc: Global) -> Task {
-    Task {
-        process: 0,
-        statements: Items::new(alloc),
-        outs: Items::new(alloc),
-        exprs: Items::new(alloc),
-    }
-}
-
-// A task, and the signals that it reads.
+/// A task, and the signals that it reads.
 #[derive(Drop)]
 pub struct Compiled {
     pub task: Task,
     pub reads: SigIds,
 }
 
-// The task of all statements of a process.
-fn compile(
+/// The task of all statements of process k.
+pub fn compile(
     alloc: Global,
     design: &Design,
     targets: &[SigIds],
@@ -120,7 +34,7 @@ fn compile(
 ) -> Result<Compiled, NoMemory>
     requires targets { AreTargets design.now.pool (length design.now.pool.exprs) targets.now }
     requires there { slice_get design.now.processes k ≡ Some p.now }
-    ensures { IfOk result (IsCompiled design.now p.now) }
+    ensures { IfOk result (IsCompiled design.now k p.now) }
 {
     let _ = design.processes();
     let mut aims = vec![in alloc; false; design.count() as usize]?;
@@ -129,7 +43,7 @@ fn compile(
     spread(design, &mut aims, &mut values);
     let task = Task {
         process: k,
-        statements: places(alloc, p.body.len() as u32)?,
+        statements: places(alloc, p.body.len())?,
         outs: driven(alloc, targets, &p.body)?,
         exprs: program(alloc, aims.as_slice(), values.as_slice())?,
     };
@@ -138,7 +52,7 @@ fn compile(
 }
 
 // So many places.
-fn places(alloc: Global, count: u32) -> Result<Numbers, NoMemory>
+fn places(alloc: Global, count: usize) -> Result<Items<usize>, NoMemory>
     ensures { IfOk result (λ all. all ≡ range_with_len 0 count) }
 {
     let mut all = Items::new(alloc);
@@ -195,29 +109,4 @@ fn add_signal(e: &Expr, is_marked: bool, list: &mut SigIds) -> Result<(), NoMemo
         Expr::Sig(s) => list.push(*s),
         _ => Ok(()),
     }
-}
-
-// The marked signals.
-fn listed(alloc: Global, marks: &[bool]) -> Result<SigIds, NoMemory>
-    requires { length marks.now < 2 ^ 32 }
-    ensures { IfOk result (λ list. (s : ℕ) → is_among (numbers_of list) s ≡ is_marked marks.now s) }
-{
-    let mut list = Items::new(alloc);
-    for s in 0..marks.len() {
-        if marks[s] {
-            list.push(SigId(s as u32))?;
-        }
-    }
-    Ok(list)
-}
-
-// The same lists.
-fn all_items(alloc: Global, lists: Vec<Numbers>) -> Result<Items<Numbers>, NoMemory>
-    ensures { IfOk result (λ all. all ≡ lists.items) }
-{
-    let mut all = Items::new(alloc);
-    for list in lists {
-        all.push(list)?;
-    }
-    Ok(all)
 }

@@ -26,6 +26,7 @@ mod settle;
 mod sim;
 mod spread;
 mod statements;
+mod tables;
 mod targets;
 mod task;
 mod wake;

@@ -9,10 +9,10 @@ ghost use Rattle.comb_graph.specs.Rankings.{IsRanking};
 ghost use Rattle.delta_sim.specs.Standing.{IsSimOf, Settles, Stands};
 
 use crate::agenda::Agenda;
-use crate::compile::plan_of;
 use crate::event::hold;
 use crate::plan::Plan;
 use crate::settle::{Counts, settle};
+use crate::tables::plan_of;
 use crate::wake::take_given;
 use amh_bits::Int;
 use amh_host::{NoMemory, Steps};

@@ -35,7 +35,7 @@ pub fn put_task(
 {
     let all = body.as_slice();
     for i in task.statements.as_slice() {
-        put_stmt(design, task, env, nums, &all[*i as usize], cur);
+        put_stmt(design, task, env, nums, &all[*i], cur);
     }
 }
 

@@ -1,7 +1,7 @@
 // What is computed at a time.
 
 use crate::targets::SigIds;
-use amh_host::Numbers;
+use amh_host::Items;
 use design_ir::Ids;
 
 /// Statements of one process by their places in it, the signals that they drive, and the expressions that stand in them,
@@ -9,7 +9,7 @@ use design_ir::Ids;
 #[derive(Drop)]
 pub struct Task {
     pub process: u32,
-    pub statements: Numbers,
+    pub statements: Items<usize>,
     pub outs: SigIds,
     pub exprs: Ids,
 }
