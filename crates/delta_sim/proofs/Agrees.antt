@@ -1,8 +1,8 @@
 -- Statements leave the same where the signals that they read have the same numbers.
-use Rattle.std.specs.Prelude.{◌≡◌, refl, ℕ, zero, suc, ◌<◌, ◌==◌, ◌||◌, ◌*◌, Bool, true, false, List, [], ◌∷◌, map, length, take, drop, slice_get, ℤ, pos, unsigned_abs, Option, Some, cond}
+use Rattle.std.specs.Prelude.{◌≡◌, refl, ℕ, zero, suc, ◌<◌, ◌||◌, ◌*◌, Bool, true, false, List, [], ◌∷◌, map, length, take, drop, slice_get, ℤ, pos, unsigned_abs, Some, cond}
 use Rattle.std.specs.List.{AllByRecursion, flat_map, list_any}
-use Rattle.std.proofs.Common.{sym, ◌∙◌, ap, arith, subst, ⊎_elim}
-use Rattle.std.proofs.lemmas.Bool.{eq-eqb, cases_lt, false≢true}
+use Rattle.std.proofs.Common.{sym, ◌∙◌, ap, arith}
+use Rattle.std.proofs.lemmas.Bool.{eq-eqb, false≢true}
 use Rattle.shape_rules.specs.Forms.{Form}
 use Rattle.shape_rules.specs.Operators.{is_zero}
 use Rattle.design_ir.specs.declared.ids.ExprId.{ExprId}
@@ -12,15 +12,14 @@ use Rattle.design_ir.specs.declared.expr.Expr.TheVariants.{Const, Unary, Binary,
 use Rattle.design_ir.specs.Circuits.{at}
 use Rattle.design_ir.specs.Guards.{block_exprs, statement_exprs, choices_exprs}
 use Rattle.design_ir.specs.Named.{named, AllBelow}
-use Rattle.design_ir.specs.Pools.{Pooled, answer}
+use Rattle.design_ir.specs.Pools.{Pooled}
 use Rattle.design_ir.specs.PoolRules.{IsPool}
 use Rattle.design_ir.specs.Put.{put, put_statement, put_choices, put_number}
-use Rattle.design_ir.specs.Targets.{Bit, padded, target_step, target_bits}
+use Rattle.design_ir.specs.Targets.{padded, target_step, target_bits}
 use Rattle.design_ir.specs.Trees.{Statement, assign, choose, Choices, none, arm, Block, done, next}
 use Rattle.design_ir.specs.Values.{form, num, joined, picked, signal_form, value_step, common_of_all}
-use Rattle.design_ir.proofs.Answers.{LooksBelow, answer_past}
 use Rattle.design_ir.proofs.Congruence.{AreSame, same_below}
-use Rattle.design_ir.proofs.Equations.{IsStanding, standing, num_is, answer_at}
+use Rattle.design_ir.proofs.Equations.{standing, num_is, answer_at}
 use Rattle.design_ir.proofs.NumbersFit.{element}
 use Rattle.design_ir.proofs.TargetLaws.{target_is}
 use Rattle.delta_sim.proofs.Walks.{all_parts}

@@ -1,29 +1,26 @@
 -- Where the deltas of an event begin, and that they end.
-use Rattle.std.specs.Prelude.{◌≡◌, ◌≢◌, refl, ℕ, zero, suc, ◌+◌, ◌<◌, ◌≤◌, if◌then◌else◌, Bool, true, false, List, [], ◌∷◌, ◌++◌, take, drop, length, ℤ}
-use Rattle.std.specs.List.{AllByRecursion}
+use Rattle.std.specs.Prelude.{◌≡◌, refl, ℕ, zero, suc, ◌+◌, ◌<◌, ◌≤◌, if◌then◌else◌, Bool, true, false, List, [], ◌∷◌, ◌++◌, take, drop, length, ℤ}
 use Rattle.std.proofs.Common.{sym, ◌∙◌, ap, arith, subst, ⊎_elim}
 use Rattle.std.proofs.lemmas.Bool.{cases_Bool, false≢true}
 use Rattle.design_ir.specs.declared.event.Event.{Event}
-use Rattle.design_ir.specs.declared.memory.Memory.{Memory}
 use Rattle.design_ir.specs.Circuits.{Circuit, State, at, is_among, is_held}
 use Rattle.design_ir.specs.Designs.{IsDesign}
 use Rattle.design_ir.specs.Histories.{with_held, Deltas, DeltasFrom}
 use Rattle.design_ir.specs.Legal.{IsLegal}
 use Rattle.design_ir.specs.PoolRules.{IsPool}
-use Rattle.design_ir.specs.Settled.{Settled, delta}
+use Rattle.design_ir.specs.Settled.{delta}
 use Rattle.design_ir.specs.Steps.{step}
 use Rattle.design_ir.proofs.NumbersFit.{FitsSignals}
 use Rattle.comb_graph.specs.Laws.{FitsState, FitsRows, HasDeltas, DeltasAreFew}
-use Rattle.comb_graph.specs.Orders.{is_comb, IsLongest}
+use Rattle.comb_graph.specs.Orders.{is_comb}
 use Rattle.comb_graph.proofs.DeltaLaws.{delta_length}
 use Rattle.comb_graph.proofs.EventStarts.{begin_ready}
 use Rattle.delta_sim.specs.declared.plan.Plan.{Plan}
 use Rattle.delta_sim.specs.After.{after}
 use Rattle.delta_sim.specs.Driven.{numbers_of}
-use Rattle.delta_sim.specs.Plans.{IsPlan, Rests, Wakes, taken}
-use Rattle.delta_sim.specs.Settling.{EndsIn, nobody}
+use Rattle.delta_sim.specs.Plans.{Rests, Wakes, taken}
+use Rattle.delta_sim.specs.Settling.{EndsIn}
 use Rattle.delta_sim.specs.Standing.{Simulated, state_of, AreNumbersOf, IsSimOf}
-use Rattle.delta_sim.specs.Waiting.{Waiting}
 use Rattle.delta_sim.proofs.DeltaSteps.{below_of}
 use Rattle.delta_sim.proofs.Lives.{step_is, after_numbers}
 use Rattle.delta_sim.proofs.Resting.{rests_first}

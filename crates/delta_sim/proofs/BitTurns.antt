@@ -1,11 +1,10 @@
 -- Bits of a number written into the places of a target, one after another.
 use Rattle.std.specs.Prelude.{◌≡◌, refl, ℕ, zero, suc, ◌+◌, ◌<◌, ◌≤◌, List, [], ◌∷◌, drop, length, ℤ, Option, Some, None}
 use Rattle.std.specs.List.{AllByRecursion}
-use Rattle.std.proofs.Common.{sym, ◌∙◌, ap, arith, subst, get_or, add-one}
+use Rattle.std.proofs.Common.{sym, ◌∙◌, ap, get_or}
 use Rattle.std.proofs.lemmas.List.{at_drop_more, at_drop_all, length-set}
-use Rattle.amh_bits.specs.Patterns.{nat_bit, pattern}
+use Rattle.amh_bits.specs.Patterns.{nat_bit}
 use Rattle.design_ir.specs.Pools.{Pooled}
-use Rattle.design_ir.specs.PoolRules.{IsPool}
 use Rattle.design_ir.specs.Put.{put_bits, put_place}
 use Rattle.design_ir.specs.Targets.{Bit, target_bits}
 use Rattle.delta_sim.specs.Reading.{IsInside}

@@ -1,5 +1,5 @@
 -- A clocked process, where its domain rises.
-use Rattle.std.specs.Prelude.{◌≡◌, refl, ℕ, zero, suc, ◌<◌, if◌then◌else◌, true, false, List, [], ◌∷◌, length, slice_get, ℤ, Option, Some, None}
+use Rattle.std.specs.Prelude.{◌≡◌, refl, ℕ, zero, suc, ◌<◌, if◌then◌else◌, true, List, [], ◌∷◌, length, slice_get, ℤ, Some}
 use Rattle.std.proofs.Common.{sym, ◌∙◌, ap, arith, get_or}
 use Rattle.design_ir.specs.declared.ids.DomainId.{DomainId}
 use Rattle.design_ir.specs.declared.process.DesignProcess.{DesignProcess}

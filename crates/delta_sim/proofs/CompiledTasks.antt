@@ -1,5 +1,5 @@
 -- The task of all statements of a process.
-use Rattle.std.specs.Prelude.{◌≡◌, refl, ℕ, zero, suc, ◌+◌, ◌<◌, ◌≤◌, Bool, true, false, List, [], ◌∷◌, ◌++◌, length, replicate, slice_get, slice_index_or, ℤ, Some}
+use Rattle.std.specs.Prelude.{◌≡◌, refl, ℕ, zero, suc, ◌+◌, ◌<◌, ◌≤◌, Bool, true, false, List, [], ◌++◌, length, replicate, slice_get, slice_index_or, Some}
 use Rattle.std.specs.List.{AllByRecursion, range_with_len}
 use Rattle.std.proofs.Common.{sym, ◌∙◌, ap, arith, subst}
 use Rattle.design_ir.specs.declared.ids.ExprId.{ExprId}
@@ -9,14 +9,12 @@ use Rattle.design_ir.specs.declared.process.DesignProcess.{DesignProcess}
 use Rattle.design_ir.specs.Circuits.{Circuit, at, is_among}
 use Rattle.design_ir.specs.Designs.{IsDesign, IsProcess}
 use Rattle.design_ir.specs.Guards.{driven, block_exprs, statement_exprs, choices_exprs}
-use Rattle.design_ir.specs.Named.{AllBelow}
 use Rattle.design_ir.specs.PoolRules.{IsPool}
 use Rattle.design_ir.specs.Put.{put}
 use Rattle.design_ir.specs.Targets.{is_target}
 use Rattle.design_ir.specs.Trees.{Statement, assign, choose, Choices, none, arm, Block, done, next, statements, block_len}
 use Rattle.design_ir.proofs.Equations.{standing}
 use Rattle.delta_sim.specs.declared.task.Task.{Task}
-use Rattle.delta_sim.specs.declared.compile.Compiled.{Compiled}
 use Rattle.delta_sim.specs.Compiled.{IsCompiled, HoldsSignal}
 use Rattle.delta_sim.specs.Driven.{AreTargets, numbers_of, listed}
 use Rattle.delta_sim.specs.Given.{marked}
@@ -24,7 +22,7 @@ use Rattle.delta_sim.specs.Marks.{is_marked, AreMarked, AreSpread, ReadOnly, Sta
 use Rattle.delta_sim.specs.Plans.{IsClockedTask}
 use Rattle.delta_sim.specs.Reading.{AreBelow, AreThere}
 use Rattle.delta_sim.specs.Reads.{block_reads}
-use Rattle.delta_sim.specs.Tasks.{IsTask, IsProgram, AreAmong, AreTargetsOf, picked, places_of, block_targets, statement_targets, choices_targets, block_values, statement_values, choices_values}
+use Rattle.delta_sim.specs.Tasks.{IsProgram, AreAmong, AreTargetsOf, picked, places_of, block_targets, statement_targets, choices_targets, block_values, statement_values, choices_values}
 use Rattle.delta_sim.proofs.DrivenLists.{driven_like}
 use Rattle.delta_sim.proofs.EdgesFit.{all_get}
 use Rattle.delta_sim.proofs.Listing.{listed_program, all_among, whole, block_either, block_aims, first_targets}

@@ -1,8 +1,8 @@
 -- How many processes are woken.
-use Rattle.std.specs.Prelude.{◌≡◌, ◌≢◌, refl, ℕ, zero, suc, ◌+◌, ◌<◌, ◌≤◌, ◌⊎◌, ◌&&◌, ◌||◌, ◌==◌, Bool, true, false, not, cond, is_none, List, [], ◌∷◌, length, replicate, slice_get, slice_index_or, ℤ, Option, Some, None}
+use Rattle.std.specs.Prelude.{◌≡◌, ◌≢◌, refl, ℕ, zero, suc, ◌+◌, ◌<◌, ◌≤◌, ◌&&◌, ◌||◌, Bool, true, false, not, cond, is_none, List, [], ◌∷◌, length, replicate, slice_get, slice_index_or, ℤ, Some}
 use Rattle.std.specs.List.{count_by, list_any, range_with_len}
 use Rattle.std.specs.Ordering.{int_eq}
-use Rattle.std.proofs.Common.{sym, ◌∙◌, ap, arith, subst, ⊎_elim, get_or}
+use Rattle.std.proofs.Common.{sym, ◌∙◌, ap, arith, ⊎_elim}
 use Rattle.std.proofs.lemmas.Bool.{cases_Bool, cases_lt, false≢true}
 use Rattle.std.proofs.lemmas.Bool.Decides.{Decides-int_eq}
 use Rattle.std.proofs.lemmas.List.{get_or_past}
@@ -11,7 +11,7 @@ use Rattle.design_ir.specs.declared.process.DesignProcess.{DesignProcess}
 use Rattle.design_ir.specs.declared.memory.Memory.{Memory}
 use Rattle.design_ir.specs.Circuits.{Circuit, at, is_among}
 use Rattle.delta_sim.specs.declared.plan.Plan.{Plan}
-use Rattle.delta_sim.specs.Plans.{IsPlan, IsTable, Wakes, readers_of}
+use Rattle.delta_sim.specs.Plans.{IsPlan, Wakes, readers_of}
 use Rattle.delta_sim.specs.Reads.{block_reads}
 use Rattle.delta_sim.specs.Woken.{changed, is_woken, woken, ports_woken}
 use Rattle.delta_sim.proofs.Waits.{none_marked}

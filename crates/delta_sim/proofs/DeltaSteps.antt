@@ -1,9 +1,8 @@
 -- The tasks of a delta, one after another.
-use Rattle.std.specs.Prelude.{◌≡◌, ◌≢◌, refl, ℕ, zero, suc, ◌+◌, ◌<◌, ◌≤◌, ◌⊎◌, ◌==◌, ◌||◌, ◌&&◌, Bool, true, false, is_none, List, [], ◌∷◌, take, length, slice_get, slice_index_or, ℤ, pos, Option, Some, None}
+use Rattle.std.specs.Prelude.{◌≡◌, ◌≢◌, refl, ℕ, zero, suc, ◌+◌, ◌<◌, ◌≤◌, ◌⊎◌, ◌==◌, ◌||◌, ◌&&◌, Bool, true, false, is_none, List, [], ◌∷◌, take, length, slice_get, slice_index_or, ℤ, Some, None}
 use Rattle.std.specs.List.{AllByRecursion, list_any}
 use Rattle.std.proofs.Common.{sym, ◌∙◌, ap, arith, subst, inl, inr, ⊎_elim, get_or, add-one}
-use Rattle.std.proofs.lemmas.Bool.{cases_eq, cases_Bool, cases_lt, eq-eqb, eqb-true, false≢true}
-use Rattle.std.proofs.lemmas.List.{get_or_past}
+use Rattle.std.proofs.lemmas.Bool.{cases_eq, cases_Bool, eq-eqb, eqb-true, false≢true}
 use Rattle.design_ir.specs.declared.memory.Memory.{Memory}
 use Rattle.design_ir.specs.declared.memory.MemRead.{MemRead}
 use Rattle.design_ir.specs.declared.process.DesignProcess.{DesignProcess}
@@ -22,7 +21,7 @@ use Rattle.delta_sim.specs.Tasks.{picked}
 use Rattle.delta_sim.specs.Waiting.{Waiting, IsWaiting}
 use Rattle.delta_sim.proofs.Resting.{comb_signal, run_gives, run_keeps}
 use Rattle.delta_sim.proofs.Settling.{same_lists}
-use Rattle.delta_sim.proofs.Taking.{taken_at, taken_other, taken_length}
+use Rattle.delta_sim.proofs.Taking.{taken_at, taken_other}
 
 -- ---- what is among the first
 

@@ -1,5 +1,5 @@
 -- What statements leave in a signal is decided by what was in it.
-use Rattle.std.specs.Prelude.{◌≡◌, refl, ℕ, zero, suc, ◌+◌, cond, Bool, true, false, List, [], ◌∷◌, length, slice_set, ℤ, pos, Option, Some, None}
+use Rattle.std.specs.Prelude.{◌≡◌, refl, ℕ, zero, suc, ◌+◌, cond, Bool, true, false, List, [], ◌∷◌, length, slice_set, ℤ, Option, Some, None}
 use Rattle.std.proofs.Common.{sym, ◌∙◌, ap, arith}
 use Rattle.std.proofs.lemmas.List.{length-set}
 use Rattle.amh_bits.specs.Patterns.{pattern, number, nat_bit}

@@ -24,6 +24,7 @@ pub mod Compiling
 pub mod SignalsInside
 pub mod CompiledTasks
 pub mod PlanTables
+pub mod Beginning
 pub mod Rooting
 pub mod Spreading
 pub mod Applying

@@ -1,5 +1,5 @@
 -- The place of one bit of a target, by what the target is made of.
-use Rattle.std.specs.Prelude.{◌≡◌, ⊤, refl, ℕ, zero, suc, ◌+◌, ◌-◌, ◌*◌, ◌<◌, ◌≤◌, nat_lt, ◌&&◌, ◌||◌, ◌==◌, pos, min, Bool, true, false, cond, List, [], ◌∷◌, ◌++◌, map, length, take, drop, replicate, slice_get, slice_index_or, ℤ, unsigned_abs, Option, Some, None}
+use Rattle.std.specs.Prelude.{◌≡◌, ⊤, refl, ℕ, zero, suc, ◌+◌, ◌-◌, ◌*◌, ◌<◌, ◌≤◌, nat_lt, ◌||◌, ◌==◌, pos, min, Bool, true, false, cond, List, [], ◌∷◌, ◌++◌, map, length, take, drop, replicate, slice_get, ℤ, unsigned_abs, Option, Some, None}
 use Rattle.std.specs.List.{AllByRecursion, flat_map, list_all, range_with_len}
 use Rattle.std.proofs.Common.{sym, ◌∙◌, ap, arith, subst, ⊎_elim, get_or}
 use Rattle.std.proofs.lemmas.Bool.{cases_Bool, ltb-true, ltb-false, lt-ltb, le-ltb, cases_lt, eqb-true, false≢true}
@@ -15,13 +15,13 @@ use Rattle.design_ir.specs.Circuits.{is_among}
 use Rattle.design_ir.specs.Named.{named, AllBelow}
 use Rattle.design_ir.specs.Pools.{Pooled}
 use Rattle.design_ir.specs.PoolRules.{IsPool}
-use Rattle.design_ir.specs.Targets.{Bit, bits_of, padded, target_test, target_bits, is_target}
+use Rattle.design_ir.specs.Targets.{Bit, padded, target_test, target_bits, is_target}
 use Rattle.design_ir.specs.Values.{form, num, signal_form, picked, common_of_all}
-use Rattle.design_ir.proofs.Equations.{standing, form_is, place_below}
-use Rattle.design_ir.proofs.TargetLaws.{and_true, target_is, is_target_is, target_length, take_length, padded_length, drop_length}
+use Rattle.design_ir.proofs.Equations.{standing, form_is}
+use Rattle.design_ir.proofs.TargetLaws.{and_true, target_is, is_target_is, target_length, padded_length}
 use Rattle.delta_sim.specs.declared.place.Walk.{Walk}
 use Rattle.delta_sim.specs.declared.place.Walk.TheVariants.{Ends, GoesOn}
-use Rattle.delta_sim.specs.Tasks.{IsProgram, IsRead, AreAmong, places_of}
+use Rattle.delta_sim.specs.Tasks.{IsRead, AreAmong, places_of}
 use Rattle.delta_sim.specs.Walked.{signal_place, window, item_at, place_of, IsWalked}
 use Rattle.delta_sim.proofs.Items.{below_at, picked_is}
 use Rattle.delta_sim.proofs.TargetsInside.{target_few}

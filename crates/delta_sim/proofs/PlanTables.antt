@@ -1,6 +1,5 @@
 -- One process more, while a plan grows.
-use Rattle.std.specs.Prelude.{◌≡◌, ◌≢◌, refl, ℕ, zero, suc, ◌+◌, ◌<◌, ◌≤◌, ◌^◌, ◌⊎◌, ◌==◌, ◌&&◌, ◌||◌, Bool, true, false, List, [], ◌∷◌, ◌++◌, drop, length, replicate, is_none, is_some, slice_get, slice_set, slice_index_or, Option, Some, None}
-use Rattle.std.specs.List.{AllByRecursion}
+use Rattle.std.specs.Prelude.{◌≡◌, ◌≢◌, refl, ℕ, zero, suc, ◌+◌, ◌<◌, ◌≤◌, ◌⊎◌, ◌==◌, ◌&&◌, ◌||◌, Bool, true, false, List, [], ◌∷◌, ◌++◌, drop, length, replicate, is_none, is_some, slice_get, slice_set, slice_index_or, Option, Some, None, Result, Ok, Err, OnOk}
 use Rattle.std.proofs.Common.{sym, ◌∙◌, ap, arith, subst, inl, inr, ⊎_elim, get_or}
 use Rattle.std.proofs.lemmas.Bool.{cases_Bool, cases_eq, cases_lt, eqb-true, eq-eqb, false≢true}
 use Rattle.std.proofs.lemmas.List.{get_or_past, get_or-set_same, get_or-set_other, length-set, at_drop_all}
@@ -18,7 +17,7 @@ use Rattle.delta_sim.specs.declared.task.Task.{Task}
 use Rattle.delta_sim.specs.Compiled.{IsCompiled}
 use Rattle.delta_sim.specs.Driven.{numbers_of}
 use Rattle.delta_sim.specs.Marks.{is_marked}
-use Rattle.delta_sim.specs.Plans.{IsPlan, IsTable, IsClockedTask, HasClocked, IsCombTask, IsCovered, readers_of}
+use Rattle.delta_sim.specs.Plans.{IsPlan, IsTable, IsClockedTask, IsCombTask, readers_of}
 use Rattle.delta_sim.specs.Reads.{block_reads}
 use Rattle.delta_sim.specs.Reading.{AreFirst}
 use Rattle.delta_sim.specs.Tables.{IsAdded, AreTables}
@@ -357,6 +356,20 @@ module _ (c : Circuit) (flat : c.memories ≡ []) (design : IsDesign c) (n : ℕ
       exact = λ s k q inside lt is.
           ⊎_elim (λ (old : k < n). exact_old s k q inside old is) (λ (e : k ≡ n). exact_new s k q inside e is) (older k lt);
     }
+
+-- ---- results
+
+pub no_domain : (o : Option DomainId) → is_some o ≡ false → o ≡ None
+no_domain None e = refl
+no_domain (Some d) e = absurd (false≢true (sym e))
+
+pub on_ok : {A E : Type 0} {P Q : Type 0} (r : Result A E) → (P → Q) → OnOk r P → OnOk r Q
+on_ok (Ok a) f p = f p
+on_ok (Err e) f p = tt
+
+pub all_ok : {A E : Type 0} {P Q R S T U : Type 0} (r : Result A E) → (P → Q → R → S → T → U) → OnOk r P → OnOk r Q → OnOk r R → OnOk r S → OnOk r T → OnOk r U
+all_ok (Ok a) f p q r s t = f p q r s t
+all_ok (Err e) f p q r s t = tt
 
 -- ---- all processes
 

@@ -1,8 +1,8 @@
 -- The signals of the marked expressions are those that the statements read from which the marks spread.
-use Rattle.std.specs.Prelude.{◌≡◌, refl, ℕ, zero, suc, ◌+◌, ◌<◌, ◌≤◌, ◌⊎◌, ◌==◌, ◌||◌, Bool, true, false, List, [], ◌∷◌, ◌++◌, length, slice_get, slice_index_or, Some}
-use Rattle.std.specs.List.{AllByRecursion, list_any}
+use Rattle.std.specs.Prelude.{◌≡◌, refl, ℕ, zero, suc, ◌<◌, ◌≤◌, ◌⊎◌, ◌==◌, ◌||◌, Bool, true, false, List, [], ◌∷◌, ◌++◌, length, slice_get, Some}
+use Rattle.std.specs.List.{list_any}
 use Rattle.std.proofs.Common.{sym, ◌∙◌, ap, arith, subst, ⊎_elim, inl, inr}
-use Rattle.std.proofs.lemmas.Bool.{cases_Bool, cases_lt, eq-eqb, eqb-true, false≢true}
+use Rattle.std.proofs.lemmas.Bool.{cases_lt, eq-eqb, eqb-true, false≢true}
 use Rattle.std.proofs.lemmas.List.{get_or_past}
 use Rattle.design_ir.specs.declared.ids.ExprId.{ExprId}
 use Rattle.design_ir.specs.declared.ids.SigId.{SigId}
@@ -10,7 +10,6 @@ use Rattle.design_ir.specs.declared.expr.Expr as expr
 use Rattle.design_ir.specs.declared.expr.Expr.{Expr}
 use Rattle.design_ir.specs.declared.expr.Expr.TheVariants.{Const, Unary, Binary, Mux, Slice, Cat, Part, Pick, Cast, Matches, Reset}
 use Rattle.design_ir.specs.Circuits.{is_among}
-use Rattle.design_ir.specs.Guards.{block_exprs, statement_exprs, choices_exprs}
 use Rattle.design_ir.specs.Named.{named, AllBelow}
 use Rattle.design_ir.specs.Pools.{Pooled}
 use Rattle.design_ir.specs.PoolRules.{IsPool}

@@ -1,11 +1,9 @@
 -- Which signals the next delta leaves as they are: those that no waiting task drives.
-use Rattle.std.specs.Prelude.{◌≡◌, ◌≢◌, refl, ℕ, zero, suc, ◌+◌, ◌<◌, ◌≤◌, ◌&&◌, ◌||◌, ◌⊎◌, ◌==◌, Bool, true, false, if◌then◌else◌, is_none, List, [], ◌∷◌, length, slice_get, slice_set, slice_index_or, ℤ, pos, Option, Some, None}
+use Rattle.std.specs.Prelude.{◌≡◌, ◌≢◌, refl, ℕ, suc, ◌<◌, ◌≤◌, ◌&&◌, ◌||◌, ◌==◌, Bool, true, false, is_none, List, [], ◌∷◌, length, slice_get, slice_index_or, ℤ, pos, Option, Some, None}
 use Rattle.std.specs.List.{AllByRecursion, list_any}
-use Rattle.std.proofs.Common.{sym, ◌∙◌, ap, arith, subst, inl, inr, ⊎_elim}
-use Rattle.std.proofs.lemmas.Bool.{cases_Bool, cases_eq, cases_lt, eqb-true, eq-eqb, false≢true}
+use Rattle.std.proofs.Common.{sym, ◌∙◌, ap, arith, subst, ⊎_elim}
+use Rattle.std.proofs.lemmas.Bool.{cases_Bool, cases_lt, eqb-true, eq-eqb, false≢true}
 use Rattle.std.proofs.lemmas.List.{get_or_past, get_or-set_same, get_or-set_other, length-set}
-use Rattle.design_ir.specs.declared.event.Event.{Event}
-use Rattle.design_ir.specs.declared.ids.DomainId.{DomainId}
 use Rattle.design_ir.specs.declared.ids.ExprId.{ExprId}
 use Rattle.design_ir.specs.declared.memory.Memory.{Memory}
 use Rattle.design_ir.specs.declared.memory.MemRead.{MemRead}
@@ -14,22 +12,21 @@ use Rattle.design_ir.specs.declared.signal.Sig.{Sig}
 use Rattle.design_ir.specs.Circuits.{Circuit, State, at, is_among, is_held}
 use Rattle.design_ir.specs.Designs.{IsDesign}
 use Rattle.design_ir.specs.Guards.{driven, block_exprs}
-use Rattle.design_ir.specs.Histories.{with_held}
 use Rattle.design_ir.specs.PoolRules.{IsPool}
 use Rattle.design_ir.specs.Put.{put}
 use Rattle.design_ir.specs.Settled.{starts, delta, Settled}
 use Rattle.design_ir.specs.Trees.{Block}
 use Rattle.design_ir.proofs.NumbersFit.{element}
-use Rattle.design_ir.proofs.PutLaws.{put_length, put_other}
+use Rattle.design_ir.proofs.PutLaws.{put_other}
 use Rattle.comb_graph.specs.Laws.{FitsState}
 use Rattle.comb_graph.specs.Orders.{is_comb}
 use Rattle.comb_graph.proofs.DeltaLaws.{delta_other, starts_length}
 use Rattle.delta_sim.specs.declared.plan.Plan.{Plan}
 use Rattle.delta_sim.specs.declared.task.Task.{Task}
 use Rattle.delta_sim.specs.Driven.{numbers_of}
-use Rattle.delta_sim.specs.Plans.{IsPlan, IsCombTask, IsCovered, Wakes, IsUntouched, Rests, readers_of, init_at, begun}
+use Rattle.delta_sim.specs.Plans.{IsPlan, IsCombTask, Wakes, IsUntouched, Rests, init_at, begun}
 use Rattle.delta_sim.specs.Reads.{block_reads}
-use Rattle.delta_sim.specs.Tasks.{IsTask, AreAmong, picked, places_of}
+use Rattle.delta_sim.specs.Tasks.{AreAmong, picked}
 use Rattle.delta_sim.proofs.Agrees.{put_agrees}
 use Rattle.delta_sim.proofs.Frames.{put_frame}
 use Rattle.delta_sim.proofs.PlaceWalks.{among_index, there_at}

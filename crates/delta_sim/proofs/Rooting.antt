@@ -1,8 +1,8 @@
 -- Marks of the expressions that stand directly in statements.
-use Rattle.std.specs.Prelude.{◌≡◌, refl, ℕ, zero, suc, ◌+◌, ◌<◌, ◌≤◌, ◌||◌, Bool, true, false, if◌then◌else◌, List, [], ◌∷◌, ◌++◌, map, drop, length, slice_get, slice_set, slice_index_or, Some}
-use Rattle.std.specs.List.{AllByRecursion, range_with_len}
-use Rattle.std.proofs.Common.{sym, ◌∙◌, ap, arith, subst, get_or, add-one, append_assoc}
-use Rattle.std.proofs.lemmas.List.{at_drop_more, at_drop_all}
+use Rattle.std.specs.Prelude.{◌≡◌, refl, ℕ, zero, suc, ◌+◌, ◌<◌, ◌||◌, Bool, true, false, if◌then◌else◌, List, [], ◌∷◌, ◌++◌, drop, length, slice_set}
+use Rattle.std.specs.List.{range_with_len}
+use Rattle.std.proofs.Common.{sym, ◌∙◌, ap, arith, get_or, add-one, append_assoc}
+use Rattle.std.proofs.lemmas.List.{at_drop_more}
 use Rattle.design_ir.specs.declared.ids.ExprId.{ExprId}
 use Rattle.design_ir.specs.declared.stmt.Stmt.{Stmt}
 use Rattle.design_ir.specs.declared.stmt.Arm.{Arm}

@@ -1,5 +1,5 @@
 -- Delta after delta: what is left, and what was counted.
-use Rattle.std.specs.Prelude.{◌≡◌, ◌≢◌, refl, ℕ, zero, suc, ◌+◌, ◌*◌, ◌^◌, ◌<◌, ◌≤◌, ◌⊎◌, ◌==◌, Bool, true, false, if◌then◌else◌, List, [], ◌∷◌, length, replicate, slice_get, slice_index_or, ℤ, Some}
+use Rattle.std.specs.Prelude.{◌≡◌, ◌≢◌, refl, ℕ, ◌+◌, ◌*◌, ◌^◌, ◌<◌, ◌≤◌, ◌⊎◌, ◌==◌, Bool, true, false, List, [], ◌∷◌, length, replicate, slice_index_or, ℤ}
 use Rattle.std.specs.List.{count_by}
 use Rattle.std.proofs.Common.{sym, ◌∙◌, ap, arith, subst, inl, inr, ⊎_elim}
 use Rattle.std.proofs.Math.Nat.{mul-le-mul_left}
@@ -9,12 +9,11 @@ use Rattle.design_ir.specs.Designs.{IsDesign}
 use Rattle.design_ir.specs.Histories.{DeltasFrom}
 use Rattle.design_ir.specs.PoolRules.{IsPool}
 use Rattle.design_ir.specs.Settled.{delta, Settled}
-use Rattle.comb_graph.specs.Laws.{FitsState}
 use Rattle.comb_graph.proofs.DeltaLaws.{delta_length}
 use Rattle.delta_sim.specs.declared.plan.Plan.{Plan}
 use Rattle.delta_sim.specs.declared.task.Task.{Task}
 use Rattle.delta_sim.specs.Plans.{IsPlan, Rests, Wakes, readers_of}
-use Rattle.delta_sim.specs.Settling.{EndsIn, AreCounts}
+use Rattle.delta_sim.specs.Settling.{EndsIn}
 use Rattle.delta_sim.specs.Waiting.{Waiting, IsWaiting}
 use Rattle.delta_sim.specs.Woken.{woken, one_if_some, deltas_from, runs_from, deltas_of, runs_of}
 use Rattle.delta_sim.proofs.Counting.{woken_count, woken_same}

@@ -1,8 +1,8 @@
 -- One expression more whose parts are marked.
-use Rattle.std.specs.Prelude.{◌≡◌, ◌≢◌, refl, ℕ, zero, suc, ◌+◌, ◌<◌, ◌≤◌, ◌⊎◌, ◌==◌, ◌||◌, ◌&&◌, if◌then◌else◌, Bool, true, false, List, [], ◌∷◌, length, slice_get, slice_set, slice_index_or, Option, Some, None}
-use Rattle.std.specs.List.{AllByRecursion, list_any, list_all}
+use Rattle.std.specs.Prelude.{◌≡◌, refl, ℕ, suc, ◌<◌, ◌≤◌, ◌⊎◌, ◌==◌, ◌||◌, if◌then◌else◌, Bool, true, false, List, [], ◌∷◌, length, slice_get, Some}
+use Rattle.std.specs.List.{list_any, list_all}
 use Rattle.std.proofs.Common.{sym, ◌∙◌, ap, arith, subst, inl, inr, ⊎_elim}
-use Rattle.std.proofs.lemmas.Bool.{cases_Bool, cases_eq, cases_lt, eq-eqb, eqb-true, false≢true}
+use Rattle.std.proofs.lemmas.Bool.{cases_Bool, cases_lt, eq-eqb, eqb-true, false≢true}
 use Rattle.std.proofs.lemmas.List.{get_or_past}
 use Rattle.design_ir.specs.declared.ids.ExprId.{ExprId}
 use Rattle.design_ir.specs.declared.expr.Expr as expr
@@ -17,7 +17,7 @@ use Rattle.design_ir.proofs.Equations.{standing}
 use Rattle.design_ir.proofs.NumbersFit.{element}
 use Rattle.design_ir.proofs.TargetLaws.{and_true, is_target_is}
 use Rattle.delta_sim.specs.Given.{marked}
-use Rattle.delta_sim.specs.Marks.{aimed_names, placing_names, is_marked, AreMarked, AreSpread, ReadOnly, Stays, option_names, names_at, aims_after, placed_after, named_after}
+use Rattle.delta_sim.specs.Marks.{aimed_names, placing_names, is_marked, AreMarked, AreSpread, ReadOnly, Stays, option_names, aims_after, placed_after, named_after}
 use Rattle.delta_sim.specs.Reads.{stands_step, stands_in, placing_step, places}
 use Rattle.delta_sim.specs.Tasks.{places_of}
 use Rattle.delta_sim.proofs.Agrees.{stands_is, places_is, left, right}

@@ -1,5 +1,5 @@
 -- A walk over statements, and what is known of those that are left.
-use Rattle.std.specs.Prelude.{◌≡◌, refl, ℕ, zero, suc, ◌+◌, ◌<◌, List, [], ◌∷◌, ◌++◌, map, length, drop, slice_get, ℤ, Option, Some, None}
+use Rattle.std.specs.Prelude.{◌≡◌, refl, ℕ, zero, suc, ◌+◌, ◌<◌, List, [], ◌∷◌, map, length, drop, slice_get, ℤ, Some}
 use Rattle.std.specs.List.{AllByRecursion}
 use Rattle.std.proofs.Common.{sym, ◌∙◌, ap, arith, subst, get_or}
 use Rattle.std.proofs.lemmas.List.{at_drop_more}
@@ -11,7 +11,6 @@ use Rattle.design_ir.specs.Pools.{Pooled}
 use Rattle.design_ir.specs.Put.{put, put_statement}
 use Rattle.design_ir.specs.Statements.{statement_of, block_of, choices_of}
 use Rattle.design_ir.specs.Trees.{Statement, Block, next, done, statements}
-use Rattle.design_ir.proofs.PutLaws.{put_length}
 use Rattle.design_ir.proofs.NumbersFit.{FitsSignals}
 use Rattle.delta_sim.specs.Tasks.{statement_targets, block_targets, choices_targets, picked, statement_at, and_then}
 use Rattle.delta_sim.proofs.Walks.{all_parts, block_at, choices_at}

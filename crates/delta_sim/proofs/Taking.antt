@@ -1,9 +1,9 @@
 -- Signals that take their numbers from others, one after another.
-use Rattle.std.specs.Prelude.{◌≡◌, ◌≢◌, refl, ℕ, zero, suc, ◌+◌, ◌<◌, ◌≤◌, ◌⊎◌, ◌==◌, ◌||◌, Bool, true, false, List, [], ◌∷◌, drop, length, slice_get, slice_set, slice_index_or, ℤ, pos, Option, Some, None, option_map, unwrap_or}
+use Rattle.std.specs.Prelude.{◌≡◌, ◌≢◌, refl, ℕ, ◌+◌, ◌<◌, ◌⊎◌, ◌==◌, ◌||◌, Bool, true, false, List, [], ◌∷◌, drop, length, slice_get, slice_set, ℤ, pos, Option, Some, None, option_map, unwrap_or}
 use Rattle.std.specs.List.{AllByRecursion}
-use Rattle.std.proofs.Common.{sym, ◌∙◌, ap, arith, subst, inl, inr, ⊎_elim, get_or}
+use Rattle.std.proofs.Common.{sym, ◌∙◌, ap, subst, inl, inr, ⊎_elim, get_or}
 use Rattle.std.proofs.lemmas.Bool.{cases_eq, cases_Bool, eq-eqb, eqb-true, false≢true}
-use Rattle.std.proofs.lemmas.List.{at_drop_more, length-set, get_or-set_same, get_or-set_other, get_or_past}
+use Rattle.std.proofs.lemmas.List.{at_drop_more, length-set, get_or-set_same, get_or-set_other}
 use Rattle.amh_bits.specs.Patterns.{IsOf}
 use Rattle.shape_rules.specs.Forms.{Form, unsigned}
 use Rattle.design_ir.specs.declared.ids.SigId.{SigId}
@@ -11,15 +11,12 @@ use Rattle.design_ir.specs.declared.signal.Sig.{Sig}
 use Rattle.design_ir.specs.Circuits.{at, is_among}
 use Rattle.design_ir.specs.Pools.{Pooled}
 use Rattle.design_ir.specs.PoolRules.{IsPool, HasInit}
-use Rattle.design_ir.specs.Put.{put}
-use Rattle.design_ir.specs.Trees.{Block}
 use Rattle.design_ir.proofs.NumbersFit.{FitsSignals}
 use Rattle.delta_sim.specs.Driven.{numbers_of}
 use Rattle.delta_sim.specs.Given.{marked}
-use Rattle.delta_sim.specs.Plans.{IsTable, readers_of, taken, begun, init_at, Wakes}
+use Rattle.delta_sim.specs.Plans.{IsTable, readers_of, taken, begun, init_at}
 use Rattle.delta_sim.proofs.EdgesFit.{all_get}
 use Rattle.delta_sim.proofs.Likes.{numbers_at}
-use Rattle.delta_sim.proofs.Turns.{all_here}
 use Rattle.delta_sim.proofs.WritesFit.{set_fits, OfSignal}
 
 -- ---- marks

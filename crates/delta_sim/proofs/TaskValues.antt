@@ -1,8 +1,8 @@
 -- What a delta leaves in a signal that a combinational process drives: what its process leaves from the signal's init.
-use Rattle.std.specs.Prelude.{◌≡◌, ◌≢◌, refl, ℕ, zero, suc, ◌+◌, ◌<◌, ◌||◌, ◌&&◌, ◌==◌, cond, if◌then◌else◌, Bool, true, false, IsTrue, is_none, is_some, List, [], ◌∷◌, ◌++◌, map, length, slice_get, ℤ, pos, Option, Some, None, fold, Contains}
+use Rattle.std.specs.Prelude.{◌≡◌, ◌≢◌, refl, ℕ, zero, suc, ◌+◌, ◌||◌, ◌&&◌, ◌==◌, cond, if◌then◌else◌, Bool, true, false, IsTrue, is_none, is_some, List, [], ◌∷◌, ◌++◌, map, length, slice_get, ℤ, Option, Some, None, fold}
 use Rattle.std.specs.List.{AllByRecursion, list_any, flat_map, IsDistinct}
 use Rattle.std.proofs.Common.{sym, ◌∙◌, ap, arith, subst, ⊎_elim}
-use Rattle.std.proofs.lemmas.Bool.{false≢true, or_parts, cases_Bool, eqb-true, eq-eqb, cases_eq}
+use Rattle.std.proofs.lemmas.Bool.{false≢true, or_parts, cases_Bool, eqb-true, cases_eq}
 use Rattle.std.proofs.lemmas.Map.Keys.{IsDistinct-tail, IsDistinct-head}
 use Rattle.design_ir.specs.declared.ids.DomainId.{DomainId}
 use Rattle.design_ir.specs.declared.memory.MemRead.{MemRead}
@@ -19,7 +19,7 @@ use Rattle.design_ir.specs.Settled.{starts, comb_process, delta}
 use Rattle.design_ir.proofs.PutLaws.{put_length, put_other}
 use Rattle.comb_graph.proofs.DeltaBits.{processes_other}
 use Rattle.delta_sim.proofs.Frames.{put_frame}
-use Rattle.delta_sim.proofs.SweepsFit.{flat_delta, comb_length}
+use Rattle.delta_sim.proofs.SweepsFit.{flat_delta}
 
 -- ---- tests
 
@@ -180,7 +180,7 @@ module _ (c : Circuit) (flat : c.memories ≡ []) (design : IsDesign c) where
   pub not_held : (k : ℕ) (q : DesignProcess) (s : ℕ) → slice_get c.processes k ≡ Some q → q.domain ≡ None → is_among (driven c.pool q.body) s ≡ true → is_held c s ≡ false
   not_held k q s is comb here = none_or (is_input c s) (is_register c s) (not_input k q s is here) (not_register k q s is comb here)
 
-  starts_get : (st : State) (a s : ℕ) (xs : List Sig) (x : Sig) → slice_get xs s ≡ Some x → at (starts c st a xs) s ≡ (if is_held c (a + s) then at st.held (a + s) else x.init)
+  pub starts_get : (st : State) (a s : ℕ) (xs : List Sig) (x : Sig) → slice_get xs s ≡ Some x → at (starts c st a xs) s ≡ (if is_held c (a + s) then at st.held (a + s) else x.init)
   starts_get st a s [] x is = cc
   starts_get st a zero (y ∷ xs) x is =
       let same : y ≡ x = cc in

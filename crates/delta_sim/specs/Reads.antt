@@ -1,7 +1,7 @@
 -- Which signals statements read: those that stand in their right sides and conditions, and in the offsets and indices of
 -- their targets (Amaranth guide, Simulation: a combinational process is run again when a signal that it reads changes).
 -- A signal is read as a whole.
-use Rattle.std.specs.Prelude.{ℕ, ◌==◌, ◌||◌, Bool, false, List, [], ◌∷◌}
+use Rattle.std.specs.Prelude.{ℕ, ◌==◌, ◌||◌, Bool, false}
 use Rattle.std.specs.List.{list_any}
 use Rattle.design_ir.specs.declared.ids.ExprId.{ExprId}
 use Rattle.design_ir.specs.declared.expr.Expr as expr

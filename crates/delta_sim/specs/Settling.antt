@@ -1,8 +1,7 @@
 -- What is left of the deltas of an event.
-use Rattle.std.specs.Prelude.{◌≡◌, ℕ, ◌+◌, ◌≤◌, false, List, [], ◌∷◌, length, replicate, ℤ}
+use Rattle.std.specs.Prelude.{◌≡◌, ℕ, ◌+◌, ◌≤◌, false, List, [], length, replicate, ℤ}
 use Rattle.design_ir.specs.Circuits.{Circuit, State}
 use Rattle.design_ir.specs.Histories.{DeltasFrom}
-use Rattle.delta_sim.specs.Plans.{Wakes}
 use Rattle.delta_sim.specs.Waiting.{Waiting}
 use Rattle.delta_sim.specs.Woken.{deltas_of, runs_of}
 

@@ -1,12 +1,11 @@
 // A simulator, from event to event.
-ghost use Rattle.std.specs.Prelude.{◌≡◌, ◌+◌, ◌<◌, ◌≤◌, ◌++◌, ◌∷◌, [], List, map, length, replicate, slice_set, fold, IfOk, MatchResult, Ok};
+ghost use Rattle.std.specs.Prelude.{◌≡◌, ◌+◌, ◌<◌, ◌^◌, ◌++◌, ◌∷◌, [], ℕ, true, false, List, map, length, slice_index_or, slice_set, fold, IfOk, MatchResult, Ok};
 ghost use Rattle.design_ir.specs.declared.event.Event.{Event};
 ghost use Rattle.design_ir.specs.Circuits.{at};
 ghost use Rattle.design_ir.specs.Legal.{IsLegal};
-ghost use Rattle.design_ir.specs.Settled.{Settled};
 ghost use Rattle.design_ir.specs.Steps.{clock_low};
 ghost use Rattle.comb_graph.specs.Rankings.{IsRanking};
-ghost use Rattle.delta_sim.specs.Standing.{IsSimOf, Settles, Stands};
+ghost use Rattle.delta_sim.specs.Standing.{IsFresh, IsSimOf, Settles, Stands};
 
 use crate::agenda::Agenda;
 use crate::event::hold;
@@ -149,8 +148,14 @@ impl Sim {
 
 // Settles a simulator that has had no event, with a counter of steps of its own.
 fn first_settled<L: Ledger>(sim: &mut Sim, design: &Design, blank: Blank)
+    requires flat { design.now.memories ≡ [] }
+    requires fresh { IsFresh design.now sim.old }
     requires blank { (blank.name ≡ L.name) × (blank.parts ≡ L.parts) × (0 < L.parts) }
+    ensures of_design { IsSimOf design.now sim.new }
+    ensures held { sim.new.held ≡ sim.old.held }
 {
+    let _ = design.count();
+    let _ = design.processes();
     let mut steps = Steps::<L>::new(blank);
     wake_all(sim.plan.tasks.len(), &mut sim.waits);
     let _ = settle(
@@ -168,9 +173,12 @@ fn first_settled<L: Ledger>(sim: &mut Sim, design: &Design, blank: Blank)
     );
 }
 
-// Lets all tasks wait.
+// Lets all of so many wait.
 fn wake_all(count: usize, waits: &mut Agenda)
-    requires { length waits.old.marks ≡ count }
+    requires few { count < 2 ^ 32 }
+    requires bound { length waits.old.marks ≡ count }
+    ensures count { length waits.new.marks ≡ count }
+    ensures all { (k : ℕ) → k < count → slice_index_or waits.new.marks k false ≡ true }
 {
     for k in 0..count {
         waits.mark(k as u32);

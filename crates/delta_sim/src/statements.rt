@@ -1,5 +1,5 @@
 // What statements leave.
-ghost use Rattle.std.specs.Prelude.{◌≡◌, ◌<◌, true, length};
+ghost use Rattle.std.specs.Prelude.{◌≡◌, ◌<◌, true, length, slice_index_or};
 ghost use Rattle.std.specs.List.{AllByRecursion};
 ghost use Rattle.shape_rules.specs.Operators.{is_zero};
 ghost use Rattle.design_ir.specs.Circuits.{is_among};
@@ -35,8 +35,16 @@ pub fn put_task(
 {
     let all = body.as_slice();
     for i in task.statements.as_slice() {
-        put_stmt(design, task, env, nums, &all[*i], cur);
+        put_stmt(design, task, env, nums, statement(all, *i), cur);
     }
+}
+
+// One of these statements.
+fn statement(all: &[Stmt], i: usize) -> &Stmt
+    requires { i < length all.now }
+    ensures { result.now ≡ slice_index_or all.now i result.now }
+{
+    &all[i]
 }
 
 // Carries out statements one after another.

@@ -1,4 +1,4 @@
-use Rattle.std.proofs.Common.{◌∙◌, ◌<◌, ℕ, length, slice_index_or, subst, sym, refl, false, length-set, get_or}
+use Rattle.std.proofs.Common.{◌∙◌, ◌<◌, ℕ, length, sym, false, length-set, get_or}
 use Rattle.delta_sim.proofs.Turns.{all_here, any_default}
 use Rattle.delta_sim.proofs.Waits.{unmarked, among_next, none_left}
 use Rattle.delta_sim.proofs.agenda.unmark.Goals as goal

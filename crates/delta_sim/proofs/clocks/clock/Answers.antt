@@ -1,9 +1,8 @@
-use Rattle.std.proofs.Common.{◌≡◌, ◌<◌, ◌∙◌, sym, ap, subst, Some, length, slice_get, true}
-use Rattle.design_ir.specs.declared.process.DesignProcess.{DesignProcess}
+use Rattle.std.proofs.Common.{◌≡◌, ◌∙◌, sym, ap, subst, Some, slice_get}
 use Rattle.design_ir.specs.Guards.{driven}
 use Rattle.design_ir.specs.Steps.{reset_all, clocked}
 use Rattle.delta_sim.specs.declared.task.Task.{Task}
-use Rattle.delta_sim.specs.Driven.{numbers_of, IsLike}
+use Rattle.delta_sim.specs.Driven.{numbers_of}
 use Rattle.delta_sim.proofs.Clocking.{place_of, clocked_reset}
 use Rattle.delta_sim.proofs.ResetLaws.{resets_like}
 use Rattle.delta_sim.proofs.clocks.clock.Goals as goal

@@ -1,7 +1,6 @@
-use Rattle.std.proofs.Common.{◌≡◌, ◌<◌, ◌∷◌, [], ◌∙◌, sym, ap, subst, arith, refl, length}
+use Rattle.std.proofs.Common.{◌<◌, ◌∷◌, [], ◌∙◌, sym, subst, length}
 use Rattle.design_ir.specs.Steps.{clocked}
 use Rattle.design_ir.proofs.NumbersFit.{FitsSignals, element}
-use Rattle.delta_sim.specs.Plans.{IsPlan}
 use Rattle.delta_sim.proofs.Clocking.{get_of}
 use Rattle.delta_sim.proofs.EdgesFit.{clocks_fit, clock_length}
 use Rattle.delta_sim.proofs.Turns.{fold_turn}

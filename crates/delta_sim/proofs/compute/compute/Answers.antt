@@ -1,7 +1,5 @@
-use Rattle.std.proofs.Common.{◌∙◌, ◌≡◌, Some, length, ap, sym, subst, get_or, length-set, pos, slice_get, slice_index_or, ℤ, List}
+use Rattle.std.proofs.Common.{◌∙◌, length, length-set, slice_index_or, ℤ, List}
 use Rattle.design_ir.specs.declared.ids.ExprId.{ExprId}
-use Rattle.design_ir.specs.declared.expr.Expr.{Expr}
-use Rattle.design_ir.specs.Values.{form, value_step}
 use Rattle.delta_sim.proofs.Programs.{get_at, known_next, fitting_next, read_all}
 use Rattle.delta_sim.proofs.compute.compute.Goals as goal
 

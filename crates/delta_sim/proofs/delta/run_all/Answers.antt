@@ -1,4 +1,4 @@
-use Rattle.std.proofs.Common.{◌≡◌, ◌∙◌, sym, ap, length, slice_get}
+use Rattle.std.proofs.Common.{◌∙◌, sym, ap, length, slice_get}
 use Rattle.delta_sim.proofs.DeltaSteps.{run_turn}
 use Rattle.delta_sim.proofs.delta.run_all.Goals as goal
 

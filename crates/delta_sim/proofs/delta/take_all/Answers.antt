@@ -1,4 +1,4 @@
-use Rattle.std.proofs.Common.{◌≡◌, ◌<◌, ◌∙◌, sym, ap, subst, arith, length, slice_get, ℕ}
+use Rattle.std.proofs.Common.{◌<◌, ◌∙◌, sym, ap, subst, arith, length, slice_get}
 use Rattle.std.specs.List.{AllByRecursion}
 use Rattle.delta_sim.specs.Driven.{numbers_of}
 use Rattle.delta_sim.specs.Plans.{taken}

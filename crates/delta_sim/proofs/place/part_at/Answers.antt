@@ -1,11 +1,10 @@
-use Rattle.std.proofs.Common.{◌≡◌, ◌∙◌, ◌<◌, sym, ap, subst, arith, Some, length, unsigned_abs, pos, min, ◌*◌, ◌-◌, slice_get, slice_index_or}
+use Rattle.std.proofs.Common.{◌∙◌, sym, ap, subst, Some, length, unsigned_abs, min, ◌*◌, ◌-◌, slice_get}
 use Rattle.shape_rules.specs.Forms.{Form}
 use Rattle.design_ir.specs.declared.expr.Expr as expr
 use Rattle.design_ir.specs.declared.expr.Expr.{Expr}
 use Rattle.design_ir.specs.declared.expr.Expr.TheVariants.{Slice, Cat, Part, Pick, Cast}
-use Rattle.design_ir.specs.Named.{AllBelow}
 use Rattle.design_ir.proofs.Equations.{standing}
-use Rattle.delta_sim.specs.Walked.{place_of, IsWalked}
+use Rattle.delta_sim.specs.Walked.{IsWalked}
 use Rattle.delta_sim.proofs.PlaceWalks.{among_there, among_below, among_named, signal_walked, slice_walked, cat_walked, part_walked, pick_walked, cast_walked, other_walked, all_there}
 use Rattle.delta_sim.proofs.place.part_at.Goals as goal
 

@@ -1,4 +1,4 @@
-use Rattle.std.proofs.Common.{◌≡◌, ◌<◌, length, rules, sym, ap, ◌∙◌, subst}
+use Rattle.std.proofs.Common.{◌<◌, length, rules, sym, ap, ◌∙◌, subst}
 use Rattle.design_ir.specs.declared.ids.ExprId.{ExprId}
 use Rattle.design_ir.specs.Guards.{block_exprs, statement_exprs}
 use Rattle.design_ir.specs.Statements.{statement_of}

@@ -1,4 +1,4 @@
-use Rattle.std.proofs.Common.{◌≡◌, ◌+◌, ◌-◌, ◌<◌, ◌∙◌, ℕ, suc, sym, ap, subst, arith, length}
+use Rattle.std.proofs.Common.{◌≡◌, ◌-◌, ◌<◌, ℕ, suc, sym, subst, arith, length}
 use Rattle.delta_sim.specs.Marks.{AreSpread}
 use Rattle.delta_sim.proofs.Spreading.{aims_stay, values_stay, spread_turn, targets_turn, only_turn, aims_long, values_long}
 use Rattle.delta_sim.proofs.spread.spread.Goals as goal

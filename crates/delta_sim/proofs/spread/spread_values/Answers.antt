@@ -1,4 +1,4 @@
-use Rattle.std.proofs.Common.{◌≡◌, ◌∙◌, sym, subst, length}
+use Rattle.std.proofs.Common.{sym, subst}
 use Rattle.design_ir.specs.Named.{named, AllBelow}
 use Rattle.design_ir.proofs.Equations.{standing}
 use Rattle.delta_sim.proofs.spread.spread_values.Goals as goal

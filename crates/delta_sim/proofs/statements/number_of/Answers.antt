@@ -1,4 +1,4 @@
-use Rattle.std.proofs.Common.{◌≡◌, ◌∙◌, pos, length, get_or}
+use Rattle.std.proofs.Common.{◌∙◌, pos}
 use Rattle.delta_sim.proofs.PlaceWalks.{among_below, among_known}
 use Rattle.delta_sim.proofs.Turns.{any_default}
 use Rattle.delta_sim.proofs.statements.number_of.Goals as goal

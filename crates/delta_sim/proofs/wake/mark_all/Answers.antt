@@ -1,4 +1,4 @@
-use Rattle.std.proofs.Common.{◌<◌, ℕ, get_or, length, refl, subst, sym, ap, ◌∙◌, length-set, drop, ◌+◌}
+use Rattle.std.proofs.Common.{◌<◌, ℕ, get_or, length, subst, sym, ap, ◌∙◌, length-set, drop, ◌+◌}
 use Rattle.std.specs.List.{AllByRecursion}
 use Rattle.delta_sim.proofs.Taking.{mark_turn}
 use Rattle.delta_sim.proofs.Turns.{all_here, any_default}

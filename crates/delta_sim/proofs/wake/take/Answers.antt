@@ -1,7 +1,6 @@
-use Rattle.std.proofs.Common.{◌<◌, ℕ, length, refl, subst, sym, ap, ◌∙◌, slice_index_or, length-set, drop}
+use Rattle.std.proofs.Common.{◌<◌, length, subst, sym, ap, ◌∙◌, slice_index_or, length-set}
 use Rattle.std.specs.List.{AllByRecursion}
 use Rattle.design_ir.specs.declared.ids.SigId.{SigId}
-use Rattle.delta_sim.specs.Driven.{numbers_of}
 use Rattle.delta_sim.proofs.Likes.{numbers_at}
 use Rattle.delta_sim.proofs.Taking.{take_turn, once_more, once_between}
 use Rattle.delta_sim.proofs.Turns.{any_default}

@@ -1,8 +1,7 @@
-use Rattle.std.proofs.Common.{◌≡◌, ◌≢◌, ◌<◌, ℕ, ℤ, [], pos, length, subst, sym, ap, ◌∙◌, refl, get_or}
+use Rattle.std.proofs.Common.{◌≢◌, ◌<◌, ℕ, [], pos, length, subst, sym, ap, ◌∙◌, refl}
 use Rattle.std.specs.List.{AllByRecursion}
 use Rattle.design_ir.specs.Circuits.{at}
 use Rattle.delta_sim.specs.Given.{marked}
-use Rattle.delta_sim.specs.Plans.{Wakes, readers_of}
 use Rattle.delta_sim.proofs.Taking.{readers_below}
 use Rattle.delta_sim.proofs.Turns.{any_default}
 use Rattle.delta_sim.proofs.Waking.{wakes_one}

@@ -3,9 +3,8 @@ use Rattle.amh_bits.specs.Patterns.{pattern, nat_bit}
 use Rattle.amh_bits.specs.BitVectors.{BitVector}
 use Rattle.amh_bits.proofs.BitsOf.{nat_bit_low}
 use Rattle.shape_rules.specs.Forms.{Form}
-use Rattle.design_ir.specs.Put.{put_bits, put_place}
+use Rattle.design_ir.specs.Put.{put_place}
 use Rattle.design_ir.specs.Targets.{target_bits}
-use Rattle.design_ir.specs.Values.{form}
 use Rattle.design_ir.proofs.TargetLaws.{target_length}
 use Rattle.delta_sim.specs.Reading.{IsInside}
 use Rattle.delta_sim.proofs.BitTurns.{bits_turn, bits_end, place_inside, place_long}

@@ -1,4 +1,4 @@
-use Rattle.std.proofs.Common.{◌≡◌, ◌∙◌, ◌<◌, ap, sym, subst, Some, length}
+use Rattle.std.proofs.Common.{◌∙◌, ◌<◌, ap, sym, subst, Some, length}
 use Rattle.design_ir.specs.declared.expr.Expr as expr
 use Rattle.design_ir.specs.Put.{put_number}
 use Rattle.design_ir.proofs.Equations.{standing}

@@ -1,6 +1,6 @@
-use Rattle.std.proofs.Common.{◌≡◌, [], sym, ◌∙◌, ap, subst, arith, length, false, take, replicate}
+use Rattle.std.proofs.Common.{[], sym, ◌∙◌, ap, subst, arith, length, false, take, replicate}
 use Rattle.delta_sim.specs.Waiting.{Waiting, IsWaiting}
-use Rattle.delta_sim.proofs.Waits.{unmarked_all, none_waiting, replicate_length}
+use Rattle.delta_sim.proofs.Waits.{unmarked_all, none_waiting}
 use Rattle.delta_sim.proofs.agenda.Agenda.clear.Goals as goal
 
 pub invariant_of-self : goal.invariant_of-self

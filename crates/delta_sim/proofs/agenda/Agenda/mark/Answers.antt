@@ -1,4 +1,4 @@
-use Rattle.std.proofs.Common.{◌≡◌, sym, ◌∙◌, ◌<◌, ap, length, subst, arith, false, get_or, length-set, Bool, ℕ}
+use Rattle.std.proofs.Common.{◌≡◌, sym, ◌∙◌, ◌<◌, ap, length, subst, arith, false, get_or, length-set}
 use Rattle.delta_sim.specs.Waiting.{Waiting}
 use Rattle.delta_sim.proofs.Waits.{mark_room, mark_waits}
 use Rattle.delta_sim.proofs.agenda.Agenda.mark.Goals as goal

@@ -1,4 +1,4 @@
-use Rattle.std.proofs.Common.{◌≡◌, ◌+◌, ◌∙◌, ◌∷◌, [], List, ℤ, ℕ, sym, ap, subst, arith, false, ◌<◌, ◌++◌, take, drop, length}
+use Rattle.std.proofs.Common.{◌≡◌, ◌+◌, ◌∙◌, ◌∷◌, sym, ap, subst, false, ◌<◌, ◌++◌, take, drop, length}
 use Rattle.std.specs.List.{AllByRecursion}
 use Rattle.design_ir.specs.Histories.{DeltasFrom}
 use Rattle.comb_graph.specs.Laws.{FitsState}
