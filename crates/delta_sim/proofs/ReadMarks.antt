@@ -181,8 +181,8 @@ module _ (p : Pooled) (s j : ℕ) where
 -- marks that begin at the targets, right sides and conditions of statements read no more than they do
 pub first_only : (p : Pooled) (b : Block) (m n : List Bool) → ((j : ℕ) → is_marked m j ≡ false) → ((j : ℕ) → is_marked n j ≡ false) → ReadOnly p (marked (places_of (block_targets b)) m) (marked (places_of (block_values b)) n) (λ s. block_reads p s b)
 first_only p b m n none_m none_n = (
-    λ j s h t. ⊎_elim (λ (a : is_marked n j ≡ true). absurd (false≢true (sym (none_n j) ∙ a))) (λ (a : is_among (places_of (block_values b)) j ≡ true). block_value p s j b a t) (marks_back (places_of (block_values b)) n j h),
-    λ j s h t. ⊎_elim (λ (a : is_marked m j ≡ true). absurd (false≢true (sym (none_m j) ∙ a))) (λ (a : is_among (places_of (block_targets b)) j ≡ true). block_target p s j b a t) (marks_back (places_of (block_targets b)) m j h),
+  λ j s h t. ⊎_elim (λ (a : is_marked n j ≡ true). absurd (false≢true (sym (none_n j) ∙ a))) (λ (a : is_among (places_of (block_values b)) j ≡ true). block_value p s j b a t) (marks_back (places_of (block_values b)) n j h),
+  λ j s h t. ⊎_elim (λ (a : is_marked m j ≡ true). absurd (false≢true (sym (none_m j) ∙ a))) (λ (a : is_among (places_of (block_targets b)) j ≡ true). block_target p s j b a t) (marks_back (places_of (block_targets b)) m j h),
 )
 
 both : (a b : Bool) → (a ≡ true → b ≡ true) → (b ≡ true → a ≡ true) → a ≡ b

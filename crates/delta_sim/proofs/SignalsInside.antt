@@ -29,7 +29,6 @@ module _ (p : Pooled) where
   abbrev AreSignals : List ℕ → Type 0
   AreSignals ss = AllByRecursion (λ s. s < length p.signals) ss
 
-
   both_signals : (xs ys : List ℕ) → AreSignals xs → AreSignals ys → AreSignals (xs ++ ys)
   both_signals xs ys h k = all_append (λ s. s < length p.signals) xs ys h k
 
