@@ -35,7 +35,7 @@ loop-m-preserved c =
     let names = c.loop-m.names in
     let key : string_bytes c.in_ok-from_str-2.field-0 ≡ m.name = c.in_ok-from_str-2.ensures.ok ∙ c.as_str-name.ensures in
     let put = btree_set_updates_text (string_bytes c.in_ok-from_str-2.field-0) names c.insert-in-loop-m.new.self true c.in_ok-insert-2.ensures.updates in
-    let formed : is_identifier m.name ≡ true = ap is_identifier (sym c.as_str-name.ensures) ∙ sym c.in_ok-is_identifier.ensures.value in
+    let formed : is_identifier m.name ≡ true = ap is_identifier (sym c.as_str-name.ensures) ∙ sym c.in_ok-is_identifier.ensures.value ∙ c.if-not-branch.false in
     let apart : list_any (text_eq m.name) before ≡ false =
     sym (c.loop-m.invariant.2 m.name) ∙ ap (contains_text names) (sym c.as_str-name.ensures) ∙ sym c.contains.ensures ∙ c.if-contains.false in (
       before ++ m.name ∷ [],
