@@ -1,6 +1,6 @@
 """Operators and builtins of the Python subset over the values of bench/python_values.py, for bench/python_costs.py."""
 from python_values import (
-    Builtin, Dict, List, Refusal, Thing, Time, Tuple, elements, is_key, is_number, kept, truth,
+    Builtin, Class, Dict, List, Object, Refusal, Thing, Time, Tuple, elements, is_key, is_number, kept, truth,
 )
 
 NAMES = "range len int str bool list tuple dict enumerate zip reversed min max sum abs print super".split()
@@ -170,6 +170,8 @@ def called(run, builtin, args, keywords, place):
     if name == "abs" and len(args) == 1 and isinstance(args[0], Thing):
         return run.ask("Operator", args, ["abs"], place)[1]
     args = [run.ask("Iterate", [a], [], place)[1] if isinstance(a, Thing) and goes_over(name, args, i) else a for i, a in enumerate(args)]
+    if name == "sum" and adds_things(args):
+        return run.added(args[1] if len(args) == 2 else 0, run.at(place, elements, args[0]), place)
     work = globals().get("of_" + name)
     if name in ("append", "insert", "extend"):
         return grown(run, name, args, place)
@@ -184,9 +186,16 @@ def called(run, builtin, args, keywords, place):
 
 
 def super_called(run, builtin, args, keywords, place):
-    here = run.here
-    run.at(place, lambda: wants(not args and not keywords and not builtin.bound and here.has_first and here.home is not None))
-    return Builtin("super", here.first, here.home, True)
+    first, of = run.here.first, run.here.scope.class_round()
+    run.at(place, lambda: wants(not args and not keywords and not builtin.bound))
+    run.at(place, lambda: wants(isinstance(first, Object) and isinstance(of, Class) and first.is_of(of)))
+    return Builtin("super", first, of, True)
+
+
+def adds_things(args):
+    """Whether there is a thing among what a sum adds."""
+    items = args[0].items if args and isinstance(args[0], (List, Tuple, Dict)) else []
+    return len(args) in (1, 2) and any(isinstance(v, Thing) for v in [*args[1:], *items])
 
 
 def goes_over(name, args, i):

@@ -47,7 +47,21 @@ class Leaves(Exception):
 class Scope:
     def __init__(self, parent, own, is_class=False):
         self.parent, self.own, self.is_class = parent, own, is_class
-        self.names, self.notes = {}, []
+        self.names, self.bindings, self.notes = {}, [], []
+        self.cell = None
+
+    def class_body(self, own):
+        """The scope of a class body made here, whose functions see a cell with the class, once it is there."""
+        outside = Scope(self.seen(), set())
+        outside.cell = []
+        return Scope(outside, own, True)
+
+    def class_round(self):
+        """The class in whose body a function was defined, where there is one."""
+        scope = self
+        while scope and scope.cell is None:
+            scope = scope.parent
+        return scope.cell[0] if scope and scope.cell else None
 
     def seen(self):
         """The scope that functions made here see."""
@@ -87,8 +101,8 @@ def bound_names(body):
 class Here:
     """What belongs to the function that runs."""
 
-    def __init__(self, scope, first=None, home=None, has_first=False):
-        self.scope, self.first, self.home, self.has_first = scope, first, home, has_first
+    def __init__(self, scope, first=None):
+        self.scope, self.first = scope, first
 
 
 class Run:
@@ -199,6 +213,7 @@ class Run:
             if kind != "call":
                 return kind, self.answer(kind, words, place)
             callee, *args = [self.meant(word) for word in words]
+            self.at(place, python_builtins.wants, not self.is_async(callee))
             value = self.enter(callee, args, {}, place)
             told, vals, names, place = "Returned", [value], [], self.place(callee.node)
 
@@ -256,6 +271,7 @@ class Run:
 
     def bind(self, name, value):
         self.here.scope.names[name] = value
+        self.here.scope.bindings.append((name, value))
 
     # ---- statements
 
@@ -445,14 +461,15 @@ class Run:
         if keywords and not isinstance(over, Thing):
             raise Stop("raised", place)
         outer = self.here
-        self.here = Here(Scope(outer.scope.seen(), set(bound_names(stmt.body)), True))
+        self.here = Here(outer.scope.class_body(set(bound_names(stmt.body))))
         self.block(stmt.body)
         scope, self.here = self.here.scope, outer
         made = Class(base, dict(scope.names))
         self.grow(1 + len(made.attributes), place)
+        scope.parent.cell.append(made)
         if isinstance(over, Thing):
             parts = [("=" + n, v) for n, v in keywords] + [(":" + n, v) for n, v in scope.notes]
-            parts += [("." + n, v) for n, v in scope.names.items()]
+            parts += [("." + n, v) for n, v in scope.bindings]
             _, made = self.ask("ClassMade", [made, base] + [v for _, v in parts], [stmt.name] + [n for n, _ in parts], place)
         self.bind(stmt.name, made)
 
@@ -567,7 +584,7 @@ class Run:
         source = self.value(each.iter)
         walk = self.walk(source, place)
         outer = self.here
-        inner = Here(Scope(outer.scope.seen(), set(target_names(each.target))), outer.first, outer.home, outer.has_first)
+        inner = Here(Scope(outer.scope.seen(), set(target_names(each.target))), outer.first)
         made = []
         for item in walk:
             self.here = inner
@@ -613,7 +630,7 @@ class Run:
             self.spend(1, place)
             left = self.value(node.left) if i == 0 else left
             right = self.value(part)
-            holds = self.operate_or_ask(SIGNS[type(op)], [left, right], place)
+            holds = self.related(SIGNS[type(op)], left, right, place)
             if i + 1 < len(node.ops) and not self.at(place, truth, holds):
                 return holds
             left = right
@@ -629,7 +646,7 @@ class Run:
             at = self.place(node.value)
             self.spend(1, at)
             callee, args, keywords = self.callee_and_arguments(node.value, at)
-            if isinstance(callee, Function) and isinstance(callee.node, ast.AsyncFunctionDef):
+            if self.is_async(callee):
                 return self.enter(callee, args, keywords, at)
             value = self.call(callee, args, keywords, at, "")
         else:
@@ -691,6 +708,25 @@ class Run:
 
     # ---- operators
 
+    def related(self, sign, left, right, place):
+        """A comparison: in a row with things, a thing is asked of each element in turn."""
+        row = right.items if isinstance(right, (List, Tuple)) else []
+        seeks = isinstance(right, (List, Tuple)) and any(isinstance(v, Thing) for v in [left, *row])
+        if sign not in ("in", "not in") or not seeks:
+            return self.operate_or_ask(sign, [left, right], place)
+        for item in row:
+            self.spend(1, place)
+            same = isinstance(left, Thing) and left == item
+            if same or self.at(place, truth, self.operate_or_ask("==", [left, item], place)):
+                return sign == "in"
+        return sign != "in"
+
+    def added(self, total, items, place):
+        """The items of a row with things, added from the left."""
+        for item in items:
+            total = self.operate_or_ask("+", [total, item], place)
+        return total
+
     def operate_or_ask(self, sign, operands, place):
         left, right = operands
         asks = isinstance(right, Thing) or isinstance(left, Thing) and sign not in ("in", "not in")
@@ -722,16 +758,16 @@ class Run:
                 raise Stop("limit", place)
 
     def inherited(self, name, of):
-        """A class's value, its class and True; or a thing or None where it ends, and False."""
+        """A class's value and True; or a thing or None where it ends, and False."""
         while isinstance(of, Class):
             if name in of.attributes:
-                return of.attributes[name], of, True
+                return of.attributes[name], True
             of = of.base
-        return of, None, False
+        return of, False
 
-    def method(self, value, this, of, bound):
+    def method(self, value, this, bound):
         if isinstance(value, Function) and not value.bound:
-            return Function(value.node, value.defaults, value.scope, this, value.home or of, bound)
+            return Function(value.node, value.defaults, value.scope, this, bound)
         return value
 
     def attribute(self, of, name, place):
@@ -742,9 +778,9 @@ class Run:
                     raise Stop("raised", place)
                 return Builtin(name, of, None, True)
             if isinstance(of, Builtin) and of.name == "super" and of.bound:
-                found, where, known = self.inherited(name, of.home.base)
+                found, known = self.inherited(name, of.home.base)
                 if known:
-                    return self.method(found, of.this, where, True)
+                    return self.method(found, of.this, True)
                 if name == "__init__":
                     return Builtin("init base" if isinstance(found, Thing) else "init nothing", of.this, None, True)
                 if not isinstance(found, Thing):
@@ -753,9 +789,9 @@ class Run:
             elif isinstance(of, Object) and name in of.attributes:
                 return of.attributes[name]
             elif isinstance(of, (Object, Class)):
-                found, where, known = self.inherited(name, of.of if isinstance(of, Object) else of)
+                found, known = self.inherited(name, of.of if isinstance(of, Object) else of)
                 if known:
-                    return self.method(found, of, where, True) if isinstance(of, Object) else self.method(found, None, where, False)
+                    return self.method(found, of, True) if isinstance(of, Object) else self.method(found, None, False)
                 if not isinstance(found, Thing):
                     raise Stop("raised", place)
                 asked = of
@@ -780,11 +816,14 @@ class Run:
 
     # ---- calls
 
+    def is_async(self, callee):
+        return isinstance(callee, Function) and isinstance(callee.node, ast.AsyncFunctionDef)
+
     def call(self, callee, args, keywords, place, name):
         keywords = list(keywords)
+        if self.is_async(callee):
+            raise Stop("raised", place)
         if isinstance(callee, Function):
-            if isinstance(callee.node, ast.AsyncFunctionDef):
-                raise Stop("raised", place)
             return self.enter(callee, args, keywords, place)
         if isinstance(callee, Builtin):
             return python_builtins.called(self, callee, args, keywords, place)
@@ -798,9 +837,9 @@ class Run:
     def instance(self, of, args, keywords, place):
         made = Object(of, {})
         self.grow(1, place)
-        found, where, known = self.inherited("__init__", of)
+        found, known = self.inherited("__init__", of)
         if known:
-            method = self.method(found, made, where, True)
+            method = self.method(found, made, True)
             if self.call(method, args, keywords, place, "") is not None:
                 raise Stop("raised", place)
         elif isinstance(found, Thing):
@@ -826,7 +865,7 @@ class Run:
         outer = self.here
         scope = Scope(function.scope, set(list(met)) | set(bound_names(function.node.body)))
         scope.names.update(met)
-        self.here = Here(scope, args[0] if args else None, function.home, bool(args))
+        self.here = Here(scope, args[0] if args else None)
         self.calls += 1
         value = None
         try:

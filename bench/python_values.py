@@ -43,7 +43,6 @@ class Function:
     defaults: dict
     scope: object
     this: object = None
-    home: object = None
     bound: bool = False
 
 
@@ -65,6 +64,13 @@ class Class:
 class Object:
     of: object
     attributes: dict
+
+    def is_of(self, wanted):
+        """Whether this is an object of a class, by its own class or a base of that."""
+        of = self.of
+        while isinstance(of, Class) and of is not wanted:
+            of = of.base
+        return of is wanted
 
 
 def is_number(value):

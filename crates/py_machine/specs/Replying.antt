@@ -4,9 +4,7 @@ use Rattle.amh_host.specs.declared.place.Place.{Place}
 use Rattle.py_values.specs.declared.val.Val.{Val}
 use Rattle.py_values.specs.Places.{new_text, new_tuple}
 use Rattle.py_frames.specs.declared.request.Act.{Act}
-use Rattle.py_frames.specs.declared.request.Cause.TheVariants.{Raised}
-use Rattle.py_frames.specs.Doing.{Doing, Known, heap_seen, ◌>>=◌, give, stop, choose, making}
-use Rattle.py_frames.specs.Async.{is_async}
+use Rattle.py_frames.specs.Doing.{Doing, Known, heap_seen, ◌>>=◌, give, making}
 use Rattle.py_frames.specs.Asking.{asked, returned}
 
 -- a new string
@@ -22,8 +20,3 @@ abbrev pub call_told : Known → ℕ → Act → Val → List Val → Place → 
 call_told k rounds act callee args place = do
   v ← k.call callee args [] place
   λ w s. asked rounds k act (returned (heap_seen k s) place callee v) w s
-
--- an `async` function is none that an answer calls
-abbrev pub call_answered : Known → ℕ → Act → Val → List Val → Place → Doing
-call_answered k rounds act callee args place = λ w s.
-    choose (is_async k (heap_seen k s) callee) (stop Raised place) (call_told k rounds act callee args place) w s

@@ -2,8 +2,8 @@
 ghost use Rattle.std.specs.Prelude.{◌≡◌, ◌<◌, ◌≤◌, [], OnOk};
 ghost use Rattle.py_frames.specs.declared.state.Got.TheVariants as got;
 ghost use Rattle.py_frames.specs.Doing.{came, give, stop};
-ghost use Rattle.py_frames.specs.Asking.{answered, asked, request, if_taken, takes_value, takes_text, takes_list, takes_names, takes_call, takes_through};
-ghost use Rattle.py_machine.specs.Replying.{text_given, list_given, call_told, call_answered};
+ghost use Rattle.py_frames.specs.Asking.{answered, asked, request, function_called, if_taken, takes_value, takes_text, takes_list, takes_names, takes_call, takes_through};
+ghost use Rattle.py_machine.specs.Replying.{text_given, list_given, call_told};
 ghost use Rattle.py_frames.specs.Tables.{IsTable};
 ghost use Rattle.py_frames.specs.Frames.{GoesOn};
 
@@ -220,7 +220,7 @@ fn call_begun(
 
 // A function begins, unless it is `async`.
 #[tactic(auto, using(crate::proofs::ReplyLaws::call_rules, py_frames::proofs::BeginLaws::turn_rules))]
-fn call_let(
+fn function_called(
     going: &mut Going,
     functions: &Functions,
     frozen: &Frozen,
@@ -233,7 +233,7 @@ fn call_let(
 ) -> Result<Now, Halt>
     requires room { going.old.state.used < budget }
     requires table { IsTable functions.now }
-    ensures moves { GoesOn functions.now frozen.now result going.old going.new budget (λ k. call_answered k rounds act callee.now args place) }
+    ensures moves { GoesOn functions.now frozen.now result going.old going.new budget (λ k. function_called k (asked rounds k act) (request act [] [] place) callee.now args) }
     ensures left { OnOk result (going.new.state.used < budget) }
     ensures grows { going.old.state.used ≤ going.new.state.used }
 {
@@ -260,12 +260,12 @@ fn call_given(
 ) -> Result<Now, Halt>
     requires room { going.old.state.used < budget }
     requires table { IsTable functions.now }
-    ensures moves { GoesOn functions.now frozen.now result going.old going.new budget (λ k. if_taken (takes_call act) place (call_answered k rounds act callee args place)) }
+    ensures moves { GoesOn functions.now frozen.now result going.old going.new budget (λ k. if_taken (takes_call act) place (function_called k (asked rounds k act) (request act [] [] place) callee args)) }
     ensures left { OnOk result (going.new.state.used < budget) }
     ensures grows { going.old.state.used ≤ going.new.state.used }
 {
     if takes_call(act) {
-        call_let(
+        function_called(
             going, functions, frozen, act, &callee, args, rounds, place, budget,
         )
     } else {

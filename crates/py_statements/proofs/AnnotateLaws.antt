@@ -1,11 +1,9 @@
 -- How annotated assignments go on.
-use Rattle.std.proofs.Common.{◌≡◌, ℕ, refl, ap, ◌∙◌, sym, subst, Bool, true, false, List, [], ◌∷◌, ◌++◌, Option, None, option_map, Result, Ok, Err}
+use Rattle.std.proofs.Common.{◌≡◌, ℕ, refl, ap, ◌∙◌, sym, subst, Bool, true, false, List, [], ◌∷◌, ◌++◌, Result, Ok, Err}
 use Rattle.amh_host.specs.declared.place.Place.{Place}
-use Rattle.py_tree.specs.declared.expr.Expr.{Expr}
 use Rattle.py_tree.specs.declared.stmt.Stmt.{Stmt}
-use Rattle.py_tree.specs.Seen.{tree}
 use Rattle.py_tree.specs.Programs.{step_of, steps_of}
-use Rattle.py_tree.specs.Tree.{Tree, Perhaps, absent, present, perhaps}
+use Rattle.py_tree.specs.Tree.{Tree, Perhaps, absent, present}
 use Rattle.py_tree.specs.Steps.{Step, Annotate}
 use Rattle.py_values.specs.Heaps.{Made, seen}
 use Rattle.py_values.specs.declared.val.Val.{Val}

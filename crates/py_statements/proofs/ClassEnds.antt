@@ -8,7 +8,9 @@ use Rattle.py_values.specs.declared.val.Val.{Val}
 use Rattle.py_values.specs.declared.val.ScopeId.{ScopeId}
 use Rattle.py_values.specs.declared.val.ValueStop.{ValueStop}
 use Rattle.py_values.specs.declared.val.ValueStop.TheVariants as refusal
-use Rattle.py_values.specs.Heaps.{Made, seen}
+use Rattle.py_values.specs.Heaps.{Made, Seen, seen}
+use Rattle.py_values.specs.Names.{scope_bound}
+use Rattle.py_values.specs.Objects.{new_class}
 use Rattle.py_values.specs.Runs.{Answers, paired}
 use Rattle.py_frames.specs.declared.request.NamedVal.{NamedVal}
 use Rattle.py_frames.specs.declared.request.Request.{Request}
@@ -26,9 +28,10 @@ use Rattle.py_frames.specs.declared.functions.Functions.{Functions}
 use Rattle.py_frames.specs.declared.going.Going.{Going}
 use Rattle.py_frames.specs.Doing.{Doing, Known, after, on_value, came, stop, made, making, heap_seen, cause_of}
 use Rattle.py_frames.specs.Asking.{request, ask}
-use Rattle.py_frames.specs.Values.{bind, named_vals}
+use Rattle.py_frames.specs.Values.{bind, named_vals, class_word}
+use Rattle.py_frames.specs.Expressions.{seen_from}
 use Rattle.py_frames.specs.Binding.{refused}
-use Rattle.py_frames.specs.Statements.{known, as_base, over_thing, known_class, kept_bindings, with_mark, class_bound, class_ended}
+use Rattle.py_frames.specs.Statements.{known, as_base, over_thing, known_as, class_known, made_known, known_class, kept_bindings, with_mark, class_bound, class_ended}
 use Rattle.py_frames.specs.Def_frames.{class_left, class_told}
 use Rattle.py_statements.specs.Def_begun.{GoesUnder, class_built, class_over, is_next}
 use Rattle.py_frames.specs.Frames.{finish, stops_as, GoesOn, within}
@@ -50,6 +53,37 @@ making_refused fns frozen x y budget refusal.Width heap p m f a u = stopped_maki
 making_refused fns frozen x y budget refusal.Limit heap p m f a u = stopped_making fns frozen x y budget refusal.Limit p m f a u
 making_refused fns frozen x y budget refusal.Spent heap p m f a u = absurd a
 making_refused fns frozen x y budget refusal.NoMemory heap p m f a u = no_memory fns frozen x y budget (λ k. making (m k) p (f k))
+
+-- ---- the class in the scope round its body
+
+refused_as : (c : Val) (e : ValueStop) (o : Result (Unit {0} × Made) ValueStop) → Answers {A = Unit {0} × Made} (Err e) o → Answers {A = Val × Made} (Err e) (known_as c o)
+refused_as c refusal.Raised o h = ap (known_as c) h
+refused_as c refusal.Width o h = ap (known_as c) h
+refused_as c refusal.Limit o h = ap (known_as c) h
+refused_as c refusal.Spent o h = absurd h
+refused_as c refusal.NoMemory o h = tt
+
+refused_made : (s : Seen) (round : Option ScopeId) (e : ValueStop) (o : Result (Val × Made) ValueStop) → Answers {A = Val × Made} (Err e) o → Answers {A = Val × Made} (Err e) (made_known s round o)
+refused_made s round refusal.Raised o h = ap (made_known s round) h
+refused_made s round refusal.Width o h = ap (made_known s round) h
+refused_made s round refusal.Limit o h = ap (made_known s round) h
+refused_made s round refusal.Spent o h = absurd h
+refused_made s round refusal.NoMemory o h = tt
+
+pub bound_refused : (s : Seen) (round : ScopeId) (o : Option ScopeId) (c v : Val) (e : ValueStop) (heap : Made) → o ≡ Some round → v ≡ c → Answers {A = Unit {0} × Made} (paired (Err e) heap) (scope_bound s round.0 class_word v) → Answers {A = Val × Made} (paired (Err e) heap) (class_known s o c)
+bound_refused s round o c v e heap e1 e2 h =
+    let O : Option ScopeId → Type 0 = λ z. Answers {A = Val × Made} (Err e) (class_known s z c) in
+    let V : Val → Type 0 = λ z. Answers {A = Unit {0} × Made} (Err e) (scope_bound s round.0 class_word z) in
+    subst O (sym e1) (refused_as c e (scope_bound s round.0 class_word c) (subst V e2 h))
+
+pub class_refused : (s : Seen) (base : Option Val) (scope : ScopeId) (e : ValueStop) (heap : Made) → Answers {A = Val × Made} (paired (Err e) heap) (new_class s base scope.0) → Answers {A = Val × Made} (paired (Err e) heap) (known_class s base scope)
+class_refused s base scope e heap h = refused_made s (seen_from s scope) e (new_class s base scope.0) h
+
+pub class_stands : (frozen heap more last : Made) (base : Option Val) (scope : ScopeId) (round : Option ScopeId) (c : Val) (r : Result Val ValueStop) → round ≡ seen_from (seen frozen heap) scope → new_class (seen frozen heap) base scope.0 ≡ Ok (c, more) → Answers {A = Val × Made} (paired r last) (class_known (seen frozen more) round c) → Answers {A = Val × Made} (paired r last) (known_class (seen frozen heap) base scope)
+class_stands frozen heap more last base scope round c r e1 e2 h =
+    let R : Option ScopeId → Type 0 = λ z. Answers {A = Val × Made} (paired r last) (made_known (seen frozen heap) z (new_class (seen frozen heap) base scope.0)) in
+    let M : Result (Val × Made) ValueStop → Type 0 = λ z. Answers {A = Val × Made} (paired r last) (made_known (seen frozen heap) round z) in
+    subst R e1 (subst M (sym e2) h)
 
 -- ---- what a body leaves
 
@@ -160,6 +194,8 @@ over_refused fns frozen x y budget p name scope base kw notes bs o e heap e2 a u
     let f : Known → Val → Doing = λ k d. class_bound k true d base name kw notes bs p in
     here_same fns frozen (Err (refused e p)) x y budget (λ k. making (λ g. known_class (heap_seen k g) (as_base base) scope) p (f k)) (λ k. class_over k scope base name kw notes bs p) (λ w. refl)
     (making_refused fns frozen x y budget e heap p (λ k t. known_class (heap_seen k t) (as_base base) scope) f (subst A e2 a) u)
+
+pub ruleset known_rules = (bound_refused, class_refused, class_stands)
 
 pub ruleset ended_rules = (ended_next, ended_other)
 

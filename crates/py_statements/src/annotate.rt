@@ -1,5 +1,5 @@
 // Annotated assignments: the value, and then the annotation where it is evaluated.
-ghost use Rattle.std.specs.Prelude.{◌≡◌, ◌<◌, ◌≤◌, [], option_map, IfOk, OnOk};
+ghost use Rattle.std.specs.Prelude.{◌≡◌, ◌<◌, ◌≤◌, [], option_map, OnOk};
 ghost use Rattle.std.specs.Option.{option_copied};
 ghost use Rattle.py_tree.specs.Seen.{tree};
 ghost use Rattle.py_tree.specs.Programs.{step_of};
@@ -9,19 +9,17 @@ ghost use Rattle.py_values.specs.Heaps.{seen};
 ghost use Rattle.py_values.specs.Names.{scope_at};
 ghost use Rattle.py_frames.specs.declared.state.Got.TheVariants.{Next};
 ghost use Rattle.py_frames.specs.Doing.{on_next};
-ghost use Rattle.py_frames.specs.Functions.{named_val};
 ghost use Rattle.py_frames.specs.Statements.{annotated, evaluates_annotations, is_open, note};
 ghost use Rattle.py_frames.specs.Stmt_begun.{run_after, note_named};
 ghost use Rattle.py_frames.specs.Stmt_frames.{annotate_stored, annotates, notes};
 ghost use Rattle.py_frames.specs.Frames.{GoesOn};
 
 use crate::stmt_assign::wait_as;
-use amh_host::{NoMemory, Text};
 use py_frames::block::leaves;
+use py_frames::expr_values::named_val;
 use py_frames::frame::{Frame, Now, StmtFrame};
 use py_frames::functions::Functions;
 use py_frames::going::{Going, wait_for};
-use py_frames::request::NamedVal;
 use py_frames::state::{Got, Halt};
 use py_frames::stmt_plain::comes;
 use py_frames::stmt_purpose::target_purpose;
@@ -29,7 +27,6 @@ use py_tree::{Expr, ExprKind, Name, Stmt, StmtKind};
 use py_values::{Frozen, Scope, Val};
 use py_walks::target_turns::assign;
 use py_walks::targets::reach;
-use std::alloc::Global;
 
 // Whether annotations are evaluated in a scope.
 fn is_open(found: Option<&Scope>) -> bool
@@ -38,17 +35,6 @@ fn is_open(found: Option<&Scope>) -> bool
     match found {
         Some(scope) => scope.is_class || scope.enclosing.is_none(),
         None => false,
-    }
-}
-
-/// A name and its value.
-pub fn named_val(alloc: Global, name: &str, val: Val) -> Result<NamedVal, NoMemory>
-    ensures { IfOk result (λ x. x ≡ named_val name.now val) }
-{
-    let mut text = Text::new(alloc);
-    match text.push(name) {
-        Ok(()) => Ok(NamedVal { name: text, val }),
-        Err(e) => Err(e),
     }
 }
 

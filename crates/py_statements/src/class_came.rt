@@ -10,13 +10,13 @@ ghost use Rattle.py_frames.specs.Def_frames.{class_arguments, class_place, class
 ghost use Rattle.py_statements.specs.Def_begun.{class_starred};
 ghost use Rattle.py_frames.specs.Frames.{GoesOn};
 
-use crate::annotate::named_val;
 use crate::class_arguments::{class_argument, class_arguments_turn};
 use crate::classes::class_given;
 use amh_host::Place;
 use py_frames::attribute_store::as_row;
 use py_frames::binds::refused;
 use py_frames::call_leaf::raise;
+use py_frames::expr_values::named_val;
 use py_frames::frame::{DefFrame, Frame, Now};
 use py_frames::functions::Functions;
 use py_frames::going::Going;

@@ -66,6 +66,7 @@ fn scope_round(heap: &Heap, frozen: &Frozen, scope: ScopeId) -> Option<ScopeId>
 }
 
 // A class stands in the scope round its body.
+#[tactic(auto, using(crate::proofs::ClassEnds::known_rules))]
 fn class_known(
     heap: &mut Heap,
     frozen: &Frozen,
@@ -84,6 +85,7 @@ fn class_known(
 }
 
 // The class of what a scope binds, known to the functions of its body.
+#[tactic(auto, using(crate::proofs::ClassEnds::known_rules))]
 fn known_class(
     heap: &mut Heap,
     frozen: &Frozen,

@@ -1,4 +1,3 @@
-use Rattle.std.proofs.Common.{◌∙◌}
 use Rattle.py_tree.specs.Programs.{steps_of}
 use Rattle.py_statements.proofs.ClassLaws.{body_makes}
 use Rattle.py_statements.proofs.classes.class_body.Goals as goal
