@@ -11,9 +11,9 @@ use Rattle.py_values.specs.declared.val.FuncId.{FuncId}
 use Rattle.py_values.specs.declared.op.Builtin.{Builtin}
 use Rattle.py_values.specs.declared.op.Builtin.TheVariants as builtins
 use Rattle.py_values.specs.declared.func.Func.{Func}
-use Rattle.py_values.specs.declared.scopes.LookUp.{LookUp}
 use Rattle.py_values.specs.declared.func.Code.{Code}
 use Rattle.py_values.specs.declared.func.Code.TheVariants as code
+use Rattle.py_values.specs.declared.scopes.LookUp.{LookUp}
 use Rattle.py_values.specs.declared.objects.Inherited.{Inherited}
 use Rattle.py_values.specs.declared.objects.Inherited.TheVariants as inherited
 use Rattle.py_values.specs.Heaps.{Made, seen, func_at}
@@ -48,8 +48,11 @@ use Rattle.py_calls.proofs.AttributeLaws.{from_class-made}
 pub init_asked : (fns : Functions) (frozen : Made) (r : Result Now Halt) (x y : Going) (budget : ℕ) (o : ObjId) (args : List Val) (keywords : List NamedVal) (place : Place) (v : Val) (q : Request) → q ≡ request InitBase (val.Object o ∷ (args ++ named_vals keywords)) (named_names keywords) place → GoesOn fns frozen r x y budget (within (frame.Call (call.InitNames o place v)) (λ k. ask k q)) → GoesOn fns frozen r x y budget (λ k. init_thing k o args keywords place (give v))
 init_asked fns frozen r x y budget o args keywords place v q e1 h = same_goes fns frozen r x y budget (λ z k. then_do (ask k z) (λ got. on_names got (λ names. attributes_bound k o names place (give v)))) q (request InitBase (val.Object o ∷ (args ++ named_vals keywords)) (named_names keywords) place) e1 h
 
-pub super_here : (fns : Functions) (frozen : Made) (r : Result Now Halt) (x y : Going) (budget : ℕ) (place : Place) (found : LookUp) (f : Option Func) → found ≡ look_up (seen frozen x.state.heap) x.state.here.scope.0 class_word → f ≡ super_of (seen frozen x.state.heap) x.state.here.first found → GoesOn fns frozen r x y budget (λ k. with_func k f place) → GoesOn fns frozen r x y budget (λ k. super_called k None place)
-super_here fns frozen r x y budget place found f e1 e2 h = same_runs fns frozen r x y budget (λ k. with_func k f place) (λ k. super_called k None place) (λ w. ap (λ z. with_func (known (steps_of fns.program) frozen x.state.here.room) z place w x.state) (sym (e2 ∙ ap (super_of (seen frozen x.state.heap) x.state.here.first) e1))) h
+pub super_here : (fns : Functions) (frozen : Made) (r : Result Now Halt) (x y : Going) (budget : ℕ) (place : Place) (f : Option Func) (class : LookUp) → class ≡ look_up (seen frozen x.state.heap) x.state.here.scope.0 class_word → f ≡ super_of (seen frozen x.state.heap) x.state.here.first class → GoesOn fns frozen r x y budget (λ k. with_func k f place) → GoesOn fns frozen r x y budget (λ k. super_called k None place)
+super_here fns frozen r x y budget place f class e1 e2 h =
+    same_runs fns frozen r x y budget (λ k. with_func k f place) (λ k. super_called k None place)
+    (λ w. ap (λ (z : LookUp). with_func (known (steps_of fns.program) frozen x.state.here.room) (super_of (seen frozen x.state.heap) x.state.here.first z) place w x.state) (sym e1)
+    ∙ ap (λ (z : Option Func). with_func (known (steps_of fns.program) frozen x.state.here.room) z place w x.state) (sym e2)) h
 
 bare-none : (args : List Val) (keywords : List NamedVal) (place : Place) (m : Doing) → no_arguments args keywords ≡ true → without_arguments args keywords place m ≡ m
 bare-none [] [] place m e = refl

@@ -103,9 +103,7 @@ fn sum_asked(
     };
     let start = start_of(args);
     match going.state.heap.elements(frozen, row) {
-        Ok(vals) => summed(
-            going, functions, frozen, start, vals, 0, place, budget,
-        ),
+        Ok(vals) => summed(going, functions, frozen, start, vals, 0, place, budget),
         Err(stop) => Err(refused(stop, place)),
     }
 }
