@@ -14,10 +14,10 @@ use Rattle.amh_things.specs.declared.plan.Plan.{Plan}
 use Rattle.amh_things.specs.declared.thing.Thing.{Thing}
 use Rattle.amh_values.specs.Acts.{acted, Acts}
 use Rattle.amh_things.specs.Held.{AreHeld}
-use Rattle.elab_eval.specs.declared.store.Elaboration.{Elaboration}
-use Rattle.elab_eval.specs.Stores.{Stored, Held, Answered}
-use Rattle.elab_eval.specs.Held.{held_of, Gives}
-use Rattle.elab_eval.specs.Sound.{IsSound}
+use Rattle.elab_store.specs.declared.store.Elaboration.{Elaboration}
+use Rattle.elab_store.specs.Stores.{Stored, Held, Answered}
+use Rattle.elab_store.specs.Held.{held_of, Gives}
+use Rattle.elab_store.specs.Sound.{IsSound}
 use Rattle.elab_eval.specs.Table.{prim, own_answered, either_answered, with_plan}
 use Rattle.elab_eval.proofs.GrownLaws.{pool_grown}
 

@@ -18,13 +18,13 @@ use Rattle.py_frames.specs.declared.request.NamedVal.{NamedVal}
 use Rattle.design_ir.specs.declared.port.Port.{Port}
 use Rattle.design_ir.specs.declared.signal.Sig.{Sig}
 use Rattle.clock_domains.specs.declared.top.TopPorts.TheVariants.{Members}
-use Rattle.elab_eval.specs.declared.members.NamedMember.{NamedMember}
-use Rattle.elab_eval.specs.Calls.{Called, called}
-use Rattle.elab_eval.specs.Stores.{Answered, nothing_held}
+use Rattle.elab_store.specs.declared.members.NamedMember.{NamedMember}
+use Rattle.elab_store.specs.Calls.{Called, called}
+use Rattle.elab_store.specs.Stores.{Answered, nothing_held}
 use Rattle.elab_eval.specs.Imports.{imported}
 use Rattle.elab_eval.specs.Libraries.{library_given, wiring_named}
 use Rattle.elab_eval.specs.Members.{member_called}
-use Rattle.elab_eval.specs.Components.{members_in, class_members}
+use Rattle.elab_store.specs.Components.{members_in, class_members}
 use Rattle.elab_eval.specs.ComponentClasses.{class_answered}
 use Rattle.elab_eval.specs.Interfaces.{init_answered}
 use Rattle.elab_eval.specs.ComponentTops.{component_ports}

@@ -19,22 +19,22 @@ use Rattle.clock_domains.specs.Resolvable.{ArePorts}
 use Rattle.amh_things.specs.declared.thing.Thing.TheVariants as thing
 use Rattle.amh_things.specs.declared.thing.Reading.{Reading}
 use Rattle.amh_things.specs.Things.{read_as}
-use Rattle.elab_eval.specs.declared.shapes.Shaped.{Shaped}
-use Rattle.elab_eval.specs.declared.kept.HdlName.{HdlName}
-use Rattle.elab_eval.specs.declared.kept.Kept.TheVariants as kept
-use Rattle.elab_eval.specs.declared.members.NamedMember.{NamedMember}
+use Rattle.elab_store.specs.declared.shapes.Shaped.{Shaped}
+use Rattle.elab_store.specs.declared.kept.HdlName.{HdlName}
+use Rattle.elab_store.specs.declared.kept.Kept.TheVariants as kept
+use Rattle.elab_store.specs.declared.members.NamedMember.{NamedMember}
 use Rattle.elab_eval.specs.declared.interfaces.Interface.{Interface}
 use Rattle.identifiers.specs.Identifiers.{is_identifier}
 use Rattle.identifiers.proofs.NameLaws.{identifier_is_name}
-use Rattle.elab_eval.specs.Calls.{Called, first_or, behind_first}
-use Rattle.elab_eval.specs.Stores.{Held, Answered, refused, next_thing, thing_given}
+use Rattle.elab_store.specs.Calls.{Called, first_or, behind_first}
+use Rattle.elab_store.specs.Stores.{Held, Answered, refused, next_thing, thing_given}
 use Rattle.elab_eval.specs.Signals.{signal_passes, with_signal}
 use Rattle.elab_eval.specs.Libraries.{library_given}
 use Rattle.elab_eval.specs.Members.{member_shaped, member_said, member_placed, member_init, member_called}
 use Rattle.elab_eval.specs.ComponentClasses.{component_made, component_base, annotated, class_over, class_answered}
 use Rattle.elab_eval.specs.Classes.{class_made, base_called}
 use Rattle.elab_eval.specs.Interfaces.{are_named, are_members, member_signal, with_member, member_bound, no_interface, interface_made, interface_given, members_given, component_called, component_class, init_as, init_of, init_answered, signature_name}
-use Rattle.elab_eval.specs.Sound.{IsKept, IsSound}
+use Rattle.elab_store.specs.Sound.{IsKept, IsSound}
 use Rattle.elab_eval.proofs.GrownLaws.{all_and, pool_grown, things_grown, read_held, keeping_sound}
 use Rattle.elab_eval.proofs.PortLaws.{and_split, all_put, ports_stay, port_more}
 

@@ -10,14 +10,14 @@ use Rattle.module_dsl.specs.declared.step.Block.{Block}
 use Rattle.module_dsl.specs.declared.step.Block.TheVariants as dsl
 use Rattle.module_dsl.specs.Blocks.{in_switch}
 use Rattle.module_dsl.specs.Builders.{Built, built_blocks, subject_of, IsOwed, IsLeftAs, IsEnterable}
-use Rattle.elab_eval.specs.Stores.{Held}
-use Rattle.elab_eval.specs.Sound.{IsBuilt, IsSound}
-use Rattle.elab_eval.specs.Kept.{IsMasked}
+use Rattle.elab_store.specs.Stores.{Held}
+use Rattle.elab_store.specs.Sound.{IsBuilt, IsSound}
+use Rattle.elab_store.specs.Kept.{IsMasked}
 use Rattle.elab_eval.specs.Entering.{IsEntering}
 use Rattle.elab_eval.specs.Blocks.{switched, case_subject}
-use Rattle.elab_eval.specs.OpenMachines.{in_machine}
+use Rattle.elab_store.specs.OpenMachines.{in_machine}
 use Rattle.elab_eval.proofs.GrownLaws.{module_built}
-use Rattle.elab_eval.proofs.Standing.{subject_there}
+use Rattle.elab_store.proofs.Standing.{subject_there}
 
 block_enterable : (q : Pooled) (b : Built) (x : Block) → IsBuilt q b → IsMasked x → IsEnterable q b x
 block_enterable q b (dsl.If c) k m = tt

@@ -8,37 +8,13 @@ use Rattle.design_ir.specs.declared.expr.Pattern.{Pattern}
 use Rattle.module_dsl.specs.declared.refusal.BuildStop.{BuildStop}
 use Rattle.module_dsl.specs.declared.step.Block.{Block}
 use Rattle.module_dsl.specs.Builders.{Built, built_blocks, built_count, leave_refusal, and_left, enter_refusal}
-use Rattle.elab_eval.specs.declared.kept.DomainName.{DomainName}
-use Rattle.elab_eval.specs.declared.kept.Equation.{Equation}
-use Rattle.elab_eval.specs.Stores.{Stored, Held}
-use Rattle.elab_eval.specs.Kept.{IsStore}
+use Rattle.elab_store.specs.declared.kept.DomainName.{DomainName}
+use Rattle.elab_store.specs.declared.kept.Equation.{Equation}
+use Rattle.elab_store.specs.Stores.{Stored, Held}
+use Rattle.elab_store.specs.Kept.{IsStore}
 use Rattle.elab_eval.specs.Blocks.{stop_cause, store_told, with_entered, entering_by, entering, leaving_by, leaving}
-use Rattle.elab_eval.specs.Counts.{statement_count}
+use Rattle.elab_store.specs.Counts.{statement_count}
 use Rattle.elab_eval.specs.Sides.{store_with_statement, statement_told}
-
-pub at_get : (bs : List Built) (m : ℕ) (b : Built) → m < length bs → b ≡ slice_index_or bs m b → slice_get bs m ≡ Some b
-at_get [] m b h e = absurd (omega (arith, h))
-at_get (x ∷ bs) zero b h e = ap (λ y. Some y) (sym e)
-at_get (x ∷ bs) (suc m) b h e = at_get bs m b (omega (arith, h)) e
-
-pub past_get : (bs : List Built) (m : ℕ) → length bs ≤ m → slice_get bs m ≡ None
-past_get [] m h = refl
-past_get (x ∷ bs) zero h = absurd (omega (arith, h))
-past_get (x ∷ bs) (suc m) h = past_get bs m (omega (arith, h))
-
-pub set_same : (bs : List Built) (m : ℕ) (b : Built) → b ≡ slice_index_or bs m b → slice_set bs m b ≡ bs
-set_same [] m b e = refl
-set_same (x ∷ bs) zero b e = ap (λ y. y ∷ bs) e
-set_same (x ∷ bs) (suc m) b e = ap (λ ys. x ∷ ys) (set_same bs m b e)
-
-pub count_set : (bs : List Built) (m : ℕ) (b c : Built) (n : ℕ) → m < length bs → b ≡ slice_index_or bs m b → built_count c ≡ built_count b + n → statement_count (slice_set bs m c) ≡ statement_count bs + n
-count_set [] m b c n h e more = absurd (omega (arith, h))
-count_set (x ∷ bs) zero b c n h e more = omega (arith, more, ap built_count e)
-count_set (x ∷ bs) (suc m) b c n h e more = omega (arith, count_set bs m b c n (omega (arith, h)) e more)
-
-pub count_and : (bs : List Built) (b : Built) → statement_count (bs ++ b ∷ []) ≡ statement_count bs + built_count b
-count_and [] b = omega arith
-count_and (x ∷ bs) b = omega (arith, count_and bs b)
 
 -- ---- one statement
 
@@ -60,10 +36,6 @@ module _ (m : ℕ) (b : Built) (d : DomainName) (q : Equation) (s : Stored) (at 
 
 pub told-nowhere : (m : ℕ) (d : DomainName) (q : Equation) (s : Stored) → length s.modules ≤ m → statement_told m d q (slice_get s.modules m) s ≡ (s, None)
 told-nowhere m d q s h = rw (past_get s.modules m h) refl
-
-pub count_none : (name : List ℕ) → built_count (record { name = name; steps = [] }) ≡ 0
-unfolding blocks_of
-count_none name = refl
 
 -- ---- blocks
 
@@ -87,7 +59,3 @@ entering-given m b x h at e = entering-some m b x h None at e
 
 pub entering-refused : (m : ℕ) (b : Built) (x : Block) (h : Held) (stop : BuildStop) → slice_get h.store.modules m ≡ Some b → enter_refusal h.pool b x ≡ Some stop → entering m (slice_get h.store.modules m) x h ≡ (h, Some (stop_cause stop))
 entering-refused m b x h stop at e = entering-some m b x h (Some stop) at e
-
--- a module that was told what is no statement counts as before
-pub store_same : (statements : ℕ) (bs : List Built) (m : ℕ) (b c : Built) (ps : List (List Pattern)) → m < length bs → b ≡ slice_index_or bs m b → built_count c ≡ built_count b → IsStore statements bs ps → IsStore statements (slice_set bs m c) ps
-store_same statements bs m b c ps h e same k = record { count = omega (arith, k.count, count_set bs m b c 0 h e (omega (arith, same))); within = k.within }

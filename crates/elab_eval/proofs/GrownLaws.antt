@@ -15,21 +15,21 @@ use Rattle.module_dsl.specs.declared.step.Step.TheVariants.{Assign, Enter, Leave
 use Rattle.module_dsl.specs.declared.step.Opening.{Opening}
 use Rattle.module_dsl.specs.declared.step.Opening.TheVariants as opening
 use Rattle.module_dsl.specs.Builders.{Built}
-use Rattle.elab_eval.specs.declared.kept.Begin.{Begin}
-use Rattle.elab_eval.specs.declared.kept.Begin.TheVariants as begin
+use Rattle.elab_store.specs.declared.kept.Begin.{Begin}
+use Rattle.elab_store.specs.declared.kept.Begin.TheVariants as begin
 use Rattle.amh_things.specs.declared.thing.Thing.{Thing}
 use Rattle.amh_things.specs.declared.thing.Thing.TheVariants as thing
 use Rattle.amh_things.specs.declared.thing.Reading.{Reading}
 use Rattle.amh_things.specs.declared.thing.Reading.TheVariants as reading
 use Rattle.amh_things.specs.Things.{read_as}
 use Rattle.amh_things.specs.Held.{IsHeld, AreHeld}
-use Rattle.elab_eval.specs.declared.kept.Kept.{Kept}
-use Rattle.elab_eval.specs.declared.kept.Kept.TheVariants as kept_as
-use Rattle.elab_eval.specs.declared.kept.Top.{Top}
-use Rattle.elab_eval.specs.Stores.{Held, kept_given}
-use Rattle.elab_eval.specs.Sound.{IsAssigned, IsBegin, IsKept, IsOpening, IsTold, IsBuilt, IsMachine, IsSound}
-use Rattle.elab_eval.specs.declared.state_machines.OwnMachine.{OwnMachine}
-use Rattle.elab_eval.proofs.Pools.{IsGrown, target_stays, there_stays}
+use Rattle.elab_store.specs.declared.kept.Kept.{Kept}
+use Rattle.elab_store.specs.declared.kept.Kept.TheVariants as kept_as
+use Rattle.elab_store.specs.declared.kept.Top.{Top}
+use Rattle.elab_store.specs.Stores.{Held, kept_given}
+use Rattle.elab_store.specs.Sound.{IsAssigned, IsBegin, IsKept, IsOpening, IsTold, IsBuilt, IsMachine, IsSound}
+use Rattle.elab_store.specs.declared.own_machine.OwnMachine.{OwnMachine}
+use Rattle.elab_store.proofs.Pools.{IsGrown, target_stays, there_stays}
 use Rattle.elab_eval.proofs.Modules.{all_each}
 use Rattle.elab_eval.proofs.PortLaws.{objects_stay}
 

@@ -12,9 +12,9 @@ use Rattle.py_values.specs.Scalars.{first_from}
 use Rattle.py_frames.specs.declared.request.Answer.TheVariants as answer
 use Rattle.py_frames.specs.declared.request.Cause.TheVariants.{Raised}
 use Rattle.amh_things.specs.declared.thing.Thing.TheVariants as thing
-use Rattle.elab_eval.specs.Calls.{called}
+use Rattle.elab_store.specs.Calls.{called}
 use Rattle.elab_eval.specs.Likes.{like_called}
-use Rattle.elab_eval.specs.Stores.{Held, Answered, nothing_held}
+use Rattle.elab_store.specs.Stores.{Held, Answered, nothing_held}
 
 hw : ℕ → Val
 hw n = val.Hw (record { 0 = n })

@@ -9,7 +9,7 @@ use Rattle.py_frames.specs.declared.request.Answer.{Answer}
 use Rattle.py_frames.specs.declared.request.Answer.TheVariants as answer
 use Rattle.py_frames.specs.declared.request.NamedVal.{NamedVal}
 use Rattle.elab_eval.specs.declared.signals.SignalArguments.{SignalArguments}
-use Rattle.elab_eval.specs.Stores.{Held, Answered}
+use Rattle.elab_store.specs.Stores.{Held, Answered}
 use Rattle.elab_eval.specs.Imports.{hdl_imported, all_bound, bound_answer}
 use Rattle.elab_eval.specs.Signals.{with_keywords}
 use Rattle.elab_eval.specs.Tops.{global}

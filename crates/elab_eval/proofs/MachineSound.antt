@@ -31,20 +31,20 @@ use Rattle.fsm_lowering.specs.States.{number_of, range_width}
 use Rattle.fsm_lowering.specs.Machines.{Machine, in_state, state_number, no_bits}
 use Rattle.fsm_lowering.specs.Calls.{new_refusal, with_register, machine_at, is_begun, state_refusal, with_choice, end_refusal, next_stop, with_next, ongoing_refusal, finish_refusal, and_finished, with_end, settled_at, first_number}
 use Rattle.amh_things.specs.declared.thing.Thing.TheVariants as thing
-use Rattle.elab_eval.specs.declared.kept.MachinePart.{MachinePart}
-use Rattle.elab_eval.specs.declared.kept.MachinePart.TheVariants as part
-use Rattle.elab_eval.specs.declared.kept.Kept.TheVariants as kept
-use Rattle.elab_eval.specs.declared.state_machines.OwnMachine.{OwnMachine}
-use Rattle.elab_eval.specs.declared.state_machines.MachineArguments.{MachineArguments}
+use Rattle.elab_store.specs.declared.kept.MachinePart.{MachinePart}
+use Rattle.elab_store.specs.declared.kept.MachinePart.TheVariants as part
+use Rattle.elab_store.specs.declared.kept.Kept.TheVariants as kept
+use Rattle.elab_store.specs.declared.own_machine.OwnMachine.{OwnMachine}
+use Rattle.elab_machines.specs.declared.state_machines.MachineArguments.{MachineArguments}
 use Rattle.identifiers.specs.Identifiers.{is_identifier}
 use Rattle.identifiers.proofs.NameLaws.{identifier_is_name}
-use Rattle.elab_eval.specs.Calls.{Called}
-use Rattle.elab_eval.specs.Stores.{Held, Answered, refused}
+use Rattle.elab_store.specs.Calls.{Called}
+use Rattle.elab_store.specs.Stores.{Held, Answered, refused}
 use Rattle.elab_eval.specs.Sides.{part_given}
-use Rattle.elab_eval.specs.OpenMachines.{innermost}
-use Rattle.elab_eval.specs.StateMachines.{part_attribute, machine_arguments, machine_said, machine_from, init_said, is_sync, name_said, state_argument, state_said, state_string, stop_told, unless_stopped, chain_ended, modules_begun, with_machine, machine_made, is_placed, machine_begun, register_name, init_name, Moved, unless_refused, with_moved, move_answer, own_moved, number_moved, moved, in_place, is_at_choice, is_at_case, state_made, state_begins, state_ends, is_unsettled, machine_ends, next_refused, next_goes, next_said, next_stored, with_asked, asked_of, ongoing_said, part_called, part_entered, part_left}
-use Rattle.elab_eval.specs.Sound.{IsKept, IsTold, IsBuilt, IsMachine, IsSound}
-use Rattle.elab_eval.proofs.Pools.{IsGrown, signal_there}
+use Rattle.elab_store.specs.OpenMachines.{innermost}
+use Rattle.elab_machines.specs.StateMachines.{part_attribute, machine_arguments, machine_said, machine_from, init_said, is_sync, name_said, state_argument, state_said, state_string, stop_told, unless_stopped, chain_ended, modules_begun, with_machine, machine_made, is_placed, machine_begun, register_name, init_name, Moved, unless_refused, with_moved, move_answer, own_moved, number_moved, moved, in_place, is_at_choice, is_at_case, state_made, state_begins, state_ends, is_unsettled, machine_ends, next_refused, next_goes, next_said, next_stored, with_asked, asked_of, ongoing_said, part_called, part_entered, part_left}
+use Rattle.elab_store.specs.Sound.{IsKept, IsTold, IsBuilt, IsMachine, IsSound}
+use Rattle.elab_store.proofs.Pools.{IsGrown, signal_there}
 use Rattle.std.proofs.lemmas.Bool.Decides.{nat_tests}
 use Rattle.elab_eval.proofs.Modules.{all_each}
 use Rattle.elab_eval.proofs.GrownLaws.{all_and, pool_grown, things_grown, keeping_sound, built_stays, kept_stays, told_module, module_built, machine_stays, sync_name, name_more}

@@ -12,11 +12,11 @@ use Rattle.module_dsl.specs.Sided.{givens, sides_of, process_of, processes_of}
 use Rattle.module_dsl.specs.Blocks.{Given, Entries, entries_of}
 use Rattle.module_dsl.specs.Builders.{Built, built_blocks, fragment_of}
 use Rattle.clock_domains.specs.Resolvable.{IsNamedSide, IsPlain, IsSideOf, IsSingle, same_side}
-use Rattle.elab_eval.specs.Sound.{IsNoReset, IsBuilt}
-use Rattle.elab_eval.specs.Stores.{Stored}
+use Rattle.elab_store.specs.Sound.{IsNoReset, IsBuilt}
+use Rattle.elab_store.specs.Stores.{Stored}
 use Rattle.elab_eval.specs.Elaborates.{module_in, root_module}
-use Rattle.elab_eval.proofs.Pools.{no_resets}
-use Rattle.elab_eval.proofs.Standing.{IsGiven, Stand, entries_stand, blocks_stand, givens_stand, targets_stand, exprs_stand}
+use Rattle.elab_store.proofs.Pools.{no_resets}
+use Rattle.elab_store.proofs.Standing.{IsGiven, Stand, entries_stand, blocks_stand, givens_stand, targets_stand, exprs_stand}
 
 -- ---- lists
 

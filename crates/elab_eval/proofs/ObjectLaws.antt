@@ -29,13 +29,13 @@ use Rattle.clock_domains.specs.declared.top.TopPorts.TheVariants as ports
 use Rattle.clock_domains.specs.Resolved.{port_of}
 use Rattle.clock_domains.specs.Resolvable.{IsPortOf, ArePorts, AreTopPorts}
 use Rattle.amh_things.specs.Things.{thing_of, held_expr}
-use Rattle.elab_eval.specs.Stores.{Held}
-use Rattle.elab_eval.specs.Components.{ports_at}
+use Rattle.elab_store.specs.Stores.{Held}
+use Rattle.elab_store.specs.Components.{ports_at}
 use Rattle.elab_eval.specs.ComponentTops.{component_ports}
 use Rattle.elab_eval.specs.Interfaces.{component_class}
 use Rattle.elab_eval.specs.ObjectTops.{signal_in, held_signal, has_public_name, attribute_signal, attribute_signals, before_others, each_once, signal_ports, held_ports, ports_as}
 use Rattle.elab_eval.specs.Elaborates.{ports_of}
-use Rattle.elab_eval.specs.Sound.{IsSound}
+use Rattle.elab_store.specs.Sound.{IsSound}
 use Rattle.elab_eval.proofs.Modules.{all_map, all_filter, all_each}
 use Rattle.elab_eval.proofs.PortLaws.{all_found, ports_resolve}
 

@@ -18,9 +18,9 @@ use Rattle.design_ir.specs.declared.port.Port.{Port}
 use Rattle.design_ir.specs.declared.signal.Sig.{Sig}
 use Rattle.clock_domains.specs.declared.top.TopPorts.TheVariants as ports
 use Rattle.amh_things.specs.declared.thing.Thing.TheVariants as thing
-use Rattle.elab_eval.specs.Components.{no_components, with_class}
+use Rattle.elab_store.specs.Components.{no_components, with_class}
 use Rattle.elab_eval.specs.ObjectTops.{each_once, held_signal, object_ports}
-use Rattle.elab_eval.specs.Stores.{Held, no_top}
+use Rattle.elab_store.specs.Stores.{Held, no_top}
 
 -- ---- each once
 

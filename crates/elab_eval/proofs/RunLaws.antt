@@ -22,8 +22,8 @@ use Rattle.py_machine.specs.Lives.{Stands, StandsAs, IsAsked, IsEnded, IsStopped
 use Rattle.elab_eval.specs.declared.running.Elaborated.{Elaborated}
 use Rattle.elab_eval.specs.declared.refusal.ElabStop.{ElabStop}
 use Rattle.elab_eval.specs.declared.refusal.ElabStop.TheVariants as stop
-use Rattle.elab_eval.specs.Stores.{Held, Answered, nothing_held}
-use Rattle.elab_eval.specs.Sound.{IsSound}
+use Rattle.elab_store.specs.Stores.{Held, Answered, nothing_held}
+use Rattle.elab_store.specs.Sound.{IsSound}
 use Rattle.elab_eval.specs.Table.{prim}
 use Rattle.elab_eval.specs.Reaches.{Reaches, begins, goes_on, world}
 use Rattle.elab_eval.specs.Elaborates.{Found, Comes, design_of, cause_stop, stop_of, told_at, found_of, IsFound, IsElaborated}

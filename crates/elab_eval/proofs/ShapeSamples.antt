@@ -19,12 +19,12 @@ use Rattle.amh_things.specs.declared.thing.Thing.TheVariants as thing
 use Rattle.amh_things.specs.declared.thing.ThingName.TheVariants as name
 use Rattle.amh_things.specs.declared.thing.Reading.{Reading}
 use Rattle.amh_things.specs.declared.thing.Reading.TheVariants as reading
-use Rattle.elab_eval.specs.declared.kept.HdlName.TheVariants as hdl
-use Rattle.elab_eval.specs.declared.kept.Kept.TheVariants as kept
-use Rattle.elab_eval.specs.declared.kept.BlockName.TheVariants as named
-use Rattle.elab_eval.specs.declared.kept.Begin.TheVariants as begin
-use Rattle.elab_eval.specs.declared.members.NamedMember.{NamedMember}
-use Rattle.elab_eval.specs.Calls.{Called, called}
+use Rattle.elab_store.specs.declared.kept.HdlName.TheVariants as hdl
+use Rattle.elab_store.specs.declared.kept.Kept.TheVariants as kept
+use Rattle.elab_store.specs.declared.kept.BlockName.TheVariants as named
+use Rattle.elab_store.specs.declared.kept.Begin.TheVariants as begin
+use Rattle.elab_store.specs.declared.members.NamedMember.{NamedMember}
+use Rattle.elab_store.specs.Calls.{Called, called}
 use Rattle.elab_eval.specs.Imports.{imported}
 use Rattle.elab_eval.specs.Signals.{signal_called}
 use Rattle.elab_eval.specs.Likes.{like_called}
@@ -33,7 +33,7 @@ use Rattle.elab_eval.specs.Interfaces.{member_given}
 use Rattle.elab_eval.specs.ObjectTops.{held_signal}
 use Rattle.elab_eval.specs.Blocks.{case_patterns, condition_called}
 use Rattle.elab_eval.specs.Table.{name_attribute}
-use Rattle.elab_eval.specs.Stores.{Held, Answered, nothing_held}
+use Rattle.elab_store.specs.Stores.{Held, Answered, nothing_held}
 
 hw : ℕ → Val
 hw n = val.Hw (record { 0 = n })

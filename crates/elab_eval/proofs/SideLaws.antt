@@ -5,13 +5,13 @@ use Rattle.std.specs.List.{AllByRecursion}
 use Rattle.std.proofs.Math.Seq.{drop-cons}
 use Rattle.py_values.specs.declared.val.Val.{Val}
 use Rattle.py_values.specs.Heaps.{Seen}
-use Rattle.elab_eval.specs.declared.kept.Equation.{Equation}
+use Rattle.elab_store.specs.declared.kept.Equation.{Equation}
 use Rattle.design_ir.specs.Pools.{Pooled}
 use Rattle.amh_things.specs.Things.{thing_of, kept_number}
-use Rattle.elab_eval.specs.declared.kept.Kept.{Kept}
-use Rattle.elab_eval.specs.declared.kept.Kept.TheVariants as kept_as
-use Rattle.elab_eval.specs.Sound.{IsKept, IsEquation}
-use Rattle.elab_eval.specs.Stores.{Stored, kept_of}
+use Rattle.elab_store.specs.declared.kept.Kept.{Kept}
+use Rattle.elab_store.specs.declared.kept.Kept.TheVariants as kept_as
+use Rattle.elab_store.specs.Sound.{IsKept, IsEquation}
+use Rattle.elab_store.specs.Stores.{Stored, kept_of}
 use Rattle.elab_eval.specs.Sides.{equation_of, row_of_list, joined_all, one_or, equations_in, collected}
 
 -- ---- one value

@@ -45,42 +45,43 @@ use Rattle.amh_things.specs.Things.{thing_of, held_expr, shown_member, name_call
 use Rattle.amh_things.specs.Operands.{operand_of, thing_operand, held_operand, member_operand, number_operand}
 use Rattle.amh_things.specs.Meant.{operand_meant, expr_meant}
 use Rattle.amh_things.specs.Plans.{grown_by}
-use Rattle.elab_eval.specs.declared.kept.HdlName.{HdlName}
-use Rattle.elab_eval.specs.declared.kept.HdlName.TheVariants as hdl
-use Rattle.elab_eval.specs.declared.kept.Kept.{Kept}
-use Rattle.elab_eval.specs.declared.kept.Kept.TheVariants as kept_as
-use Rattle.elab_eval.specs.declared.kept.DomainName.{DomainName}
-use Rattle.elab_eval.specs.declared.kept.DomainName.TheVariants as domain
-use Rattle.elab_eval.specs.declared.kept.Equation.{Equation}
+use Rattle.elab_store.specs.declared.kept.HdlName.{HdlName}
+use Rattle.elab_store.specs.declared.kept.HdlName.TheVariants as hdl
+use Rattle.elab_store.specs.declared.kept.Kept.{Kept}
+use Rattle.elab_store.specs.declared.kept.Kept.TheVariants as kept_as
+use Rattle.elab_store.specs.declared.kept.DomainName.{DomainName}
+use Rattle.elab_store.specs.declared.kept.DomainName.TheVariants as domain
+use Rattle.elab_store.specs.declared.kept.Equation.{Equation}
 use Rattle.elab_eval.specs.declared.tops.Calling.{Calling}
-use Rattle.elab_eval.specs.declared.shapes.Shaped.{Shaped}
+use Rattle.elab_store.specs.declared.shapes.Shaped.{Shaped}
 use Rattle.elab_eval.specs.declared.signals.SignalArguments.{SignalArguments}
 use Rattle.identifiers.specs.Identifiers.{is_identifier}
 use Rattle.identifiers.proofs.NameLaws.{identifier_is_name}
-use Rattle.elab_eval.specs.Stores.{Stored, Held, Answered, refused, kept_given, kept_of}
-use Rattle.elab_eval.specs.Calls.{Called, called}
+use Rattle.elab_store.specs.Stores.{Stored, Held, Answered, refused, kept_given, kept_of}
+use Rattle.elab_store.specs.Calls.{Called, called}
 use Rattle.elab_eval.specs.Imports.{is_hdl, is_utils, own_named, star_names, hdl_thing, hdl_imported, bound_answer, all_bound, imported, import_answered}
 use Rattle.elab_eval.specs.Signals.{with_module, without_arguments, module_called, formed, call_name, signal_arguments, signal_name, signal_init, signal_reset_less, signal_shape, signal_of, signal_passes, with_signal, signal_given, signal_shaped, signal_said, signal_from}
 use Rattle.elab_eval.specs.Equations.{equation_given, equation_made, equated}
 use Rattle.elab_eval.specs.Sides.{side_of, domain_named, domain_given, index_name, is_domain_of, domain_stored, equations_in, deepest, has_no_place, built_with, store_with_statement, statement_refusal, statement_put, statement_told, statements_behind, statements_told, statements_added}
 use Rattle.elab_eval.specs.Blocks.{block_named, block_name_given, begin_with, condition_given, condition_called, plain_called, with_patterns, case_given, case_patterns, case_in, case_called, case_subject, block_called, block_of, store_told, with_entered, entering_by, entering, passed, entered_at, block_entered, leaving_by, leaving, left_at, block_left}
-use Rattle.elab_eval.specs.declared.kept.BlockName.{BlockName}
-use Rattle.elab_eval.specs.declared.kept.BlockName.TheVariants as named
-use Rattle.elab_eval.specs.declared.kept.Begin.{Begin}
-use Rattle.elab_eval.specs.declared.kept.Begin.TheVariants as begin
+use Rattle.elab_store.specs.declared.kept.BlockName.{BlockName}
+use Rattle.elab_store.specs.declared.kept.BlockName.TheVariants as named
+use Rattle.elab_store.specs.declared.kept.Begin.{Begin}
+use Rattle.elab_store.specs.declared.kept.Begin.TheVariants as begin
 use Rattle.elab_eval.specs.Classes.{is_base, is_keyword, class_made, base_called}
-use Rattle.elab_eval.specs.Tops.{global, object_in, first_object, elaborate_of, module_of, top_taken, body_ended, elaborate_ended}
+use Rattle.elab_eval.specs.Tops.{global, elaborate_of, top_taken, body_ended, elaborate_ended}
+use Rattle.elab_store.specs.Stores.{object_in, first_object, module_of}
 use Rattle.elab_eval.specs.Table.{kept_called, equated_by, called_by, call_answered, attribute_of, attribute_answered, attribute_stored, store_answered, index_of, index_answered, index_stored, index_store_answered, added, operator_answered, kept_entered, kept_left, enter_answered, leave_answered, own_answered, only}
 use Rattle.elab_eval.specs.Table as table
 use Rattle.elab_eval.specs.Libraries.{is_enum, is_data, library_named, wiring_named, thing_name_given}
 use Rattle.elab_eval.specs.Table.{name_attribute}
 use Rattle.elab_eval.specs.Likes.{liked, like_placed, like_arguments, like_init, own_reset_less, liked_shape, liked_signal}
-use Rattle.elab_eval.specs.Sound.{IsEquation, IsBegin, IsKept, IsOpening, IsTold, IsBuilt, IsSound}
-use Rattle.elab_eval.proofs.Pools.{IsGrown, target_stays, there_stays}
+use Rattle.elab_store.specs.Sound.{IsEquation, IsBegin, IsKept, IsOpening, IsTold, IsBuilt, IsSound}
+use Rattle.elab_store.proofs.Pools.{IsGrown, target_stays, there_stays}
 use Rattle.elab_eval.proofs.SideLaws.{equations_stand, kept_stands}
 use Rattle.elab_eval.proofs.GrownLaws.{all_and, sync_name, pool_grown, things_grown, read_held, keeping_sound, built_stays, told_module, module_built, with_top_sound}
-use Rattle.elab_eval.specs.OpenMachines.{in_machine}
-use Rattle.elab_eval.specs.StateMachines.{part_named}
+use Rattle.elab_store.specs.OpenMachines.{in_machine}
+use Rattle.elab_machines.specs.StateMachines.{part_named}
 use Rattle.elab_eval.proofs.MachineSound as machine
 use Rattle.elab_eval.proofs.ComponentSound as component
 

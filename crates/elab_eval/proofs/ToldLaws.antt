@@ -3,9 +3,9 @@ use Rattle.std.proofs.Common.{◌≡◌, ℕ, zero, suc, ◌+◌, ◌<◌, ◌�
 use Rattle.std.specs.Prelude.{slice_get, slice_index_or}
 use Rattle.std.proofs.Math.Seq.{drop-cons}
 use Rattle.py_frames.specs.declared.request.Cause.{Cause}
-use Rattle.elab_eval.specs.declared.kept.DomainName.{DomainName}
-use Rattle.elab_eval.specs.declared.kept.Equation.{Equation}
-use Rattle.elab_eval.specs.Stores.{Stored}
+use Rattle.elab_store.specs.declared.kept.DomainName.{DomainName}
+use Rattle.elab_store.specs.declared.kept.Equation.{Equation}
+use Rattle.elab_store.specs.Stores.{Stored}
 use Rattle.elab_eval.specs.Sides.{statement_told, statements_behind, statements_told}
 
 module _ (m : ℕ) (d : DomainName) (qs : List Equation) (i : ℕ) (q other : Equation) (s : Stored) (below : i < length qs) (is : q ≡ slice_index_or qs i other) where

@@ -13,7 +13,7 @@ use Rattle.py_frames.specs.Doing.{Outcome, Done, Halts}
 use Rattle.py_frames.specs.Frames.{stops_as}
 use Rattle.py_frames.specs.Whole.{ask_program}
 use Rattle.elab_eval.specs.declared.refusal.ElabStop.{ElabStop}
-use Rattle.elab_eval.specs.Stores.{Held, nothing_held}
+use Rattle.elab_store.specs.Stores.{Held, nothing_held}
 use Rattle.elab_eval.specs.Reaches.{Reaches, begins, goes_on, world, answered}
 use Rattle.elab_eval.specs.Elaborates.{Found, Ends, Stops, OneOutcome, design_of, stop_of, told_at}
 

@@ -21,15 +21,15 @@ use Rattle.amh_things.specs.Meant.{expr_meant}
 use Rattle.amh_things.specs.Members.{plain}
 use Rattle.amh_things.specs.Patterns.{patterns_meant}
 use Rattle.amh_things.specs.Plans.{grown_by}
-use Rattle.elab_eval.specs.declared.kept.BlockName.{BlockName}
-use Rattle.elab_eval.specs.declared.kept.BlockName.TheVariants as named
-use Rattle.elab_eval.specs.declared.kept.Begin.{Begin}
-use Rattle.elab_eval.specs.declared.kept.Begin.TheVariants as begin
-use Rattle.elab_eval.specs.declared.kept.Kept.{Kept}
-use Rattle.elab_eval.specs.declared.kept.Kept.TheVariants as kept
-use Rattle.elab_eval.specs.Calls.{Called}
-use Rattle.elab_eval.specs.OpenMachines.{in_machine}
-use Rattle.elab_eval.specs.Stores.{Stored, Held, Answered, refused, given, kept_given}
+use Rattle.elab_store.specs.declared.kept.BlockName.{BlockName}
+use Rattle.elab_store.specs.declared.kept.BlockName.TheVariants as named
+use Rattle.elab_store.specs.declared.kept.Begin.{Begin}
+use Rattle.elab_store.specs.declared.kept.Begin.TheVariants as begin
+use Rattle.elab_store.specs.declared.kept.Kept.{Kept}
+use Rattle.elab_store.specs.declared.kept.Kept.TheVariants as kept
+use Rattle.elab_store.specs.Calls.{Called}
+use Rattle.elab_store.specs.OpenMachines.{in_machine}
+use Rattle.elab_store.specs.Stores.{Stored, Held, Answered, refused, given, kept_given}
 
 -- ---- names
 

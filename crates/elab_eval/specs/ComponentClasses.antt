@@ -5,15 +5,15 @@ use Rattle.py_values.specs.declared.val.Val.{Val}
 use Rattle.py_values.specs.declared.val.Val.TheVariants as val
 use Rattle.py_values.specs.declared.val.ObjId.{ObjId}
 use Rattle.py_frames.specs.declared.request.Cause.TheVariants.{Raised}
-use Rattle.elab_eval.specs.declared.kept.HdlName.TheVariants as hdl
-use Rattle.elab_eval.specs.declared.kept.Kept.{Kept}
-use Rattle.elab_eval.specs.declared.kept.Kept.TheVariants as kept
-use Rattle.elab_eval.specs.declared.members.Member.{Member}
-use Rattle.elab_eval.specs.declared.members.NamedMember.{NamedMember}
-use Rattle.elab_eval.specs.declared.members.ComponentClass.{ComponentClass}
-use Rattle.elab_eval.specs.Components.{class_at, with_class}
-use Rattle.elab_eval.specs.Calls.{behind_first}
-use Rattle.elab_eval.specs.Stores.{Stored, Held, Answered, refused, given, kept_of}
+use Rattle.elab_store.specs.declared.kept.HdlName.TheVariants as hdl
+use Rattle.elab_store.specs.declared.kept.Kept.{Kept}
+use Rattle.elab_store.specs.declared.kept.Kept.TheVariants as kept
+use Rattle.elab_store.specs.declared.members.Member.{Member}
+use Rattle.elab_store.specs.declared.members.NamedMember.{NamedMember}
+use Rattle.elab_store.specs.declared.members.ComponentClass.{ComponentClass}
+use Rattle.elab_store.specs.Components.{class_at, with_class}
+use Rattle.elab_store.specs.Calls.{behind_first}
+use Rattle.elab_store.specs.Stores.{Stored, Held, Answered, refused, given, kept_of}
 use Rattle.elab_eval.specs.Classes.{class_made}
 
 -- ---- bases

@@ -5,8 +5,8 @@ use Rattle.py_values.specs.declared.val.ObjId.{ObjId}
 use Rattle.design_ir.specs.declared.port.Port.{Port}
 use Rattle.clock_domains.specs.declared.top.TopPorts.{TopPorts}
 use Rattle.clock_domains.specs.declared.top.TopPorts.TheVariants.{Members}
-use Rattle.elab_eval.specs.Components.{ports_at}
-use Rattle.elab_eval.specs.Stores.{Stored}
+use Rattle.elab_store.specs.Components.{ports_at}
+use Rattle.elab_store.specs.Stores.{Stored}
 
 -- those that were made for it
 abbrev pub made_ports : Option (List Port) → Option TopPorts

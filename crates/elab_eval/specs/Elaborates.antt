@@ -27,8 +27,8 @@ use Rattle.elab_eval.specs.declared.running.Elaborated.{Elaborated}
 use Rattle.elab_eval.specs.declared.refusal.ElabStop.{ElabStop}
 use Rattle.elab_eval.specs.declared.refusal.ElabStop.TheVariants.{Refused, Spent, NoMemory}
 use Rattle.elab_eval.specs.ObjectTops.{object_ports}
-use Rattle.elab_eval.specs.Stores.{Stored, Held}
-use Rattle.elab_eval.specs.Sound.{is_reset}
+use Rattle.elab_store.specs.Stores.{Stored, Held}
+use Rattle.elab_store.specs.Sound.{is_reset}
 use Rattle.elab_eval.specs.Reaches.{Reaches, world}
 
 -- ---- the ports of the top

@@ -9,8 +9,8 @@ use Rattle.design_ir.specs.declared.expr.Expr.{Expr}
 use Rattle.design_ir.specs.Targets.{is_target}
 use Rattle.amh_things.specs.Meant.{expr_meant}
 use Rattle.amh_things.specs.Plans.{grown_by}
-use Rattle.elab_eval.specs.declared.kept.Kept.TheVariants as kept
-use Rattle.elab_eval.specs.Stores.{Held, Answered, refused, kept_given}
+use Rattle.elab_store.specs.declared.kept.Kept.TheVariants as kept
+use Rattle.elab_store.specs.Stores.{Held, Answered, refused, kept_given}
 
 -- with the constant that the value is, where it is a number
 abbrev pub equation_given : ExprId → Place → Held → Result (ExprId × List Expr) Cause → Answered

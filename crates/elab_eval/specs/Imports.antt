@@ -10,11 +10,11 @@ use Rattle.py_frames.specs.declared.request.NamedVal.{NamedVal}
 use Rattle.amh_things.specs.declared.thing.Thing.TheVariants as thing
 use Rattle.amh_things.specs.declared.thing.ThingName.{ThingName}
 use Rattle.amh_things.specs.Things.{name_called, base_called, layout_named}
-use Rattle.elab_eval.specs.declared.kept.HdlName.{HdlName}
-use Rattle.elab_eval.specs.declared.kept.HdlName.TheVariants as hdl
-use Rattle.elab_eval.specs.declared.kept.Kept.TheVariants as kept
+use Rattle.elab_store.specs.declared.kept.HdlName.{HdlName}
+use Rattle.elab_store.specs.declared.kept.HdlName.TheVariants as hdl
+use Rattle.elab_store.specs.declared.kept.Kept.TheVariants as kept
 use Rattle.elab_eval.specs.Libraries.{is_enum, is_data, library_named, library_given, thing_name_given}
-use Rattle.elab_eval.specs.Stores.{Held, Answered, refused, given, thing_given, kept_given}
+use Rattle.elab_store.specs.Stores.{Held, Answered, refused, given, thing_given, kept_given}
 
 -- ---- `amaranth` and `amaranth.hdl`
 

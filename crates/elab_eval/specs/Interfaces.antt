@@ -14,16 +14,16 @@ use Rattle.py_frames.specs.declared.request.Answer.TheVariants as answer
 use Rattle.py_frames.specs.declared.request.Cause.TheVariants.{Raised}
 use Rattle.design_ir.specs.declared.signal.Sig.{Sig}
 use Rattle.design_ir.specs.declared.port.Port.{Port}
-use Rattle.elab_eval.specs.declared.kept.Kept.{Kept}
-use Rattle.elab_eval.specs.declared.kept.Kept.TheVariants as kept
-use Rattle.elab_eval.specs.declared.members.NamedMember.{NamedMember}
-use Rattle.elab_eval.specs.declared.members.Member.{Member}
+use Rattle.elab_store.specs.declared.kept.Kept.{Kept}
+use Rattle.elab_store.specs.declared.kept.Kept.TheVariants as kept
+use Rattle.elab_store.specs.declared.members.NamedMember.{NamedMember}
+use Rattle.elab_store.specs.declared.members.Member.{Member}
 use Rattle.elab_eval.specs.declared.interfaces.Interface.{Interface}
-use Rattle.elab_eval.specs.Calls.{first_or, behind_first}
-use Rattle.elab_eval.specs.Components.{class_at, class_members, with_interface}
+use Rattle.elab_store.specs.Calls.{first_or, behind_first}
+use Rattle.elab_store.specs.Components.{class_at, class_members, with_interface}
 use Rattle.elab_eval.specs.ComponentClasses.{member_of, member_before}
 use Rattle.elab_eval.specs.Signals.{signal_of, signal_given}
-use Rattle.elab_eval.specs.Stores.{Stored, Held, Answered, refused, next_thing, kept_of, store_keeping}
+use Rattle.elab_store.specs.Stores.{Stored, Held, Answered, refused, next_thing, kept_of, store_keeping}
 use Rattle.elab_eval.specs.Classes.{base_called}
 
 -- ---- which members

@@ -5,10 +5,10 @@ use Rattle.lists.specs.Texts.{text_eq}
 use Rattle.py_frames.specs.declared.request.Cause.TheVariants.{Raised}
 use Rattle.amh_things.specs.declared.thing.Thing.TheVariants as thing
 use Rattle.amh_things.specs.declared.thing.ThingName.{ThingName}
-use Rattle.elab_eval.specs.declared.kept.HdlName.{HdlName}
-use Rattle.elab_eval.specs.declared.kept.HdlName.TheVariants as hdl
-use Rattle.elab_eval.specs.declared.kept.Kept.TheVariants as kept
-use Rattle.elab_eval.specs.Stores.{Held, Answered, refused, thing_given, kept_given}
+use Rattle.elab_store.specs.declared.kept.HdlName.{HdlName}
+use Rattle.elab_store.specs.declared.kept.HdlName.TheVariants as hdl
+use Rattle.elab_store.specs.declared.kept.Kept.TheVariants as kept
+use Rattle.elab_store.specs.Stores.{Held, Answered, refused, thing_given, kept_given}
 
 -- `amaranth.lib.wiring`
 abbrev pub wiring_named : List ℕ → Option HdlName

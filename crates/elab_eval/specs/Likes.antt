@@ -22,13 +22,13 @@ use Rattle.amh_things.specs.declared.thing.Reading.TheVariants as reading
 use Rattle.amh_things.specs.Things.{thing_of, held_expr}
 use Rattle.amh_things.specs.Members.{counted}
 use Rattle.amh_things.specs.Meant.{form_meant}
-use Rattle.elab_eval.specs.declared.kept.HdlName.TheVariants as hdl
-use Rattle.elab_eval.specs.declared.kept.Kept.TheVariants as kept
-use Rattle.elab_eval.specs.declared.shapes.Shaped.{Shaped}
+use Rattle.elab_store.specs.declared.kept.HdlName.TheVariants as hdl
+use Rattle.elab_store.specs.declared.kept.Kept.TheVariants as kept
+use Rattle.elab_store.specs.declared.shapes.Shaped.{Shaped}
 use Rattle.elab_eval.specs.declared.signals.SignalArguments.{SignalArguments}
-use Rattle.elab_eval.specs.Calls.{Called}
+use Rattle.elab_store.specs.Calls.{Called}
 use Rattle.elab_eval.specs.Signals.{no_arguments, with_keywords, signal_name, signal_said}
-use Rattle.elab_eval.specs.Stores.{Held, Answered, refused, kept_given}
+use Rattle.elab_store.specs.Stores.{Held, Answered, refused, kept_given}
 
 -- ---- the attribute of the name `Signal`
 

@@ -9,11 +9,11 @@ use Rattle.py_frames.specs.declared.request.Cause.{Cause}
 use Rattle.py_frames.specs.declared.request.Cause.TheVariants.{Raised}
 use Rattle.amh_things.specs.declared.thing.Thing.{Thing}
 use Rattle.amh_things.specs.Members.{counted}
-use Rattle.elab_eval.specs.declared.shapes.Shaped.{Shaped}
-use Rattle.elab_eval.specs.declared.kept.Kept.TheVariants as kept
-use Rattle.elab_eval.specs.Calls.{Called}
-use Rattle.elab_eval.specs.Shapes.{shaped_meant}
-use Rattle.elab_eval.specs.Stores.{Held, Answered, refused, kept_given}
+use Rattle.elab_store.specs.declared.shapes.Shaped.{Shaped}
+use Rattle.elab_store.specs.declared.kept.Kept.TheVariants as kept
+use Rattle.elab_store.specs.Calls.{Called}
+use Rattle.elab_store.specs.Shapes.{shaped_meant}
+use Rattle.elab_store.specs.Stores.{Held, Answered, refused, kept_given}
 
 -- a number, or a member of an enumeration as its number; and 0 for None
 abbrev pub init_given : List Thing → Val → Option ℤ

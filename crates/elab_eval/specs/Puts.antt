@@ -5,7 +5,7 @@ use Rattle.amh_things.specs.declared.thing.Reading.{Reading}
 use Rattle.amh_things.specs.Things.{read_as}
 use Rattle.elab_eval.specs.declared.interfaces.NewSignal.{NewSignal}
 use Rattle.elab_eval.specs.Signals.{signal_passes, with_signal}
-use Rattle.elab_eval.specs.Stores.{Held, next_thing, with_thing}
+use Rattle.elab_store.specs.Stores.{Held, next_thing, with_thing}
 
 -- nothing where a count would be passed, and else the signal, the expression that it is and the thing that stands for it by this reading
 abbrev pub IsPut : Option NewSignal → Reading → Sig → Held → Held → Type 0

@@ -9,7 +9,7 @@ use Rattle.py_frames.specs.declared.state.State.{State}
 use Rattle.py_frames.specs.declared.state.Halt.TheVariants as halt
 use Rattle.py_frames.specs.Doing.{World, Halts}
 use Rattle.py_frames.specs.Whole.{ask_program}
-use Rattle.elab_eval.specs.Stores.{Held, Answered, nothing_held}
+use Rattle.elab_store.specs.Stores.{Held, Answered, nothing_held}
 use Rattle.elab_eval.specs.Table.{prim}
 
 -- a program is given so many units and these answers

@@ -12,8 +12,8 @@ use Rattle.elab_eval.specs.declared.refusal.ElabStop.{ElabStop}
 use Rattle.elab_eval.specs.declared.refusal.ElabStop.TheVariants as stop
 use Rattle.elab_eval.specs.declared.running.Step.{Step}
 use Rattle.elab_eval.specs.declared.running.Step.TheVariants.{Next, Ended}
-use Rattle.elab_eval.specs.Stores.{Held}
-use Rattle.elab_eval.specs.Sound.{IsSound}
+use Rattle.elab_store.specs.Stores.{Held}
+use Rattle.elab_store.specs.Sound.{IsSound}
 use Rattle.elab_eval.specs.Reaches.{Reaches, world}
 use Rattle.elab_eval.specs.Elaborates.{Comes}
 

@@ -12,17 +12,17 @@ use Rattle.design_ir.specs.declared.process.Side.{Side}
 use Rattle.design_ir.specs.declared.process.Side.TheVariants.{Comb, Clocked}
 use Rattle.module_dsl.specs.Blocks.{in_switch}
 use Rattle.module_dsl.specs.Builders.{Built, built_blocks, and_given}
-use Rattle.elab_eval.specs.declared.kept.DomainName.{DomainName}
-use Rattle.elab_eval.specs.declared.kept.DomainName.TheVariants as domain
-use Rattle.elab_eval.specs.declared.kept.Equation.{Equation}
-use Rattle.elab_eval.specs.declared.kept.Kept.{Kept}
-use Rattle.elab_eval.specs.declared.kept.Kept.TheVariants as kept
+use Rattle.elab_store.specs.declared.kept.DomainName.{DomainName}
+use Rattle.elab_store.specs.declared.kept.DomainName.TheVariants as domain
+use Rattle.elab_store.specs.declared.kept.Equation.{Equation}
+use Rattle.elab_store.specs.declared.kept.Kept.{Kept}
+use Rattle.elab_store.specs.declared.kept.Kept.TheVariants as kept
 use Rattle.elab_eval.specs.Blocks.{block_named, block_name_given}
-use Rattle.elab_eval.specs.declared.kept.MachinePart.{MachinePart}
-use Rattle.elab_eval.specs.OpenMachines.{in_machine}
-use Rattle.elab_eval.specs.StateMachines.{part_named}
-use Rattle.elab_eval.specs.Counts.{statement_count}
-use Rattle.elab_eval.specs.Stores.{Stored, Held, Answered, refused, given, kept_given, kept_of}
+use Rattle.elab_store.specs.declared.kept.MachinePart.{MachinePart}
+use Rattle.elab_store.specs.OpenMachines.{in_machine}
+use Rattle.elab_machines.specs.StateMachines.{part_named}
+use Rattle.elab_store.specs.Counts.{statement_count}
+use Rattle.elab_store.specs.Stores.{Stored, Held, Answered, refused, given, kept_given, kept_of}
 
 -- ---- the domains of a module
 

@@ -18,18 +18,14 @@ use Rattle.amh_things.specs.declared.thing.Reading.{Reading}
 use Rattle.amh_things.specs.declared.thing.Reading.TheVariants as reading
 use Rattle.amh_things.specs.Things.{read_as}
 use Rattle.amh_things.specs.Members.{counted}
-use Rattle.elab_eval.specs.declared.shapes.Shaped.{Shaped}
+use Rattle.elab_store.specs.declared.shapes.Shaped.{Shaped}
 use Rattle.elab_eval.specs.declared.signals.SignalArguments.{SignalArguments}
-use Rattle.elab_eval.specs.declared.kept.Kept.TheVariants as kept
-use Rattle.elab_eval.specs.Calls.{Called}
-use Rattle.elab_eval.specs.Shapes.{shaped_meant}
-use Rattle.elab_eval.specs.Stores.{Stored, Held, Answered, refused, thing_given, kept_given}
+use Rattle.elab_store.specs.declared.kept.Kept.TheVariants as kept
+use Rattle.elab_store.specs.Calls.{Called}
+use Rattle.elab_store.specs.Shapes.{shaped_meant}
+use Rattle.elab_store.specs.Stores.{Stored, store_and_module, Held, Answered, refused, thing_given, kept_given}
 
 -- ---- a module
-
--- a module has no name of its own: nobody names the top
-abbrev pub store_and_module : Stored → Stored
-store_and_module s = record s { modules = s.modules ++ record { name = []; steps = [] } ∷ [] }
 
 abbrev pub with_module : Held → Held
 with_module h = record h { store = store_and_module h.store }

@@ -14,10 +14,10 @@ use Rattle.py_values.specs.Heaps.{Seen, row_at, func_at}
 use Rattle.py_values.specs.Objects.{attributes, attribute_in, inherited, first_in}
 use Rattle.py_frames.specs.declared.request.Answer.TheVariants as answer
 use Rattle.py_frames.specs.declared.request.Cause.TheVariants.{Raised}
-use Rattle.elab_eval.specs.declared.kept.Kept.{Kept}
-use Rattle.elab_eval.specs.declared.kept.Kept.TheVariants as kept
+use Rattle.elab_store.specs.declared.kept.Kept.{Kept}
+use Rattle.elab_store.specs.declared.kept.Kept.TheVariants as kept
 use Rattle.elab_eval.specs.declared.tops.Calling.{Calling}
-use Rattle.elab_eval.specs.Stores.{Stored, Held, Answered, refused, given, kept_of}
+use Rattle.elab_store.specs.Stores.{Stored, with_root, with_object, module_of, Held, Answered, refused, given, kept_of}
 
 -- ---- `elaborate` of an object: what is called, and whether with the object first
 
@@ -62,34 +62,15 @@ global name vs ns = None
 
 -- ---- what comes of it
 
-abbrev pub with_root : ℕ → Stored → Stored
-with_root m s = record s { top = record s.top { root = Some m } }
-
-abbrev pub object_in : Val → Option ObjId
-object_in (val.Object o) = Some o
-object_in v = None
-
 -- each gets None for the platform
 abbrev pub call_args : Option ObjId → List Val
 call_args None = val.None ∷ []
 call_args (Some o) = val.Object o ∷ val.None ∷ []
 
--- the object that was first asked stays the top
-abbrev pub first_object : Option ObjId → Option ObjId → Option ObjId
-first_object (Some o) p = Some o
-first_object None p = p
-
-abbrev pub with_object : Val → Stored → Stored
-with_object v s = record s { top = record { object = first_object s.top.object (object_in v); root = None } }
-
 -- a module is the end of it, and else `elaborate` is called; what is neither raises where the request stands
 abbrev pub top_called : Val → Option Calling → Held → Answered
 top_called v (Some c) h = record { answer = answer.Call c.callee (call_args c.first); held = record h { store = with_object v h.store } }
 top_called v None h = refused Raised h
-
-abbrev pub module_of : Option Kept → Option ℕ
-module_of (Some (kept.Module m)) = Some m
-module_of k = None
 
 abbrev pub top_taken : Val → Option ℕ → Option Calling → Held → Answered
 top_taken v (Some m) c h = given val.None (record h { store = with_root m h.store })

@@ -2,10 +2,10 @@
 ghost use Rattle.std.specs.Prelude.{◌≡◌, map, string_bytes};
 ghost use Rattle.std.specs.List.{list_any};
 ghost use Rattle.elab_eval.specs.Classes.{is_base, is_keyword, class_made, base_called};
-ghost use Rattle.elab_eval.specs.Held.{held_of, Gives};
+ghost use Rattle.elab_store.specs.Held.{held_of, Gives};
 
-use crate::kept::{HdlName, Kept};
-use crate::store::Elaboration;
+use elab_store::kept::{HdlName, Kept};
+use elab_store::store::Elaboration;
 use lists::NoMemory;
 use py_frames::request::{Answer, Cause, NamedVals, Request};
 use py_values::Val;
@@ -47,32 +47,36 @@ fn has_keyword(names: &[String]) -> bool
     false
 }
 
-impl Elaboration {
-    /// The end of a class.
-    pub(crate) fn make_class(&mut self, request: &Request) -> Result<Answer, NoMemory>
-        ensures { Gives result self.new (class_made request.now.vals request.now.names (held_of self.old)) }
-    {
-        match request.vals.as_slice() {
-            [class, base, ..] => {
-                if is_base(self.store.kept_of(*base), *base)
-                    && !has_keyword(request.names.items())
-                {
-                    self.give(*class)
-                } else {
-                    self.refuse(Cause::Raised)
-                }
+/// The end of a class.
+pub(crate) fn make_class(
+    elaboration: &mut Elaboration,
+    request: &Request,
+) -> Result<Answer, NoMemory>
+    ensures { Gives result elaboration.new (class_made request.now.vals request.now.names (held_of elaboration.old)) }
+{
+    match request.vals.as_slice() {
+        [class, base, ..] => {
+            if is_base(elaboration.store.kept_of(*base), *base)
+                && !has_keyword(request.names.items())
+            {
+                elaboration.give(*class)
+            } else {
+                elaboration.refuse(Cause::Raised)
             }
-            _ => self.refuse(Cause::Raised),
         }
+        _ => elaboration.refuse(Cause::Raised),
     }
+}
 
-    /// An object of such a class is made, or `super().__init__` is called.
-    pub(crate) fn init_base(&mut self, request: &Request) -> Result<Answer, NoMemory>
-        ensures { Gives result self.new (base_called request.now.vals request.now.names (held_of self.old)) }
-    {
-        match (request.vals.as_slice(), request.names.items()) {
-            ([_], []) => Ok(Answer::Bind(NamedVals::new(self.alloc))),
-            _ => self.refuse(Cause::Raised),
-        }
+/// An object of such a class is made, or `super().__init__` is called.
+pub(crate) fn init_base(
+    elaboration: &mut Elaboration,
+    request: &Request,
+) -> Result<Answer, NoMemory>
+    ensures { Gives result elaboration.new (base_called request.now.vals request.now.names (held_of elaboration.old)) }
+{
+    match (request.vals.as_slice(), request.names.items()) {
+        ([_], []) => Ok(Answer::Bind(NamedVals::new(elaboration.alloc))),
+        _ => elaboration.refuse(Cause::Raised),
     }
 }

@@ -1,14 +1,14 @@
 // Classes over `Component` that are made.
 ghost use Rattle.std.specs.Prelude.{◌≡◌, [], map, string_bytes, IfOk, OnOk, Option, List, Some, None, true};
-ghost use Rattle.elab_eval.specs.declared.members.NamedMember.{NamedMember as Named};
+ghost use Rattle.elab_store.specs.declared.members.NamedMember.{NamedMember as Named};
 ghost use Rattle.elab_eval.specs.ComponentClasses.{base_as, component_base, member_of, value_before, behind_members, annotated, component_made, class_answered, store_with_class};
-ghost use Rattle.elab_eval.specs.Held.{held_of, Gives};
+ghost use Rattle.elab_store.specs.Held.{held_of, Gives};
 
-use crate::calls::names_behind;
-use crate::classes::is_keyword;
-use crate::kept::{HdlName, Kept};
-use crate::members::{ComponentClass, Member, Members, NamedMember};
-use crate::store::{Elaboration, Store};
+use crate::classes::{is_keyword, make_class};
+use elab_store::calls::names_behind;
+use elab_store::kept::{HdlName, Kept};
+use elab_store::members::{ComponentClass, Member, Members, NamedMember};
+use elab_store::store::{Elaboration, Store};
 use lists::NoMemory;
 use py_frames::request::{Answer, Cause, Request};
 use py_values::{ObjId, Val};
@@ -43,94 +43,96 @@ fn push_value(
     Ok(!is_keyword(name))
 }
 
-impl Store {
-    // `Component` itself, or a class over it.
-    fn base_as(&self, kept: Option<Kept>, v: Val) -> Option<Option<ObjId>>
-        ensures { result ≡ base_as self.now kept v }
-    {
-        match kept {
-            Some(Kept::Name(HdlName::Component)) => Some(None),
-            None => self.class_base(v),
-            _ => None,
-        }
-    }
-
-    // A class over `Component`.
-    fn class_base(&self, v: Val) -> Option<Option<ObjId>>
-        ensures { result ≡ base_as self.now None v }
-    {
-        match v {
-            Val::Class(c) => match self.components.class(c.0) {
-                Some(_) => Some(Some(c)),
-                None => None,
-            },
-            _ => None,
-        }
-    }
-
-    // The members by the annotations of a class.
-    fn annotated(
-        &self,
-        alloc: Global,
-        vals: &[Val],
-        names: &[String],
-    ) -> Result<Option<Members>, NoMemory>
-        ensures { IfOk result (λ ms. ms ≡ annotated self.now vals.now (map string_bytes names.now)) }
-    {
-        let mut members = Members::new(alloc);
-        for i in 0..names.len() {
-            if i >= vals.len() {
-                return Ok(None);
-            }
-            let member = member_of(self.kept_of(vals[i]));
-            if !push_value(alloc, names[i].as_str(), member, &mut members)? {
-                return Ok(None);
-            }
-        }
-        Ok(Some(members))
-    }
-
-    // Keeps a class over `Component`.
-    fn keep_class(&mut self, number: ObjId, class: ComponentClass) -> Result<(), NoMemory>
-        ensures { OnOk result (self.new ≡ store_with_class number class self.old) }
-    {
-        self.components.keep_class(number.0, class)
+// `Component` itself, or a class over it.
+fn base_as(store: &Store, kept: Option<Kept>, v: Val) -> Option<Option<ObjId>>
+    ensures { result ≡ base_as store.now kept v }
+{
+    match kept {
+        Some(Kept::Name(HdlName::Component)) => Some(None),
+        None => class_base(store, v),
+        _ => None,
     }
 }
 
-impl Elaboration {
-    // A class over `Component` with these members.
-    fn make_component(
-        &mut self,
-        class: Val,
-        base: Option<ObjId>,
-        members: Option<Members>,
-    ) -> Result<Answer, NoMemory>
-        ensures { Gives result self.new (component_made class base members (held_of self.old)) }
-    {
-        match (class, members) {
-            (Val::Class(number), Some(members)) => {
-                self.store
-                    .keep_class(number, ComponentClass { base, members })?;
-                self.give(class)
-            }
-            _ => self.refuse(Cause::Raised),
+// A class over `Component`.
+fn class_base(store: &Store, v: Val) -> Option<Option<ObjId>>
+    ensures { result ≡ base_as store.now None v }
+{
+    match v {
+        Val::Class(c) => match store.components.class(c.0) {
+            Some(_) => Some(Some(c)),
+            None => None,
+        },
+        _ => None,
+    }
+}
+
+// The members by the annotations of a class.
+fn annotated(
+    store: &Store,
+    alloc: Global,
+    vals: &[Val],
+    names: &[String],
+) -> Result<Option<Members>, NoMemory>
+    ensures { IfOk result (λ ms. ms ≡ annotated store.now vals.now (map string_bytes names.now)) }
+{
+    let mut members = Members::new(alloc);
+    for i in 0..names.len() {
+        if i >= vals.len() {
+            return Ok(None);
+        }
+        let member = member_of(store.kept_of(vals[i]));
+        if !push_value(alloc, names[i].as_str(), member, &mut members)? {
+            return Ok(None);
         }
     }
+    Ok(Some(members))
+}
 
-    /// The end of a class.
-    pub(crate) fn answer_class(&mut self, request: &Request) -> Result<Answer, NoMemory>
-        ensures { Gives result self.new (class_answered request.now.vals request.now.names (held_of self.old)) }
-    {
-        let [class, base, vals @ ..] = request.vals.as_slice() else {
-            return self.make_class(request);
-        };
-        let kept = self.store.kept_of(*base);
-        let Some(over) = self.store.base_as(kept, *base) else {
-            return self.make_class(request);
-        };
-        let names = names_behind(request.names.items());
-        let members = self.store.annotated(self.alloc, vals, names)?;
-        self.make_component(*class, over, members)
+// Keeps a class over `Component`.
+fn keep_class(store: &mut Store, number: ObjId, class: ComponentClass) -> Result<(), NoMemory>
+    ensures { OnOk result (store.new ≡ store_with_class number class store.old) }
+{
+    store.components.keep_class(number.0, class)
+}
+
+// A class over `Component` with these members.
+fn make_component(
+    elaboration: &mut Elaboration,
+    class: Val,
+    base: Option<ObjId>,
+    members: Option<Members>,
+) -> Result<Answer, NoMemory>
+    ensures { Gives result elaboration.new (component_made class base members (held_of elaboration.old)) }
+{
+    match (class, members) {
+        (Val::Class(number), Some(members)) => {
+            keep_class(
+                &mut elaboration.store,
+                number,
+                ComponentClass { base, members },
+            )?;
+            elaboration.give(class)
+        }
+        _ => elaboration.refuse(Cause::Raised),
     }
+}
+
+/// The end of a class.
+pub(crate) fn answer_class(
+    elaboration: &mut Elaboration,
+    request: &Request,
+) -> Result<Answer, NoMemory>
+    ensures { Gives result elaboration.new (class_answered request.now.vals request.now.names (held_of elaboration.old)) }
+{
+    let [class, base, vals @ ..] = request.vals.as_slice() else {
+        return make_class(elaboration, request);
+    };
+    let kept = elaboration.store.kept_of(*base);
+    let Some(over) = base_as(&elaboration.store, kept, *base) else {
+        return make_class(elaboration, request);
+    };
+    let names = names_behind(request.names.items());
+    let members = annotated(&elaboration.store, elaboration.alloc, vals, names)?;
+    make_component(elaboration, *class, over, members)
 }

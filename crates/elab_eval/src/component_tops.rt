@@ -3,9 +3,9 @@ ghost use Rattle.std.specs.Prelude.{◌≡◌, IfOk};
 ghost use Rattle.elab_eval.specs.ComponentTops.{component_ports};
 
 use crate::interfaces::copied_text;
-use crate::store::Store;
 use clock_domains::TopPorts;
 use design_ir::{Port, Ports};
+use elab_store::store::Store;
 use lists::NoMemory;
 use py_values::ObjId;
 use std::alloc::Global;
@@ -30,18 +30,16 @@ fn copied_ports(alloc: Global, ports: &[Port]) -> Result<Ports, NoMemory>
     Ok(all)
 }
 
-impl Store {
-    /// The ports of a component that is the top: those that were made for it.
-    pub(crate) fn component_ports(
-        &self,
-        alloc: Global,
-        object: ObjId,
-    ) -> Result<Option<TopPorts>, NoMemory>
-        ensures { IfOk result (λ ports. ports ≡ component_ports self.now object) }
-    {
-        match self.components.ports(object.0) {
-            Some(ports) => Ok(Some(TopPorts::Members(copied_ports(alloc, ports.as_slice())?))),
-            None => Ok(None),
-        }
+/// The ports of a component that is the top: those that were made for it.
+pub(crate) fn component_ports(
+    store: &Store,
+    alloc: Global,
+    object: ObjId,
+) -> Result<Option<TopPorts>, NoMemory>
+    ensures { IfOk result (λ ports. ports ≡ component_ports store.now object) }
+{
+    match store.components.ports(object.0) {
+        Some(ports) => Ok(Some(TopPorts::Members(copied_ports(alloc, ports.as_slice())?))),
+        None => Ok(None),
     }
 }

@@ -6,15 +6,16 @@ ghost use Rattle.amh_host.specs.declared.place.Kind.TheVariants.{Raised};
 ghost use Rattle.clock_domains.specs.Resolved.{file_start};
 ghost use Rattle.elab_eval.specs.declared.refusal.ElabStop.TheVariants.{Refused};
 ghost use Rattle.elab_eval.specs.Elaborates.{IsFound, design_of, module_in, root_module, without_modules, unresolved_stop};
-ghost use Rattle.elab_eval.specs.Sound.{IsSound, is_reset};
-ghost use Rattle.elab_eval.specs.Held.{held_of};
+ghost use Rattle.elab_store.specs.Sound.{IsSound, is_reset};
+ghost use Rattle.elab_store.specs.Held.{held_of};
 
+use crate::object_tops::top_ports;
 use crate::refusal::ElabStop;
 use crate::running::Elaborated;
-use crate::store::{Elaboration, Store};
 use amh_host::{Kind, Place};
 use clock_domains::{ResolveStop, resolve};
 use design_ir::{Expr, ExprId, Exprs, Pool};
+use elab_store::store::{Elaboration, Store};
 use module_dsl::{BuildStop, Builder, one_process_each};
 use py_machine::Machine;
 use py_values::Frozen;
@@ -73,75 +74,75 @@ fn raised() -> ElabStop
     ElabStop::Refused(Kind::Raised, Place { line: 1, col: 1 })
 }
 
-impl Store {
-    // The module that is the top, and the store without modules.
-    fn part(self, alloc: Global) -> (Option<Builder>, Store)
-        ensures root { result.0 ≡ root_module self }
-        ensures rest { result.1 ≡ without_modules self }
-    {
-        let Store {
-            things,
-            kept,
-            modules,
-            patterns,
-            statements: _,
-            top,
-            components,
-            machines,
-            told,
-        } = self;
-        let root = module_in(modules, top.root);
-        let rest = Store {
-            things,
-            kept,
-            modules: Vec::new(alloc),
-            patterns,
-            statements: 0,
-            top,
-            components,
-            machines,
-            told,
-        };
-        (root, rest)
-    }
+// The module that is the top, and the store without modules.
+fn part(store: Store, alloc: Global) -> (Option<Builder>, Store)
+    ensures root { result.0 ≡ root_module store }
+    ensures rest { result.1 ≡ without_modules store }
+{
+    let Store {
+        things,
+        kept,
+        modules,
+        patterns,
+        statements: _,
+        top,
+        components,
+        machines,
+        told,
+    } = store;
+    let root = module_in(modules, top.root);
+    let rest = Store {
+        things,
+        kept,
+        modules: Vec::new(alloc),
+        patterns,
+        statements: 0,
+        top,
+        components,
+        machines,
+        told,
+    };
+    (root, rest)
 }
 
-impl Elaboration {
-    /// What is held at the end of a program, as a design.
-    pub(crate) fn finish(self, machine: Machine, frozen: &Frozen) -> Result<Elaborated, ElabStop>
-        requires sound { IsSound (held_of self) }
-        requires frozen { frozen.now ≡ nothing }
-        ensures { IsFound result (design_of (held_of self) machine.going.state.heap) }
-    {
-        if has_reset(&self.pool) {
-            return Err(raised());
-        }
-        let Ok(ports) = self.top_ports(&machine.going.state.heap, frozen) else {
-            return Err(ElabStop::NoMemory);
-        };
-        let Elaboration { alloc, pool, store } = self;
-        pool.known();
-        let (root, store) = store.part(alloc);
-        let Some(root) = root else {
-            return Err(raised());
-        };
-        let fragment = match root.finish() {
-            Ok(fragment) => fragment,
-            // a block is open
-            Err(BuildStop::Order) => return Err(raised()),
-            Err(_) => return Err(ElabStop::NoMemory),
-        };
-        let Some(ports) = ports else {
-            return Err(raised());
-        };
-        one_process_each();
-        match resolve(alloc, pool, fragment, ports) {
-            Ok(design) => Ok(Elaborated {
-                design,
-                store,
-                frozen: machine.freeze(),
-            }),
-            Err(stop) => Err(unresolved_stop(stop)),
-        }
+/// What is held at the end of a program, as a design.
+pub(crate) fn finish(
+    elaboration: Elaboration,
+    machine: Machine,
+    frozen: &Frozen,
+) -> Result<Elaborated, ElabStop>
+    requires sound { IsSound (held_of elaboration) }
+    requires frozen { frozen.now ≡ nothing }
+    ensures { IsFound result (design_of (held_of elaboration) machine.going.state.heap) }
+{
+    if has_reset(&elaboration.pool) {
+        return Err(raised());
+    }
+    let Ok(ports) = top_ports(&elaboration, &machine.going.state.heap, frozen) else {
+        return Err(ElabStop::NoMemory);
+    };
+    let Elaboration { alloc, pool, store } = elaboration;
+    pool.known();
+    let (root, store) = part(store, alloc);
+    let Some(root) = root else {
+        return Err(raised());
+    };
+    let fragment = match root.finish() {
+        Ok(fragment) => fragment,
+        // a block is open
+        Err(BuildStop::Order) => return Err(raised()),
+        Err(_) => return Err(ElabStop::NoMemory),
+    };
+    let Some(ports) = ports else {
+        return Err(raised());
+    };
+    one_process_each();
+    match resolve(alloc, pool, fragment, ports) {
+        Ok(design) => Ok(Elaborated {
+            design,
+            store,
+            frozen: machine.freeze(),
+        }),
+        Err(stop) => Err(unresolved_stop(stop)),
     }
 }

@@ -3,13 +3,13 @@ ghost use Rattle.std.specs.Prelude.{◌≡◌, ◌<◌, length, slice_get, is_so
 ghost use Rattle.lists.specs.Texts.{text_eq};
 ghost use Rattle.amh_things.specs.Things.{name_called};
 ghost use Rattle.elab_eval.specs.Imports.{is_hdl, is_utils, own_named, star_names, hdl_imported, all_bound, utility_imported, imported, import_answered};
-ghost use Rattle.elab_eval.specs.Held.{held_of, Gives};
+ghost use Rattle.elab_store.specs.Held.{held_of, Gives};
 
-use crate::kept::{HdlName, Kept};
-use crate::libraries::{is_data, is_enum, library_named};
-use crate::names::is_text;
-use crate::store::Elaboration;
+use crate::libraries::{give_base, give_layout, give_library, is_data, is_enum, library_named};
 use amh_host::Text;
+use elab_store::kept::{HdlName, Kept};
+use elab_store::names::is_text;
+use elab_store::store::Elaboration;
 use lists::NoMemory;
 use py_frames::request::{Answer, Cause, NamedVal, NamedVals, Request};
 use py_values::{FuncId, Val};
@@ -92,76 +92,74 @@ pub(crate) fn named_val(alloc: Global, name: &str, val: Val) -> Result<NamedVal,
     Ok(NamedVal { name: copy, val })
 }
 
-impl Elaboration {
-    /// An imported name, or all names of a module.
-    pub(crate) fn import(&mut self, request: &Request) -> Result<Answer, NoMemory>
-        ensures { Gives result self.new (import_answered request.now.names (held_of self.old)) }
-    {
-        match request.names.items() {
-            [path, name] => self.import_from(path.as_str(), name.as_str()),
-            _ => self.refuse(Cause::Raised),
-        }
+/// An imported name, or all names of a module.
+pub(crate) fn import(elaboration: &mut Elaboration, request: &Request) -> Result<Answer, NoMemory>
+    ensures { Gives result elaboration.new (import_answered request.now.names (held_of elaboration.old)) }
+{
+    match request.names.items() {
+        [path, name] => import_from(elaboration, path.as_str(), name.as_str()),
+        _ => elaboration.refuse(Cause::Raised),
     }
+}
 
-    fn import_from(&mut self, path: &str, name: &str) -> Result<Answer, NoMemory>
-        ensures { Gives result self.new (imported path.now name.now (held_of self.old)) }
-    {
-        if is_hdl(path) {
-            if is_text(name, "*") {
-                self.import_all()
-            } else {
-                self.import_hdl(name)
-            }
-        } else if is_utils(path) {
-            self.import_utility(name)
-        } else if is_enum(path) {
-            self.give_base(name)
-        } else if is_data(path) {
-            self.give_layout(name)
+fn import_from(elaboration: &mut Elaboration, path: &str, name: &str) -> Result<Answer, NoMemory>
+    ensures { Gives result elaboration.new (imported path.now name.now (held_of elaboration.old)) }
+{
+    if is_hdl(path) {
+        if is_text(name, "*") {
+            import_all(elaboration)
         } else {
-            self.give_library(library_named(path, name))
+            import_hdl(elaboration, name)
+        }
+    } else if is_utils(path) {
+        import_utility(elaboration, name)
+    } else if is_enum(path) {
+        give_base(elaboration, name)
+    } else if is_data(path) {
+        give_layout(elaboration, name)
+    } else {
+        give_library(elaboration, library_named(path, name))
+    }
+}
+
+// One name of `amaranth`.
+fn import_hdl(elaboration: &mut Elaboration, name: &str) -> Result<Answer, NoMemory>
+    ensures { Gives result elaboration.new (hdl_imported name.now (held_of elaboration.old)) }
+{
+    if let Some(own) = own_named(name) {
+        return elaboration.give_kept(Kept::Name(own));
+    }
+    if is_value_name(name) {
+        let v = elaboration.store.name(name)?;
+        return elaboration.give(v);
+    }
+    elaboration.refuse(Cause::Raised)
+}
+
+// All names of `amaranth`.
+fn import_all(elaboration: &mut Elaboration) -> Result<Answer, NoMemory>
+    ensures { Gives result elaboration.new (all_bound [] star_names (held_of elaboration.old)) }
+{
+    let mut names = NamedVals::new(elaboration.alloc);
+    for i in 0..STAR {
+        let name = star_name(i);
+        match import_hdl(elaboration, name)? {
+            Answer::Give(val) => names.push(named_val(elaboration.alloc, name, val)?)?,
+            answer => return Ok(answer),
         }
     }
+    Ok(Answer::Bind(names))
+}
 
-    // One name of `amaranth`.
-    fn import_hdl(&mut self, name: &str) -> Result<Answer, NoMemory>
-        ensures { Gives result self.new (hdl_imported name.now (held_of self.old)) }
-    {
-        if let Some(own) = own_named(name) {
-            return self.give_kept(Kept::Name(own));
-        }
-        if is_value_name(name) {
-            let v = self.store.name(name)?;
-            return self.give(v);
-        }
-        self.refuse(Cause::Raised)
-    }
-
-    // All names of `amaranth`.
-    fn import_all(&mut self) -> Result<Answer, NoMemory>
-        ensures { Gives result self.new (all_bound [] star_names (held_of self.old)) }
-    {
-        let mut names = NamedVals::new(self.alloc);
-        for i in 0..STAR {
-            let name = star_name(i);
-            match self.import_hdl(name)? {
-                Answer::Give(val) => names.push(named_val(self.alloc, name, val)?)?,
-                answer => return Ok(answer),
-            }
-        }
-        Ok(Answer::Bind(names))
-    }
-
-    // The two functions of `amaranth.utils` stand behind the builtins.
-    fn import_utility(&mut self, name: &str) -> Result<Answer, NoMemory>
-        ensures { Gives result self.new (utility_imported name.now (held_of self.old)) }
-    {
-        if is_text(name, "ceil_log2") {
-            self.give(Val::Func(FuncId(17)))
-        } else if is_text(name, "bits_for") {
-            self.give(Val::Func(FuncId(18)))
-        } else {
-            self.refuse(Cause::Raised)
-        }
+// The two functions of `amaranth.utils` stand behind the builtins.
+fn import_utility(elaboration: &mut Elaboration, name: &str) -> Result<Answer, NoMemory>
+    ensures { Gives result elaboration.new (utility_imported name.now (held_of elaboration.old)) }
+{
+    if is_text(name, "ceil_log2") {
+        elaboration.give(Val::Func(FuncId(17)))
+    } else if is_text(name, "bits_for") {
+        elaboration.give(Val::Func(FuncId(18)))
+    } else {
+        elaboration.refuse(Cause::Raised)
     }
 }

@@ -5,20 +5,21 @@ ghost use Rattle.py_values.specs.declared.val.Val.TheVariants as val;
 ghost use Rattle.py_values.specs.Heaps.{seen};
 ghost use Rattle.design_ir.specs.PoolRules.{HasInit};
 ghost use Rattle.elab_eval.specs.Interfaces.{string_in, members_of_row, members_of_val, members_given, are_members, member_signal, with_member, store_with_interface, interface_bound, interface_made, no_interface, members_of_kept, interface_given, component_called, component_class, init_as, init_answered};
-ghost use Rattle.elab_eval.specs.Calls.{behind_first};
+ghost use Rattle.elab_store.specs.Calls.{behind_first};
 ghost use Rattle.elab_eval.specs.Puts.{IsPut};
-ghost use Rattle.elab_eval.specs.Held.{held_of, Gives};
+ghost use Rattle.elab_store.specs.Held.{held_of, Gives};
 
-use crate::calls::{first_val, vals_behind};
+use crate::classes::init_base;
 use crate::component_classes::member_of;
-use crate::components::copied;
 use crate::imports::named_val;
-use crate::kept::Kept;
-use crate::members::{Members, NamedMember};
-use crate::store::{Elaboration, Store};
 use amh_host::Text;
 use amh_things::thing::Reading;
 use design_ir::{Expr, Exprs, PoolStop, Port, Ports, Sig, SigId};
+use elab_store::calls::{first_val, vals_behind};
+use elab_store::components::copied;
+use elab_store::kept::Kept;
+use elab_store::members::{Members, NamedMember};
+use elab_store::store::{Elaboration, Store};
 use identifiers::is_identifier;
 use lists::NoMemory;
 use py_frames::request::{Answer, Cause, NamedVal, NamedVals, Request};
@@ -51,116 +52,112 @@ fn string_in<'a>(heap: &'a Heap, frozen: &'a Frozen, v: Val) -> Option<&'a str>
     }
 }
 
-impl Store {
-    // The members of a dict, by its keys and their values.
-    fn members_of_row(
-        &self,
-        alloc: Global,
-        heap: &Heap,
-        frozen: &Frozen,
-        row: &[Val],
-    ) -> Result<Option<Members>, NoMemory>
-        ensures { IfOk result (λ ms. ms ≡ members_of_row (seen frozen.now heap.now) self.now row.now) }
-    {
-        let mut members = Members::new(alloc);
-        let mut rest = row;
-        while let [k, v, more @ ..] = rest {
-            let (Some(name), Some(member)) = (
-                string_in(heap, frozen, *k),
-                member_of(self.kept_of(*v)),
-            ) else {
-                return Ok(None);
-            };
-            members.push(NamedMember::of(alloc, name, member)?)?;
-            rest = more;
-        }
-        if rest.is_empty() {
-            Ok(Some(members))
-        } else {
-            Ok(None)
-        }
-    }
-
-    // The members of a signature.
-    fn members_of_kept(
-        &self,
-        alloc: Global,
-        kept: Option<Kept>,
-    ) -> Result<Option<Members>, NoMemory>
-        ensures { IfOk result (λ ms. ms ≡ members_of_kept self.now kept) }
-    {
-        let Some(Kept::Signature(number)) = kept else {
+// The members of a dict, by its keys and their values.
+fn members_of_row(
+    store: &Store,
+    alloc: Global,
+    heap: &Heap,
+    frozen: &Frozen,
+    row: &[Val],
+) -> Result<Option<Members>, NoMemory>
+    ensures { IfOk result (λ ms. ms ≡ members_of_row (seen frozen.now heap.now) store.now row.now) }
+{
+    let mut members = Members::new(alloc);
+    let mut rest = row;
+    while let [k, v, more @ ..] = rest {
+        let (Some(name), Some(member)) = (string_in(heap, frozen, *k), member_of(store.kept_of(*v)))
+        else {
             return Ok(None);
         };
-        let Some(members) = self.components.signature(number) else {
-            return Ok(None);
-        };
-        Ok(Some(copied(alloc, members.as_slice())?))
+        members.push(NamedMember::of(alloc, name, member)?)?;
+        rest = more;
     }
+    if rest.is_empty() {
+        Ok(Some(members))
+    } else {
+        Ok(None)
+    }
+}
 
-    fn members_of_val(
-        &self,
-        alloc: Global,
-        heap: &Heap,
-        frozen: &Frozen,
-        v: Val,
-    ) -> Result<Option<Members>, NoMemory>
-        ensures { IfOk result (λ ms. ms ≡ members_of_val (seen frozen.now heap.now) self.now v) }
-    {
-        match v {
-            Val::Dict(o) => self.members_of_row(alloc, heap, frozen, heap.row(frozen, o)),
-            _ => self.members_of_kept(alloc, self.kept_of(v)),
-        }
-    }
+// The members of a signature.
+fn members_of_kept(
+    store: &Store,
+    alloc: Global,
+    kept: Option<Kept>,
+) -> Result<Option<Members>, NoMemory>
+    ensures { IfOk result (λ ms. ms ≡ members_of_kept store.now kept) }
+{
+    let Some(Kept::Signature(number)) = kept else {
+        return Ok(None);
+    };
+    let Some(members) = store.components.signature(number) else {
+        return Ok(None);
+    };
+    Ok(Some(copied(alloc, members.as_slice())?))
+}
 
-    // The members that are given, or those of the class.
-    fn members_given(
-        &self,
-        alloc: Global,
-        heap: &Heap,
-        frozen: &Frozen,
-        class: ObjId,
-        args: &[Val],
-    ) -> Result<Option<Members>, NoMemory>
-        ensures { IfOk result (λ ms. ms ≡ members_given (seen frozen.now heap.now) self.now class.0 args.now) }
-    {
-        match args {
-            [] => Ok(Some(self.components.members_of(alloc, class)?)),
-            [v] => self.members_of_val(alloc, heap, frozen, *v),
-            _ => Ok(None),
-        }
+fn members_of_val(
+    store: &Store,
+    alloc: Global,
+    heap: &Heap,
+    frozen: &Frozen,
+    v: Val,
+) -> Result<Option<Members>, NoMemory>
+    ensures { IfOk result (λ ms. ms ≡ members_of_val (seen frozen.now heap.now) store.now v) }
+{
+    match v {
+        Val::Dict(o) => members_of_row(store, alloc, heap, frozen, heap.row(frozen, o)),
+        _ => members_of_kept(store, alloc, store.kept_of(v)),
     }
+}
 
-    /// A class over `Component`.
-    pub(crate) fn component_class(&self, v: Val) -> Option<ObjId>
-        ensures { option_map (λ c. c.0) result ≡ component_class self.now v }
-    {
-        match v {
-            Val::Class(c) => match self.components.class(c.0) {
-                Some(_) => Some(c),
-                None => None,
-            },
-            _ => None,
-        }
+// The members that are given, or those of the class.
+fn members_given(
+    store: &Store,
+    alloc: Global,
+    heap: &Heap,
+    frozen: &Frozen,
+    class: ObjId,
+    args: &[Val],
+) -> Result<Option<Members>, NoMemory>
+    ensures { IfOk result (λ ms. ms ≡ members_given (seen frozen.now heap.now) store.now class.0 args.now) }
+{
+    match args {
+        [] => Ok(Some(store.components.members_of(alloc, class)?)),
+        [v] => members_of_val(store, alloc, heap, frozen, *v),
+        _ => Ok(None),
     }
+}
 
-    // Keeps the signature of an object and its ports.
-    fn keep_interface(
-        &mut self,
-        object: ObjId,
-        members: Members,
-        ports: Ports,
-    ) -> Result<Val, NoMemory>
-        ensures { IfOk result (λ v. (v ≡ val.Hw (record { 0 = length self.old.things })) × (self.new ≡ store_with_interface object members ports self.old)) }
-    {
-        let number = self.components.signature_count();
-        if number >= 4_294_967_295 {
-            return Err(NoMemory);
-        }
-        let v = self.keep(Kept::Signature(number as u32))?;
-        self.components.keep_interface(object.0, members, ports)?;
-        Ok(v)
+/// A class over `Component`.
+pub(crate) fn component_class(store: &Store, v: Val) -> Option<ObjId>
+    ensures { option_map (λ c. c.0) result ≡ component_class store.now v }
+{
+    match v {
+        Val::Class(c) => match store.components.class(c.0) {
+            Some(_) => Some(c),
+            None => None,
+        },
+        _ => None,
     }
+}
+
+// Keeps the signature of an object and its ports.
+fn keep_interface(
+    store: &mut Store,
+    object: ObjId,
+    members: Members,
+    ports: Ports,
+) -> Result<Val, NoMemory>
+    ensures { IfOk result (λ v. (v ≡ val.Hw (record { 0 = length store.old.things })) × (store.new ≡ store_with_interface object members ports store.old)) }
+{
+    let number = store.components.signature_count();
+    if number >= 4_294_967_295 {
+        return Err(NoMemory);
+    }
+    let v = store.keep(Kept::Signature(number as u32))?;
+    store.components.keep_interface(object.0, members, ports)?;
+    Ok(v)
 }
 
 // ---- their names
@@ -230,123 +227,130 @@ fn want_of_memory(_stop: PoolStop) -> NoMemory
     NoMemory
 }
 
-impl Elaboration {
-    /// A signal, the expression that it is and the thing that stands for it by what its bits are read as; none where a count would be passed.
-    pub(crate) fn new_signal(
-        &mut self,
-        reading: Reading,
-        x: Sig,
-    ) -> Result<Option<NewSignal>, NoMemory>
-        requires init { HasInit x }
-        ensures { IfOk result (λ made. IsPut made reading x (held_of self.old) (held_of self.new)) }
-    {
-        if self.pool.count() >= 262_144 {
-            return Ok(None);
+/// A signal, the expression that it is and the thing that stands for it by what its bits are read as; none where a count would be passed.
+pub(crate) fn new_signal(
+    elaboration: &mut Elaboration,
+    reading: Reading,
+    x: Sig,
+) -> Result<Option<NewSignal>, NoMemory>
+    requires init { HasInit x }
+    ensures { IfOk result (λ made. IsPut made reading x (held_of elaboration.old) (held_of elaboration.new)) }
+{
+    if elaboration.pool.count() >= 262_144 {
+        return Ok(None);
+    }
+    let sig = match elaboration.pool.sig(x) {
+        Ok(sig) => sig,
+        Err(PoolStop::Limit) => return Ok(None),
+        Err(stop) => return Err(want_of_memory(stop)),
+    };
+    match elaboration.pool.expr(Expr::Sig(sig)) {
+        Ok(e) => {
+            let val = elaboration.store.hold(reading, e)?;
+            Ok(Some(NewSignal { sig, val }))
         }
-        let sig = match self.pool.sig(x) {
-            Ok(sig) => sig,
-            Err(PoolStop::Limit) => return Ok(None),
-            Err(stop) => return Err(want_of_memory(stop)),
+        Err(stop) => Err(want_of_memory(stop)),
+    }
+}
+
+// All members and the signature are bound.
+fn bind_interface(
+    elaboration: &mut Elaboration,
+    object: ObjId,
+    members: Members,
+    made: Interface,
+) -> Result<Answer, NoMemory>
+    ensures { Gives result elaboration.new (interface_bound object members made (held_of elaboration.old)) }
+{
+    let Interface { names, ports } = made;
+    let mut names = names;
+    let val = keep_interface(&mut elaboration.store, object, members, ports)?;
+    names.push(named_val(elaboration.alloc, "signature", val)?)?;
+    Ok(Answer::Bind(names))
+}
+
+// A signal for each member.
+fn make_interface(
+    elaboration: &mut Elaboration,
+    object: ObjId,
+    members: Members,
+) -> Result<Answer, NoMemory>
+    ensures { Gives result elaboration.new (interface_made object members no_interface members (held_of elaboration.old)) }
+{
+    let mut made = Interface {
+        names: NamedVals::new(elaboration.alloc),
+        ports: Ports::new(elaboration.alloc),
+    };
+    for i in 0..members.len() {
+        let m = members.get(i);
+        let x = member_signal(elaboration.alloc, m)?;
+        let Some(new) = new_signal(elaboration, m.member.shape.reading, x)? else {
+            return elaboration.refuse(Cause::Limit);
         };
-        match self.pool.expr(Expr::Sig(sig)) {
-            Ok(e) => {
-                let val = self.store.hold(reading, e)?;
-                Ok(Some(NewSignal { sig, val }))
-            }
-            Err(stop) => Err(want_of_memory(stop)),
-        }
+        made.push(elaboration.alloc, m, new)?;
     }
+    bind_interface(elaboration, object, members, made)
+}
 
-    // All members and the signature are bound.
-    fn bind_interface(
-        &mut self,
-        object: ObjId,
-        members: Members,
-        made: Interface,
-    ) -> Result<Answer, NoMemory>
-        ensures { Gives result self.new (interface_bound object members made (held_of self.old)) }
-    {
-        let Interface { names, ports } = made;
-        let mut names = names;
-        let val = self.store.keep_interface(object, members, ports)?;
-        names.push(named_val(self.alloc, "signature", val)?)?;
-        Ok(Answer::Bind(names))
+// The interface of these members.
+fn give_interface(
+    elaboration: &mut Elaboration,
+    object: ObjId,
+    members: Option<Members>,
+) -> Result<Answer, NoMemory>
+    ensures { Gives result elaboration.new (interface_given object members (held_of elaboration.old)) }
+{
+    let Some(members) = members else {
+        return elaboration.refuse(Cause::Raised);
+    };
+    if are_members(elaboration.alloc, members.as_slice())? {
+        make_interface(elaboration, object, members)
+    } else {
+        elaboration.refuse(Cause::Raised)
     }
+}
 
-    // A signal for each member.
-    fn make_interface(&mut self, object: ObjId, members: Members) -> Result<Answer, NoMemory>
-        ensures { Gives result self.new (interface_made object members no_interface members (held_of self.old)) }
-    {
-        let mut made = Interface {
-            names: NamedVals::new(self.alloc),
-            ports: Ports::new(self.alloc),
-        };
-        for i in 0..members.len() {
-            let m = members.get(i);
-            let x = member_signal(self.alloc, m)?;
-            let Some(new) = self.new_signal(m.member.shape.reading, x)? else {
-                return self.refuse(Cause::Limit);
-            };
-            made.push(self.alloc, m, new)?;
-        }
-        self.bind_interface(object, members, made)
+// `__init__` of an object of a component class.
+fn init_component(
+    elaboration: &mut Elaboration,
+    heap: &Heap,
+    frozen: &Frozen,
+    object: ObjId,
+    class: ObjId,
+    request: &Request,
+) -> Result<Answer, NoMemory>
+    ensures { Gives result elaboration.new (component_called (seen frozen.now heap.now) object class.0 (behind_first request.now.vals) request.now.names (held_of elaboration.old)) }
+{
+    if !request.names.items().is_empty() {
+        return elaboration.refuse(Cause::Raised);
     }
+    let args = vals_behind(request.vals.as_slice());
+    let members = members_given(
+        &elaboration.store,
+        elaboration.alloc,
+        heap,
+        frozen,
+        class,
+        args,
+    )?;
+    give_interface(elaboration, object, members)
+}
 
-    // The interface of these members.
-    fn give_interface(
-        &mut self,
-        object: ObjId,
-        members: Option<Members>,
-    ) -> Result<Answer, NoMemory>
-        ensures { Gives result self.new (interface_given object members (held_of self.old)) }
-    {
-        let Some(members) = members else {
-            return self.refuse(Cause::Raised);
-        };
-        if are_members(self.alloc, members.as_slice())? {
-            self.make_interface(object, members)
-        } else {
-            self.refuse(Cause::Raised)
-        }
-    }
-
-    // `__init__` of an object of a component class.
-    fn init_component(
-        &mut self,
-        heap: &Heap,
-        frozen: &Frozen,
-        object: ObjId,
-        class: ObjId,
-        request: &Request,
-    ) -> Result<Answer, NoMemory>
-        ensures { Gives result self.new (component_called (seen frozen.now heap.now) object class.0 (behind_first request.now.vals) request.now.names (held_of self.old)) }
-    {
-        if !request.names.items().is_empty() {
-            return self.refuse(Cause::Raised);
-        }
-        let args = vals_behind(request.vals.as_slice());
-        let members = self
-            .store
-            .members_given(self.alloc, heap, frozen, class, args)?;
-        self.give_interface(object, members)
-    }
-
-    /// `__init__` of an object.
-    pub(crate) fn answer_init(
-        &mut self,
-        heap: &Heap,
-        frozen: &Frozen,
-        request: &Request,
-    ) -> Result<Answer, NoMemory>
-        ensures { Gives result self.new (init_answered (seen frozen.now heap.now) request.now.vals request.now.names (held_of self.old)) }
-    {
-        let Val::Object(object) = first_val(request.vals.as_slice()) else {
-            return self.init_base(request);
-        };
-        let class = first_val(heap.row(frozen, object));
-        match self.store.component_class(class) {
-            Some(class) => self.init_component(heap, frozen, object, class, request),
-            None => self.init_base(request),
-        }
+/// `__init__` of an object.
+pub(crate) fn answer_init(
+    elaboration: &mut Elaboration,
+    heap: &Heap,
+    frozen: &Frozen,
+    request: &Request,
+) -> Result<Answer, NoMemory>
+    ensures { Gives result elaboration.new (init_answered (seen frozen.now heap.now) request.now.vals request.now.names (held_of elaboration.old)) }
+{
+    let Val::Object(object) = first_val(request.vals.as_slice()) else {
+        return init_base(elaboration, request);
+    };
+    let class = first_val(heap.row(frozen, object));
+    match component_class(&elaboration.store, class) {
+        Some(class) => init_component(elaboration, heap, frozen, object, class, request),
+        None => init_base(elaboration, request),
     }
 }

@@ -8,40 +8,30 @@
 
 mod answering;
 mod blocks;
-mod calls;
 mod classes;
 mod component_classes;
 mod component_tops;
-mod components;
 mod equations;
 mod finish;
 mod imports;
 mod interfaces;
-mod kept;
 mod laws;
 mod libraries;
 mod likes;
-mod machine_moves;
-mod members;
-mod names;
+mod member_calls;
 mod object_tops;
 mod refusal;
 mod running;
-mod shapes;
 mod sides;
 mod signals;
-mod state_machines;
-mod store;
 mod tops;
 
-pub use kept::{
+pub use elab_store::kept::{
     Begin, BlockName, DomainName, Equation, HdlName, Kept, MachineCall, MachinePart, StateCall, Top,
 };
+pub use elab_store::members::{ComponentClass, Member, Members, NamedMember};
+pub use elab_store::shapes::Shaped;
+pub use elab_store::store::Store;
 pub use laws::outcome_is_one;
-pub use machine_moves::Action;
-pub use members::{ComponentClass, Member, Members, NamedMember};
 pub use refusal::ElabStop;
 pub use running::{Elaborated, elaborate};
-pub use shapes::Shaped;
-pub use state_machines::{MachineArguments, OwnMachine};
-pub use store::Store;

@@ -2,11 +2,11 @@
 ghost use Rattle.std.specs.Prelude.{◌≡◌, is_some, codes};
 ghost use Rattle.elab_eval.specs.Libraries.{is_library, is_wiring, is_enum, is_data, thing_name_given, wiring_named, module_named, library_named, library_given};
 ghost use Rattle.amh_things.specs.Things.{base_called, layout_named};
-ghost use Rattle.elab_eval.specs.Held.{held_of, Gives};
+ghost use Rattle.elab_store.specs.Held.{held_of, Gives};
 
-use crate::kept::{HdlName, Kept};
-use crate::names::is_text;
-use crate::store::Elaboration;
+use elab_store::kept::{HdlName, Kept};
+use elab_store::names::is_text;
+use elab_store::store::Elaboration;
 use lists::NoMemory;
 use py_frames::request::{Answer, Cause};
 
@@ -93,36 +93,37 @@ pub(crate) fn library_named(path: &str, name: &str) -> Option<HdlName>
     }
 }
 
-impl Elaboration {
-    /// A name of a library, where it is served.
-    pub(crate) fn give_library(&mut self, name: Option<HdlName>) -> Result<Answer, NoMemory>
-        ensures { Gives result self.new (library_given name (held_of self.old)) }
-    {
-        match name {
-            Some(name) => self.give_kept(Kept::Name(name)),
-            None => self.refuse(Cause::Raised),
-        }
+/// A name of a library, where it is served.
+pub(crate) fn give_library(
+    elaboration: &mut Elaboration,
+    name: Option<HdlName>,
+) -> Result<Answer, NoMemory>
+    ensures { Gives result elaboration.new (library_given name (held_of elaboration.old)) }
+{
+    match name {
+        Some(name) => elaboration.give_kept(Kept::Name(name)),
+        None => elaboration.refuse(Cause::Raised),
     }
+}
 
-    /// A name of `amaranth.lib.enum`.
-    pub(crate) fn give_base(&mut self, name: &str) -> Result<Answer, NoMemory>
-        ensures { Gives result self.new (thing_name_given (base_called name.now) (held_of self.old)) }
-    {
-        if !is_base_name(name) {
-            return self.refuse(Cause::Raised);
-        }
-        let v = self.store.base(name)?;
-        self.give(v)
+/// A name of `amaranth.lib.enum`.
+pub(crate) fn give_base(elaboration: &mut Elaboration, name: &str) -> Result<Answer, NoMemory>
+    ensures { Gives result elaboration.new (thing_name_given (base_called name.now) (held_of elaboration.old)) }
+{
+    if !is_base_name(name) {
+        return elaboration.refuse(Cause::Raised);
     }
+    let v = elaboration.store.base(name)?;
+    elaboration.give(v)
+}
 
-    /// A name of `amaranth.lib.data`.
-    pub(crate) fn give_layout(&mut self, name: &str) -> Result<Answer, NoMemory>
-        ensures { Gives result self.new (thing_name_given (layout_named name.now) (held_of self.old)) }
-    {
-        if !is_layout_name(name) {
-            return self.refuse(Cause::Raised);
-        }
-        let v = self.store.layout_name(name)?;
-        self.give(v)
+/// A name of `amaranth.lib.data`.
+pub(crate) fn give_layout(elaboration: &mut Elaboration, name: &str) -> Result<Answer, NoMemory>
+    ensures { Gives result elaboration.new (thing_name_given (layout_named name.now) (held_of elaboration.old)) }
+{
+    if !is_layout_name(name) {
+        return elaboration.refuse(Cause::Raised);
     }
+    let v = elaboration.store.layout_name(name)?;
+    elaboration.give(v)
 }

@@ -9,14 +9,16 @@ ghost use Rattle.amh_things.specs.Held.{AreHeld};
 ghost use Rattle.elab_eval.specs.Elaborates.{IsElaborated, stop_of, told_at};
 ghost use Rattle.elab_eval.specs.Running.{IsRunning, Steps_to, Runs_to};
 ghost use Rattle.elab_eval.specs.Table.{prim};
-ghost use Rattle.elab_eval.specs.Sound.{IsSound};
-ghost use Rattle.elab_eval.specs.Held.{held_of, Gives};
+ghost use Rattle.elab_store.specs.Sound.{IsSound};
+ghost use Rattle.elab_store.specs.Held.{held_of, Gives};
 
+use crate::answering::answer_own;
+use crate::finish::finish;
 use crate::refusal::ElabStop;
-use crate::store::{Elaboration, Store};
 use amh_host::{Budget, Kind, Place, Steps};
 use amh_values::{Acted, act};
 use design_ir::{Design, Pool};
+use elab_store::store::{Elaboration, Store};
 use lists::NoMemory;
 use py_frames::request::{Answer, Cause, Request, Stop, Turn};
 use py_machine::Machine;
@@ -40,107 +42,114 @@ pub enum Step {
     Ended,
 }
 
-impl Store {
-    // The table of shapes and values.
-    fn act(
-        &mut self,
-        alloc: Global,
-        pool: &mut Pool,
-        machine: &Machine,
-        frozen: &Frozen,
-        request: &Request,
-    ) -> Result<Acted, NoMemory>
-        requires { AreHeld (length pool.old.exprs) self.old.things }
-        ensures acts { IfOk result (λ a. Acts (acted (seen frozen.now machine.now.going.state.heap) pool.old self.old.things request.now) a pool.old pool.new self.old.things self.new.things) }
-        ensures held { OnOk result (AreHeld (length pool.new.exprs) self.new.things) }
-        ensures rest { OnOk result (self.new ≡ record self.old { things = self.new.things }) }
-    {
-        act(alloc, pool, &mut self.things, machine, frozen, request)
-    }
+// The table of shapes and values.
+fn serve(
+    store: &mut Store,
+    alloc: Global,
+    pool: &mut Pool,
+    machine: &Machine,
+    frozen: &Frozen,
+    request: &Request,
+) -> Result<Acted, NoMemory>
+    requires { AreHeld (length pool.old.exprs) store.old.things }
+    ensures acts { IfOk result (λ a. Acts (acted (seen frozen.now machine.now.going.state.heap) pool.old store.old.things request.now) a pool.old pool.new store.old.things store.new.things) }
+    ensures held { OnOk result (AreHeld (length pool.new.exprs) store.new.things) }
+    ensures rest { OnOk result (store.new ≡ record store.old { things = store.new.things }) }
+{
+    act(alloc, pool, &mut store.things, machine, frozen, request)
 }
 
-impl Elaboration {
-    // What a request is answered.
-    fn answer(
-        &mut self,
-        machine: &Machine,
-        frozen: &Frozen,
-        request: &Request,
-    ) -> Result<Answer, NoMemory>
-        requires { IsSound (held_of self.old) }
-        ensures gives { Gives result self.new (prim (seen frozen.now machine.now.going.state.heap) (held_of self.old) request.now) }
-        ensures sound { OnOk result (IsSound (held_of self.new)) }
-    {
-        match self
-            .store
-            .act(self.alloc, &mut self.pool, machine, frozen, request)?
-        {
-            Acted::Answer(answer) => Ok(answer),
-            Acted::Other => {
-                self.pool.known();
-                self.answer_own(&machine.going.state.heap, frozen, request)
-            }
-        }
-    }
-
-    // Takes an answer, and answers what comes next.
-    fn step<L: Ledger>(
-        &mut self,
-        machine: &mut Machine,
-        program: &Program,
-        frozen: &Frozen,
-        answer: Answer,
-        left: &mut Budget,
-        steps: &mut Steps<L>,
-        _budget: u64,
-    ) -> Result<Step, ElabStop>
-        requires of { IsOf (program_of program.now) machine.old }
-        requires frozen { frozen.now ≡ nothing }
-        requires running { IsRunning (program_of program.now) _budget machine.old (held_of self.old) answer left.old.left }
-        ensures of { IsOf (program_of program.now) machine.new }
-        ensures comes { Steps_to (program_of program.now) _budget result machine.old machine.new (held_of self.new) left.new.left }
-        ensures ticks { steps.old ≤ steps.new }
-    {
-        match machine.resume(program, frozen, answer, left, steps) {
-            Turn::Asks(request) => match self.answer(machine, frozen, &request) {
-                Ok(next) => {
-                    note_taken(machine);
-                    Ok(Step::Next(next))
-                }
-                Err(_) => Err(ElabStop::NoMemory),
-            },
-            Turn::Ended(_) => Ok(Step::Ended),
-            Turn::Stopped(stop) => Err(stop_of(told_at(self.store.told(), stop))),
-            Turn::NoMemory => Err(ElabStop::NoMemory),
+// What a request is answered.
+fn answer_request(
+    elaboration: &mut Elaboration,
+    machine: &Machine,
+    frozen: &Frozen,
+    request: &Request,
+) -> Result<Answer, NoMemory>
+    requires { IsSound (held_of elaboration.old) }
+    ensures gives { Gives result elaboration.new (prim (seen frozen.now machine.now.going.state.heap) (held_of elaboration.old) request.now) }
+    ensures sound { OnOk result (IsSound (held_of elaboration.new)) }
+{
+    match serve(
+        &mut elaboration.store,
+        elaboration.alloc,
+        &mut elaboration.pool,
+        machine,
+        frozen,
+        request,
+    )? {
+        Acted::Answer(answer) => Ok(answer),
+        Acted::Other => {
+            elaboration.pool.known();
+            answer_own(elaboration, &machine.going.state.heap, frozen, request)
         }
     }
 }
 
-impl Elaboration {
-    // Answers from the first one on, until the program ends.
-    fn run<L: Ledger>(
-        &mut self,
-        machine: &mut Machine,
-        program: &Program,
-        frozen: &Frozen,
-        left: &mut Budget,
-        steps: &mut Steps<L>,
-    ) -> Result<(), ElabStop>
-        requires of { IsOf (program_of program.now) machine.old }
-        requires frozen { frozen.now ≡ nothing }
-        requires running { IsRunning (program_of program.now) left.old.left machine.old (held_of self.old) Begin left.old.left }
-        ensures of { IsOf (program_of program.now) machine.new }
-        ensures comes { Runs_to (program_of program.now) left.old.left result machine.new (held_of self.new) left.new.left }
-        ensures ticks { steps.old ≤ steps.new }
-    {
-        let budget = left.left;
-        let mut answer = Answer::Begin;
-        loop {
-            match self.step(machine, program, frozen, answer, left, steps, budget) {
-                Ok(Step::Next(next)) => answer = next,
-                Ok(Step::Ended) => return Ok(()),
-                Err(stop) => return Err(stop),
+// Takes an answer, and answers what comes next.
+fn take_answer<L: Ledger>(
+    elaboration: &mut Elaboration,
+    machine: &mut Machine,
+    program: &Program,
+    frozen: &Frozen,
+    answer: Answer,
+    left: &mut Budget,
+    steps: &mut Steps<L>,
+    _budget: u64,
+) -> Result<Step, ElabStop>
+    requires of { IsOf (program_of program.now) machine.old }
+    requires frozen { frozen.now ≡ nothing }
+    requires running { IsRunning (program_of program.now) _budget machine.old (held_of elaboration.old) answer left.old.left }
+    ensures of { IsOf (program_of program.now) machine.new }
+    ensures comes { Steps_to (program_of program.now) _budget result machine.old machine.new (held_of elaboration.new) left.new.left }
+    ensures ticks { steps.old ≤ steps.new }
+{
+    match machine.resume(program, frozen, answer, left, steps) {
+        Turn::Asks(request) => match answer_request(elaboration, machine, frozen, &request) {
+            Ok(next) => {
+                note_taken(machine);
+                Ok(Step::Next(next))
             }
+            Err(_) => Err(ElabStop::NoMemory),
+        },
+        Turn::Ended(_) => Ok(Step::Ended),
+        Turn::Stopped(stop) => Err(stop_of(told_at(elaboration.store.told(), stop))),
+        Turn::NoMemory => Err(ElabStop::NoMemory),
+    }
+}
+
+// Answers from the first one on, until the program ends.
+fn run<L: Ledger>(
+    elaboration: &mut Elaboration,
+    machine: &mut Machine,
+    program: &Program,
+    frozen: &Frozen,
+    left: &mut Budget,
+    steps: &mut Steps<L>,
+) -> Result<(), ElabStop>
+    requires of { IsOf (program_of program.now) machine.old }
+    requires frozen { frozen.now ≡ nothing }
+    requires running { IsRunning (program_of program.now) left.old.left machine.old (held_of elaboration.old) Begin left.old.left }
+    ensures of { IsOf (program_of program.now) machine.new }
+    ensures comes { Runs_to (program_of program.now) left.old.left result machine.new (held_of elaboration.new) left.new.left }
+    ensures ticks { steps.old ≤ steps.new }
+{
+    let budget = left.left;
+    let mut answer = Answer::Begin;
+    loop {
+        match take_answer(
+            elaboration,
+            machine,
+            program,
+            frozen,
+            answer,
+            left,
+            steps,
+            budget,
+        ) {
+            Ok(Step::Next(next)) => answer = next,
+            Ok(Step::Ended) => return Ok(()),
+            Err(stop) => return Err(stop),
         }
     }
 }
@@ -195,8 +204,8 @@ pub fn elaborate<L: Ledger>(
     };
     let mut machine = machine;
     let mut held = Elaboration::new(alloc);
-    match held.run(&mut machine, program, &frozen, left, steps) {
-        Ok(()) => held.finish(machine, &frozen),
+    match run(&mut held, &mut machine, program, &frozen, left, steps) {
+        Ok(()) => finish(held, machine, &frozen),
         Err(stop) => Err(stop),
     }
 }

@@ -5,20 +5,21 @@ ghost use Rattle.py_values.specs.Heaps.{seen};
 ghost use Rattle.design_ir.specs.declared.expr.Expr.TheVariants as expr;
 ghost use Rattle.design_ir.specs.PoolRules.{expr_added};
 ghost use Rattle.amh_things.specs.declared.thing.Thing.TheVariants as thing;
-ghost use Rattle.elab_eval.specs.Stores.{thing_given};
-ghost use Rattle.elab_eval.specs.Seen.{called_of};
+ghost use Rattle.elab_store.specs.Stores.{thing_given};
+ghost use Rattle.elab_store.specs.Seen.{called_of};
 ghost use Rattle.elab_eval.specs.Signals.{module_called, with_module, no_arguments, once, formed, with_keyword, with_keywords, placed_arguments, signal_arguments, call_name, signal_name, signal_init, signal_reset_less, signal_passes, signal_of, signal_given, signal_shaped, signal_said, signal_shape, signal_from, signal_called};
-ghost use Rattle.elab_eval.specs.Held.{held_of, Gives};
+ghost use Rattle.elab_store.specs.Held.{held_of, Gives};
 
-use crate::calls::Called;
-use crate::kept::Kept;
-use crate::names::is_text;
-use crate::shapes::Shaped;
-use crate::store::Elaboration;
+use crate::interfaces::new_signal;
 use amh_bits::Int;
 use amh_host::Text;
 use amh_things::thing::Reading;
 use design_ir::Sig;
+use elab_store::calls::Called;
+use elab_store::kept::Kept;
+use elab_store::names::is_text;
+use elab_store::shapes::Shaped;
+use elab_store::store::Elaboration;
 use identifiers::is_identifier;
 use lists::NoMemory;
 use py_frames::request::{Answer, Cause};
@@ -173,98 +174,96 @@ fn signal_reset_less(heap: &Heap, frozen: &Frozen, given: Option<Val>) -> Option
     }
 }
 
-impl Elaboration {
-    /// `Module()`.
-    pub(crate) fn make_module(&mut self, call: &Called) -> Result<Answer, NoMemory>
-        ensures { Gives result self.new (module_called (called_of call.now) (held_of self.old)) }
-    {
-        if !call.placed.is_empty() || !call.keywords.is_empty() {
-            return self.refuse(Cause::Raised);
-        }
-        let number = self.store.add_module(self.alloc)?;
-        self.give_kept(Kept::Module(number))
+/// `Module()`.
+pub(crate) fn make_module(elaboration: &mut Elaboration, call: &Called) -> Result<Answer, NoMemory>
+    ensures { Gives result elaboration.new (module_called (called_of call.now) (held_of elaboration.old)) }
+{
+    if !call.placed.is_empty() || !call.keywords.is_empty() {
+        return elaboration.refuse(Cause::Raised);
     }
+    let number = elaboration.store.add_module(elaboration.alloc)?;
+    elaboration.give_kept(Kept::Module(number))
+}
 
-    /// `Signal(..)`.
-    pub(crate) fn make_signal(
-        &mut self,
-        heap: &Heap,
-        frozen: &Frozen,
-        call: &Called,
-    ) -> Result<Answer, NoMemory>
-        ensures { Gives result self.new (signal_called (seen frozen.now heap.now) (called_of call.now) (held_of self.old)) }
-    {
-        let Some(args) = signal_arguments(call) else {
-            return self.refuse(Cause::Raised);
-        };
-        let Some(name) = signal_name(self.alloc, heap, frozen, call.name, args.name)? else {
-            return self.refuse(Cause::Raised);
-        };
-        let Some(init) = self.signal_init(args.init) else {
-            return self.refuse(Cause::Raised);
-        };
-        let Some(reset_less) = signal_reset_less(heap, frozen, args.reset_less) else {
-            return self.refuse(Cause::Raised);
-        };
-        match self.signal_shape(heap, frozen, args.shape) {
-            Ok(shape) => self.put_signal(name, shape, init, reset_less),
-            Err(why) => self.refuse(why),
-        }
+/// `Signal(..)`.
+pub(crate) fn make_signal(
+    elaboration: &mut Elaboration,
+    heap: &Heap,
+    frozen: &Frozen,
+    call: &Called,
+) -> Result<Answer, NoMemory>
+    ensures { Gives result elaboration.new (signal_called (seen frozen.now heap.now) (called_of call.now) (held_of elaboration.old)) }
+{
+    let Some(args) = signal_arguments(call) else {
+        return elaboration.refuse(Cause::Raised);
+    };
+    let Some(name) = signal_name(elaboration.alloc, heap, frozen, call.name, args.name)? else {
+        return elaboration.refuse(Cause::Raised);
+    };
+    let Some(init) = signal_init(elaboration, args.init) else {
+        return elaboration.refuse(Cause::Raised);
+    };
+    let Some(reset_less) = signal_reset_less(heap, frozen, args.reset_less) else {
+        return elaboration.refuse(Cause::Raised);
+    };
+    match signal_shape(elaboration, heap, frozen, args.shape) {
+        Ok(shape) => put_signal(elaboration, name, shape, init, reset_less),
+        Err(why) => elaboration.refuse(why),
     }
+}
 
-    // The number that a signal begins with.
-    fn signal_init(&self, given: Option<Val>) -> Option<Int>
-        ensures { result ≡ signal_init (held_of self.now).store.things given }
-    {
-        match given {
-            None => Some(Int::of_u128(0)),
-            Some(v) => self.store.counted(&v),
-        }
+// The number that a signal begins with.
+fn signal_init(elaboration: &Elaboration, given: Option<Val>) -> Option<Int>
+    ensures { result ≡ signal_init (held_of elaboration.now).store.things given }
+{
+    match given {
+        None => Some(Int::of_u128(0)),
+        Some(v) => elaboration.store.counted(&v),
     }
+}
 
-    // The shape of a signal.
-    fn signal_shape(
-        &self,
-        heap: &Heap,
-        frozen: &Frozen,
-        given: Option<Val>,
-    ) -> Result<Shaped, Cause>
-        ensures { result ≡ signal_shape (seen frozen.now heap.now) (held_of self.now) given }
-    {
-        match given {
-            None => Ok(Shaped {
-                form: Shape {
-                    width: 1,
-                    signed: false,
-                },
-                reading: Reading::Plain,
-            }),
-            Some(v) => self.store.shaped_meant(heap, frozen, &v),
-        }
+// The shape of a signal.
+fn signal_shape(
+    elaboration: &Elaboration,
+    heap: &Heap,
+    frozen: &Frozen,
+    given: Option<Val>,
+) -> Result<Shaped, Cause>
+    ensures { result ≡ signal_shape (seen frozen.now heap.now) (held_of elaboration.now) given }
+{
+    match given {
+        None => Ok(Shaped {
+            form: Shape {
+                width: 1,
+                signed: false,
+            },
+            reading: Reading::Plain,
+        }),
+        Some(v) => elaboration.store.shaped_meant(heap, frozen, &v),
     }
+}
 
-    /// A signal, and the expression that it is.
-    pub(crate) fn put_signal(
-        &mut self,
-        name: &str,
-        shape: Shaped,
-        init: Int,
-        reset_less: bool,
-    ) -> Result<Answer, NoMemory>
-        ensures { Gives result self.new (signal_given shape.reading (signal_of name.now shape.form init reset_less) (held_of self.old)) }
-    {
-        let mut copy = Text::new(self.alloc);
-        copy.push(name)?;
-        let form = shape.form;
-        let sig = Sig {
-            name: copy,
-            shape: form,
-            init: init.wrap(form.width, form.signed),
-            reset_less,
-        };
-        match self.new_signal(shape.reading, sig)? {
-            Some(new) => self.give(new.val),
-            None => self.refuse(Cause::Limit),
-        }
+/// A signal, and the expression that it is.
+pub(crate) fn put_signal(
+    elaboration: &mut Elaboration,
+    name: &str,
+    shape: Shaped,
+    init: Int,
+    reset_less: bool,
+) -> Result<Answer, NoMemory>
+    ensures { Gives result elaboration.new (signal_given shape.reading (signal_of name.now shape.form init reset_less) (held_of elaboration.old)) }
+{
+    let mut copy = Text::new(elaboration.alloc);
+    copy.push(name)?;
+    let form = shape.form;
+    let sig = Sig {
+        name: copy,
+        shape: form,
+        init: init.wrap(form.width, form.signed),
+        reset_less,
+    };
+    match new_signal(elaboration, shape.reading, sig)? {
+        Some(new) => elaboration.give(new.val),
+        None => elaboration.refuse(Cause::Limit),
     }
 }

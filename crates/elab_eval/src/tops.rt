@@ -3,12 +3,13 @@ ghost use Rattle.std.specs.Prelude.{◌≡◌, map, string_bytes, codes, Some, N
 ghost use Rattle.py_values.specs.declared.val.Val.TheVariants as val;
 ghost use Rattle.py_values.specs.Heaps.{seen, func_at};
 ghost use Rattle.py_values.specs.Objects.{first_in};
-ghost use Rattle.elab_eval.specs.Tops.{is_unbound, is_method, method_calling, found_calling, class_calling, object_calling, elaborate_of, global, top_called, top_taken, elaborated, body_ended, elaborate_ended, call_args, object_in, first_object};
-ghost use Rattle.elab_eval.specs.Held.{held_of, Gives};
+ghost use Rattle.elab_eval.specs.Tops.{is_unbound, is_method, method_calling, found_calling, class_calling, object_calling, elaborate_of, global, top_called, top_taken, elaborated, body_ended, elaborate_ended, call_args};
+ghost use Rattle.elab_store.specs.Stores.{object_in, first_object};
+ghost use Rattle.elab_store.specs.Held.{held_of, Gives};
 
-use crate::kept::{Kept, Top};
-use crate::names::is_text;
-use crate::store::Elaboration;
+use elab_store::kept::{Kept, Top};
+use elab_store::names::is_text;
+use elab_store::store::Elaboration;
 use lists::NoMemory;
 use py_frames::request::{Answer, Cause, Request};
 use py_values::{Code, Frozen, FuncId, Heap, Inherited, ObjId, Val, Vals};
@@ -106,25 +107,6 @@ fn call_args(alloc: Global, first: Option<ObjId>) -> Result<Vals, NoMemory>
     Ok(args)
 }
 
-fn object_in(v: Val) -> Option<ObjId>
-    ensures { result ≡ object_in v }
-{
-    match v {
-        Val::Object(o) => Some(o),
-        _ => None,
-    }
-}
-
-/// The object that was first asked.
-pub(crate) fn first_object(before: Option<ObjId>, v: Val) -> Option<ObjId>
-    ensures { result ≡ first_object before (object_in v) }
-{
-    match before {
-        Some(o) => Some(o),
-        None => object_in(v),
-    }
-}
-
 // The value of a global.
 fn global(name: &str, vals: &[Val], names: &[String]) -> Option<Val>
     ensures { result ≡ global name.now vals.now (map string_bytes names.now) }
@@ -140,62 +122,70 @@ fn global(name: &str, vals: &[Val], names: &[String]) -> Option<Val>
     None
 }
 
-impl Elaboration {
-    // `elaborate` is called.
-    fn call_top(&mut self, heap: &Heap, frozen: &Frozen, v: &Val) -> Result<Answer, NoMemory>
-        ensures { Gives result self.new (top_called v.now (elaborate_of (seen frozen.now heap.now) v.now) (held_of self.old)) }
-    {
-        let Some(calling) = elaborate_of(heap, frozen, *v) else {
-            return self.refuse(Cause::Raised);
-        };
-        let args = call_args(self.alloc, calling.first)?;
-        self.store.ask_object(*v);
-        Ok(Answer::Call {
-            callee: calling.callee,
-            args,
-        })
-    }
+// `elaborate` is called.
+fn call_top(
+    elaboration: &mut Elaboration,
+    heap: &Heap,
+    frozen: &Frozen,
+    v: &Val,
+) -> Result<Answer, NoMemory>
+    ensures { Gives result elaboration.new (top_called v.now (elaborate_of (seen frozen.now heap.now) v.now) (held_of elaboration.old)) }
+{
+    let Some(calling) = elaborate_of(heap, frozen, *v) else {
+        return elaboration.refuse(Cause::Raised);
+    };
+    let args = call_args(elaboration.alloc, calling.first)?;
+    elaboration.store.ask_object(*v);
+    Ok(Answer::Call {
+        callee: calling.callee,
+        args,
+    })
+}
 
-    // A value is elaborated: a module is taken, and of an object `elaborate` is called.
-    fn elaborate(&mut self, heap: &Heap, frozen: &Frozen, v: Val) -> Result<Answer, NoMemory>
-        ensures { Gives result self.new (elaborated (seen frozen.now heap.now) v (held_of self.old)) }
-    {
-        match self.store.module_of(&v) {
-            Some(m) => {
-                self.store.set_root(m);
-                self.give(Val::None)
-            }
-            None => self.call_top(heap, frozen, &v),
+// A value is elaborated: a module is taken, and of an object `elaborate` is called.
+fn elaborate(
+    elaboration: &mut Elaboration,
+    heap: &Heap,
+    frozen: &Frozen,
+    v: Val,
+) -> Result<Answer, NoMemory>
+    ensures { Gives result elaboration.new (elaborated (seen frozen.now heap.now) v (held_of elaboration.old)) }
+{
+    match elaboration.store.module_of(&v) {
+        Some(m) => {
+            elaboration.store.set_root(m);
+            elaboration.give(Val::None)
         }
+        None => call_top(elaboration, heap, frozen, &v),
     }
+}
 
-    /// The body of the program ended.
-    pub(crate) fn end_body(
-        &mut self,
-        heap: &Heap,
-        frozen: &Frozen,
-        request: &Request,
-    ) -> Result<Answer, NoMemory>
-        ensures { Gives result self.new (body_ended (seen frozen.now heap.now) (global (codes "top") request.now.vals request.now.names) (held_of self.old)) }
-    {
-        match global("top", request.vals.as_slice(), request.names.items()) {
-            Some(v) => self.elaborate(heap, frozen, v),
-            None => self.refuse(Cause::Raised),
-        }
+/// The body of the program ended.
+pub(crate) fn end_body(
+    elaboration: &mut Elaboration,
+    heap: &Heap,
+    frozen: &Frozen,
+    request: &Request,
+) -> Result<Answer, NoMemory>
+    ensures { Gives result elaboration.new (body_ended (seen frozen.now heap.now) (global (codes "top") request.now.vals request.now.names) (held_of elaboration.old)) }
+{
+    match global("top", request.vals.as_slice(), request.names.items()) {
+        Some(v) => elaborate(elaboration, heap, frozen, v),
+        None => elaboration.refuse(Cause::Raised),
     }
+}
 
-    /// `elaborate` ended.
-    pub(crate) fn end_elaborate(
-        &mut self,
-        heap: &Heap,
-        frozen: &Frozen,
-        request: &Request,
-    ) -> Result<Answer, NoMemory>
-        ensures { Gives result self.new (elaborate_ended (seen frozen.now heap.now) request.now.vals (held_of self.old)) }
-    {
-        match request.vals.as_slice() {
-            [v, ..] => self.elaborate(heap, frozen, *v),
-            [] => self.refuse(Cause::Raised),
-        }
+/// `elaborate` ended.
+pub(crate) fn end_elaborate(
+    elaboration: &mut Elaboration,
+    heap: &Heap,
+    frozen: &Frozen,
+    request: &Request,
+) -> Result<Answer, NoMemory>
+    ensures { Gives result elaboration.new (elaborate_ended (seen frozen.now heap.now) request.now.vals (held_of elaboration.old)) }
+{
+    match request.vals.as_slice() {
+        [v, ..] => elaborate(elaboration, heap, frozen, *v),
+        [] => elaboration.refuse(Cause::Raised),
     }
 }

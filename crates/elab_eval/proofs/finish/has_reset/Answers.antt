@@ -1,7 +1,7 @@
-use Rattle.elab_eval.proofs.Pools.{reset_next, reset_here}
+use Rattle.elab_store.proofs.Pools.{reset_next, reset_here}
 use Rattle.std.proofs.Common.{sym, ◌∙◌}
 use Rattle.std.specs.List.{list_any}
-use Rattle.elab_eval.specs.Sound.{is_reset}
+use Rattle.elab_store.specs.Sound.{is_reset}
 use Rattle.elab_eval.proofs.finish.has_reset.Goals as goal
 
 pub loop-i-preserved : goal.loop-i-preserved

@@ -1,5 +1,5 @@
 use Rattle.py_tree.specs.Programs.{program_of}
-use Rattle.elab_eval.specs.Held.{held_of}
+use Rattle.elab_store.specs.Held.{held_of}
 use Rattle.elab_eval.proofs.RunLaws.{begun, elaborated}
 use Rattle.elab_eval.proofs.running.elaborate.Goals as goal
 
@@ -8,4 +8,4 @@ run-requires-clause-running g c = begun (program_of c.args.program.now) c.args.l
 
 pub returns-in-Ok-run-clause-comes : goal.returns-in-Ok-run-clause-comes
 returns-in-Ok-run-clause-comes g c =
-    elaborated (program_of c.args.program.now) c.args.left.now.left c.run.new.left.left c.run.new.machine (held_of c.run.new.self) c.finish.result c.in-Ok-run.ensures.comes c.finish.ensures
+    elaborated (program_of c.args.program.now) c.args.left.now.left c.run.new.left.left c.run.new.machine (held_of c.run.new.elaboration) c.finish.result c.in-Ok-run.ensures.comes c.finish.ensures

@@ -1,0 +1,2 @@
+pub mod StateMachines
+pub mod Moves

@@ -1,0 +1,4 @@
+pub mod ClassWalks
+pub mod CountLaws
+pub mod Pools
+pub mod Standing

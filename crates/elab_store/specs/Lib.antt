@@ -1,0 +1,10 @@
+pub mod Calls
+pub mod Components
+pub mod Counts
+pub mod Held
+pub mod Kept
+pub mod OpenMachines
+pub mod Seen
+pub mod Shapes
+pub mod Sound
+pub mod Stores

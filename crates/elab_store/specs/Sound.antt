@@ -1,0 +1,111 @@
+-- What is held keeps to: whatever is named stands there.
+use Rattle.std.specs.Prelude.{◌≡◌, ℕ, ◌<◌, ⊤, List, length, slice_get, Some, Bool, true, false}
+use Rattle.std.specs.List.{AllByRecursion}
+use Rattle.lists.specs.Names.{IsName}
+use Rattle.design_ir.specs.declared.signal.Sig.{Sig}
+use Rattle.design_ir.specs.declared.ids.ExprId.{ExprId}
+use Rattle.design_ir.specs.declared.port.Port.{Port}
+use Rattle.design_ir.specs.declared.expr.Expr.{Expr}
+use Rattle.design_ir.specs.declared.expr.Expr.TheVariants as expr
+use Rattle.design_ir.specs.Pools.{Pooled}
+use Rattle.design_ir.specs.Targets.{is_target}
+use Rattle.module_dsl.specs.declared.step.Opening.{Opening}
+use Rattle.module_dsl.specs.declared.step.Opening.TheVariants as opening
+use Rattle.module_dsl.specs.declared.step.Step.{Step}
+use Rattle.module_dsl.specs.declared.step.Step.TheVariants.{Assign, Enter, Leave}
+use Rattle.module_dsl.specs.Builders.{Built}
+use Rattle.elab_store.specs.declared.kept.Begin.{Begin}
+use Rattle.elab_store.specs.declared.kept.Begin.TheVariants as begin
+use Rattle.clock_domains.specs.Resolvable.{IsNamedSide, ArePorts}
+use Rattle.amh_things.specs.Held.{AreHeld}
+use Rattle.elab_store.specs.declared.kept.Equation.{Equation}
+use Rattle.elab_store.specs.declared.kept.Kept.{Kept}
+use Rattle.elab_store.specs.declared.kept.Kept.TheVariants as kept
+use Rattle.design_ir.specs.Settling.{is_signal}
+use Rattle.fsm_lowering.specs.Machines.{Machine, HasRegister}
+use Rattle.elab_store.specs.declared.own_machine.OwnMachine.{OwnMachine}
+use Rattle.elab_store.specs.Stores.{Held}
+
+-- a reset; `ResetSignal` comes with domains that modules define
+abbrev pub is_reset : Expr → Bool
+is_reset (expr.Reset domain place) = true
+is_reset (expr.Const n s) = false
+is_reset (expr.Sig s) = false
+is_reset (expr.Unary o a) = false
+is_reset (expr.Binary o a b) = false
+is_reset (expr.Mux s a b) = false
+is_reset (expr.Slice a low width) = false
+is_reset (expr.Cat es) = false
+is_reset (expr.Part a offset width stride) = false
+is_reset (expr.Pick index es) = false
+is_reset (expr.Cast a signed) = false
+is_reset (expr.Matches a patterns) = false
+
+abbrev pub IsNoReset : Expr → Type 0
+IsNoReset e = is_reset e ≡ false
+
+-- a target and a value of the pool
+pub record IsAssigned (q : Pooled) (target value : ExprId) : Type 0 where
+  pub target_there : target.0 < length q.exprs
+  pub value_there : value.0 < length q.exprs
+  pub is_target : is_target q target.0 ≡ true
+
+abbrev pub IsEquation : Pooled → Equation → Type 0
+IsEquation q x = IsAssigned q x.target x.value
+
+-- the condition or the subject of a block stands in the pool
+abbrev pub IsBegin : Pooled → Begin → Type 0
+IsBegin q (begin.If e) = e.0 < length q.exprs
+IsBegin q (begin.Elif e) = e.0 < length q.exprs
+IsBegin q begin.Else = ⊤
+IsBegin q (begin.Switch e) = e.0 < length q.exprs
+IsBegin q (begin.Case n) = ⊤
+IsBegin q begin.Default = ⊤
+IsBegin q begin.Misplaced = ⊤
+
+abbrev pub IsKept : Pooled → Kept → Type 0
+IsKept q (kept.Statement x) = IsEquation q x
+IsKept q (kept.Name n) = ⊤
+IsKept q (kept.Module m) = ⊤
+IsKept q (kept.Domains m) = ⊤
+IsKept q (kept.Domain m d) = ⊤
+IsKept q (kept.Member m) = ⊤
+IsKept q (kept.Signature n) = ⊤
+IsKept q (kept.BlockName m n) = ⊤
+IsKept q (kept.Block m b) = IsBegin q b
+IsKept q (kept.OfMachine x) = ⊤
+
+abbrev pub IsOpening : Pooled → Opening → Type 0
+IsOpening q (opening.If e) = e.0 < length q.exprs
+IsOpening q (opening.Elif e) = e.0 < length q.exprs
+IsOpening q (opening.Else e) = e.0 < length q.exprs
+IsOpening q (opening.Switch e) = e.0 < length q.exprs
+IsOpening q (opening.Case e) = e.0 < length q.exprs
+
+-- what a module was told: statements of named sides, and blocks whose conditions stand in the pool
+abbrev pub IsTold : Pooled → Step → Type 0
+IsTold q (Assign side target value place) = IsNamedSide side × IsAssigned q target value
+IsTold q (Enter o) = IsOpening q o
+IsTold q Leave = ⊤
+
+pub record IsBuilt (q : Pooled) (b : Built) : Type 0 where
+  pub steps : AllByRecursion (IsTold q) b.steps
+
+-- nothing before its register is the register
+abbrev pub IsFront : Pooled → Machine → Type 0
+IsFront q x = (k : ℕ) (e : Expr) → k < x.register.0 → slice_get q.exprs k ≡ Some e → is_signal x.signal.0 e ≡ false
+
+-- the pool has the machine's register, which is a target, and its statements are of a named side
+pub record IsMachine (q : Pooled) (x : OwnMachine) : Type 0 where
+  pub register : HasRegister q x.machine
+  pub target : is_target q x.machine.register.0 ≡ true
+  pub side : IsNamedSide x.machine.side
+  pub front : IsFront q x.machine
+
+pub record IsSound (h : Held) : Type 0 where
+  pub names : AllByRecursion (λ (x : Sig). IsName x.name) h.pool.signals
+  pub things : AreHeld (length h.pool.exprs) h.store.things
+  pub kept : AllByRecursion (IsKept h.pool) h.store.kept
+  pub modules : AllByRecursion (IsBuilt h.pool) h.store.modules
+  pub machines : AllByRecursion (IsMachine h.pool) h.store.machines
+  pub ports : AllByRecursion (λ (o : ℕ × List Port). ArePorts h.pool o.1) h.store.components.objects

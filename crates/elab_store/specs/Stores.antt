@@ -1,0 +1,118 @@
+-- What elaboration holds beside the heap of the program: the pool, and the store of things, modules and the top. Which acts change it is said
+-- family by family in the other files.
+use Rattle.std.specs.Prelude.{ℕ, List, [], ◌∷◌, ◌++◌, length, slice_get, Option, Some, None, option_and_then}
+use Rattle.py_values.specs.declared.val.ObjId.{ObjId}
+use Rattle.py_values.specs.declared.val.Val.{Val}
+use Rattle.py_values.specs.declared.val.Val.TheVariants as val
+use Rattle.py_frames.specs.declared.request.Answer.{Answer}
+use Rattle.py_frames.specs.declared.request.Answer.TheVariants as answer
+use Rattle.py_frames.specs.declared.request.Cause.{Cause}
+use Rattle.design_ir.specs.declared.expr.Pattern.{Pattern}
+use Rattle.design_ir.specs.Pools.{Pooled}
+use Rattle.amh_things.specs.declared.thing.Thing.{Thing}
+use Rattle.amh_things.specs.declared.thing.Thing.TheVariants as thing
+use Rattle.amh_things.specs.Things.{thing_of, kept_number}
+use Rattle.module_dsl.specs.Builders.{Built}
+use Rattle.elab_store.specs.declared.kept.Kept.{Kept}
+use Rattle.elab_store.specs.declared.kept.Kept.TheVariants as kept
+use Rattle.elab_store.specs.declared.kept.Top.{Top}
+use Rattle.amh_host.specs.declared.place.Place.{Place}
+use Rattle.elab_store.specs.declared.own_machine.OwnMachine.{OwnMachine}
+use Rattle.elab_store.specs.Components.{Components, no_components}
+
+pub record Stored : Type 0 where
+  -- all things that a program may hold, by number
+  pub things : List Thing
+  -- what the numbers stand for that things keep
+  pub kept : List Kept
+  -- modules in order of making, each with all that it was told
+  pub modules : List Built
+  -- the patterns of the cases that were called
+  pub patterns : List (List Pattern)
+  pub top : Top
+  -- classes over `Component`, and what their objects have
+  pub components : Components
+  -- state machines in order of making
+  pub machines : List OwnMachine
+  -- where the refusal is told, where this is not the place of the request
+  pub told : Option Place
+
+pub record Held : Type 0 where
+  pub pool : Pooled
+  pub store : Stored
+
+-- no top is named yet
+abbrev pub no_top : Top
+no_top = record { object = None; root = None }
+
+-- before the body of a program
+abbrev pub nothing_held : Held
+nothing_held = record { pool = record { signals = []; exprs = [] }; store = record { things = []; kept = []; modules = []; patterns = []; top = no_top; components = no_components; machines = []; told = None } }
+
+-- what a request is answered, and what is then held
+pub record Answered : Type 0 where
+  pub answer : Answer
+  pub held : Held
+
+-- a refusal changes nothing
+abbrev pub refused : Cause → Held → Answered
+refused why h = record { answer = answer.Refuse why; held = h }
+
+-- it is told at another place than the request's
+abbrev pub refused_at : Place → Cause → Held → Answered
+refused_at p why h = record { answer = answer.Refuse why; held = record h { store = record h.store { told = Some p } } }
+
+abbrev pub given : Val → Held → Answered
+given v h = record { answer = answer.Give v; held = h }
+
+-- ---- things
+
+-- the number of the next thing
+abbrev pub next_thing : Held → Val
+next_thing h = val.Hw (record { 0 = length h.store.things })
+
+abbrev pub store_with : Thing → Stored → Stored
+store_with t s = record s { things = s.things ++ t ∷ [] }
+
+abbrev pub with_thing : Thing → Held → Held
+with_thing t h = record h { store = store_with t h.store }
+
+-- a new thing is given
+abbrev pub thing_given : Thing → Held → Answered
+thing_given t h = given (next_thing h) (with_thing t h)
+
+-- a new thing of this crate
+abbrev pub store_keeping : Kept → Stored → Stored
+store_keeping k s = record s { things = s.things ++ thing.Kept (length s.kept) ∷ []; kept = s.kept ++ k ∷ [] }
+
+abbrev pub kept_given : Kept → Held → Answered
+kept_given k h = given (next_thing h) (record h { store = store_keeping k h.store })
+
+-- what a value is kept for, where it is a thing of this crate
+abbrev pub kept_of : Stored → Val → Option Kept
+kept_of s v = option_and_then (slice_get s.kept) (kept_number (thing_of s.things v))
+
+-- ---- modules and the top
+
+abbrev pub object_in : Val → Option ObjId
+object_in (val.Object o) = Some o
+object_in v = None
+
+-- the object that was first asked stays the top
+abbrev pub first_object : Option ObjId → Option ObjId → Option ObjId
+first_object (Some o) p = Some o
+first_object None p = p
+
+abbrev pub with_root : ℕ → Stored → Stored
+with_root m s = record s { top = record s.top { root = Some m } }
+
+abbrev pub with_object : Val → Stored → Stored
+with_object v s = record s { top = record { object = first_object s.top.object (object_in v); root = None } }
+
+abbrev pub module_of : Option Kept → Option ℕ
+module_of (Some (kept.Module m)) = Some m
+module_of k = None
+
+-- a module has no name of its own: nobody names the top
+abbrev pub store_and_module : Stored → Stored
+store_and_module s = record s { modules = s.modules ++ record { name = []; steps = [] } ∷ [] }

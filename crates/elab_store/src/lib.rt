@@ -1,0 +1,16 @@
+//! What elaboration holds beside the heap of a program, and the words of its definition.
+//!
+//! `Store` has the things that a program may hold, modules with their statements, classes over `Component`, state machines and the top;
+//! `Elaboration` has the pool beside it. What they are is specs/Stores.antt, and what they keep to is specs/Sound.antt. The acts that change
+//! them are a family each in elab_machines and elab_eval.
+#![tactic(auto)]
+
+pub mod calls;
+pub mod components;
+pub mod kept;
+pub mod members;
+pub mod names;
+pub mod objects;
+pub mod own_machine;
+pub mod shapes;
+pub mod store;

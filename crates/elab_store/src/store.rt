@@ -1,0 +1,269 @@
+// What elaboration holds beside the heap of a program.
+ghost use Rattle.std.specs.Prelude.{◌≡◌, ◌++◌, ◌∷◌, [], length, IfOk, OnErr, Some, None, IsSome, option_map, slice_get};
+ghost use Rattle.py_values.specs.Heaps.{seen};
+ghost use Rattle.py_values.specs.declared.val.Val.TheVariants as val;
+ghost use Rattle.amh_things.specs.declared.thing.Thing.TheVariants as thing;
+ghost use Rattle.amh_things.specs.Things.{name_called, thing_of, base_called, layout_named, read_as};
+ghost use Rattle.amh_things.specs.Meant.{shape_meant, expr_meant, Gives as Meant};
+ghost use Rattle.amh_things.specs.Held.{AreHeld};
+ghost use Rattle.amh_things.specs.Members.{counted};
+ghost use Rattle.elab_store.specs.Stores.{store_and_module};
+ghost use Rattle.elab_store.specs.Components.{no_components};
+ghost use Rattle.elab_store.specs.Stores.{nothing_held, no_top, kept_of, store_with, store_keeping, kept_given, given, refused, refused_at};
+ghost use Rattle.elab_store.specs.Stores.{with_root, with_object, module_of};
+ghost use Rattle.elab_store.specs.Held.{held_of, Gives};
+
+use crate::components::Components;
+use crate::kept::{Kept, Top};
+use crate::objects::first_object;
+use crate::own_machine::OwnMachine;
+use amh_bits::Int;
+use amh_host::Place;
+use amh_things::comparing::counted;
+use amh_things::meant::{expr_meant, shape_meant};
+use amh_things::plan::{PlanStop, read_as};
+use amh_things::thing::Reading;
+use amh_things::values::Values;
+use design_ir::{ExprId, Patterns, Pool};
+use lists::NoMemory;
+use module_dsl::Builder;
+use py_frames::request::{Answer, Cause};
+use py_values::{Frozen, Heap, Val};
+use shape_rules::Shape;
+use std::alloc::Global;
+use std::marker::Model;
+
+/// The things that a program may hold, what this crate knows of them, the modules with their statements, and the top. Contracts see it as
+/// `Stored`.
+#[derive(Drop)]
+pub struct Store {
+    pub things: Values,
+    pub kept: Vec<Kept>,
+    pub modules: Vec<Builder>,
+    pub patterns: Vec<Patterns>,
+    pub statements: u32,
+    pub top: Top,
+    pub components: Components,
+    pub machines: Vec<OwnMachine>,
+    pub told: Option<Place>,
+}
+
+impl Model for Store {
+    ghost use Rattle.elab_store.specs.Stores.{Stored};
+    ghost use Rattle.elab_store.specs.Kept.{IsStore};
+    ghost use Rattle.std.specs.Prelude.{[]};
+
+    ghost Value = { Stored };
+
+    ghost view = { λ a. record { things = a.things; kept = a.kept.items; modules = a.modules.items; patterns = a.patterns.items; top = a.top; components = a.components; machines = a.machines.items; told = a.told } };
+
+    ghost invariant = { λ a. IsStore a.statements a.modules.items a.patterns.items };
+}
+
+impl Store {
+    /// Nothing yet, which takes no memory.
+    fn new(alloc: Global) -> Store
+        ensures { result ≡ record { things = []; kept = []; modules = []; patterns = []; top = no_top; components = no_components; machines = []; told = None } }
+    {
+        Store {
+            things: Values::new(alloc),
+            kept: Vec::new(alloc),
+            modules: Vec::new(alloc),
+            patterns: Vec::new(alloc),
+            statements: 0,
+            top: Top {
+                object: None,
+                root: None,
+            },
+            components: Components::new(alloc),
+            machines: Vec::new(alloc),
+            told: None,
+        }
+    }
+
+    /// A new thing of this crate.
+    pub fn keep(&mut self, kept: Kept) -> Result<Val, NoMemory>
+        ensures { IfOk result (λ v. (v ≡ val.Hw (record { 0 = length self.old.things })) × (self.new ≡ store_keeping kept self.old)) }
+    {
+        let number = self.kept.len();
+        if number >= 4_294_967_295 {
+            return Err(NoMemory);
+        }
+        let hw = self.things.keep(number as u32)?;
+        self.kept.push(kept)?;
+        Ok(Val::Hw(hw))
+    }
+
+    /// A name of amh_values, as a thing.
+    pub fn name(&mut self, name: &str) -> Result<Val, NoMemory>
+        requires { IsSome (name_called name.now) }
+        ensures { IfOk result (λ v. (v ≡ val.Hw (record { 0 = length self.old.things })) × (Some self.new ≡ option_map (λ n. store_with (thing.Name n) self.old) (name_called name.now))) }
+    {
+        let hw = self.things.name(name)?;
+        Ok(Val::Hw(hw))
+    }
+
+    /// A name over which a class makes an enumeration, as a thing.
+    pub fn base(&mut self, name: &str) -> Result<Val, NoMemory>
+        requires { IsSome (base_called name.now) }
+        ensures { IfOk result (λ v. (v ≡ val.Hw (record { 0 = length self.old.things })) × (Some self.new ≡ option_map (λ n. store_with (thing.Name n) self.old) (base_called name.now))) }
+    {
+        let hw = self.things.base(name)?;
+        Ok(Val::Hw(hw))
+    }
+
+    /// A name of a layout, as a thing.
+    pub fn layout_name(&mut self, name: &str) -> Result<Val, NoMemory>
+        requires { IsSome (layout_named name.now) }
+        ensures { IfOk result (λ v. (v ≡ val.Hw (record { 0 = length self.old.things })) × (Some self.new ≡ option_map (λ n. store_with (thing.Name n) self.old) (layout_named name.now))) }
+    {
+        let hw = self.things.layout_name(name)?;
+        Ok(Val::Hw(hw))
+    }
+
+    /// The number that a value of the program is, a member of an enumeration too.
+    pub fn counted(&self, v: &Val) -> Option<Int>
+        ensures { result ≡ counted self.now.things v.now }
+    {
+        counted(&self.things, v)
+    }
+
+    /// The expression that a value of the program is.
+    pub fn value_meant(&self, alloc: Global, pool: &mut Pool, v: &Val) -> Result<ExprId, PlanStop>
+        requires { AreHeld (length pool.old.exprs) self.now.things }
+        ensures { Meant (expr_meant pool.old self.now.things v.now) result pool.old pool.new }
+    {
+        expr_meant(alloc, pool, &self.things, v)
+    }
+
+    /// The shape that a value of the program is.
+    pub fn shape_meant(&self, heap: &Heap, frozen: &Frozen, v: &Val) -> Result<Shape, Cause>
+        ensures { result ≡ shape_meant (seen frozen.now heap.now) self.now.things v.now }
+    {
+        shape_meant(&self.things, heap, frozen, v)
+    }
+
+    /// The value of an expression by what its bits are read as, as a new thing.
+    pub fn hold(&mut self, reading: Reading, e: ExprId) -> Result<Val, NoMemory>
+        ensures { IfOk result (λ v. (v ≡ val.Hw (record { 0 = length self.old.things })) × (self.new ≡ store_with (read_as reading e) self.old)) }
+    {
+        let hw = self.things.put(read_as(reading, e))?;
+        Ok(Val::Hw(hw))
+    }
+
+    /// A new module without statements.
+    pub fn add_module(&mut self, alloc: Global) -> Result<u32, NoMemory>
+        ensures { IfOk result (λ m. (m ≡ length self.old.modules) × (self.new ≡ store_and_module self.old)) }
+    {
+        let number = self.modules.len();
+        if number >= 4_294_967_295 {
+            return Err(NoMemory);
+        }
+        let builder = Builder::new(alloc, "")?;
+        self.modules.push(builder)?;
+        Ok(number as u32)
+    }
+
+    /// The module that is to be elaborated.
+    pub fn set_root(&mut self, root: u32)
+        ensures { self.new ≡ with_root root self.old }
+    {
+        self.top.root = Some(root);
+    }
+
+    /// `elaborate` of an object is called.
+    pub fn ask_object(&mut self, v: Val)
+        ensures { self.new ≡ with_object v self.old }
+    {
+        self.top.object = first_object(self.top.object, v);
+        self.top.root = None;
+    }
+
+    /// Where a refusal is told, where this is not the place of its request.
+    pub fn told(&self) -> Option<Place>
+        ensures { result ≡ self.now.told }
+    {
+        self.told
+    }
+
+    // Where a refusal is told.
+    fn tell_at(&mut self, place: Place)
+        ensures { self.new ≡ record self.old { told = Some place } }
+    {
+        self.told = Some(place);
+    }
+
+    /// The module that a value is.
+    pub fn module_of(&self, v: &Val) -> Option<u32>
+        ensures { result ≡ module_of (kept_of self.now v.now) }
+    {
+        match self.kept_of(*v) {
+            Some(Kept::Module(m)) => Some(m),
+            _ => None,
+        }
+    }
+
+    /// What a value is kept for, where it is a thing of this crate.
+    pub fn kept_of(&self, v: Val) -> Option<Kept>
+        ensures { result ≡ kept_of self.now v }
+    {
+        let Val::Hw(hw) = v else {
+            return None;
+        };
+        match self.things.kept(hw) {
+            Some(number) => self.kept.get(number as usize).copied(),
+            None => None,
+        }
+    }
+}
+
+/// A pool and a store, as they grow.
+#[derive(Drop)]
+pub struct Elaboration {
+    pub alloc: Global,
+    pub pool: Pool,
+    pub store: Store,
+}
+
+impl Elaboration {
+    /// Nothing yet, which takes no memory.
+    pub fn new(alloc: Global) -> Elaboration
+        ensures { held_of result ≡ nothing_held }
+    {
+        Elaboration {
+            alloc,
+            pool: Pool::new(alloc),
+            store: Store::new(alloc),
+        }
+    }
+
+    /// A new thing of this crate is given.
+    pub fn give_kept(&mut self, kept: Kept) -> Result<Answer, NoMemory>
+        ensures { Gives result self.new (kept_given kept (held_of self.old)) }
+    {
+        let v = self.store.keep(kept)?;
+        Ok(Answer::Give(v))
+    }
+
+    /// A refusal, which changes nothing.
+    pub fn refuse(&mut self, why: Cause) -> Result<Answer, NoMemory>
+        ensures { Gives result self.new (refused why (held_of self.old)) }
+    {
+        Ok(Answer::Refuse(why))
+    }
+
+    /// A refusal that is told at another place than the request's.
+    pub fn refuse_at(&mut self, place: Place, why: Cause) -> Result<Answer, NoMemory>
+        ensures { Gives result self.new (refused_at place why (held_of self.old)) }
+    {
+        self.store.tell_at(place);
+        Ok(Answer::Refuse(why))
+    }
+
+    /// A value that is there.
+    pub fn give(&mut self, v: Val) -> Result<Answer, NoMemory>
+        ensures { Gives result self.new (given v (held_of self.old)) }
+    {
+        Ok(Answer::Give(v))
+    }
+}
