@@ -1,6 +1,6 @@
 -- The ports of components stand in the pool, under names, and each signal once.
 use Rattle.std.specs.Prelude.{◌≡◌, refl, ℕ, suc, ◌<◌, ◌≤◌, ◌&&◌, ◌||◌, Bool, true, false, cond, List, [], ◌∷◌, ◌++◌, map, length, nat_eq, Option, Some, None}
-use Rattle.std.specs.List.{AllByRecursion, IsDistinct, list_any, list_all}
+use Rattle.std.specs.List.{AllByRecursion, IsDistinct, list_any}
 use Rattle.std.specs.Map.{lookup}
 use Rattle.std.specs.Ordering.{nat_cmp, match_ordering}
 use Rattle.std.specs.declared.cmp.Ordering.{Ordering}
@@ -10,9 +10,8 @@ use Rattle.std.specs.Cmp.{nat_eq_equiv}
 use Rattle.std.proofs.Common.{sym, ◌∙◌, ap, subst, arith, true≢false}
 use Rattle.std.proofs.lemmas.List.{map-append}
 use Rattle.std.proofs.lemmas.Map.Keys.{IsDistinct-push}
-use Rattle.std.proofs.lemmas.List.Sums.{AllPass-from_list_all}
 use Rattle.std.proofs.lemmas.Bool.{eqb-true}
-use Rattle.lists.specs.Names.{IsName, starts_name, continues_name}
+use Rattle.lists.specs.Names.{IsName}
 use Rattle.design_ir.specs.declared.port.Port.{Port}
 use Rattle.design_ir.specs.declared.signal.Sig.{Sig}
 use Rattle.design_ir.specs.Pools.{Pooled}
