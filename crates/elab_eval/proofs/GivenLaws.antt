@@ -13,6 +13,7 @@ use Rattle.elab_store.specs.declared.kept.Equation.{Equation}
 use Rattle.elab_store.specs.Stores.{Stored, Held}
 use Rattle.elab_store.specs.Kept.{IsStore}
 use Rattle.elab_eval.specs.Blocks.{stop_cause, store_told, with_entered, entering_by, entering, leaving_by, leaving}
+use Rattle.elab_store.proofs.CountLaws.{past_get}
 use Rattle.elab_store.specs.Counts.{statement_count}
 use Rattle.elab_eval.specs.Sides.{store_with_statement, statement_told}
 
