@@ -23,7 +23,7 @@ use Rattle.design_ir.proofs.AimSteps.{all_chosen, aims_is}
 use Rattle.design_ir.proofs.AimLaws.{chosen_back, within_back, raised_back}
 use Rattle.comb_graph.specs.Rules.{IsAim}
 use Rattle.comb_graph.specs.Seen.{StandsBelow}
-use Rattle.comb_graph.proofs.Members.{all_from_contains, all_at}
+use Rattle.digraph.proofs.Members.{all_from_contains, all_at}
 
 abbrev aim : Bit → Spot → Aim
 aim b s = record { bit = b; spot = s }

@@ -25,7 +25,8 @@ use Rattle.comb_graph.specs.Places.{bit_nodes}
 use Rattle.comb_graph.specs.Rules.{IsAim}
 use Rattle.comb_graph.specs.Seen.{AllStandBelow, HasRows, HasAims, row_at, seen, spot_of}
 use Rattle.comb_graph.proofs.AimBits.{aims_are}
-use Rattle.comb_graph.proofs.GraphRows.{drop-next, take-push, flat_more}
+use Rattle.digraph.proofs.Takes.{take-push}
+use Rattle.comb_graph.proofs.GraphRows.{drop-next, flat_more}
 use Rattle.comb_graph.proofs.GraphSteps.{signals_fit}
 
 -- ---- nodes and bits

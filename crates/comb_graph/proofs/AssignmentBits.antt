@@ -23,7 +23,7 @@ use Rattle.design_ir.proofs.NumbersFit.{FitsSignals}
 use Rattle.comb_graph.proofs.Decided.{all_left, all_right}
 use Rattle.comb_graph.proofs.PoolBits.{IsShared, num_shared, num_bit_shared}
 use Rattle.comb_graph.proofs.SharedPlaces.{places_shared}
-use Rattle.comb_graph.proofs.Members.{all_from_contains}
+use Rattle.digraph.proofs.Members.{all_from_contains}
 use Rattle.comb_graph.proofs.FoundAims.{places_aimed, cases_aim, places_inside}
 use Rattle.comb_graph.proofs.PlaceWrites.{put_bits_length, put_bits_kept, put_bits_shared}
 

@@ -28,7 +28,7 @@ use Rattle.design_ir.proofs.Equations.{standing, answer_at}
 use Rattle.comb_graph.specs.Orders.{is_comb}
 use Rattle.comb_graph.specs.CombTargets.{is_marked, IsMarked, statement_targets, choices_targets, block_targets, comb_targets, own_signals, target_parts, numbers, IsAimedAt, IsFound, FindsSame, comb_word, comb_words}
 use Rattle.comb_graph.specs.CombNodes.{AreCombSignals}
-use Rattle.comb_graph.proofs.WalkPaths.{contains-head, contains-cases}
+use Rattle.digraph.proofs.WalkPaths.{contains-head, contains-cases}
 use Rattle.design_ir.proofs.Elements.{map_of, flat_of, any_of, any_has}
 use Rattle.comb_graph.proofs.GraphNeeds.{map_has, flat_has}
 use Rattle.comb_graph.proofs.CombMarks.{marked_inside, fresh_marks}

@@ -10,7 +10,7 @@ use Rattle.design_ir.specs.declared.stmt.Stmt.{Stmt}
 use Rattle.design_ir.specs.declared.stmt.Arm.{Arm}
 use Rattle.design_ir.specs.Statements.{statement_of, block_of, choices_of}
 use Rattle.comb_graph.specs.CombTargets.{is_marked, IsMarked, statement_targets, choices_targets, block_targets, numbers}
-use Rattle.comb_graph.proofs.GraphBlocks.{take-push}
+use Rattle.digraph.proofs.Takes.{take-push}
 
 pub marked_none : (marks : List Bool) → IsMarked [] marks marks
 marked_none marks = record { size = refl; kept = λ n is. is; added = λ n in'. absurd (omega (arith, in'.1)); only = λ n is. inl is }

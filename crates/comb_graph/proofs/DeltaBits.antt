@@ -21,7 +21,7 @@ use Rattle.design_ir.proofs.GuardLaws.{put_guarded, put_is}
 use Rattle.design_ir.proofs.PutLaws.{put_length, put_other}
 use Rattle.design_ir.proofs.NumbersFit.{FitsSignals}
 use Rattle.comb_graph.proofs.PoolBits.{IsShared}
-use Rattle.comb_graph.proofs.Members.{contains_first, contains_more}
+use Rattle.digraph.proofs.Members.{contains_first, contains_more}
 use Rattle.comb_graph.proofs.PutFits.{AreTargets, put_fits}
 use Rattle.comb_graph.proofs.AssignmentBits.{guarded_length, guarded_shared}
 

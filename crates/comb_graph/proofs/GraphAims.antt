@@ -9,7 +9,7 @@ use Rattle.design_ir.specs.Values.{form}
 use Rattle.design_ir.specs.Needed.{needed_whole, needed_indices}
 use Rattle.design_ir.specs.Loops.{needed_value}
 use Rattle.comb_graph.specs.declared.aimed.Aimed.{Aimed}
-use Rattle.comb_graph.specs.Graphs.{Digraph, IsGraph, joined, leading}
+use Rattle.digraph.specs.Graphs.{Digraph, IsGraph, joined, leading}
 use Rattle.comb_graph.specs.Meanings.{node_of, Means, MeanAll}
 use Rattle.comb_graph.specs.Places.{HasPlaces, bit_nodes, first_of, whole_at, indices_at, extended_at}
 use Rattle.comb_graph.specs.Rules.{Rule, ObeysRules, Adds, AddsAims, AddsAssignment, guard_reads, reading, value_targets}
@@ -17,7 +17,7 @@ use Rattle.comb_graph.specs.Seen.{seen, spot_of}
 use Rattle.comb_graph.proofs.AimTables.{node_back}
 use Rattle.comb_graph.proofs.GraphMeanings.{mean-one, mean-cons, means_more, extends_same, extends_then, extends_joined, joined_leads, joined_means}
 use Rattle.comb_graph.proofs.GraphPlaces.{whole, extends}
-use Rattle.comb_graph.proofs.GraphRows.{take_at}
+use Rattle.digraph.proofs.Takes.{take_at, take_end}
 use Rattle.comb_graph.proofs.GraphRules.{extends_leading, obeys_more, obeys_rule}
 
 -- where a value's part needs to lead
@@ -77,10 +77,6 @@ adds_joined g h pool ts new graph size inside a = record {
   rules = λ rules o. a.rules rules (obeys_joined g (bit_nodes pool) ts rules graph size inside o);
 }
 
-pub take_all : {X : Type 0} (xs : List X) → take (length xs) xs ≡ xs
-take_all [] = refl
-take_all (x ∷ xs) = ap (λ ys. x ∷ ys) (take_all xs)
-
 pub assignment : (g h : Digraph) (pool : Pooled) (firsts : List ℕ) (guard : ℕ) (target value : ExprId) (row : List Aimed) → IsGraph g → HasPlaces g pool firsts → target.0 < length firsts → map seen row ≡ aims pool target.0
     → AddsAims (joined g (guard ∷ indices_at (form pool) (first_of firsts) target ∷ [])) h pool g.size value row (length row) → AddsAssignment g h pool guard target value
 assignment g h pool firsts guard target value row graph p there is added x same-target same-value m =
@@ -93,7 +89,7 @@ assignment g h pool firsts guard target value row graph p there is added x same-
     (mean-one g count ind (needed_indices pool target.0) (p.placed.placed target.0 there).indices) in
     let shared = joined_means g count (guard ∷ ind ∷ []) reads graph p.size both in
     let a = added reads shared in
-    let all : take (length row) (map seen row) ≡ xs = ap (λ n. take n (map seen row)) (sym (length-map row seen)) ∙ take_all (map seen row) ∙ is in
+    let all : take (length row) (map seen row) ≡ xs = take_end (map seen row) (length row) (sym (length-map row seen)) ∙ is in
     let a' = subst (λ ys. Adds (joined g (guard ∷ ind ∷ [])) h pool (map (reading pool value reads) ys)) all a in
     let P : ExprId → ExprId → Type 0 = λ t v. Adds g h pool (map (reading pool v (guard_reads pool x.guards ++ needed_indices pool t.0)) (aims pool t.0)) in
     subst (λ t. P t x.value) (sym same-target) (subst (λ v. P target v) (sym same-value) (adds_joined g h pool (guard ∷ ind ∷ []) (map (reading pool value reads) xs) graph p.size both.inside a'))

@@ -12,15 +12,15 @@ use Rattle.design_ir.specs.Guards.{Guard, Guarded, guarded, guarded_in, guarded_
 use Rattle.design_ir.specs.Needed.{needed_whole}
 use Rattle.design_ir.specs.Pools.{Pooled}
 use Rattle.design_ir.specs.Values.{form}
-use Rattle.comb_graph.specs.Graphs.{Digraph, IsGraph, joined}
+use Rattle.digraph.specs.Graphs.{Digraph, IsGraph, joined}
 use Rattle.comb_graph.specs.Meanings.{Means, Extends}
 use Rattle.comb_graph.specs.Places.{HasPlaces, bit_nodes, first_of, whole_at}
 use Rattle.comb_graph.specs.Rules.{Rule, ObeysRules, Adds, AddsBlock, AddsStatement, AddsArms, MeansPassed, passed, guard_reads, rules_of, all_rules}
-use Rattle.comb_graph.proofs.GraphLists.{some-same}
+use Rattle.digraph.proofs.GraphLists.{some-same}
 use Rattle.comb_graph.proofs.GraphMeanings.{mean-one, mean-cons, means_more, extends_same, extends_then, joined_means, two_inside}
 use Rattle.comb_graph.proofs.GraphPlaces.{whole}
-use Rattle.comb_graph.proofs.GraphAims.{adds_joined, take_all}
-use Rattle.comb_graph.proofs.GraphRows.{take_at}
+use Rattle.comb_graph.proofs.GraphAims.{adds_joined}
+use Rattle.digraph.proofs.Takes.{take-push}
 
 -- ---- rules that were added
 
@@ -81,9 +81,6 @@ arm_names n (b ∷ arms) (suc i) a h at = arm_names n arms i a (below-split n (b
 
 -- ---- turns
 
-pub take-push : {X : Type 0} (xs : List X) (i : ℕ) (x : X) → slice_get xs i ≡ Some x → take (i + 1) xs ≡ take i xs ++ x ∷ []
-take-push xs i x at = let next : i + 1 ≡ suc i = omega arith in ap (λ n. take n xs) next ∙ take_at xs i x at
-
 pub block_begin : (g : Digraph) (pool : Pooled) (guard : ℕ) → AddsBlock g g pool guard done
 block_begin g pool guard gs m = adds_none g pool
 
@@ -134,6 +131,3 @@ passed_turn g h j pool firsts guard inner arms i a graph p there at graph' e mea
     let new = means_more h1 j (bit_nodes pool) h.size (guard_reads pool (old ++ record { condition = c; taken = false } ∷ [])) graph' e (arm_mean h pool firsts inner old c false graph p there (means gs m)) in
     let split : passed gs (choices_of (take (i + 1) arms)) ≡ old ++ record { condition = c; taken = false } ∷ [] = ap (λ zs. passed gs (choices_of zs)) (take-push arms i a at) ∙ passed-push gs (take i arms) a in
     subst (λ zs. Means j (bit_nodes pool) h.size (guard_reads pool zs)) (sym split) new
-
-pub take_end : {X : Type 0} (xs : List X) (i : ℕ) → i ≡ length xs → take i xs ≡ xs
-take_end xs i end = ap (λ n. take n xs) end ∙ take_all xs

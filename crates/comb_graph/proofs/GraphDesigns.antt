@@ -8,9 +8,9 @@ use Rattle.design_ir.specs.Guards.{block_exprs}
 use Rattle.design_ir.specs.Circuits.{Circuit}
 use Rattle.design_ir.specs.Designs.{IsUsable, IsProcess}
 use Rattle.design_ir.specs.Pools.{Pooled}
-use Rattle.comb_graph.specs.Graphs.{Digraph}
+use Rattle.digraph.specs.Graphs.{Digraph}
 use Rattle.comb_graph.specs.Rules.{ObeysRules, Adds, all_rules, comb_part, comb_assignments}
-use Rattle.comb_graph.proofs.GraphLists.{some-same}
+use Rattle.digraph.proofs.GraphLists.{some-same}
 use Rattle.comb_graph.proofs.GraphBlocks.{adds_then, rules-append}
 use Rattle.comb_graph.proofs.GraphRows.{flat_more}
 

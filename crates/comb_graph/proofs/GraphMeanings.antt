@@ -3,12 +3,12 @@ use Rattle.std.proofs.Common.{◌≡◌, ◌⊎◌, inl, inr, ℕ, ◌<◌, ◌�
 use Rattle.std.specs.List.{Contains}
 use Rattle.std.proofs.lemmas.List.Elements.{Contains-append_left, Contains-append_right, Contains-append_cases}
 use Rattle.design_ir.specs.Targets.{Bit}
-use Rattle.comb_graph.specs.declared.graph.Edge.{Edge}
-use Rattle.comb_graph.specs.Graphs.{Digraph, IsGraph, IsEdge, Leads, edge, joined}
+use Rattle.digraph.specs.declared.graph.Edge.{Edge}
+use Rattle.digraph.specs.Graphs.{Digraph, IsGraph, IsEdge, Leads, edge, joined}
 use Rattle.comb_graph.specs.Meanings.{node_of, Walks, Comes, IsBitAt, MeanAll, Means, Extends, KeepsSignals}
-use Rattle.comb_graph.proofs.GraphLinks.{edge_inside}
-use Rattle.comb_graph.proofs.WalkLaws.{at_leads}
-use Rattle.comb_graph.proofs.WalkPaths.{contains-cons, contains-head, contains-cases}
+use Rattle.digraph.proofs.GraphLinks.{edge_inside}
+use Rattle.digraph.proofs.WalkLaws.{at_leads}
+use Rattle.digraph.proofs.WalkPaths.{contains-cons, contains-head, contains-cases}
 
 -- an edge leads to a node
 pub leads_inside : (g : Digraph) (a b : ℕ) → IsGraph g → Leads g a b → IsEdge g.size (edge a b)

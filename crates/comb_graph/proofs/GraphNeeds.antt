@@ -12,7 +12,7 @@ use Rattle.design_ir.specs.Pools.{Pooled}
 use Rattle.design_ir.specs.Values.{signal_form}
 use Rattle.design_ir.specs.Loops.{ProcessNeeds, ReadNeeds, Needs}
 use Rattle.comb_graph.specs.Rules.{Rule, IsAsked, rule_of, rules_of, all_rules, comb_part, comb_assignments, word_rule, word_rules, read_rules, memory_rules, needs_rules}
-use Rattle.comb_graph.proofs.WalkPaths.{contains-cons, contains-head, contains-cases}
+use Rattle.digraph.proofs.WalkPaths.{contains-cons, contains-head, contains-cases}
 use Rattle.design_ir.proofs.Elements.{map_of, flat_of, range_of}
 
 pub flat_has : {X Y : Type 0} (f : X → List Y) (xs : List X) (x : X) (y : Y) → Contains xs x → Contains (f x) y → Contains (flat_map f xs) y

@@ -17,7 +17,7 @@ use Rattle.design_ir.specs.PoolRules.{IsInRange}
 use Rattle.design_ir.specs.Targets.{Bit}
 use Rattle.design_ir.specs.Values.{form, form_step, total_width}
 use Rattle.design_ir.specs.Needed.{is_bitwise, extended, every, joined_bits, bits_step, needed, needed_indices, index_step}
-use Rattle.comb_graph.specs.Graphs.{Digraph}
+use Rattle.digraph.specs.Graphs.{Digraph}
 use Rattle.comb_graph.specs.Meanings.{Means, MeanAll, node_of}
 use Rattle.comb_graph.specs.Places.{ArePlaced, FitSignals, extended_at, joined_at, whole_at, indices_at, bit_targets, index_targets}
 use Rattle.comb_graph.proofs.GraphMeanings.{mean-none, mean-one, mean-append, mean-cons, mean-bit}

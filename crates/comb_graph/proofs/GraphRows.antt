@@ -7,15 +7,8 @@ use Rattle.std.proofs.lemmas.List.Elements.{filter_map-append}
 use Rattle.shape_rules.specs.Forms.{Form}
 use Rattle.design_ir.specs.declared.ids.ExprId.{ExprId}
 use Rattle.design_ir.specs.Values.{total_width}
-use Rattle.comb_graph.proofs.GraphLists.{some-same}
-
-pub take_at : {X : Type 0} (xs : List X) (i : ℕ) (x : X) → slice_get xs i ≡ Some x → take (suc i) xs ≡ take i xs ++ x ∷ []
-take_at [] i x at = absurd cc
-take_at (y ∷ xs) zero x at = ap (λ z. z ∷ []) (some-same y x at)
-take_at (y ∷ xs) (suc i) x at = ap (λ zs. y ∷ zs) (take_at xs i x at)
-
-pub take-push : {X : Type 0} (xs : List X) (i : ℕ) (x : X) → slice_get xs i ≡ Some x → take (i + 1) xs ≡ take i xs ++ x ∷ []
-take-push xs i x at = let next : i + 1 ≡ suc i = omega arith in ap (λ n. take n xs) next ∙ take_at xs i x at
+use Rattle.digraph.proofs.GraphLists.{some-same}
+use Rattle.digraph.proofs.Takes.{take-push}
 
 drop_at : {X : Type 0} (xs : List X) (i : ℕ) (x : X) → slice_get xs i ≡ Some x → drop i xs ≡ x ∷ drop (suc i) xs
 drop_at [] i x at = absurd cc

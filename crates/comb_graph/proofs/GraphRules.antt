@@ -2,7 +2,7 @@
 use Rattle.std.proofs.Common.{◌≡◌, ◌⊎◌, inl, inr, ℕ, ◌<◌, List, [], ◌∷◌, ◌++◌, map, sym, subst, arith}
 use Rattle.std.specs.List.{Contains}
 use Rattle.std.proofs.lemmas.List.Elements.{Contains-append_left, Contains-append_right, Contains-append_cases, Contains-push, Contains-push_cases}
-use Rattle.comb_graph.specs.Graphs.{Digraph, IsGraph, Leads, edge, leading}
+use Rattle.digraph.specs.Graphs.{Digraph, IsGraph, Leads, edge, leading}
 use Rattle.comb_graph.specs.Meanings.{node_of, MeanAll, Extends}
 use Rattle.comb_graph.specs.Rules.{Rule, IsRuled, ObeysRules}
 use Rattle.comb_graph.proofs.GraphMeanings.{leads_inside, comes_more, comes_old, map_edges, edges_map}

@@ -13,7 +13,7 @@ use Rattle.design_ir.specs.Targets.{Bit}
 use Rattle.design_ir.specs.Values.{form}
 use Rattle.design_ir.specs.Needed.{every, bits_step, needed, needed_indices}
 use Rattle.design_ir.proofs.Equations.{standing, form_is}
-use Rattle.comb_graph.specs.Graphs.{Digraph, IsGraph, joined}
+use Rattle.digraph.specs.Graphs.{Digraph, IsGraph, joined}
 use Rattle.comb_graph.specs.Meanings.{Means, MeanAll, Extends}
 use Rattle.comb_graph.specs.Places.{IsPlaced, ArePlaced, FitSignals, HasPlaces, HasBits, HasNode, bit_nodes, first_of, bit_targets, index_targets}
 use Rattle.comb_graph.proofs.GraphMeanings.{mean-none, mean-cons, means_more, extends_same, extends_then, extends_joined, joined_means, signals_joined}

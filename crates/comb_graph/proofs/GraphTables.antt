@@ -15,7 +15,7 @@ use Rattle.design_ir.specs.Needed.{every, needed, needed_indices}
 use Rattle.design_ir.specs.Circuits.{at}
 use Rattle.amh_bits.specs.Patterns.{IsOf}
 use Rattle.design_ir.proofs.NumbersFit.{has_shape}
-use Rattle.comb_graph.specs.Graphs.{Digraph, IsGraph}
+use Rattle.digraph.specs.Graphs.{Digraph, IsGraph}
 use Rattle.comb_graph.specs.Meanings.{Means, Extends}
 use Rattle.comb_graph.specs.Places.{IsPlaced, HasPlaces, HasBits, HasNode, bit_nodes, first_of}
 use Rattle.comb_graph.proofs.GraphMeanings.{means_more, extends_then}

@@ -11,7 +11,6 @@ pub mod DeltaBits
 pub mod DeltaLaws
 pub mod Positions
 pub mod SettledOnce
-pub mod Members
 pub mod FoundAims
 pub mod PutFits
 pub mod ReadBits
@@ -24,17 +23,7 @@ pub mod EventStarts
 pub mod FewDeltas
 pub mod SanityOrders
 pub mod ListedNeeds
-pub mod GraphLists
 pub mod GraphBelow
-pub mod GraphLinks
-pub mod GraphNodes
-pub mod WalkPaths
-pub mod WalkLaws
-pub mod WalkTurns
-pub mod WalkWork
-pub mod WalkEnds
-pub mod SearchLaws
-pub mod CutLaws
 pub mod GraphMeanings
 pub mod GraphPlaces
 pub mod GraphNeeded
@@ -50,7 +39,6 @@ pub mod AimTables
 pub mod GraphRows
 pub mod GraphDesigns
 pub mod GraphNeeds
-pub mod DepthLaws
 pub mod ToldLaws
 pub mod ToldAims
 pub mod ReadLaws

@@ -8,13 +8,13 @@ use Rattle.design_ir.specs.PoolRules.{IsPool}
 use Rattle.design_ir.specs.Circuits.{Circuit}
 use Rattle.comb_graph.specs.declared.ranks.RankedBit.{RankedBit}
 use Rattle.comb_graph.specs.declared.stop.GraphStop.TheVariants.{Loop as loop_stop}
-use Rattle.comb_graph.specs.Graphs.{Digraph, IsSorted}
+use Rattle.digraph.specs.Graphs.{Digraph, IsSorted}
 use Rattle.comb_graph.specs.Places.{bit_nodes}
 use Rattle.comb_graph.specs.Orders.{IsOrder}
-use Rattle.comb_graph.specs.Searches.{IsLeast}
-use Rattle.comb_graph.specs.Walks.{IsSeen}
-use Rattle.comb_graph.specs.declared.walk.Mark.{Mark}
-use Rattle.comb_graph.specs.Depths.{is_counted, IsMost}
+use Rattle.digraph.specs.Searches.{IsLeast}
+use Rattle.digraph.specs.Walks.{IsSeen}
+use Rattle.digraph.specs.declared.walk.Mark.{Mark}
+use Rattle.digraph.specs.Depths.{is_counted, IsMost}
 use Rattle.comb_graph.specs.CombNodes.{bit_at, is_comb_node, AreCombNodes, comb_bits}
 use Rattle.comb_graph.specs.Rankings.{bit_of, IsRanking}
 use Rattle.comb_graph.specs.Refusals.{IsLeastLoop, IsRefused, loop_place}

@@ -11,10 +11,10 @@ use Rattle.design_ir.specs.Circuits.{Circuit}
 use Rattle.comb_graph.specs.Orders.{is_comb, IsCombBit, same_bit}
 use Rattle.comb_graph.specs.Meanings.{node_of}
 use Rattle.comb_graph.specs.CombNodes.{bit_at, is_comb_bit, is_comb_node, comb_bits}
-use Rattle.comb_graph.proofs.WalkPaths.{contains-cons, contains-head, contains-cases}
+use Rattle.digraph.proofs.WalkPaths.{contains-cons, contains-head, contains-cases}
 use Rattle.design_ir.proofs.Elements.{map_of}
 use Rattle.comb_graph.proofs.GraphNeeds.{map_has}
-use Rattle.comb_graph.proofs.Members.{all_from_contains}
+use Rattle.digraph.proofs.Members.{all_from_contains}
 use Rattle.comb_graph.proofs.RankPaths.{bit_same, comb_node}
 
 -- ---- nodes and bits

@@ -7,22 +7,22 @@ use Rattle.design_ir.specs.Targets.{Bit}
 use Rattle.design_ir.specs.PoolRules.{IsPool}
 use Rattle.design_ir.specs.Circuits.{Circuit}
 use Rattle.design_ir.specs.Loops.{Needs, Chain, Loop}
-use Rattle.comb_graph.specs.Graphs.{Digraph, Reaches, IsSorted}
+use Rattle.digraph.specs.Graphs.{Digraph, Reaches, IsSorted}
 use Rattle.comb_graph.specs.Meanings.{node_of}
 use Rattle.comb_graph.specs.Places.{bit_nodes}
 use Rattle.comb_graph.specs.Orders.{IsCombBit, IsOrder, IsCombChain, IsLongest}
 use Rattle.comb_graph.specs.Refusals.{IsUpTo, IsLeastLoop}
-use Rattle.comb_graph.specs.Searches.{IsLeast}
-use Rattle.comb_graph.specs.Depths.{is_counted, ReachesNext, IsCountedChain, IsMost}
-use Rattle.comb_graph.specs.Walks.{IsSeen}
-use Rattle.comb_graph.specs.declared.walk.Mark.{Mark}
+use Rattle.digraph.specs.Searches.{IsLeast}
+use Rattle.digraph.specs.Depths.{is_counted, ReachesNext, IsCountedChain, IsMost}
+use Rattle.digraph.specs.Walks.{IsSeen}
+use Rattle.digraph.specs.declared.walk.Mark.{Mark}
 use Rattle.comb_graph.specs.CombNodes.{bit_at, is_comb_bit, is_comb_node, comb_bits}
-use Rattle.comb_graph.proofs.Members.{all_from_contains}
-use Rattle.comb_graph.proofs.WalkEnds.{reached_before}
+use Rattle.digraph.proofs.Members.{all_from_contains}
+use Rattle.digraph.proofs.WalkEnds.{reached_before}
 use Rattle.comb_graph.proofs.Positions.{needs_comb, no_loop}
 use Rattle.comb_graph.specs.Rules.{IsNeedsGraph, needs_rules}
 use Rattle.comb_graph.proofs.GraphNeeds.{needs_are_asked, asked_are_needs}
-use Rattle.comb_graph.proofs.WalkPaths.{contains-cases}
+use Rattle.digraph.proofs.WalkPaths.{contains-cases}
 use Rattle.design_ir.proofs.Counts.{few_below}
 use Rattle.comb_graph.proofs.RankPaths.{reaches_then, IsOfNeeds, bit_same, comb_node, need_reaches, chain_reaches, reaches_chained, loop_of, signal_loops}
 use Rattle.comb_graph.proofs.RankNodes.{node_at, low_at, at_node, comb_of_test, test_of_comb, bits_have, bits_of, split_bits, bits_once}

@@ -4,7 +4,7 @@ use Rattle.std.proofs.lemmas.Bool.{cases_lt}
 use Rattle.design_ir.specs.Targets.{Bit}
 use Rattle.design_ir.specs.Circuits.{Circuit}
 use Rattle.design_ir.specs.Loops.{Needs, Chain}
-use Rattle.comb_graph.specs.Graphs.{Digraph, Leads, Path, Reaches}
+use Rattle.digraph.specs.Graphs.{Digraph, Leads, Path, Reaches}
 use Rattle.comb_graph.specs.Meanings.{node_of, Walks, Comes, IsDown}
 use Rattle.design_ir.specs.declared.signal.Sig.{Sig}
 use Rattle.design_ir.specs.Values.{signal_form}

@@ -21,7 +21,7 @@ use Rattle.design_ir.specs.Circuits.{Circuit, at}
 use Rattle.design_ir.proofs.NumbersFit.{FitsSignals}
 use Rattle.comb_graph.specs.Laws.{FitsRows}
 use Rattle.comb_graph.proofs.BitWrites.{some_signal}
-use Rattle.comb_graph.proofs.Members.{contains_first, contains_more, all_from_contains}
+use Rattle.digraph.proofs.Members.{contains_first, contains_more, all_from_contains}
 use Rattle.comb_graph.proofs.PoolBits.{IsShared, num_shared}
 use Rattle.comb_graph.proofs.PutFits.{set_fits}
 

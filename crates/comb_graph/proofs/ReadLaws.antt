@@ -6,7 +6,7 @@ use Rattle.design_ir.specs.declared.ids.ExprId.{ExprId}
 use Rattle.design_ir.specs.Needed.{needed_whole}
 use Rattle.design_ir.specs.Pools.{Pooled}
 use Rattle.design_ir.specs.Values.{form}
-use Rattle.comb_graph.specs.Graphs.{Digraph, IsGraph, leading}
+use Rattle.digraph.specs.Graphs.{Digraph, IsGraph, leading}
 use Rattle.comb_graph.specs.Places.{HasPlaces, bit_nodes, first_of, whole_at}
 use Rattle.comb_graph.specs.Rules.{Rule, ObeysRules, Adds, word_rule, word_rules}
 use Rattle.comb_graph.proofs.GraphMeanings.{mean-one}

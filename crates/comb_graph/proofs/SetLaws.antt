@@ -10,7 +10,7 @@ use Rattle.std.proofs.Math.Pow.{pow-lt}
 use Rattle.amh_bits.specs.Patterns.{nat_bit}
 use Rattle.amh_bits.proofs.BitsOf.{nat_bit_low, nat_bit_mod, int_bit_up, int_bit_up_below, int_bit_down, nat_bit_zero}
 use Rattle.comb_graph.specs.Sets.{has}
-use Rattle.comb_graph.proofs.GraphLists.{range_more}
+use Rattle.digraph.proofs.GraphLists.{range_more}
 
 same_has : (m n j k : ℕ) → nat_bit m j ≡ nat_bit n k → has m j ≡ has n k
 same_has m n j k e = ap (λ b. b == 1) e

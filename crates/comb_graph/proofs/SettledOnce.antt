@@ -12,7 +12,7 @@ use Rattle.design_ir.specs.Circuits.{Circuit, State, at}
 use Rattle.design_ir.proofs.NumbersFit.{FitsSignals}
 use Rattle.comb_graph.specs.Orders.{is_comb, IsCombBit, IsOrder}
 use Rattle.comb_graph.specs.Laws.{FitsState, SettlesOnce, rounds}
-use Rattle.comb_graph.proofs.Members.{all_at}
+use Rattle.digraph.proofs.Members.{all_at}
 use Rattle.comb_graph.proofs.SameNumbers.{IsWhole, numbers_same}
 use Rattle.comb_graph.proofs.PoolBits.{IsShared}
 use Rattle.comb_graph.proofs.DeltaLaws.{delta_length, delta_fits, delta_other, delta_shared}

@@ -24,7 +24,7 @@ use Rattle.design_ir.specs.Circuits.{Circuit, State, at}
 use Rattle.design_ir.specs.Steps.{rises, is_reset, reset_to, reset_all, clocked_at, clocked, reads_now, read_word, clocked_read, clocked_reads, toggle_at, toggle, step, clock_low, first_state}
 use Rattle.design_ir.proofs.NumbersFit.{FitsSignals}
 use Rattle.comb_graph.specs.Laws.{FitsRows, FitsState}
-use Rattle.comb_graph.proofs.Members.{all_at}
+use Rattle.digraph.proofs.Members.{all_at}
 use Rattle.comb_graph.proofs.PutFits.{OfSignal, set_fits, put_fits}
 use Rattle.comb_graph.proofs.WrittenRows.{read_of, rows_fit}
 

@@ -21,7 +21,7 @@ use Rattle.comb_graph.specs.Told.{aims_at, first_place}
 use Rattle.comb_graph.proofs.AimBits.{aims_are, aims_past}
 use Rattle.comb_graph.proofs.AimTables.{node_back}
 use Rattle.comb_graph.proofs.GraphSteps.{narrow}
-use Rattle.comb_graph.proofs.WalkPaths.{contains-cons, contains-head}
+use Rattle.digraph.proofs.WalkPaths.{contains-cons, contains-head}
 
 -- ---- bits and their nodes
 

@@ -12,8 +12,9 @@ use Rattle.design_ir.specs.Targets.{Bit}
 use Rattle.comb_graph.specs.declared.aimed.Aimed.{Aimed}
 use Rattle.comb_graph.specs.Seen.{row_at}
 use Rattle.comb_graph.specs.Told.{aims_at, first_place}
-use Rattle.comb_graph.proofs.GraphLists.{some-same}
-use Rattle.comb_graph.proofs.GraphRows.{take-push, flat_more}
+use Rattle.digraph.proofs.GraphLists.{some-same}
+use Rattle.digraph.proofs.Takes.{take-push}
+use Rattle.comb_graph.proofs.GraphRows.{flat_more}
 use Rattle.comb_graph.proofs.GraphBlocks.{arms-push}
 
 module _ (table : List (List Aimed)) (b : Bit) where

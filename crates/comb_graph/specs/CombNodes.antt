@@ -6,7 +6,7 @@ use Rattle.design_ir.specs.Values.{signal_form}
 use Rattle.design_ir.specs.Circuits.{Circuit}
 use Rattle.comb_graph.specs.Orders.{is_comb}
 use Rattle.comb_graph.specs.Places.{bit_nodes}
-use Rattle.comb_graph.specs.Depths.{is_counted}
+use Rattle.digraph.specs.Depths.{is_counted}
 
 -- the bit whose node this is
 abbrev pub bit_at : ℕ → Bit

@@ -2,17 +2,11 @@ pub mod Orders
 pub mod Rankings
 pub mod Refusals
 pub mod Laws
-pub mod Graphs
-pub mod Links
-pub mod Walks
-pub mod Searches
-pub mod Cuts
 pub mod Meanings
 pub mod Places
 pub mod Sets
 pub mod Seen
 pub mod Rules
 pub mod CombTargets
-pub mod Depths
 pub mod CombNodes
 pub mod Told

@@ -1,7 +1,7 @@
 -- Which bits of signals a node of a graph stands for: those that it comes to without passing another.
 use Rattle.std.specs.Prelude.{◌≡◌, ℕ, ◌+◌, ◌*◌, ◌<◌, ◌≤◌, List, [], ◌∷◌, Contains}
 use Rattle.design_ir.specs.Targets.{Bit}
-use Rattle.comb_graph.specs.Graphs.{Digraph, Leads}
+use Rattle.digraph.specs.Graphs.{Digraph, Leads}
 
 -- the node of a signal's bit; the nodes of signals stand before all others
 abbrev pub node_of : Bit → ℕ

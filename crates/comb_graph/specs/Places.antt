@@ -11,7 +11,7 @@ use Rattle.design_ir.specs.declared.signal.Sig.{Sig}
 use Rattle.design_ir.specs.Values.{form, signal_form}
 use Rattle.design_ir.specs.Needed.{is_bitwise, every, needed, needed_indices}
 use Rattle.design_ir.specs.Targets.{Bit}
-use Rattle.comb_graph.specs.Graphs.{Digraph}
+use Rattle.digraph.specs.Graphs.{Digraph}
 use Rattle.comb_graph.specs.Meanings.{Means, Extends, KeepsSignals}
 
 -- the node of an expression's first bit

@@ -17,7 +17,7 @@ use Rattle.design_ir.specs.declared.ids.ExprId.{ExprId}
 use Rattle.comb_graph.specs.declared.aimed.Aimed.{Aimed}
 use Rattle.comb_graph.specs.Seen.{StandsBelow, seen}
 use Rattle.comb_graph.specs.Places.{bit_nodes, whole_at, extended_at}
-use Rattle.comb_graph.specs.Graphs.{Digraph, Leads}
+use Rattle.digraph.specs.Graphs.{Digraph, Leads}
 use Rattle.comb_graph.specs.Meanings.{node_of, Comes, Means, Extends, IsDown}
 
 -- a bit, and bits that it needs

@@ -5,14 +5,14 @@ ghost use Rattle.design_ir.specs.Named.{AllBelow};
 ghost use Rattle.design_ir.specs.PoolRules.{IsPool};
 ghost use Rattle.design_ir.specs.Statements.{statement_of};
 ghost use Rattle.design_ir.specs.Values.{form};
-ghost use Rattle.comb_graph.specs.Graphs.{joined};
+ghost use Rattle.digraph.specs.Graphs.{joined};
 ghost use Rattle.comb_graph.specs.Meanings.{Extends};
 ghost use Rattle.comb_graph.specs.Places.{HasPlaces, bit_nodes, first_of, whole_at};
 ghost use Rattle.comb_graph.specs.Rules.{AddsBlock, AddsStatement, AddsArms};
 ghost use Rattle.comb_graph.specs.Seen.{HasAims};
 
 use crate::aims::AimTable;
-use crate::graph::Graph;
+use digraph::Graph;
 use crate::places::{Nodes, whole};
 use crate::rules::add_assignment;
 use amh_host::NoMemory;

@@ -8,34 +8,26 @@
 //! `rank` finds the order, or the least loop (ranking.rt). It makes the graph of a design's needs (needs.rt), in which a
 //! signal's bit has a node of its own and comes, past nodes of expressions, to those of the bits that it needs. Which bits
 //! an assignment may write stands in a table of aims (aims.rt): each with the place of the target where it stands, or the
-//! set of places at which offsets and indices may put it (aimed.rt, sets.rt, spans.rt). A walk
-//! sorts the nodes or finds one that reaches itself (walk.rt), and the sorted nodes that are bits of combinational signals
-//! (comb.rt) are the order. Where there is a loop, the least is sought (least.rt, search.rt) among the nodes that are left
-//! once those that no loop leads to, and those that lead to none, were cut away (cut.rt).
+//! set of places at which offsets and indices may put it (aimed.rt, sets.rt, spans.rt). `digraph` sorts the nodes, or finds
+//! the least that reaches itself; the sorted nodes that are bits of combinational signals (comb.rt) are the order.
 #![tactic(auto)]
 
 mod aimed;
 mod aims;
 mod blocks;
 mod comb;
-mod cut;
-mod depth;
 mod drives;
-mod graph;
 mod laws;
-mod least;
 mod needs;
 mod places;
 mod ranking;
 mod ranks;
 mod reads;
 mod rules;
-mod search;
 mod sets;
 mod spans;
 mod stop;
 mod told;
-mod walk;
 
 pub use laws::{
     deltas_are_few, ordered_have_no_loop, ordered_have_one_history, ordered_settle_once,

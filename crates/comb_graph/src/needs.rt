@@ -13,7 +13,7 @@ ghost use Rattle.comb_graph.specs.Places.{HasPlaces, HasBits, HasNode, AreBits, 
 
 use crate::aims::{AimTable, all_aims};
 use crate::blocks::add_block;
-use crate::graph::Graph;
+use digraph::Graph;
 use crate::places::{Nodes, bit_targets, index_targets};
 use crate::reads::add_memories;
 use amh_host::{Items, NoMemory};

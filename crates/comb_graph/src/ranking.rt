@@ -1,25 +1,22 @@
 // The ranks of a design, or its least loop.
 ghost use Rattle.std.specs.Prelude.{◌≡◌, ◌<◌, ◌≤◌, ◌^◌, map, length, IfOk, IfErr};
 ghost use Rattle.std.specs.List.{filter};
-ghost use Rattle.comb_graph.specs.Graphs.{IsSorted};
-ghost use Rattle.comb_graph.specs.Walks.{IsSeen};
+ghost use Rattle.digraph.specs.Graphs.{IsSorted};
+ghost use Rattle.digraph.specs.Walks.{IsSeen};
 ghost use Rattle.comb_graph.specs.Rules.{IsNeedsGraph};
-ghost use Rattle.comb_graph.specs.Depths.{is_counted};
+ghost use Rattle.digraph.specs.Depths.{is_counted};
 ghost use Rattle.comb_graph.specs.CombNodes.{bit_at, AreCombNodes};
 ghost use Rattle.comb_graph.specs.Rankings.{bit_of, IsRanking};
 ghost use Rattle.comb_graph.specs.Refusals.{IsRefused};
 
 use crate::comb::comb_signals;
-use crate::depth::longest;
-use crate::graph::Graph;
-use crate::least::least_loop;
 use crate::needs::needs_graph;
 use crate::ranks::{RankedBit, RankedBits, Ranks};
 use crate::stop::GraphStop;
 use crate::told::loop_place;
-use crate::walk::{Mark, Walked, sort};
 use amh_host::{Items, NoMemory};
 use design_ir::{Design, Exprs, SigId};
+use digraph::{Graph, Mark, Walked, least_loop, longest, sort};
 use std::alloc::Global;
 
 // The bit whose node this is.

@@ -2,7 +2,7 @@
 ghost use Rattle.std.specs.Prelude.{◌≡◌, ◌+◌, ◌<◌, ◌≤◌, ◌∷◌, [], All, length, IfOk, OnOk};
 ghost use Rattle.design_ir.specs.PoolRules.{IsPool};
 ghost use Rattle.design_ir.specs.Values.{form};
-ghost use Rattle.comb_graph.specs.Graphs.{joined};
+ghost use Rattle.digraph.specs.Graphs.{joined};
 ghost use Rattle.comb_graph.specs.Meanings.{Extends};
 ghost use Rattle.comb_graph.specs.Places.{HasPlaces, IsTable, bit_nodes, first_of, indices_at};
 ghost use Rattle.comb_graph.specs.Rules.{AddsAims, AddsAssignment, value_targets};
@@ -10,7 +10,7 @@ ghost use Rattle.comb_graph.specs.Seen.{HasAims};
 
 use crate::aimed::{Aimed, fixed_place};
 use crate::aims::AimTable;
-use crate::graph::Graph;
+use digraph::Graph;
 use crate::places::{Nodes, indices, one, push_extended, two, whole};
 use amh_host::NoMemory;
 use design_ir::{Design, ExprId, Exprs};

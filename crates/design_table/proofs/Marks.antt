@@ -4,7 +4,7 @@ use Rattle.std.proofs.lemmas.List.{take_all}
 use Rattle.design_ir.specs.declared.expr.Expr.{Expr}
 use Rattle.design_ir.specs.Pools.{answers}
 use Rattle.design_ir.proofs.Answers.{answers_append}
-use Rattle.comb_graph.proofs.GraphRows.{take_at}
+use Rattle.digraph.proofs.Takes.{take_at}
 use Rattle.design_table.specs.Tests.{is_at}
 
 -- one expression more

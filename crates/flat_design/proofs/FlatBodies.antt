@@ -18,7 +18,7 @@ use Rattle.design_ir.specs.Guards.{Guard, Guarded, guarded, driven, statement_ex
 use Rattle.design_ir.specs.Put.{put_number, put_statement, put_choices, put}
 use Rattle.design_ir.specs.Loops.{needed_value, AssignmentNeeds}
 use Rattle.design_ir.specs.Circuits.{is_among}
-use Rattle.comb_graph.proofs.Members.{all_from_contains}
+use Rattle.digraph.proofs.Members.{all_from_contains}
 use Rattle.flat_design.specs.Growing.{IsMore, IsReadable}
 use Rattle.flat_design.specs.Flat.{IsFlatBody, AreFlatProcesses}
 use Rattle.flat_design.proofs.Growing.{fixed_more, readable_more, signals_more, num_more, bits_more, aims_more, indices_more, needed_whole_more, form_more, needed_more}

@@ -22,7 +22,7 @@ use Rattle.design_ir.specs.Guards.{driven, block_exprs}
 use Rattle.design_ir.specs.Circuits.{Circuit, is_among}
 use Rattle.design_ir.specs.Designs.{IsUsable, IsUsableOf, IsDomain, IsProcess, IsSignalOf, IsReset, IsClockDomain, IsAddress, IsWritePort, IsClocking, IsReadPort, IsMemory, AreColumns, IsDesign, share}
 use Rattle.design_ir.proofs.Elements.{any_has, any_of}
-use Rattle.comb_graph.proofs.Members.{all_from_contains}
+use Rattle.digraph.proofs.Members.{all_from_contains}
 use Rattle.flat_design.specs.Growing.{IsMore, IsReadable}
 use Rattle.flat_design.specs.Flat.{IsFlatProcess, AreFlatProcesses}
 use Rattle.flat_design.proofs.Growing.{there_more, reset_more, form_more}

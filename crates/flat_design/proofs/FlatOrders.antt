@@ -11,7 +11,7 @@ use Rattle.design_ir.specs.Circuits.{Circuit}
 use Rattle.design_ir.specs.Loops.{ProcessNeeds, ReadNeeds, Needs}
 use Rattle.design_ir.proofs.Elements.{has_get}
 use Rattle.comb_graph.specs.Orders.{IsCombBit, IsOrder}
-use Rattle.comb_graph.proofs.Members.{all_at, all_from_contains}
+use Rattle.digraph.proofs.Members.{all_at, all_from_contains}
 use Rattle.flat_design.specs.Growing.{IsMore}
 use Rattle.flat_design.specs.Flat.{AreFlatProcesses}
 use Rattle.flat_design.specs.Laws.{FlatKeepsOrders}

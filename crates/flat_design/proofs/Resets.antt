@@ -11,7 +11,7 @@ use Rattle.design_ir.specs.PoolRules.{IsPool, HasInit}
 use Rattle.design_ir.specs.Values.{signal_form}
 use Rattle.design_ir.specs.Circuits.{at, is_among, FitsSignals}
 use Rattle.design_ir.specs.Steps.{reset_to, reset_all}
-use Rattle.comb_graph.proofs.Members.{all_at}
+use Rattle.digraph.proofs.Members.{all_at}
 use Rattle.comb_graph.proofs.PutFits.{OfSignal, set_fits}
 
 -- lists of one length that have the same at each place

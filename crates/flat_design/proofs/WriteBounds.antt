@@ -12,7 +12,8 @@ use Rattle.design_ir.specs.PoolRules.{IsPool}
 use Rattle.design_ir.specs.Targets.{is_target}
 use Rattle.design_ir.specs.Values.{form, signal_form}
 use Rattle.design_ir.proofs.Elements.{get_has}
-use Rattle.comb_graph.proofs.GraphRows.{drop-next, take-push}
+use Rattle.digraph.proofs.Takes.{take-push}
+use Rattle.comb_graph.proofs.GraphRows.{drop-next}
 use Rattle.comb_graph.proofs.GraphSteps.{narrow}
 use Rattle.flat_design.specs.declared.writes.Write.{Write}
 use Rattle.flat_design.specs.Pieces.{IsNarrow, IsWithin}

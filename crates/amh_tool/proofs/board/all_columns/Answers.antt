@@ -1,4 +1,4 @@
-use Rattle.comb_graph.proofs.Members.{all_at}
+use Rattle.digraph.proofs.Members.{all_at}
 use Rattle.std.proofs.Common.{◌∙◌, ◌++◌, ◌∷◌, [], ◌<◌, length, ap}
 use Rattle.design_ir.specs.declared.port.Column.{Column}
 use Rattle.amh_tool.specs.Boards.{shown_of}

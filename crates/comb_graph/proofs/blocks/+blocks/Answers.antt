@@ -8,15 +8,16 @@ use Rattle.design_ir.specs.Values.{form}
 use Rattle.design_ir.specs.declared.stmt.Stmt.{Stmt}
 use Rattle.design_ir.specs.declared.stmt.Arm.{Arm}
 use Rattle.std.proofs.lemmas.List.{append-nil}
-use Rattle.comb_graph.specs.Graphs.{IsGraph}
-use Rattle.comb_graph.specs.Graphs.{Digraph, joined}
+use Rattle.digraph.specs.Graphs.{IsGraph}
+use Rattle.digraph.specs.Graphs.{Digraph, joined}
 use Rattle.comb_graph.specs.Meanings.{Extends}
 use Rattle.comb_graph.specs.Places.{HasPlaces, bit_nodes, first_of, whole_at}
 use Rattle.comb_graph.specs.Rules.{Adds, AddsBlock, AddsStatement, AddsArms, MeansPassed, rules_of}
 use Rattle.comb_graph.proofs.GraphMeanings.{extends_then, extends_joined, two_inside}
 use Rattle.comb_graph.proofs.GraphPlaces.{whole}
 use Rattle.comb_graph.proofs.GraphTables.{places_more}
-use Rattle.comb_graph.proofs.GraphBlocks.{statement_names, arm_names, block_turn, arms_turn, passed_turn, take_end}
+use Rattle.comb_graph.proofs.GraphBlocks.{statement_names, arm_names, block_turn, arms_turn, passed_turn}
+use Rattle.digraph.proofs.Takes.{take_end}
 use Rattle.comb_graph.proofs.blocks.+blocks.Goals as goal
 
 -- ---- a block

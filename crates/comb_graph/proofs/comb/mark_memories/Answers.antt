@@ -4,7 +4,7 @@ use Rattle.std.proofs.lemmas.Option.{slice_get_read}
 use Rattle.design_ir.specs.declared.memory.MemRead.{MemRead}
 use Rattle.design_ir.specs.Designs.{IsMemory}
 use Rattle.comb_graph.specs.CombTargets.{IsMarked, comb_word, comb_words}
-use Rattle.comb_graph.proofs.Members.{all_at}
+use Rattle.digraph.proofs.Members.{all_at}
 use Rattle.comb_graph.proofs.CombMarks.{marked_turn}
 use Rattle.comb_graph.proofs.CombFinds.{reads_there}
 use Rattle.comb_graph.proofs.comb.mark_memories.Goals as goal

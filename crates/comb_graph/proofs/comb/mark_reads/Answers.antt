@@ -2,7 +2,7 @@ use Rattle.std.proofs.Common.{◌≡◌, ◌<◌, length, Some, slice_get, refl,
 use Rattle.std.proofs.lemmas.Option.{slice_get_read}
 use Rattle.design_ir.specs.declared.memory.MemRead.{MemRead}
 use Rattle.comb_graph.specs.CombTargets.{comb_word}
-use Rattle.comb_graph.proofs.Members.{all_at}
+use Rattle.digraph.proofs.Members.{all_at}
 use Rattle.comb_graph.proofs.CombMarks.{marked_turn}
 use Rattle.comb_graph.proofs.comb.mark_reads.Goals as goal
 

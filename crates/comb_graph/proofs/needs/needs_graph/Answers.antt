@@ -1,6 +1,6 @@
 use Rattle.std.proofs.Common.{ℕ, ◌*◌, ◌<◌, [], sym, subst, ap, arith}
 use Rattle.std.specs.List.{Contains}
-use Rattle.comb_graph.specs.Graphs.{Digraph, IsGraph, joined}
+use Rattle.digraph.specs.Graphs.{Digraph, IsGraph, joined}
 use Rattle.comb_graph.specs.Meanings.{Means, IsDown}
 use Rattle.comb_graph.specs.Places.{HasPlaces, bit_nodes}
 use Rattle.comb_graph.specs.Rules.{ObeysRules, all_rules, comb_assignments}

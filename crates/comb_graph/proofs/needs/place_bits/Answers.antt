@@ -4,7 +4,7 @@ use Rattle.design_ir.specs.Named.{named, AllBelow}
 use Rattle.design_ir.specs.Values.{form}
 use Rattle.design_ir.specs.Needed.{bits_step, needed}
 use Rattle.design_ir.proofs.Equations.{standing}
-use Rattle.comb_graph.specs.Graphs.{joined}
+use Rattle.digraph.specs.Graphs.{joined}
 use Rattle.comb_graph.specs.Meanings.{MeanAll}
 use Rattle.comb_graph.specs.Places.{HasBits, bit_nodes, bit_targets, first_of}
 use Rattle.comb_graph.proofs.GraphSteps.{inside_all, bit_leads, bits_more}

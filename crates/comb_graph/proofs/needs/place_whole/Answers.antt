@@ -3,7 +3,7 @@ use Rattle.std.specs.List.{range_with_len}
 use Rattle.design_ir.specs.Pools.{Pooled}
 use Rattle.design_ir.specs.Values.{form}
 use Rattle.design_ir.specs.Needed.{every, needed}
-use Rattle.comb_graph.specs.Graphs.{Digraph}
+use Rattle.digraph.specs.Graphs.{Digraph}
 use Rattle.comb_graph.specs.Meanings.{MeanAll}
 use Rattle.comb_graph.specs.Places.{HasNode, AreBits, bit_nodes}
 use Rattle.comb_graph.proofs.GraphSteps.{inside_all, node_more, whole_leads}

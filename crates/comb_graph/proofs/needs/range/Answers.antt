@@ -1,5 +1,5 @@
 use Rattle.std.proofs.Common.{◌∙◌, sym, ap, ◌++◌, ◌∷◌, [], List, ℕ}
-use Rattle.comb_graph.proofs.GraphLists.{range_step}
+use Rattle.digraph.proofs.GraphLists.{range_step}
 use Rattle.comb_graph.proofs.needs.range.Goals as goal
 
 pub loop-node-preserved : goal.loop-node-preserved

@@ -1,6 +1,6 @@
 use Rattle.std.proofs.Common.{◌≡◌, map, take}
 use Rattle.std.specs.List.{filter}
-use Rattle.comb_graph.specs.Depths.{is_counted}
+use Rattle.digraph.specs.Depths.{is_counted}
 use Rattle.comb_graph.specs.CombNodes.{bit_at}
 use Rattle.comb_graph.specs.Rankings.{bit_of}
 use Rattle.comb_graph.proofs.ranking.bits_among.Given as goal

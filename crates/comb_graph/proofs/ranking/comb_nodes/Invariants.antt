@@ -1,5 +1,5 @@
 use Rattle.std.proofs.Common.{◌≡◌, ℕ, ◌<◌, length}
-use Rattle.comb_graph.specs.Depths.{is_counted}
+use Rattle.digraph.specs.Depths.{is_counted}
 use Rattle.comb_graph.specs.CombNodes.{is_comb_node}
 use Rattle.comb_graph.proofs.ranking.comb_nodes.Given as goal
 

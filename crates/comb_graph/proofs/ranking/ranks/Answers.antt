@@ -1,6 +1,6 @@
 use Rattle.std.proofs.Common.{◌≡◌, ◌∙◌, ◌≤◌, map, sym, subst, ap, arith}
 use Rattle.std.specs.List.{filter}
-use Rattle.comb_graph.specs.Depths.{is_counted, IsMost}
+use Rattle.digraph.specs.Depths.{is_counted, IsMost}
 use Rattle.comb_graph.specs.CombNodes.{bit_at}
 use Rattle.comb_graph.specs.Places.{bit_nodes}
 use Rattle.comb_graph.specs.Rankings.{bit_of, IsRanking}

@@ -1,5 +1,5 @@
 use Rattle.std.proofs.Common.{◌*◌, length, subst}
-use Rattle.comb_graph.specs.Searches.{IsLeast}
+use Rattle.digraph.specs.Searches.{IsLeast}
 use Rattle.comb_graph.proofs.RankOrders.{of_needs}
 use Rattle.comb_graph.proofs.RankEnds.{refused_of, some_of}
 use Rattle.comb_graph.proofs.ranking.refusal.Goals as goal

@@ -2,7 +2,7 @@ use Rattle.std.proofs.Common.{◌≡◌, ◌∙◌, ◌+◌, ◌*◌, ◌<◌, [
 use Rattle.std.specs.List.{All}
 use Rattle.design_ir.specs.Needed.{needed_whole}
 use Rattle.design_ir.specs.Values.{form, signal_form}
-use Rattle.comb_graph.specs.Graphs.{leading}
+use Rattle.digraph.specs.Graphs.{leading}
 use Rattle.comb_graph.specs.Places.{bit_nodes, first_of, whole_at}
 use Rattle.comb_graph.specs.Rules.{Adds, word_rules}
 use Rattle.comb_graph.proofs.GraphBlocks.{adds_none}

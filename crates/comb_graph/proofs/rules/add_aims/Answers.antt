@@ -5,7 +5,7 @@ use Rattle.design_ir.specs.Targets.{fixed_place}
 use Rattle.comb_graph.specs.declared.aimed.Aimed.{Aimed}
 use Rattle.comb_graph.specs.declared.aimed.At.TheVariants.{Fixed}
 use Rattle.comb_graph.specs.Seen.{spot_of}
-use Rattle.comb_graph.specs.Graphs.{leading}
+use Rattle.digraph.specs.Graphs.{leading}
 use Rattle.comb_graph.specs.Meanings.{Extends}
 use Rattle.comb_graph.specs.Places.{bit_nodes, first_of}
 use Rattle.comb_graph.specs.Rules.{AddsAims, value_targets}

@@ -2,7 +2,7 @@ use Rattle.std.proofs.Common.{ap, ◌≡◌, ◌∙◌, ◌<◌, [], ◌∷◌, 
 use Rattle.std.proofs.lemmas.Option.{get_or_from_slice_get}
 use Rattle.design_ir.specs.Targets.{aims}
 use Rattle.design_ir.specs.Values.{form}
-use Rattle.comb_graph.specs.Graphs.{joined}
+use Rattle.digraph.specs.Graphs.{joined}
 use Rattle.comb_graph.specs.Meanings.{Extends}
 use Rattle.comb_graph.specs.Places.{HasPlaces, bit_nodes, first_of, indices_at}
 use Rattle.comb_graph.specs.Rules.{AddsAims}

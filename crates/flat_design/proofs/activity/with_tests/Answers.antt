@@ -2,7 +2,7 @@ use Rattle.std.specs.Prelude.{◌≡◌, take, slice_index_or, false}
 use Rattle.std.proofs.Common.{sym, subst}
 use Rattle.std.proofs.lemmas.List.{take_all}
 use Rattle.std.proofs.lemmas.Option.{slice_get-get_or}
-use Rattle.comb_graph.proofs.GraphBlocks.{take-push}
+use Rattle.digraph.proofs.Takes.{take-push}
 use Rattle.design_ir.specs.Pools.{Pooled}
 use Rattle.flat_design.specs.declared.writes.Test.{Test}
 use Rattle.flat_design.proofs.Activities.{one_more}

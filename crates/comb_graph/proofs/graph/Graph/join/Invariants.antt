@@ -1,9 +1,0 @@
-use Rattle.std.proofs.Common.{◌≡◌, take}
-use Rattle.comb_graph.specs.Graphs.{joined}
-use Rattle.comb_graph.proofs.graph.Graph.join.Given as goal
-
-abbrev pub invariant-loop-target : goal.invariant-loop-target
-invariant-loop-target l = record {
-  node : l.node ≡ l.fn.self.size;
-  so_far : l.self ≡ joined l.fn.self (take l.target-index l.targets);
-}

@@ -1,0 +1,13 @@
+pub mod GraphLists
+pub mod GraphLinks
+pub mod GraphNodes
+pub mod Members
+pub mod Takes
+pub mod WalkPaths
+pub mod WalkLaws
+pub mod WalkTurns
+pub mod WalkWork
+pub mod WalkEnds
+pub mod SearchLaws
+pub mod CutLaws
+pub mod DepthLaws
