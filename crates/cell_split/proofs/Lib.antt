@@ -10,3 +10,9 @@ pub mod Rules
 pub mod Digits
 pub mod SplitCode
 pub mod Registers
+pub mod SpecNodes
+pub mod NeedLaws
+pub mod Ways
+pub mod DriverLaws
+pub mod LoopLaws
+pub mod CutLaws

@@ -50,7 +50,7 @@ spec_bits-append : (xs ys : List SigPart) → spec_bits (xs ++ ys) ≡ spec_bits
 spec_bits-append [] ys = sym (append-nil (spec_bits ys))
 spec_bits-append (x ∷ xs) ys = ap (λ (bits : List Source). bits ++ part_bits x) (spec_bits-append xs ys) ∙ append_assoc (spec_bits ys) (spec_bits xs) (part_bits x)
 
-drop-at : (spec : List SigPart) (k : ℕ) (p : SigPart) → k < length spec → slice_get spec k ≡ Some p → drop k spec ≡ p ∷ drop (k + 1) spec
+pub drop-at : (spec : List SigPart) (k : ℕ) (p : SigPart) → k < length spec → slice_get spec k ≡ Some p → drop k spec ≡ p ∷ drop (k + 1) spec
 drop-at spec k p h e = drop_more spec k p h ∙ ap (λ (q : SigPart). q ∷ drop (k + 1) spec) (get_or_from_slice_get spec k p p e)
 
 bits-at : (spec : List SigPart) (k : ℕ) (p : SigPart) → k < length spec → slice_get spec k ≡ Some p → spec_bits spec ≡ (spec_bits (drop (k + 1) spec) ++ part_bits p) ++ spec_bits (take k spec)

@@ -76,7 +76,7 @@ pieces_from-outputs n c k (s ∷ ss) h e =
     ∙ ap (λ (j : ℕ). s ∷ flat_map output_bits (pieces_from n c j (length ss))) (add-one k)
     ∙ ap (λ (bits : List Source). s ∷ bits) (pieces_from-outputs n c (suc k) ss h (drop-others (output_bits c) k s ss e))
 
-width-outputs : (c : RtlCell) → is_bitwise c.kind ≡ true → end_width c (codes "\\Y") ≡ length (output_bits c)
+pub width-outputs : (c : RtlCell) → is_bitwise c.kind ≡ true → end_width c (codes "\\Y") ≡ length (output_bits c)
 width-outputs c h = ap (λ (name : List ℕ). length (end_bits c name)) (sym (output_of-bitwise c.kind h))
 
 -- ---- one cell, cut or not

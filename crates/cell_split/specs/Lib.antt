@@ -3,3 +3,5 @@ pub mod Split
 pub mod Kept
 pub mod Laws
 pub mod Short
+pub mod Loops
+pub mod Needs

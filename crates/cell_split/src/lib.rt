@@ -9,9 +9,10 @@
 mod copies;
 mod laws;
 mod needs;
+mod nodes;
 mod numbers;
-mod peel;
 mod pieces;
+mod spec_nodes;
 mod split;
 mod tangled;
 #[cfg(test)]

@@ -1,196 +1,240 @@
-// Which cell needs which, by the bits of wires between them.
+// Which cell needs which, as a graph of cells and of the bits of wires between them.
+ghost use Rattle.std.specs.Prelude.{◌≡◌, ◌<◌, ◌≤◌, All, length, codes, IfOk, OnOk};
+ghost use Rattle.lists.specs.Texts.{text_eq};
+ghost use Rattle.rtlil_text.specs.Sources.{number_at};
+ghost use Rattle.rtlil_text.specs.CellTables.{output_of};
+ghost use Rattle.digraph.specs.Graphs.{Digraph, Leads};
+ghost use Rattle.cell_split.specs.Loops.{is_comb};
+ghost use Rattle.cell_split.specs.Needs.{node_of, Grows, Ties, LeadsAt, LeadAlong, HasEnd, HasCell, HasCells, HasLink, HasLinks, HasNeeds};
 
+use crate::nodes::Nodes;
+use crate::spec_nodes::spec_nodes;
 use amh_host::NoMemory;
-use rtlil_text::{RtlCell, RtlCells, RtlLink, RtlLinks, RtlModule, RtlValue, SigPart, SigSpec};
+use digraph::Graph;
+use rtlil_text::{RtlCell, RtlCells, RtlEnd, RtlLink, RtlLinks, RtlModule, RtlValue};
 use shape_rules::CellKind;
 use std::alloc::Global;
-use std::collections::BTreeMap;
 
-/// One node leads to another.
-#[derive(Clone, Copy, Debug, PartialEq, Eq, Drop)]
-pub(crate) struct Edge {
-    pub from: usize,
-    pub upto: usize,
-}
-
-/// The nodes of a module: its cells, by their places, and behind them the bits of its wires.
-#[derive(Drop)]
-pub(crate) struct Nodes {
-    firsts: BTreeMap<String, usize>,
-    pub count: usize,
-}
-
-impl Nodes {
-    /// The nodes of a module.
-    pub(crate) fn of(alloc: Global, rtl: &RtlModule) -> Result<Nodes, NoMemory> {
-        let mut firsts = BTreeMap::new(alloc);
-        let mut count = rtl.cells.len();
-        for wire in rtl.wires.as_slice() {
-            firsts.insert(String::from_str(alloc, wire.id.as_str())?, count)?;
-            count = count.saturating_add(wire.width as usize);
-        }
-        Ok(Nodes { firsts, count })
-    }
-
-    // The node of the first bit of a wire.
-    fn first(&self, id: &str) -> Option<usize> {
-        self.firsts.get(id).copied()
-    }
-}
-
-// ---- the nodes of a spec; a constant bit has none
-
-fn push_constants(nodes: &mut Vec<Option<usize>>, width: usize) -> Result<(), NoMemory> {
-    for _ in 0..width {
-        nodes.push(None)?;
-    }
-    Ok(())
-}
-
-fn push_wire(
-    nodes: &mut Vec<Option<usize>>,
-    first: usize,
-    low: u32,
-    width: u32,
-) -> Result<(), NoMemory> {
-    for k in 0..width {
-        nodes.push(Some(first.saturating_add(low as usize + k as usize)))?;
-    }
-    Ok(())
-}
-
-fn push_part(all: &Nodes, nodes: &mut Vec<Option<usize>>, part: &SigPart) -> Result<(), NoMemory> {
-    match part {
-        SigPart::Const(bits) => push_constants(nodes, bits.len()),
-        SigPart::Wire { id, low, width } => match all.first(id.as_str()) {
-            Some(first) => push_wire(nodes, first, *low, *width),
-            None => push_constants(nodes, *width as usize),
-        },
-    }
-}
-
-// The node of each bit of a spec, the lowest first.
-fn spec_nodes(alloc: Global, all: &Nodes, spec: &SigSpec) -> Result<Vec<Option<usize>>, NoMemory> {
-    let mut nodes = Vec::new(alloc);
-    for part in spec.as_slice().iter().rev() {
-        push_part(all, &mut nodes, part)?;
-    }
-    Ok(nodes)
+/// The graph in which a cell leads to the bits of its output, the bits at its other ends lead to it, and the bits on the
+/// right side of a link lead to those on the left. The first nodes are the cells.
+pub(crate) fn needs(alloc: Global, rtl: &RtlModule) -> Result<Graph, NoMemory>
+    ensures { IfOk result (HasNeeds rtl.now) }
+{
+    let nodes = Nodes::of(alloc, rtl)?;
+    let mut graph = Graph::new(alloc, nodes.count)?;
+    add_cells(alloc, &nodes, &mut graph, &rtl.cells)?;
+    add_links(alloc, &nodes, &mut graph, &rtl.links)?;
+    Ok(graph)
 }
 
 // ---- edges
 
-// Registers and clocked reads take their operands at an edge of the clock alone.
-fn is_kept(cell: &RtlCell) -> bool {
-    match cell.kind {
-        CellKind::Dff | CellKind::Adff => true,
-        CellKind::MemoryRead => match cell.parameter("\\CLK_ENABLE") {
-            Some(RtlValue::Number(n)) => *n == 1,
-            _ => false,
-        },
-        _ => false,
+fn lead(graph: &mut Graph, from: usize, upto: usize) -> Result<(), NoMemory>
+    requires from { from < graph.old.size }
+    requires upto { upto < graph.old.size }
+    ensures grows { OnOk result (Grows graph.old graph.new) }
+    ensures leads { OnOk result (Leads graph.new from upto) }
+{
+    graph.add(from, upto)
+}
+
+fn tie(graph: &mut Graph, cell: usize, is_output: bool, bit: usize) -> Result<(), NoMemory>
+    requires cell { cell < graph.old.size }
+    requires bit { bit < graph.old.size }
+    ensures grows { OnOk result (Grows graph.old graph.new) }
+    ensures tied { OnOk result (Ties graph.new cell is_output bit) }
+{
+    if is_output {
+        lead(graph, cell, bit)
+    } else {
+        lead(graph, bit, cell)
     }
 }
 
-fn output_name(kind: CellKind) -> &'static str {
+fn tie_all(
+    graph: &mut Graph,
+    cell: usize,
+    is_output: bool,
+    bits: &[usize],
+) -> Result<(), NoMemory>
+    requires cell { cell < graph.old.size }
+    requires bits { All (λ n. n < graph.old.size) bits.now }
+    ensures grows { OnOk result (Grows graph.old graph.new) }
+    ensures tied { OnOk result (All (Ties graph.new cell is_output) bits.now) }
+{
+    for bit in bits {
+        tie(graph, cell, is_output, *bit)?;
+    }
+    Ok(())
+}
+
+// Each node leads to that at its place.
+fn lead_along(graph: &mut Graph, froms: &[usize], uptos: &[usize]) -> Result<(), NoMemory>
+    requires froms { All (λ n. n < graph.old.size) froms.now }
+    requires uptos { All (λ n. n < graph.old.size) uptos.now }
+    ensures grows { OnOk result (Grows graph.old graph.new) }
+    ensures leads { OnOk result (LeadAlong graph.new froms.now uptos.now) }
+{
+    for place in 0..froms.len() {
+        lead_at(graph, froms, uptos, place)?;
+    }
+    Ok(())
+}
+
+fn lead_at(
+    graph: &mut Graph,
+    froms: &[usize],
+    uptos: &[usize],
+    place: usize,
+) -> Result<(), NoMemory>
+    requires froms { All (λ n. n < graph.old.size) froms.now }
+    requires uptos { All (λ n. n < graph.old.size) uptos.now }
+    requires place { place < length froms.now }
+    ensures grows { OnOk result (Grows graph.old graph.new) }
+    ensures leads { OnOk result (LeadsAt graph.new froms.now uptos.now place) }
+{
+    if place < uptos.len() {
+        return lead(graph, froms[place], uptos[place]);
+    }
+    Ok(())
+}
+
+// ---- cells
+
+fn number(cell: &RtlCell, name: &str) -> u32
+    ensures { result ≡ number_at cell.now name.now }
+{
+    match cell.parameter(name) {
+        Some(RtlValue::Number(n)) => *n,
+        _ => 0,
+    }
+}
+
+// Registers and clocked reads take their operands at an edge of the clock alone; writes and first values drive nothing.
+fn is_comb(cell: &RtlCell) -> bool
+    ensures { result ≡ is_comb cell.now }
+{
+    match cell.kind {
+        CellKind::Dff | CellKind::Adff | CellKind::MemoryWrite | CellKind::MemoryInit => false,
+        CellKind::MemoryRead => number(cell, "\\CLK_ENABLE") != 1,
+        _ => true,
+    }
+}
+
+// The output of such a cell.
+fn output_name(kind: CellKind) -> &'static str
+    ensures { result.now ≡ output_of kind }
+{
     match kind {
+        CellKind::Dff | CellKind::Adff => "\\Q",
         CellKind::MemoryRead => "\\DATA",
+        CellKind::MemoryWrite | CellKind::MemoryInit => "",
         _ => "\\Y",
     }
 }
 
-fn edge_of(cell: usize, is_output: bool, bit: usize) -> Edge {
-    if is_output {
-        Edge {
-            from: cell,
-            upto: bit,
-        }
-    } else {
-        Edge {
-            from: bit,
-            upto: cell,
-        }
-    }
-}
-
-fn push_end(
-    edges: &mut Vec<Edge>,
-    cell: usize,
-    is_output: bool,
-    nodes: &[Option<usize>],
-) -> Result<(), NoMemory> {
-    for node in nodes {
-        if let Some(bit) = node {
-            edges.push(edge_of(cell, is_output, *bit))?;
-        }
-    }
+fn add_end(
+    alloc: Global,
+    nodes: &Nodes,
+    graph: &mut Graph,
+    place: usize,
+    output: &str,
+    end: &RtlEnd,
+) -> Result<(), NoMemory>
+    requires size { graph.old.size ≡ nodes.now.count }
+    requires place { place < graph.old.size }
+    ensures grows { OnOk result (Grows graph.old graph.new) }
+    ensures end { OnOk result (HasEnd graph.new (node_of nodes.now) place output.now end.now) }
+{
+    let bits = spec_nodes(alloc, nodes, &end.spec)?;
+    tie_all(graph, place, end.name.is(output), &bits)?;
     Ok(())
 }
 
-// A cell leads to the bits of its output, and the bits at its other ends lead to it.
-fn push_cell(
+fn add_ends(
     alloc: Global,
-    all: &Nodes,
-    edges: &mut Vec<Edge>,
+    nodes: &Nodes,
+    graph: &mut Graph,
     place: usize,
     cell: &RtlCell,
-) -> Result<(), NoMemory> {
-    if is_kept(cell) {
-        return Ok(());
-    }
+) -> Result<(), NoMemory>
+    requires size { graph.old.size ≡ nodes.now.count }
+    requires place { place < graph.old.size }
+    ensures grows { OnOk result (Grows graph.old graph.new) }
+    ensures ends { OnOk result (All (HasEnd graph.new (node_of nodes.now) place (output_of cell.now.kind)) cell.now.ends) }
+{
     let output = output_name(cell.kind);
     for end in cell.ends.as_slice() {
-        let nodes = spec_nodes(alloc, all, &end.spec)?;
-        push_end(edges, place, end.name.is(output), &nodes)?;
+        add_end(alloc, nodes, graph, place, output, end)?;
     }
     Ok(())
 }
 
-// Each bit on the right side of a link leads to that on the left.
-fn push_link(
+fn add_cell(
     alloc: Global,
-    all: &Nodes,
-    edges: &mut Vec<Edge>,
-    link: &RtlLink,
-) -> Result<(), NoMemory> {
-    let left = spec_nodes(alloc, all, &link.left)?;
-    let right = spec_nodes(alloc, all, &link.right)?;
-    for (from, upto) in right.iter().zip(left.iter()) {
-        if let (Some(from), Some(upto)) = (*from, *upto) {
-            edges.push(Edge { from, upto })?;
-        }
+    nodes: &Nodes,
+    graph: &mut Graph,
+    place: usize,
+    cell: &RtlCell,
+) -> Result<(), NoMemory>
+    requires size { graph.old.size ≡ nodes.now.count }
+    requires place { place < graph.old.size }
+    ensures grows { OnOk result (Grows graph.old graph.new) }
+    ensures cell { OnOk result (HasCell graph.new (node_of nodes.now) place cell.now) }
+{
+    if is_comb(cell) {
+        return add_ends(alloc, nodes, graph, place, cell);
     }
     Ok(())
 }
 
-fn push_cells(
+fn add_cells(
     alloc: Global,
-    all: &Nodes,
-    edges: &mut Vec<Edge>,
+    nodes: &Nodes,
+    graph: &mut Graph,
     cells: &RtlCells,
-) -> Result<(), NoMemory> {
-    for (place, cell) in cells.as_slice().iter().enumerate() {
-        push_cell(alloc, all, edges, place, cell)?;
+) -> Result<(), NoMemory>
+    requires size { graph.old.size ≡ nodes.now.count }
+    requires few { length cells.now ≤ graph.old.size }
+    ensures grows { OnOk result (Grows graph.old graph.new) }
+    ensures cells { OnOk result (HasCells graph.new (node_of nodes.now) cells.now) }
+{
+    for place in 0..cells.len() {
+        add_cell(alloc, nodes, graph, place, cells.get(place))?;
     }
     Ok(())
 }
 
-fn push_links(
+// ---- links
+
+fn add_link(
     alloc: Global,
-    all: &Nodes,
-    edges: &mut Vec<Edge>,
-    links: &RtlLinks,
-) -> Result<(), NoMemory> {
-    for link in links.as_slice() {
-        push_link(alloc, all, edges, link)?;
-    }
+    nodes: &Nodes,
+    graph: &mut Graph,
+    link: &RtlLink,
+) -> Result<(), NoMemory>
+    requires size { graph.old.size ≡ nodes.now.count }
+    ensures grows { OnOk result (Grows graph.old graph.new) }
+    ensures link { OnOk result (HasLink graph.new (node_of nodes.now) link.now) }
+{
+    let left = spec_nodes(alloc, nodes, &link.left)?;
+    let right = spec_nodes(alloc, nodes, &link.right)?;
+    lead_along(graph, &right, &left)?;
     Ok(())
 }
 
-/// The edges between the nodes of a module.
-pub(crate) fn edges(alloc: Global, all: &Nodes, rtl: &RtlModule) -> Result<Vec<Edge>, NoMemory> {
-    let mut edges = Vec::new(alloc);
-    push_cells(alloc, all, &mut edges, &rtl.cells)?;
-    push_links(alloc, all, &mut edges, &rtl.links)?;
-    Ok(edges)
+fn add_links(
+    alloc: Global,
+    nodes: &Nodes,
+    graph: &mut Graph,
+    links: &RtlLinks,
+) -> Result<(), NoMemory>
+    requires size { graph.old.size ≡ nodes.now.count }
+    ensures grows { OnOk result (Grows graph.old graph.new) }
+    ensures links { OnOk result (HasLinks graph.new (node_of nodes.now) links.now) }
+{
+    for place in 0..links.len() {
+        add_link(alloc, nodes, graph, links.get(place))?;
+    }
+    Ok(())
 }
