@@ -1,10 +1,10 @@
 -- Once the tangled cells are cut, loops through cells taken whole are loops of bits.
 use Rattle.std.proofs.Common.{◌≡◌, ◌≢◌, ◌∙◌, ◌⊎◌, inl, inr, ◌<◌, ◌≤◌, ◌+◌, ◌==◌, ◌&&◌, ◌||◌, not, ℕ, zero, suc, Bool, true, false, cond, List, [], ◌∷◌, map, length, refl, sym, ap, arith, subst}
-use Rattle.std.specs.Prelude.{Option, Some, None, slice_get, Contains, nat_lt, codes}
+use Rattle.std.specs.Prelude.{Option, Some, None, Result, Ok, Err, IfOk, ◌^◌, slice_get, Contains, nat_lt, codes}
 use Rattle.std.specs.List.{range_with_len}
 use Rattle.std.proofs.lemmas.Bool.{and_parts, cases_lt}
 use Rattle.std.proofs.lemmas.Bool.Decides.{nat_tests}
-use Rattle.std.proofs.lemmas.List.Elements.{All-contains}
+use Rattle.std.proofs.lemmas.List.Elements.{All-contains, All-weaker}
 use Rattle.shape_rules.specs.declared.cell.CellKind.{CellKind}
 use Rattle.shape_rules.specs.declared.cell.CellKind.TheVariants.{Not, And, Or, Xor, Mux, Dff, Adff, MemoryRead, MemoryWrite, MemoryInit}
 use Rattle.rtlil_text.specs.declared.cell.RtlCell.{RtlCell}
@@ -12,17 +12,19 @@ use Rattle.rtlil_text.specs.declared.module.RtlModule.{RtlModule}
 use Rattle.rtlil_text.specs.Sources.{Source, Constant, Net, spec_bits, end_bits, end_width, number_at}
 use Rattle.rtlil_text.specs.CellTables.{output_of, ends_of}
 use Rattle.rtlil_text.specs.CellRules.{FitsArithmetic}
-use Rattle.rtlil_text.specs.Rules.{IsModule, KindFits, CellFits}
+use Rattle.rtlil_text.specs.Rules.{IsModule, KindFits, CellFits, module_ids}
 use Rattle.rtlil_text.specs.Memories.{is_write, is_init}
 use Rattle.rtlil_text.specs.Meaning.{is_kept_kind}
 use Rattle.rtlil_text.specs.Drivers.{Driver, ByInput, ByLink, ByCell, ByNone, output_bits, driver}
 use Rattle.rtlil_text.proofs.Among.{Among, Among-contains, Contains-among, Among-append, Among-slice_get}
-use Rattle.cell_split.specs.Pieces.{is_bitwise, bit_parts, is_shared, piece, pieces}
+use Rattle.cell_split.specs.Pieces.{is_bitwise, bit_parts, is_shared, numbered_id, piece, pieces}
 use Rattle.cell_split.specs.Split.{can_split, split_cell, split_cells, split_of}
 use Rattle.cell_split.specs.Loops.{Bit, net, is_comb, IsRead, StandsAt, TakesBit, TakesWhole, DriverTakes, Feeds, FeedsWhole, OnLoop, LoopsAreOfBits}
+use Rattle.cell_split.specs.Kept.{AreFree}
 use Rattle.cell_split.specs.Needs.{is_marked, IsTangled}
 use Rattle.cell_split.proofs.PieceBits.{spec_bits-bit_part, length-bit_parts, end_bits-shared, end_bits-piece}
 use Rattle.cell_split.proofs.PieceDrivers.{AreAlike, Same, Cut, driver-alike, width-outputs}
+use Rattle.cell_split.proofs.Rules.{splits_keep_rules}
 use Rattle.cell_split.proofs.NeedLaws.{within_some}
 use Rattle.cell_split.proofs.DriverLaws.{driven_by_cell, end_named}
 use Rattle.cell_split.proofs.LoopLaws.{Among-place}
@@ -258,3 +260,19 @@ module _ (n : ℕ) (marks : List Bool) (m : RtlModule) (rules : IsModule (split_
 -- where no cell is tangled, nothing need be cut
 pub free_loops : (m : RtlModule) → IsModule m → ((p : ℕ) (c : RtlCell) → slice_get m.cells p ≡ Some c → IsTangled m c → ⊥) → LoopsAreOfBits m
 free_loops m rules none = cut_loops 0 [] m rules (λ p c at t. absurd (none p c at t))
+
+-- with new numbers that no id has, the cut module is a module
+pub loops_cut : (n : ℕ) (marks : List Bool) (m : RtlModule) → IsModule m → AreFree n (n + 2 ^ 64) (module_ids m) → n < 2 ^ 127 → ((p : ℕ) (c : RtlCell) → slice_get m.cells p ≡ Some c → IsTangled m c → is_marked marks p ≡ true)
+    → length (split_cells n marks m.cells) < 2 ^ 64 → LoopsAreOfBits (split_of n marks m)
+loops_cut n marks m rules free small marked few =
+    let high : ℕ = n + length (split_cells n marks m.cells) in
+    let enough : AreFree n high (module_ids m) =
+    All-weaker (λ id. (k : ℕ) → n ≤ k → k < n + 2 ^ 64 → id ≢ numbered_id k) (λ id. (k : ℕ) → n ≤ k → k < high → id ≢ numbered_id k) (λ id h k low below. h k low (omega (arith, below, few))) (module_ids m) free in
+    cut_loops n marks m (splits_keep_rules n marks m rules enough (omega (arith, small, few))) marked
+
+pub both_ok : {X Y : Type 0} (r : Result X Y) (P Q R : X → Type 0) → ((x : X) → P x → Q x → R x) → IfOk r P → IfOk r Q → IfOk r R
+both_ok (Ok x) P Q R f p q = f x p q
+both_ok (Err e) P Q R f p q = tt
+
+pub unmarked : (seen marks : List Bool) (p : ℕ) → seen ≡ marks → is_marked seen p ≡ false → is_marked marks p ≡ true → ⊥
+unmarked seen marks p same off on = let never : false ≡ true = sym off ∙ ap (λ (bs : List Bool). is_marked bs p) same ∙ on in cc

@@ -7,7 +7,8 @@ pub mod Histories
 pub mod Places
 pub mod PieceRules
 pub mod Rules
-pub mod Digits
+pub mod Lists
+pub mod NumberLaws
 pub mod SplitCode
 pub mod Registers
 pub mod SpecNodes

@@ -21,7 +21,7 @@ use Rattle.rtlil_text.proofs.SpecOnce.{All-left, All-right}
 use Rattle.rtlil_text.proofs.Numerals.{numeral_is_decimal}
 use Rattle.cell_split.specs.Pieces.{numbered_id, piece, pieces}
 use Rattle.cell_split.specs.Split.{can_split, split_cell, split_cells, split_of}
-use Rattle.cell_split.specs.Kept.{AreBelow}
+use Rattle.cell_split.specs.Kept.{AreFree}
 use Rattle.cell_split.specs.Laws.{SplitsKeepTheRules}
 use Rattle.cell_split.proofs.PieceDrivers.{driven_bits-split}
 use Rattle.cell_split.proofs.Places.{All-unmap, All-range, AllPairs-tail, AllPairs-head, AllPairs-append, AllPairs-nil, AllPairs-left, AllPairs-right, AllPairs-across, length-pieces, All-split_cells}
@@ -69,40 +69,46 @@ cut_apart n high c true others few old new =
     (All-range (λ i. All (Differ (numbered_id (n + i))) others) 0 (end_width c (codes "\\Y")) (λ i from upto. new (n + i) (omega arith) (omega (arith, length-pieces n c, upto)))))
 cut_apart n high c false others few old new = All-cons (λ x. All (Differ x) others) c.id [] old (All-nil (λ x. All (Differ x) others))
 
-cells_distinct : (n : ℕ) (marks : List Bool) (cells : List RtlCell) → n + length (split_cells n marks cells) ≤ 10 ^ 64 → AllPairs Differ (ids cells) → AreBelow n (ids cells) → AllPairs Differ (ids (split_cells n marks cells))
-cells_distinct n [] cells few apart below = apart
-cells_distinct n (b ∷ marks) [] few apart below = AllPairs-nil Differ
-cells_distinct n (b ∷ marks) (c ∷ cells) few apart below =
+cells_distinct : (n high : ℕ) (marks : List Bool) (cells : List RtlCell) → high ≤ 10 ^ 64 → n + length (split_cells n marks cells) ≤ high → AllPairs Differ (ids cells) → AreFree n high (ids cells) → AllPairs Differ (ids (split_cells n marks cells))
+cells_distinct n high [] cells few fits apart free = apart
+cells_distinct n high (b ∷ marks) [] few fits apart free = AllPairs-nil Differ
+cells_distinct n high (b ∷ marks) (c ∷ cells) few fits apart free =
     let front : List RtlCell = split_cell n b c in
     let next : ℕ = n + length front in
     let rest : List RtlCell = split_cells next marks cells in
     let all : length (front ++ rest) ≡ length front + length rest = length-append front rest in
-    let fits : n + length front ≤ 10 ^ 64 = omega (arith, all, few) in
-    let few_more : next + length rest ≤ 10 ^ 64 = omega (arith, all, few) in
-    let Below : List ℕ → Type 0 = λ id. (k : ℕ) → n ≤ k → k < 10 ^ 64 → id ≢ numbered_id k in
-    let here : (k : ℕ) → n ≤ k → k < 10 ^ 64 → c.id ≢ numbered_id k = All-head Below c.id (ids cells) below in
-    let later : All Below (ids cells) = All-tail Below c.id (ids cells) below in
+    let fits_here : n + length front ≤ 10 ^ 64 = omega (arith, all, fits, few) in
+    let fits_more : next + length rest ≤ high = omega (arith, all, fits) in
+    let Free : List ℕ → Type 0 = λ id. (k : ℕ) → n ≤ k → k < high → id ≢ numbered_id k in
+    let here : (k : ℕ) → n ≤ k → k < high → c.id ≢ numbered_id k = All-head Free c.id (ids cells) free in
+    let later : All Free (ids cells) = All-tail Free c.id (ids cells) free in
     subst (AllPairs Differ) (sym (map-append (λ (x : RtlCell). x.id) front rest))
-    (AllPairs-append Differ (ids front) (ids rest) (cut_distinct n c (b && can_split c) fits)
-    (cells_distinct next marks cells few_more (AllPairs-tail Differ c.id (ids cells) apart) (λ i d h k from upto. later i d h k (omega arith) upto))
-    (cut_apart n (10 ^ 64) c (b && can_split c) (ids rest) fits
-    (ids_hold (Differ c.id) next (10 ^ 64) marks cells few_more (AllPairs-head Differ c.id (ids cells) apart) (λ j from upto. here j (omega arith) upto))
+    (AllPairs-append Differ (ids front) (ids rest) (cut_distinct n c (b && can_split c) fits_here)
+    (cells_distinct next high marks cells few fits_more (AllPairs-tail Differ c.id (ids cells) apart) (λ i d h k from upto. later i d h k (omega arith) upto))
+    (cut_apart n (10 ^ 64) c (b && can_split c) (ids rest) fits_here
+    (ids_hold (Differ c.id) next high marks cells fits_more (AllPairs-head Differ c.id (ids cells) apart) (λ j from upto. here j (omega arith) upto))
     (λ i from upto.
-    ids_hold (Differ (numbered_id i)) next (10 ^ 64) marks cells few_more (λ k d h e. later k d h i from (omega arith) (sym e))
-    (λ j low high. numbered_id-differ i j (omega arith) high (λ e. omega arith)))))
+    ids_hold (Differ (numbered_id i)) next high marks cells fits_more (λ k d h e. later k d h i from (omega (arith, all, fits, upto)) (sym e))
+    (λ j low below. numbered_id-differ i j (omega (arith, all, fits, few, upto)) (omega (arith, below, few)) (λ e. omega arith)))))
 
-module _ (n : ℕ) (marks : List Bool) (m : RtlModule) (rules : IsModule m) (below : AreBelow n (module_ids m)) (few : n + length (split_cells n marks m.cells) ≤ 10 ^ 64) where
+module _ (n : ℕ) (marks : List Bool) (m : RtlModule) (rules : IsModule m) (free : AreFree n (n + length (split_cells n marks m.cells)) (module_ids m)) (few : n + length (split_cells n marks m.cells) ≤ 10 ^ 64) where
   abbrev others : List (List ℕ)
   others = map (λ (w : RtlWire). w.id) m.wires ++ map (λ (r : RtlMemory). r.id) m.memories
 
-  abbrev Below : List ℕ → Type 0
-  Below id = (k : ℕ) → n ≤ k → k < 10 ^ 64 → id ≢ numbered_id k
+  abbrev high : ℕ
+  high = n + length (split_cells n marks m.cells)
+
+  abbrev Free : List ℕ → Type 0
+  Free id = (k : ℕ) → n ≤ k → k < high → id ≢ numbered_id k
 
   were_distinct : AllPairs Differ (others ++ ids m.cells)
   were_distinct = rules.distinct
 
-  were_below : All Below (others ++ ids m.cells)
-  were_below = below
+  were_free : All Free (others ++ ids m.cells)
+  were_free = free
+
+  fits : n + length (split_cells n marks m.cells) ≤ high
+  fits = omega arith
 
   were_ids : All IsId (others ++ ids m.cells)
   were_ids = rules.ids
@@ -110,10 +116,10 @@ module _ (n : ℕ) (marks : List Bool) (m : RtlModule) (rules : IsModule m) (bel
   distinct : AreDistinct (module_ids (split_of n marks m))
   distinct =
       let across = AllPairs-across Differ others (ids m.cells) were_distinct in
-      let free = All-left Below others (ids m.cells) were_below in
+      let apart = All-left Free others (ids m.cells) were_free in
       AllPairs-append Differ others (ids (split_cells n marks m.cells)) (AllPairs-left Differ others (ids m.cells) were_distinct)
-      (cells_distinct n marks m.cells few (AllPairs-right Differ others (ids m.cells) were_distinct) (All-right Below others (ids m.cells) were_below))
-      (λ i d h. ids_hold (Differ (slice_index_or others i d)) n (10 ^ 64) marks m.cells few (across i d h) (free i d h))
+      (cells_distinct n high marks m.cells few fits (AllPairs-right Differ others (ids m.cells) were_distinct) (All-right Free others (ids m.cells) were_free))
+      (λ i d h. ids_hold (Differ (slice_index_or others i d)) n high marks m.cells fits (across i d h) (apart i d h))
 
   all_ids : All IsId (module_ids (split_of n marks m))
   all_ids =
@@ -138,4 +144,4 @@ module _ (n : ℕ) (marks : List Bool) (m : RtlModule) (rules : IsModule m) (bel
   }
 
 pub splits_keep_rules : SplitsKeepTheRules
-splits_keep_rules n marks m rules below few = split_is_module n marks m rules below few
+splits_keep_rules n marks m rules free few = split_is_module n marks m rules free few

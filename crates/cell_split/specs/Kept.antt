@@ -10,6 +10,6 @@ use Rattle.cell_split.specs.Pieces.{numbered_id}
 abbrev pub KeepsHistory : RtlModule → RtlModule → Type 0
 KeepsHistory m other = (first : Inputs) (events : List Inputs) → rtl_history other first events ≡ rtl_history m first events
 
--- none of the ids has a number from n on
-abbrev pub AreBelow : (n : ℕ) → List (List ℕ) → Type 0
-AreBelow n ids = All (λ id. (k : ℕ) → n ≤ k → k < 10 ^ 64 → id ≢ numbered_id k) ids
+-- none of the ids has one of the numbers from n on and below the end
+abbrev pub AreFree : (n end : ℕ) → List (List ℕ) → Type 0
+AreFree n end ids = All (λ id. (k : ℕ) → n ≤ k → k < end → id ≢ numbered_id k) ids

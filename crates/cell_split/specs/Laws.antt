@@ -5,12 +5,12 @@ use Rattle.rtlil_text.specs.declared.module.RtlModule.{RtlModule}
 use Rattle.rtlil_text.specs.Rules.{IsModule, module_ids}
 use Rattle.rtlil_text.specs.Inits.{register_bits}
 use Rattle.cell_split.specs.Split.{split_cells, split_of}
-use Rattle.cell_split.specs.Kept.{KeepsHistory, AreBelow}
+use Rattle.cell_split.specs.Kept.{KeepsHistory, AreFree}
 
--- where new numbers begin behind those of the module, it keeps the rules
+-- where no id of the module has one of the new numbers, it keeps the rules
 abbrev pub SplitsKeepTheRules : Type 0
 SplitsKeepTheRules =
-    (n : ℕ) (marks : List Bool) (m : RtlModule) → IsModule m → AreBelow n (module_ids m) → n + length (split_cells n marks m.cells) ≤ 10 ^ 64 → IsModule (split_of n marks m)
+    (n : ℕ) (marks : List Bool) (m : RtlModule) → IsModule m → AreFree n (n + length (split_cells n marks m.cells)) (module_ids m) → n + length (split_cells n marks m.cells) ≤ 10 ^ 64 → IsModule (split_of n marks m)
 
 -- the module keeps its history, whatever it is
 abbrev pub SplitsKeepTheHistory : Type 0

@@ -5,3 +5,4 @@ pub mod Laws
 pub mod Short
 pub mod Loops
 pub mod Needs
+pub mod Numbers

@@ -1,7 +1,7 @@
 // The laws of cut cells. The functions do nothing: their clauses are the laws.
 ghost use Rattle.cell_split.specs.Laws.{SplitsKeepTheRules, SplitsKeepTheHistory, SplitsKeepTheRegisters};
 
-/// Where new numbers begin behind those of the module, it keeps the rules of RTLIL text, whichever cells are marked.
+/// Where no id of the module has one of the new numbers, it keeps the rules of RTLIL text, whichever cells are marked.
 pub fn splits_keep_the_rules()
     ensures { SplitsKeepTheRules }
 {}

@@ -1,15 +1,17 @@
 // A module of which the cells that lie on a loop are cut.
-ghost use Rattle.std.specs.Prelude.{◌≡◌, ◌<◌, ◌≤◌, ◌^◌, ◌+◌, ◌++◌, ◌∷◌, [], length, take, All, codes, IfOk, OnOk, IfSome, slice_get, Some};
+ghost use Rattle.std.specs.Prelude.{◌≡◌, ◌<◌, ◌≤◌, ◌^◌, ◌+◌, ◌++◌, ◌∷◌, [], ℕ, true, false, length, take, All, codes, IfOk, OnOk, slice_get, Some};
 ghost use Rattle.rtlil_text.specs.Rules.{IsModule, module_ids};
 ghost use Rattle.rtlil_text.specs.Sources.{end_width, number_at};
 ghost use Rattle.rtlil_text.specs.Inits.{register_bits};
 ghost use Rattle.cell_split.specs.Split.{can_split, split_cell, split_cells, split_of};
-ghost use Rattle.cell_split.specs.Kept.{KeepsHistory, AreBelow};
+ghost use Rattle.cell_split.specs.Kept.{KeepsHistory, AreFree};
+ghost use Rattle.cell_split.specs.Loops.{LoopsAreOfBits};
+ghost use Rattle.cell_split.specs.Needs.{is_marked};
 ghost use Rattle.cell_split.specs.Short.{IsPlainCell, AreNarrow, width_name};
 
 use crate::copies::copied_cell;
 use crate::laws::{splits_keep_the_history, splits_keep_the_registers, splits_keep_the_rules};
-use crate::numbers::first_number;
+use crate::numbers::free_number;
 use crate::pieces::{is_bitwise, push_pieces};
 use crate::tangled::tangled;
 use amh_host::{Items, NoMemory};
@@ -29,14 +31,13 @@ pub fn split_tangled(alloc: Global, rtl: RtlModule) -> Result<RtlModule, NoMemor
     ensures links { IfOk result (λ m. m.links ≡ rtl.links) }
     ensures registers { IfOk result (λ m. register_bits m ≡ register_bits rtl) }
     ensures history { IfOk result (KeepsHistory rtl) }
+    ensures loops { IfOk result LoopsAreOfBits }
 {
     let marks = tangled(alloc, &rtl)?;
     if !any(&marks) {
         return Ok(rtl);
     }
-    let Some(first) = first_number(&rtl) else {
-        return Ok(rtl);
-    };
+    let first = free_number(alloc, &rtl)?;
     splits_keep_the_rules();
     splits_keep_the_registers();
     splits_keep_the_history();
@@ -44,8 +45,15 @@ pub fn split_tangled(alloc: Global, rtl: RtlModule) -> Result<RtlModule, NoMemor
 }
 
 // Whether a cell is marked.
-fn any(marks: &[bool]) -> bool {
-    marks.iter().any(|b| *b)
+fn any(marks: &[bool]) -> bool
+    ensures { result ≡ false → (p : ℕ) → is_marked marks.now p ≡ false }
+{
+    for marked in marks {
+        if *marked {
+            return true;
+        }
+    }
+    false
 }
 
 /// The module of which the marked cells are cut, with new cells numbered from `first` on.
@@ -54,7 +62,7 @@ fn split(alloc: Global, first: u128, marks: &[bool], rtl: RtlModule) -> Result<R
     requires first { first < 2 ^ 127 }
     requires marks { length marks.now ≡ length rtl.cells }
     ensures split { IfOk result (λ m. m ≡ split_of first marks.now rtl) }
-    ensures few { IfOk result (λ m. first + length (split_cells first marks.now rtl.cells) ≤ 10 ^ 64) }
+    ensures few { IfOk result (λ m. length (split_cells first marks.now rtl.cells) < 2 ^ 64) }
 {
     let cells = split_cells(alloc, first, marks, &rtl)?;
     Ok(RtlModule {
@@ -124,7 +132,7 @@ fn split_cells(
     requires first { first < 2 ^ 127 }
     requires marks { length marks.now ≡ length rtl.now.cells }
     ensures cells { IfOk result (λ cells. cells ≡ split_cells first marks.now rtl.now.cells) }
-    ensures few { IfOk result (λ cells. first + length cells ≤ 10 ^ 64) }
+    ensures few { IfOk result (λ cells. length cells < 2 ^ 64) }
 {
     wires_are_narrow(&rtl.wires);
     let mut cells = Items::new(alloc);

@@ -1,7 +1,7 @@
 use Rattle.std.proofs.Common.{◌∙◌, List, ℕ, sym, subst, arith}
 use Rattle.rtlil_text.specs.CellTables.{output_of}
 use Rattle.cell_split.specs.Needs.{node_of, HasEnd}
-use Rattle.cell_split.proofs.Digits.{All-taken, All-next}
+use Rattle.cell_split.proofs.Lists.{All-taken, All-next}
 use Rattle.cell_split.proofs.NeedLaws.{grows_then, ends_grown}
 use Rattle.cell_split.proofs.needs.add_ends.Goals as goal
 

@@ -1,6 +1,6 @@
 use Rattle.std.proofs.Common.{refl, arith}
 use Rattle.cell_split.specs.Needs.{Ties}
-use Rattle.cell_split.proofs.Digits.{All-taken}
+use Rattle.cell_split.proofs.Lists.{All-taken}
 use Rattle.cell_split.proofs.NeedLaws.{grows_then, ties_next}
 use Rattle.cell_split.proofs.needs.tie_all.Goals as goal
 

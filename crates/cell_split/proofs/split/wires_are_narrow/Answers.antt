@@ -1,6 +1,6 @@
 use Rattle.std.proofs.Common.{◌<◌, ◌^◌, arith}
 use Rattle.rtlil_text.specs.declared.module.RtlWire.{RtlWire}
-use Rattle.cell_split.proofs.Digits.{All-next, All-taken}
+use Rattle.cell_split.proofs.Lists.{All-next, All-taken}
 use Rattle.cell_split.proofs.split.wires_are_narrow.Goals as goal
 
 pub loop-wire-preserved : goal.loop-wire-preserved
