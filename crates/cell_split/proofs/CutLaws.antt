@@ -2,14 +2,14 @@
 use Rattle.std.proofs.Common.{◌≡◌, ◌≢◌, ◌∙◌, ◌⊎◌, inl, inr, ◌<◌, ◌≤◌, ◌+◌, ◌==◌, ◌&&◌, ◌||◌, not, ℕ, zero, suc, Bool, true, false, cond, List, [], ◌∷◌, map, length, refl, sym, ap, arith, subst}
 use Rattle.std.specs.Prelude.{Option, Some, None, Result, Ok, Err, IfOk, ◌^◌, slice_get, Contains, nat_lt, codes}
 use Rattle.std.specs.List.{range_with_len}
-use Rattle.std.proofs.lemmas.Bool.{and_parts, cases_lt}
+use Rattle.std.proofs.lemmas.Bool.{and_parts}
 use Rattle.std.proofs.lemmas.Bool.Decides.{nat_tests}
 use Rattle.std.proofs.lemmas.List.Elements.{All-contains, All-weaker}
 use Rattle.shape_rules.specs.declared.cell.CellKind.{CellKind}
 use Rattle.shape_rules.specs.declared.cell.CellKind.TheVariants.{Not, And, Or, Xor, Mux, Dff, Adff, MemoryRead, MemoryWrite, MemoryInit}
 use Rattle.rtlil_text.specs.declared.cell.RtlCell.{RtlCell}
 use Rattle.rtlil_text.specs.declared.module.RtlModule.{RtlModule}
-use Rattle.rtlil_text.specs.Sources.{Source, Constant, Net, spec_bits, end_bits, end_width, number_at}
+use Rattle.rtlil_text.specs.Sources.{Source, Constant, spec_bits, end_bits, end_width, number_at}
 use Rattle.rtlil_text.specs.CellTables.{output_of, ends_of}
 use Rattle.rtlil_text.specs.CellRules.{FitsArithmetic}
 use Rattle.rtlil_text.specs.Rules.{IsModule, KindFits, CellFits, module_ids}
@@ -104,9 +104,9 @@ of_split n (b ∷ marks) [] c h = absurd h
 of_split n (b ∷ marks) (x ∷ cells) c h =
     elim (Among-append (split_cell n b x) (split_cells (n + length (split_cell n b x)) marks cells) c h) [
       | inl own ↦ (elim (of_cell n x (b && can_split x) c own) [
-          | inl piece ↦ inl piece
-          | inr whole ↦ inr (0, ap Some whole.0, subst (λ (y : RtlCell). (b && can_split y) ≡ false) whole.0 whole.1)
-        ])
+        | inl piece ↦ inl piece
+        | inr whole ↦ inr (0, ap Some whole.0, subst (λ (y : RtlCell). (b && can_split y) ≡ false) whole.0 whole.1)
+      ])
       | inr later ↦ (elim (of_split (n + length (split_cell n b x)) marks cells c later) [ inl piece ↦ inl piece | inr r ↦ inr (suc r.0, r.1, r.2) ])
     ]
 
@@ -213,9 +213,9 @@ module _ (n : ℕ) (marks : List Bool) (m : RtlModule) (rules : IsModule (split_
       elim (alike_before (driver m y.wire y.place) (driver cut y.wire y.place) c k (driver-alike n marks m y.wire y.place) e) [
         | inr small ↦ small
         | inl drives ↦ (elim (of_split n marks m.cells c among) [
-            | inl r ↦ subst (λ (x : RtlCell). end_width x (codes "\\Y") ≤ 1) r.3 (piece_narrow r.0 r.1 r.2 (codes "\\Y") refl)
-            | inr r ↦ uncut r.0 r.1 drives r.2
-          ])
+          | inl r ↦ subst (λ (x : RtlCell). end_width x (codes "\\Y") ≤ 1) r.3 (piece_narrow r.0 r.1 r.2 (codes "\\Y") refl)
+          | inr r ↦ uncut r.0 r.1 drives r.2
+        ])
       ]
     where
       uncut : (p : ℕ) → slice_get m.cells p ≡ Some c → driver m y.wire y.place ≡ ByCell c k → (is_marked marks p && can_split c) ≡ false → end_width c (codes "\\Y") ≤ 1
@@ -232,12 +232,12 @@ module _ (n : ℕ) (marks : List Bool) (m : RtlModule) (rules : IsModule (split_
       let named : Among (ends_of c.kind) takes.name = subst (λ (names : List (List ℕ)). Among names takes.name) fits.ends (end_named c takes.name (net x) stands) in
       let exact : (is_bitwise c.kind && not (is_shared takes.name)) ≡ true → slice_get (end_bits c takes.name) k ≡ Some (net x) =
       λ both.
-        let parts = and_parts (is_bitwise c.kind) (not (is_shared takes.name)) both in
-        let wide : end_width c takes.name ≡ end_width c (codes "\\Y") = operand_width cut c c.kind parts.0 fits.rules takes.name named takes.other (not_shared (is_shared takes.name) parts.1) in
-        let small : end_width c (codes "\\Y") ≤ 1 = narrow y c k e by.0 parts.0 loop in
-        let within : k < length (output_bits c) = within_some (output_bits c) k (net y) by.1 in
-        let zero : 0 ≡ k = omega (arith, within, width-outputs c parts.0, small) in
-        subst (λ (j : ℕ). slice_get (end_bits c takes.name) j ≡ Some (net x)) zero (only_bit (end_bits c takes.name) (net x) (omega (arith, wide, small)) stands) in
+      let parts = and_parts (is_bitwise c.kind) (not (is_shared takes.name)) both in
+      let wide : end_width c takes.name ≡ end_width c (codes "\\Y") = operand_width cut c c.kind parts.0 fits.rules takes.name named takes.other (not_shared (is_shared takes.name) parts.1) in
+      let small : end_width c (codes "\\Y") ≤ 1 = narrow y c k e by.0 parts.0 loop in
+      let within : k < length (output_bits c) = within_some (output_bits c) k (net y) by.1 in
+      let zero : 0 ≡ k = omega (arith, within, width-outputs c parts.0, small) in
+      subst (λ (j : ℕ). slice_get (end_bits c takes.name) j ≡ Some (net x)) zero (only_bit (end_bits c takes.name) (net x) (omega (arith, wide, small)) stands) in
       record {
         comb = takes.comb;
         name = takes.name;

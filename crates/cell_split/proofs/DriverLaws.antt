@@ -1,11 +1,10 @@
 -- Where the driver of a bit stands, and the end of a cell at which a bit stands.
-use Rattle.std.proofs.Common.{◌≡◌, ◌∙◌, ◌⊎◌, inl, inr, ◌≤◌, ◌+◌, ◌==◌, ◌&&◌, ℕ, zero, suc, Bool, true, false, cond, List, [], ◌∷◌, ◌++◌, map, refl, sym, ap, arith, subst}
-use Rattle.std.specs.Prelude.{Option, Some, None, option_map, slice_get, unwrap_or}
+use Rattle.std.proofs.Common.{◌≡◌, ◌∙◌, inl, inr, ◌+◌, ◌==◌, ℕ, suc, Bool, true, false, cond, List, [], ◌∷◌, map, refl, sym, ap, arith, subst}
+use Rattle.std.specs.Prelude.{Some, option_map, slice_get, unwrap_or}
 use Rattle.std.specs.List.{find, flat_map}
 use Rattle.std.proofs.lemmas.Bool.{and_parts, eqb-true}
 use Rattle.lists.specs.Texts.{text_eq}
 use Rattle.lists.proofs.TextLaws.{text_eq_true}
-use Rattle.rtlil_text.specs.declared.sig.SigPart.{SigPart}
 use Rattle.rtlil_text.specs.declared.cell.RtlEnd.{RtlEnd}
 use Rattle.rtlil_text.specs.declared.cell.RtlCell.{RtlCell}
 use Rattle.rtlil_text.specs.declared.module.RtlLink.{RtlLink}
@@ -71,9 +70,9 @@ pub driven_by_cell : (m : RtlModule) (wire : List ℕ) (i : ℕ) (c : RtlCell) (
 driven_by_cell m wire i c k e =
     elim (Among-append (flat_map (entries ByCell output_bits) m.cells) (flat_map (entries ByLink link_left) m.links) (Net wire i, ByCell c k) (driver-among m wire i (ByCell c k) e (λ f. cc) (λ f. cc))) [
       | inl own ↦ (let r = entry_of ByCell output_bits m.cells (Net wire i) (ByCell c k) own in
-        let cell : r.0 ≡ c = cell_same r.0 c r.1 k (sym r.3) in
-        let place : r.1 ≡ k = place_same r.0 c r.1 k (sym r.3) in
-        (subst (Among m.cells) cell r.2, subst (λ (j : ℕ). slice_get (output_bits c) j ≡ Some (Net wire i)) place (subst (λ (x : RtlCell). slice_get (output_bits x) r.1 ≡ Some (Net wire i)) cell r.4)))
+          let cell : r.0 ≡ c = cell_same r.0 c r.1 k (sym r.3) in
+          let place : r.1 ≡ k = place_same r.0 c r.1 k (sym r.3) in
+          (subst (Among m.cells) cell r.2, subst (λ (j : ℕ). slice_get (output_bits c) j ≡ Some (Net wire i)) place (subst (λ (x : RtlCell). slice_get (output_bits x) r.1 ≡ Some (Net wire i)) cell r.4)))
       | inr other ↦ (let r = entry_of ByLink link_left m.links (Net wire i) (ByCell c k) other in no_link c k r.0 r.1 (r.3))
     ]
   where
@@ -91,9 +90,9 @@ driven_by_link m wire i l k e =
     elim (Among-append (flat_map (entries ByCell output_bits) m.cells) (flat_map (entries ByLink link_left) m.links) (Net wire i, ByLink l k) (driver-among m wire i (ByLink l k) e (λ f. cc) (λ f. cc))) [
       | inl other ↦ (let r = entry_of ByCell output_bits m.cells (Net wire i) (ByLink l k) other in no_cell l k r.0 r.1 (r.3))
       | inr own ↦ (let r = entry_of ByLink link_left m.links (Net wire i) (ByLink l k) own in
-        let link : r.0 ≡ l = link_same r.0 l r.1 k (sym r.3) in
-        let place : r.1 ≡ k = place_same r.0 l r.1 k (sym r.3) in
-        (subst (Among m.links) link r.2, subst (λ (j : ℕ). slice_get (spec_bits l.left) j ≡ Some (Net wire i)) place (subst (λ (x : RtlLink). slice_get (spec_bits x.left) r.1 ≡ Some (Net wire i)) link r.4)))
+          let link : r.0 ≡ l = link_same r.0 l r.1 k (sym r.3) in
+          let place : r.1 ≡ k = place_same r.0 l r.1 k (sym r.3) in
+          (subst (Among m.links) link r.2, subst (λ (j : ℕ). slice_get (spec_bits l.left) j ≡ Some (Net wire i)) place (subst (λ (x : RtlLink). slice_get (spec_bits x.left) r.1 ≡ Some (Net wire i)) link r.4)))
     ]
   where
     link_same : (l x : RtlLink) (j k : ℕ) → ByLink l j ≡ ByLink x k → l ≡ x

@@ -8,7 +8,8 @@ pub mod Places
 pub mod PieceRules
 pub mod Rules
 pub mod Lists
-pub mod NumberLaws
+pub mod BlockLaws
+pub mod Digits
 pub mod SplitCode
 pub mod Registers
 pub mod SpecNodes
@@ -17,3 +18,4 @@ pub mod Ways
 pub mod DriverLaws
 pub mod LoopLaws
 pub mod CutLaws
+pub mod LoopSanity

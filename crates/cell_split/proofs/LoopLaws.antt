@@ -1,26 +1,24 @@
 -- A cell on a loop through cells taken whole lies on a loop of the graph, and so it is marked.
-use Rattle.std.proofs.Common.{◌≡◌, ◌≢◌, ◌∙◌, ◌⊎◌, inl, inr, ◌<◌, ◌≤◌, ◌+◌, ℕ, zero, suc, Bool, true, false, List, [], ◌∷◌, ◌++◌, length, take, refl, sym, ap, arith, subst, All}
-use Rattle.std.specs.Prelude.{Some, slice_get, slice_index_or, Contains, min}
+use Rattle.std.proofs.Common.{◌≡◌, ◌≢◌, ◌∙◌, inl, inr, ◌<◌, ℕ, suc, Bool, true, false, List, [], ◌∷◌, ◌++◌, length, take, refl, ap, arith, subst, All}
+use Rattle.std.specs.Prelude.{Some, slice_get, Contains, min}
 use Rattle.std.proofs.Math.Nat.{min-eq_left}
 use Rattle.std.proofs.lemmas.List.{get_or-take, length-take}
 use Rattle.std.proofs.lemmas.List.Elements.{All-contains}
 use Rattle.lists.specs.Texts.{text_eq}
 use Rattle.lists.proofs.TextLaws.{text_eq_true, text_eq_same}
-use Rattle.rtlil_text.specs.declared.cell.RtlEnd.{RtlEnd}
 use Rattle.rtlil_text.specs.declared.cell.RtlCell.{RtlCell}
-use Rattle.rtlil_text.specs.declared.module.RtlLink.{RtlLink}
 use Rattle.rtlil_text.specs.declared.module.RtlModule.{RtlModule}
-use Rattle.rtlil_text.specs.Sources.{Source, Net, spec_bits, end_bits}
+use Rattle.rtlil_text.specs.Sources.{Source, spec_bits, end_bits}
 use Rattle.rtlil_text.specs.CellTables.{output_of}
 use Rattle.rtlil_text.specs.Drivers.{Driver, ByInput, ByLink, ByCell, ByNone, output_bits, driver}
 use Rattle.rtlil_text.proofs.Among.{Among, Among-contains, Contains-among, Among-slice_get}
 use Rattle.digraph.specs.Graphs.{Digraph, Leads, Path, Reaches}
-use Rattle.digraph.specs.Cuts.{IsLeft, is_left}
-use Rattle.cell_split.specs.Loops.{Bit, net, is_comb, TakesWhole, DriverTakes, FeedsWhole, Way, OnLoop}
-use Rattle.cell_split.specs.Needs.{Ties, HasEnd, HasCell, HasNeeds, is_marked, IsTangled, MarksTangled}
+use Rattle.digraph.specs.Cuts.{IsLeft}
+use Rattle.cell_split.specs.Loops.{Bit, net, is_comb, TakesWhole, DriverTakes, FeedsWhole, Way}
+use Rattle.cell_split.specs.Needs.{Ties, HasEnd, HasNeeds, is_marked, IsTangled, MarksTangled}
 use Rattle.cell_split.proofs.NeedLaws.{within_some}
 use Rattle.cell_split.proofs.DriverLaws.{driven_by_cell, driven_by_link, end_among}
-use Rattle.cell_split.proofs.Ways.{Comes, way_last}
+use Rattle.cell_split.proofs.Ways.{way_last}
 
 -- ---- places
 

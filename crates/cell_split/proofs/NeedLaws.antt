@@ -1,5 +1,5 @@
 -- Edges of a graph stay while more are added.
-use Rattle.std.proofs.Common.{◌≡◌, ◌∙◌, ◌<◌, ◌≤◌, ◌+◌, ℕ, zero, suc, Bool, true, false, List, [], ◌∷◌, map, length, get_or, take, slice_index_or, inl, inr, refl, sym, ap, arith, subst, All}
+use Rattle.std.proofs.Common.{◌≡◌, ◌∙◌, ◌<◌, ◌≤◌, ◌+◌, ℕ, zero, suc, Bool, true, false, List, [], ◌∷◌, map, length, get_or, take, slice_index_or, inl, inr, ap, arith, subst, All}
 use Rattle.std.specs.Prelude.{Option, Some, option_map, slice_get}
 use Rattle.std.proofs.lemmas.Bool.{cases_lt}
 use Rattle.std.proofs.lemmas.Option.{slice_get-map}
@@ -10,12 +10,9 @@ use Rattle.rtlil_text.specs.declared.module.RtlLink.{RtlLink}
 use Rattle.rtlil_text.specs.Sources.{Source, spec_bits}
 use Rattle.rtlil_text.specs.CellTables.{output_of}
 use Rattle.lists.specs.Texts.{text_eq}
-use Rattle.digraph.specs.Graphs.{Digraph, Leads}
+use Rattle.digraph.specs.Graphs.{Digraph}
 use Rattle.cell_split.proofs.Places.{All-unmap}
 use Rattle.cell_split.specs.Needs.{Grows, Ties, LeadsAt, LeadAlong, HasEnd, HasCell, HasCells, HasLink, HasLinks}
-
-pub grows_same : (g : Digraph) → Grows g g
-grows_same g = record { size = refl; leads = λ a b h. h }
 
 pub grows_then : (g h k : Digraph) → Grows g h → Grows h k → Grows g k
 grows_then g h k p q = record { size = q.size ∙ p.size; leads = λ a b l. q.leads a b (p.leads a b l) }

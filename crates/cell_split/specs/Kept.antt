@@ -1,6 +1,6 @@
 -- What a module keeps when its cells are cut.
 -- Internal: no rule of the language.
-use Rattle.std.specs.Prelude.{◌≡◌, ◌≢◌, ℕ, ◌≤◌, ◌<◌, ◌^◌, List, All}
+use Rattle.std.specs.Prelude.{◌≡◌, ◌≢◌, ℕ, ◌≤◌, ◌<◌, List, All}
 use Rattle.rtlil_text.specs.declared.module.RtlModule.{RtlModule}
 use Rattle.rtlil_text.specs.Meaning.{Inputs}
 use Rattle.rtlil_text.specs.History.{rtl_history}

@@ -5,4 +5,4 @@ pub mod Laws
 pub mod Short
 pub mod Loops
 pub mod Needs
-pub mod Numbers
+pub mod Blocks

@@ -1,6 +1,6 @@
 -- The graph of a module: a node for each cell, and nodes for the bits of its wires.
 -- Internal: no rule of the language.
-use Rattle.std.specs.Prelude.{◌≡◌, ℕ, ◌+◌, ◌≤◌, ◌<◌, nat_lt, Bool, true, false, if◌then◌else◌, List, length, Option, Some, None, slice_get, slice_index_or, All}
+use Rattle.std.specs.Prelude.{◌≡◌, ℕ, ◌+◌, ◌≤◌, nat_lt, Bool, true, false, if◌then◌else◌, List, length, Option, Some, None, slice_get, slice_index_or, All}
 use Rattle.std.specs.BTreeMap.{get_by_text}
 use Rattle.lists.specs.Texts.{text_eq}
 use Rattle.rtlil_text.specs.declared.cell.RtlEnd.{RtlEnd}

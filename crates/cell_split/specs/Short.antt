@@ -34,3 +34,12 @@ pub record IsPlainCell (c : RtlCell) : Type 0 where
 
 abbrev pub AreNarrow : List RtlWire → Type 0
 AreNarrow wires = All (λ (w : RtlWire). w.width < 2 ^ 32) wires
+
+-- an id that only the module gives
+abbrev pub is_inner : List ℕ → Bool
+is_inner [] = false
+is_inner (b ∷ bs) = b == 36
+
+-- such an id has at most so many bytes
+abbrev pub IsWithin : (longest : ℕ) → List ℕ → Type 0
+IsWithin longest id = is_inner id ≡ true → length id ≤ longest

@@ -6,6 +6,7 @@
 //! history; the functions of `laws` carry that in their clauses.
 #![tactic(auto)]
 
+mod blocks;
 mod copies;
 mod laws;
 mod needs;

@@ -51,12 +51,7 @@ fn tie(graph: &mut Graph, cell: usize, is_output: bool, bit: usize) -> Result<()
     }
 }
 
-fn tie_all(
-    graph: &mut Graph,
-    cell: usize,
-    is_output: bool,
-    bits: &[usize],
-) -> Result<(), NoMemory>
+fn tie_all(graph: &mut Graph, cell: usize, is_output: bool, bits: &[usize]) -> Result<(), NoMemory>
     requires cell { cell < graph.old.size }
     requires bits { All (λ n. n < graph.old.size) bits.now }
     ensures grows { OnOk result (Grows graph.old graph.new) }
@@ -207,12 +202,7 @@ fn add_cells(
 
 // ---- links
 
-fn add_link(
-    alloc: Global,
-    nodes: &Nodes,
-    graph: &mut Graph,
-    link: &RtlLink,
-) -> Result<(), NoMemory>
+fn add_link(alloc: Global, nodes: &Nodes, graph: &mut Graph, link: &RtlLink) -> Result<(), NoMemory>
     requires size { graph.old.size ≡ nodes.now.count }
     ensures grows { OnOk result (Grows graph.old graph.new) }
     ensures link { OnOk result (HasLink graph.new (node_of nodes.now) link.now) }

@@ -11,11 +11,7 @@ use rtlil_text::{SigPart, SigSpec};
 use std::alloc::Global;
 
 /// The node of each bit of a spec, the lowest first.
-pub(crate) fn spec_nodes(
-    alloc: Global,
-    all: &Nodes,
-    spec: &SigSpec,
-) -> Result<Vec<usize>, NoMemory>
+pub(crate) fn spec_nodes(alloc: Global, all: &Nodes, spec: &SigSpec) -> Result<Vec<usize>, NoMemory>
     ensures nodes { IfOk result (λ v. v.items ≡ map (node_of all.now) (spec_bits spec.now)) }
     ensures within { IfOk result (λ v. All (λ n. n < all.now.count) v.items) }
 {

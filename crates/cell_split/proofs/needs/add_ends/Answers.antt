@@ -1,4 +1,4 @@
-use Rattle.std.proofs.Common.{◌∙◌, List, ℕ, sym, subst, arith}
+use Rattle.std.proofs.Common.{List, ℕ, subst, arith}
 use Rattle.rtlil_text.specs.CellTables.{output_of}
 use Rattle.cell_split.specs.Needs.{node_of, HasEnd}
 use Rattle.cell_split.proofs.Lists.{All-taken, All-next}

@@ -1,4 +1,4 @@
-use Rattle.std.proofs.Common.{◌≡◌, ◌≤◌, ◌+◌, ◌-◌, ℕ, length, arith}
+use Rattle.std.proofs.Common.{◌≡◌, ◌+◌, ◌-◌, ℕ, arith}
 use Rattle.cell_split.proofs.SpecNodes.{nodes_more, nodes_all, nodes_within}
 use Rattle.cell_split.proofs.spec_nodes.spec_nodes.Goals as goal
 

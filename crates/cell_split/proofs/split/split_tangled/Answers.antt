@@ -17,6 +17,6 @@ returns-clause-loops c =
     let marks = c.deref-2.result.now in
     both_ok c.split.result (λ (m : RtlModule). m ≡ split_of first marks c.args.rtl) (λ (m : RtlModule). length (split_cells first marks c.args.rtl.cells) < 2 ^ 64) LoopsAreOfBits
     (λ m e few. subst LoopsAreOfBits (sym e)
-        (loops_cut first marks c.args.rtl c.requires c.in_ok-first.ensures.free c.in_ok-first.ensures.small
-        (λ p x at t. ap (λ (bs : List Bool). is_marked bs p) c.deref-2.ensures.value ∙ c.in_ok-marks.ensures.marked p x at t) few))
+    (loops_cut first marks c.args.rtl c.requires c.in_ok-first.ensures.free c.in_ok-first.ensures.small
+    (λ p x at t. ap (λ (bs : List Bool). is_marked bs p) c.deref-2.ensures.value ∙ c.in_ok-marks.ensures.marked p x at t) few))
     c.split.ensures.split c.split.ensures.few

@@ -1,6 +1,5 @@
-use Rattle.std.proofs.Common.{◌∙◌, List, ℕ, Bool, take, ap}
+use Rattle.std.proofs.Common.{◌∙◌, ℕ, take, ap}
 use Rattle.cell_split.proofs.LoopLaws.{marks_of_left}
-use Rattle.cell_split.proofs.CutLaws.{cut_loops, free_loops}
 use Rattle.cell_split.proofs.tangled.tangled.Goals as goal
 
 pub returns : goal.returns

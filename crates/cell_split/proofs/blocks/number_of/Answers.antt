@@ -1,7 +1,7 @@
-use Rattle.std.proofs.Common.{◌≡◌, ◌∙◌, ◌∷◌, ℕ, sym, ap}
-use Rattle.std.specs.Prelude.{Option, Some, None, Result, Ok, Err}
-use Rattle.cell_split.proofs.NumberLaws.{parsed, stripped, ok_some, no_ok}
-use Rattle.cell_split.proofs.numbers.number_of.Goals as goal
+use Rattle.std.proofs.Common.{◌≡◌, ◌∷◌}
+use Rattle.std.specs.Prelude.{Some, None}
+use Rattle.cell_split.proofs.BlockLaws.{parsed, stripped, ok_some, no_ok}
+use Rattle.cell_split.proofs.blocks.number_of.Goals as goal
 
 pub returns-in-Ok : goal.returns-in-Ok
 returns-in-Ok c k small same =

@@ -1,9 +1,8 @@
 use Rattle.std.proofs.Common.{◌∙◌, arith}
-use Rattle.rtlil_text.specs.declared.cell.RtlCell.{RtlCell}
 use Rattle.rtlil_text.specs.declared.module.RtlWire.{RtlWire}
 use Rattle.rtlil_text.specs.declared.module.RtlMemory.{RtlMemory}
-use Rattle.cell_split.proofs.NumberLaws.{marks_then, ids_kept, length_ids, all_marked}
-use Rattle.cell_split.proofs.numbers.mark_all.Goals as goal
+use Rattle.cell_split.proofs.BlockLaws.{marks_then, ids_kept, length_ids, all_marked}
+use Rattle.cell_split.proofs.blocks.mark_all.Goals as goal
 
 pub returns-clause-size : goal.returns-clause-size
 returns-clause-size c = c.mark_cells.ensures.kept.size ∙ c.mark_memories.ensures.kept.size ∙ c.mark_wires.ensures.kept.size

@@ -1,7 +1,7 @@
 use Rattle.std.proofs.Common.{◌≤◌, ◌+◌, take, All}
 use Rattle.rtlil_text.specs.declared.module.RtlMemory.{RtlMemory}
-use Rattle.cell_split.specs.Numbers.{count_taken, Marks, MarksId}
-use Rattle.cell_split.proofs.numbers.mark_memories.Given as goal
+use Rattle.cell_split.specs.Blocks.{count_taken, Marks, MarksId}
+use Rattle.cell_split.proofs.blocks.mark_memories.Given as goal
 
 abbrev pub invariant-loop-memory : goal.invariant-loop-memory
 invariant-loop-memory l = record {

@@ -1,9 +1,9 @@
 use Rattle.std.proofs.Common.{arith}
 use Rattle.rtlil_text.specs.declared.module.RtlMemory.{RtlMemory}
-use Rattle.cell_split.specs.Numbers.{MarksId}
+use Rattle.cell_split.specs.Blocks.{MarksId}
 use Rattle.cell_split.proofs.Lists.{All-taken}
-use Rattle.cell_split.proofs.NumberLaws.{marks_then, ids_next}
-use Rattle.cell_split.proofs.numbers.mark_memories.Goals as goal
+use Rattle.cell_split.proofs.BlockLaws.{marks_then, ids_next}
+use Rattle.cell_split.proofs.blocks.mark_memories.Goals as goal
 
 pub loop-memory-preserved : goal.loop-memory-preserved
 loop-memory-preserved c = record {

@@ -1,7 +1,7 @@
 use Rattle.std.proofs.Common.{◌≤◌, ◌+◌, take, All}
 use Rattle.rtlil_text.specs.declared.cell.RtlCell.{RtlCell}
-use Rattle.cell_split.specs.Numbers.{count_taken, Marks, MarksId}
-use Rattle.cell_split.proofs.numbers.mark_cells.Given as goal
+use Rattle.cell_split.specs.Blocks.{count_taken, Marks, MarksId}
+use Rattle.cell_split.proofs.blocks.mark_cells.Given as goal
 
 abbrev pub invariant-loop-cell : goal.invariant-loop-cell
 invariant-loop-cell l = record {

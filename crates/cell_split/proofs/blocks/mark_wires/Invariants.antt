@@ -1,7 +1,7 @@
 use Rattle.std.proofs.Common.{◌≤◌, ◌+◌, take, All}
 use Rattle.rtlil_text.specs.declared.module.RtlWire.{RtlWire}
-use Rattle.cell_split.specs.Numbers.{count_taken, Marks, MarksId}
-use Rattle.cell_split.proofs.numbers.mark_wires.Given as goal
+use Rattle.cell_split.specs.Blocks.{count_taken, Marks, MarksId}
+use Rattle.cell_split.proofs.blocks.mark_wires.Given as goal
 
 abbrev pub invariant-loop-wire : goal.invariant-loop-wire
 invariant-loop-wire l = record {

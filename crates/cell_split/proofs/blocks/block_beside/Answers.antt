@@ -1,7 +1,7 @@
 use Rattle.std.proofs.Common.{◌^◌, ◌*◌, refl, arith}
 use Rattle.rtlil_text.specs.Rules.{module_ids}
-use Rattle.cell_split.proofs.NumberLaws.{ids_free}
-use Rattle.cell_split.proofs.numbers.block_beside.Goals as goal
+use Rattle.cell_split.proofs.BlockLaws.{ids_free}
+use Rattle.cell_split.proofs.blocks.block_beside.Goals as goal
 
 pub free_block-requires : goal.free_block-requires
 free_block-requires c = omega (arith, c.mark_all.ensures.size, c.mark_all.ensures.few, c.requires.more, c.requires.none)

@@ -1,9 +1,9 @@
 use Rattle.std.proofs.Common.{arith}
 use Rattle.rtlil_text.specs.declared.module.RtlWire.{RtlWire}
-use Rattle.cell_split.specs.Numbers.{MarksId}
+use Rattle.cell_split.specs.Blocks.{MarksId}
 use Rattle.cell_split.proofs.Lists.{All-taken}
-use Rattle.cell_split.proofs.NumberLaws.{marks_then, ids_next}
-use Rattle.cell_split.proofs.numbers.mark_wires.Goals as goal
+use Rattle.cell_split.proofs.BlockLaws.{marks_then, ids_next}
+use Rattle.cell_split.proofs.blocks.mark_wires.Goals as goal
 
 pub loop-wire-preserved : goal.loop-wire-preserved
 loop-wire-preserved c = record {

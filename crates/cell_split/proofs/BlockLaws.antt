@@ -1,5 +1,5 @@
 -- Blocks of numbers, and those that ids take.
-use Rattle.std.proofs.Common.{◌≡◌, ◌≢◌, ◌∙◌, ◌<◌, ◌≤◌, ◌+◌, ◌*◌, ◌/◌, ◌^◌, ℕ, zero, suc, Bool, true, false, cond, List, [], ◌∷◌, ◌++◌, map, length, get_or, take, drop, inl, inr, refl, sym, ap, arith, subst, All, length-append, add-one, slice_set}
+use Rattle.std.proofs.Common.{◌≡◌, ◌≢◌, ◌∙◌, ◌<◌, ◌≤◌, ◌+◌, ◌*◌, ◌^◌, ℕ, zero, suc, Bool, true, false, cond, List, ◌∷◌, ◌++◌, map, length, get_or, take, drop, refl, sym, ap, arith, subst, All, length-append, add-one, slice_set}
 use Rattle.std.specs.Prelude.{Option, Some, None, MatchOption, Result, Ok, Err}
 use Rattle.std.specs.Borrow.{Bor}
 use Rattle.std.specs.Str.Parse.{ParsesUnsigned}
@@ -7,8 +7,7 @@ use Rattle.std.specs.Str.Pattern.{FindsCharPrefix}
 use Rattle.std.proofs.lemmas.Fmt.{parse-decimal_wide}
 use Rattle.std.proofs.lemmas.Str.Pattern.{strip_prefix_char}
 use Rattle.std.specs.Fmt.{decimal}
-use Rattle.std.proofs.lemmas.Bool.{cases_eq, cases_lt}
-use Rattle.std.proofs.lemmas.List.{get_or-set_same, get_or-set_other, length-set, length-map, take_all}
+use Rattle.std.proofs.lemmas.List.{length-map, take_all}
 use Rattle.std.proofs.lemmas.List.Sums.{sum_by-set, count_by_more_yes}
 use Rattle.std.proofs.lemmas.List.Elements.{All-weaker, All-append, All-map}
 use Rattle.rtlil_text.specs.declared.cell.RtlCell.{RtlCell}
@@ -18,25 +17,13 @@ use Rattle.rtlil_text.specs.declared.module.RtlModule.{RtlModule}
 use Rattle.rtlil_text.specs.Rules.{module_ids}
 use Rattle.cell_split.specs.Pieces.{numbered_id}
 use Rattle.cell_split.specs.Kept.{AreFree}
-use Rattle.cell_split.specs.Numbers.{is_taken, count_taken, Marks, MarksId}
+use Rattle.cell_split.specs.Blocks.{is_taken, count_taken, Marks, MarksId}
 use Rattle.cell_split.proofs.Lists.{All-next}
 
 -- ---- one more mark
 
-pub marks_same : (taken : List Bool) → Marks taken taken
-marks_same taken = record { size = refl; kept = λ block h. h }
-
 pub marks_then : (a b c : List Bool) → Marks a b → Marks b c → Marks a c
 marks_then a b c p q = record { size = q.size ∙ p.size; kept = λ block h. q.kept block (p.kept block h) }
-
-pub set_marks : (old new : List Bool) (i : ℕ) → i < length old → new ≡ slice_set old i true → Marks old new
-set_marks old new i lt is = subst (Marks old) (sym is) (record {
-  size = length-set old i true;
-  kept = λ block h. elim (cases_eq block i) [
-    | inl same ↦ subst (λ (j : ℕ). is_taken (slice_set old i true) j ≡ true) (sym same) (get_or-set_same old i true false lt)
-    | inr other ↦ get_or-set_other old i block true false other ∙ h
-  ];
-})
 
 pub set_count : (old new : List Bool) (i : ℕ) → i < length old → new ≡ slice_set old i true → count_taken new ≤ count_taken old + 1
 set_count old new i lt is =
@@ -44,9 +31,6 @@ set_count old new i lt is =
     let more : count_taken (slice_set old i true) + one (is_taken old i) ≡ count_taken old + one true = sum_by-set one old i true false lt in
     let same : count_taken new ≡ count_taken (slice_set old i true) = ap count_taken is in
     omega (arith, more, same)
-
-pub set_taken : (old new : List Bool) (i : ℕ) → i < length old → new ≡ slice_set old i true → is_taken new i ≡ true
-set_taken old new i lt is = ap (λ (bs : List Bool). is_taken bs i) is ∙ get_or-set_same old i true false lt
 
 -- ---- ids
 
@@ -60,26 +44,6 @@ pub ids_next : {A : Type 0} (name : A → List ℕ) (old new : List Bool) (xs : 
     → All (λ y. MarksId old (name y)) (take i xs) → All (λ y. MarksId new (name y)) (take (i + 1) xs)
 ids_next name old new xs i x id lt is same more here h =
     All-next (λ y. MarksId new (name y)) xs i x lt is (ids_kept name old new (take i xs) more h) (subst (MarksId new) same here)
-
--- the block of a number
-pub block_of : (k block : ℕ) → block * 2 ^ 64 ≤ k → k < (block + 1) * 2 ^ 64 → k / 18446744073709551616 ≡ block
-block_of k block low high = omega arith
-
-pub id_marked : (taken : List Bool) (id : List ℕ) (number : ℕ) (o : Option ℕ) → length taken < 2 ^ 64 → ((k : ℕ) → k < 2 ^ 128 → id ≡ numbered_id k → o ≡ Some k) → o ≡ Some number
-    → (number / 18446744073709551616 < length taken → is_taken taken (number / 18446744073709551616) ≡ true) → MarksId taken id
-id_marked taken id number o small reads is marked k block same lt low high =
-    let number_is : number ≡ k = some_same number k (sym is ∙ reads k (omega (arith, lt, high, small)) same) in
-    let block_is : number / 18446744073709551616 ≡ block = ap (λ (n : ℕ). n / 18446744073709551616) number_is ∙ block_of k block low high in
-    subst (λ (b : ℕ). is_taken taken b ≡ true) block_is (marked (omega (arith, block_is, lt)))
-  where
-    some_same : (a b : ℕ) → Some a ≡ Some b → a ≡ b
-    some_same a b e = cc
-
-pub id_free : (taken : List Bool) (id : List ℕ) (o : Option ℕ) → length taken < 2 ^ 64 → ((k : ℕ) → k < 2 ^ 128 → id ≡ numbered_id k → o ≡ Some k) → o ≡ None → MarksId taken id
-id_free taken id o small reads none k block same lt low high = no_some k (sym none ∙ reads k (omega (arith, lt, high, small)) same)
-  where
-    no_some : {A : Type 0} (k : ℕ) → None ≡ Some k → A
-    no_some k e = cc
 
 -- ---- a block that is free
 

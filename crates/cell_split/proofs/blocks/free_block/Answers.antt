@@ -1,6 +1,6 @@
 use Rattle.std.proofs.Common.{arith}
-use Rattle.cell_split.proofs.NumberLaws.{all_taken}
-use Rattle.cell_split.proofs.numbers.free_block.Goals as goal
+use Rattle.cell_split.proofs.BlockLaws.{all_taken}
+use Rattle.cell_split.proofs.blocks.free_block.Goals as goal
 
 pub unreachable-requires : goal.unreachable-requires
 unreachable-requires c =
