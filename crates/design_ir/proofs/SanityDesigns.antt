@@ -60,6 +60,7 @@ turning_is_design = record {
       reset = record { there = omega arith; shape = refl };
       clock_input = refl;
       clock_no_reset = refl;
+      async_input = λ h. refl;
     },
     tt,
   );
