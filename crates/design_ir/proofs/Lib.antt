@@ -17,6 +17,8 @@ pub mod Commons
 pub mod DesignGrowth
 pub mod Events
 pub mod Unique
+pub mod Resets
+pub mod ClearedLaws
 pub mod RisingLaws
 pub mod Related
 pub mod PutLaws

@@ -18,7 +18,8 @@ use Rattle.design_ir.specs.Circuits.{Circuit, State, at, FitsSignals}
 use Rattle.design_ir.specs.Settled.{Settled}
 use Rattle.design_ir.specs.Histories.{HistoryFrom, History}
 use Rattle.design_ir.specs.Legal.{AllLegal}
-use Rattle.design_ir.specs.Steps.{clocked, cleared, read_word, reads_now, clocked_read, clocked_reads, toggle_at, toggle, moved, clock_low, step, first_state}
+use Rattle.design_ir.specs.Steps.{clocked, read_word, reads_now, clocked_read, clocked_reads, toggle_at, toggle, moved, clock_low, step, first_state}
+use Rattle.design_ir.proofs.ClearedLaws.{clears_length}
 use Rattle.comb_graph.specs.Laws.{FitsState}
 use Rattle.comb_graph.proofs.StepFits.{first_fits, step_fits}
 use Rattle.comb_graph.proofs.DeltaLaws.{delta_fits}
@@ -27,7 +28,7 @@ use Rattle.flat_design.specs.Flat.{AreFlatProcesses}
 use Rattle.flat_design.specs.Laws.{FlatHasTheHistory}
 use Rattle.flat_design.proofs.FlatPairs.{with_exprs, with_parts, design_is, more_is, flat_is}
 use Rattle.flat_design.proofs.FlatDeltas.{delta_same}
-use Rattle.flat_design.proofs.FlatSteps.{after_length, clear_length, step_same}
+use Rattle.flat_design.proofs.FlatSteps.{after_length, step_same}
 
 -- ---- a state keeps a number for each signal
 
@@ -60,10 +61,6 @@ moved_length c st env (Set s n) = length-set st.held s.0 n
 moved_length c st env (Edge ds) =
     let registers : List ℤ = fold (clocked c env ds) st.held c.processes in
     toggles_length c.domains ds (clocked_reads c env ds c.memories st.rows registers) ∙ reads_length c env ds c.memories st.rows registers ∙ registers_length c env ds c.processes st.held
-
-clears_length : (c : Circuit) (held : List ℤ) (ps : List DesignProcess) (cur : List ℤ) → length (fold (cleared c held) cur ps) ≡ length cur
-clears_length c held [] cur = refl
-clears_length c held (p ∷ ps) cur = clears_length c held ps (cleared c held cur p) ∙ clear_length c held p cur p.domain
 
 step_length : (c : Circuit) (st : State) (env : List ℤ) (e : Event) → length (step c st env e).held ≡ length st.held
 step_length c st env e = let after : State = moved c st env e in clears_length c after.held c.processes after.held ∙ moved_length c st env e

@@ -23,6 +23,7 @@ use Rattle.design_ir.specs.Designs.{IsDesign, IsProcess, IsMemory, IsReadPort, I
 use Rattle.design_ir.specs.Circuits.{Circuit, State, at, is_among, is_held, option_test, FitsSignals}
 use Rattle.design_ir.specs.Settled.{starts, Settled}
 use Rattle.design_ir.specs.Steps.{is_active, port_active, is_reset, is_cleared, reset_all, clocked_at, clocked, cleared_at, cleared, write_row, rows_after, writes_through, shown_through, read_word, reads_now, clocked_read, clocked_reads, toggle, moved, step}
+use Rattle.design_ir.proofs.Resets.{resets_length, resets_same, resets_other}
 use Rattle.design_ir.proofs.PutLaws.{put_length, put_other}
 use Rattle.comb_graph.proofs.PutFits.{put_fits}
 use Rattle.comb_graph.proofs.DeltaLaws.{starts_length, delta_start}
@@ -33,7 +34,7 @@ use Rattle.flat_design.proofs.Growing.{num_more}
 use Rattle.flat_design.proofs.FlatPairs.{with_exprs, with_parts}
 use Rattle.flat_design.proofs.FlatRounds.{IsTurn, rounds_same}
 use Rattle.flat_design.proofs.DrivenOnce.{processes_distinct, uncomb, held, starts_held}
-use Rattle.flat_design.proofs.Resets.{resets_length, resets_same, resets_other, resets_fit}
+use Rattle.flat_design.proofs.Resets.{resets_fit}
 
 module _ (c : Circuit) (env : List ℤ) (listed : List DomainId) where
   pub after_length : (p : DesignProcess) (cur : List ℤ) (o : Option DomainId) → length (clocked_at c env listed p cur o) ≡ length cur
@@ -52,12 +53,6 @@ module _ (c : Circuit) (env : List ℤ) (listed : List DomainId) where
       cond_both (is_active c env listed x.0) (if is_reset c env x.0 then reset else left) cur (λ y. at y s ≡ at cur s)
       (λ t. cond_both (is_reset c env x.0) reset left (λ y. at y s ≡ at cur s) (λ u. resets_other c.pool.signals (driven c.pool p.body) left s e ∙ put_other c.pool env p.body cur s e) (λ u. put_other c.pool env p.body cur s e))
       (λ t. refl)
-
-module _ (c : Circuit) (held : List ℤ) where
-  pub clear_length : (p : DesignProcess) (cur : List ℤ) (o : Option DomainId) → length (cleared_at c held p cur o) ≡ length cur
-  clear_length p cur None = refl
-  clear_length p cur (Some x) =
-      cond_both (is_cleared c held x.0) (reset_all c.pool.signals cur (driven c.pool p.body)) cur (λ y. length y ≡ length cur) (λ t. resets_length c.pool.signals (driven c.pool p.body) cur) (λ t. refl)
 
 module _ (c : Circuit) (es : List Expr) (ps : List DesignProcess) (rules : IsPool c.pool) (design : IsDesign c) (more : IsMore c.pool (with_exprs c.pool es))
     (are : AreFlatProcesses c.pool (with_exprs c.pool es) c.processes ps) where
