@@ -117,7 +117,7 @@ module _ (t : Moment) (m : Memory) (c : RtlCell) (r : MemRead) (rows : List ℤ)
       let here : nat_lt a (length rows) ≡ true = lt-ltb a (length rows) (subst (λ n. a < n) (sym long) inside) in
       ap (λ j. bit_of (shown_at j) k) (guarded_is m.depth a inside) ∙ ap (λ (b : Bool). bit_of (if b then shown_at a else pos 0) k) (sym here)
 
-  kept_or_taken : (rises enabled_now x before : Bool) → (if rises then enabled (Some enabled_now) (Some x) (Some before) else Some before) ≡ Some (if rises && enabled_now then x else before)
+  kept_or_taken : (active enabled_now x before : Bool) → (if active then enabled (Some enabled_now) (Some x) (Some before) else Some before) ≡ Some (if active && enabled_now then x else before)
   kept_or_taken true true x before = refl
   kept_or_taken true false x before = refl
   kept_or_taken false e x before = refl

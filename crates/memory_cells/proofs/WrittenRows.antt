@@ -58,8 +58,8 @@ module _ (pool : Pooled) (env : List ℤ) (m : Memory) (w : MemWrite) (h : IsGra
 -- ---- one write cell
 
 -- what an enable, a word and a guarded address make of a bit
-chosen : (rises : Bool) (depth a row : ℕ) (s word old new : Bool) (en stored : Option Bool) → row < depth → en ≡ Some (nat_lt a depth && s) → stored ≡ Some word → new ≡ (if s then word else old)
-    → (if rises then option_and_then (λ (at : ℕ). if at == row then enabled en stored (Some old) else Some old) (Some (guarded depth a)) else Some old) ≡ Some (if rises && (a == row) then new else old)
+chosen : (active : Bool) (depth a row : ℕ) (s word old new : Bool) (en stored : Option Bool) → row < depth → en ≡ Some (nat_lt a depth && s) → stored ≡ Some word → new ≡ (if s then word else old)
+    → (if active then option_and_then (λ (at : ℕ). if at == row then enabled en stored (Some old) else Some old) (Some (guarded depth a)) else Some old) ≡ Some (if active && (a == row) then new else old)
 chosen false depth a row s word old new en stored h e f g = refl
 chosen true depth a row s word old new en stored h e f g = by (nat_lt a depth) refl e
   where
@@ -94,15 +94,15 @@ module _ (t : Moment) (m : Memory) where
   pub one_write : (c : RtlCell) (w : MemWrite) (acc : ℤ) (row k : ℕ) → CarriesWrite t m c w → IsGranularity m w.granularity → row < m.depth → k < m.shape.width
       → after_write t.rtl t.st t.old t.new row k (Some (bit_of acc k)) c ≡ Some (bit_of (after w row acc) k)
   one_write c w acc row k h g there lt =
-      let rises : Bool = port_active t.design t.env t.listed (Some w.domain) in
+      let active : Bool = port_active t.design t.env t.listed (Some w.domain) in
       let a : ℕ = address_at t w.addr in
       let en = end_bit t.rtl t.st t.old c (codes "\\EN") k in
       let stored = end_bit t.rtl t.st t.old c (codes "\\DATA") k in
       let old : Bool = bit_of acc k in
       (λ i. if h.acts i then option_and_then (λ (at : ℕ). if at == row then enabled en stored (Some old) else Some old) (h.address i) else Some old)
-      ∙ chosen rises m.depth a row (is_set (enabled_bits t.design.pool t.env m w) k) (bit_of (num t.design.pool t.env w.word.0) k) old (bit_of (written t.design.pool t.env m acc w) k) en stored there (h.enable k lt) (h.word k lt)
+      ∙ chosen active m.depth a row (is_set (enabled_bits t.design.pool t.env m w) k) (bit_of (num t.design.pool t.env w.word.0) k) old (bit_of (written t.design.pool t.env m acc w) k) en stored there (h.enable k lt) (h.word k lt)
       (written_bit t.design.pool t.env m w g acc k lt)
-      ∙ lifted (rises && (a == row)) (written t.design.pool t.env m acc w) acc k
+      ∙ lifted (active && (a == row)) (written t.design.pool t.env m acc w) acc k
 
   -- ---- all of them
 
