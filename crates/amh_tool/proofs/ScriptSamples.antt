@@ -20,8 +20,8 @@ clocked : Board
 clocked = record {
   columns = record { name = codes "clk"; sig = record { 0 = 0 }; shape = unsigned 1; is_settable = false }
       ∷ record { name = codes "a"; sig = record { 0 = 2 }; shape = signed_form 4; is_settable = true } ∷ [];
-  domains = record { name = codes "sync"; clk = record { 0 = 0 }; rst = None }
-      ∷ record { name = codes "slow"; clk = record { 0 = 1 }; rst = None } ∷ [];
+  domains = record { name = codes "sync"; clk = record { 0 = 0 }; rst = None; falling = false; async_reset = false }
+      ∷ record { name = codes "slow"; clk = record { 0 = 1 }; rst = None; falling = false; async_reset = false } ∷ [];
 }
 
 says_of : List ℕ → Result (List Event) ℕ

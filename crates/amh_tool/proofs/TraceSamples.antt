@@ -39,7 +39,7 @@ trace-conjoined = refl
 inverting : Board
 inverting = record {
   columns = bit (codes "clk") 0 ∷ bit (codes "rst") 1 ∷ bit (codes "q") 2 ∷ [];
-  domains = record { name = codes "sync"; clk = record { 0 = 0 }; rst = None } ∷ [];
+  domains = record { name = codes "sync"; clk = record { 0 = 0 }; rst = None; falling = false; async_reset = false } ∷ [];
 }
 
 trace-inverting : trace_text inverting (timed 1 (tick ∷ tick ∷ set 1 1 ∷ tick ∷ tick ∷ tick ∷ [])) (three 0 0 0 ∷ three 1 0 1 ∷ three 0 0 1 ∷ three 0 1 1 ∷ three 1 1 0 ∷ three 0 1 0 ∷ three 1 1 0 ∷ []) Done
@@ -65,7 +65,7 @@ trace-signed = refl
 clocks : Board
 clocks = record {
   columns = column (codes "clk") 0 (record { width = 1; signed = false }) ∷ column (codes "fast_clk") 1 (record { width = 1; signed = false }) ∷ [];
-  domains = record { name = codes "sync"; clk = record { 0 = 0 }; rst = None } ∷ record { name = codes "fast"; clk = record { 0 = 1 }; rst = None } ∷ [];
+  domains = record { name = codes "sync"; clk = record { 0 = 0 }; rst = None; falling = false; async_reset = false } ∷ record { name = codes "fast"; clk = record { 0 = 1 }; rst = None; falling = false; async_reset = false } ∷ [];
 }
 
 row-edges : row_line clocks (record { time = 1000000000; event = Edge (record { 0 = 0 } ∷ record { 0 = 1 } ∷ []) }) (pos 1 ∷ pos 0 ∷ []) (pos 0 ∷ pos 1 ∷ [])

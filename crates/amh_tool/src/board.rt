@@ -128,6 +128,8 @@ fn copied_domain(alloc: Global, domain: &Domain) -> Result<Domain, NoMemory>
         name: copied_text(alloc, &domain.name)?,
         clk: domain.clk,
         rst: domain.rst,
+        falling: domain.falling,
+        async_reset: domain.async_reset,
     })
 }
 

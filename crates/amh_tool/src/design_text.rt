@@ -3,6 +3,7 @@ ghost use Rattle.std.specs.Prelude.{◌≡◌, ◌≤◌, ◌+◌, ◌==◌, [],
 ghost use Rattle.std.specs.Str.{chars};
 ghost use Rattle.py_lexer.specs.Lines.{logical_lines};
 ghost use Rattle.py_tree.specs.Programs.{program_of};
+ghost use Rattle.design_ir.specs.Rising.{AllRisingSync};
 ghost use Rattle.amh_tool.specs.Designs.{line_start, refusal, budget};
 ghost use Rattle.amh_tool.specs.DesignGives.{DesignGives, CutGives, LinesGive, ProgramGives, LoweringGives, RankGives, stop_seen};
 ghost use Rattle.amh_tool.specs.Verdicts.{IsReady};
@@ -145,6 +146,7 @@ fn design_stop(stop: ElabStop) -> DesignStop
 
 // The design, where it can be lowered and none of its bits needs itself.
 fn read_circuit(alloc: Global, design: Design) -> Result<Ranked, DesignStop>
+    requires { AllRisingSync design }
     ensures given { LoweringGives design result }
     ensures ready { IfOk result IsReady }
 {
@@ -156,7 +158,8 @@ fn read_circuit(alloc: Global, design: Design) -> Result<Ranked, DesignStop>
 
 // The design with the order of its bits, where none needs itself.
 fn rank_design(alloc: Global, design: Design) -> Result<Ranked, DesignStop>
-    requires { design.memories ≡ [] }
+    requires flat { design.memories ≡ [] }
+    requires rising { AllRisingSync design }
     ensures given { RankGives design result }
     ensures ready { IfOk result IsReady }
 {

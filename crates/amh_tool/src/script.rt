@@ -115,6 +115,8 @@ mod tests {
             name: text,
             clk: SigId(clk),
             rst: None,
+            falling: false,
+            async_reset: false,
         })
     }
 

@@ -17,6 +17,7 @@ use Rattle.design_ir.specs.Pools.{Pooled}
 use Rattle.design_ir.specs.Values.{signal_form}
 use Rattle.design_ir.specs.Circuits.{option_test}
 use Rattle.design_ir.specs.Designs.{reset_number}
+use Rattle.design_ir.specs.Rising.{IsRisingSync}
 use Rattle.clock_domains.specs.Resolvable.{same_side}
 use Rattle.clock_domains.specs.Resolved.{domain_names, domain_signals, with_domains, domains_from, is_past_limit, port_of, ports_of_domain, domain_ports, signals_of}
 use Rattle.clock_domains.proofs.Lists.{all_imp, any-append, any_none, or_none}
@@ -82,16 +83,18 @@ pub record IsPlaced (m n : ℕ) (d : Domain) : Type 0 where
   pub low : place < n
   pub clock : d.clk.0 ≡ m + 2 * place
   pub reset : d.rst ≡ Some (record { 0 = m + 2 * place + 1 })
+  pub rising : IsRisingSync d
 
 pub domains_placed : (m n : ℕ) (names : List (List ℕ)) → n ≡ length names → AllByRecursion (IsPlaced m n) (domains_from m names)
 domains_placed m n [] e = tt
 domains_placed m n (x ∷ names) e = (
-  record { place = 0; low = omega (arith, e); clock = omega arith; reset = ap (λ (k : ℕ). Some (record { 0 = k })) (let f : suc m ≡ m + 2 * 0 + 1 = omega arith in f) },
+  record { place = 0; low = omega (arith, e); clock = omega arith; reset = ap (λ (k : ℕ). Some (record { 0 = k })) (let f : suc m ≡ m + 2 * 0 + 1 = omega arith in f); rising = record { rising = refl; sync_reset = refl } },
   all_imp (λ d h. record {
     place = h.place + 1;
     low = omega (arith, h.low, e);
     clock = omega (arith, h.clock);
     reset = h.reset ∙ ap (λ (k : ℕ). Some (record { 0 = k })) (let f : m + 2 + 2 * h.place + 1 ≡ m + 2 * (h.place + 1) + 1 = omega arith in f);
+    rising = h.rising;
   }) (domains_from (m + 2) names) (domains_placed (m + 2) (length names) names refl),
 )
 

@@ -245,6 +245,7 @@ module _ (q : Pooled) (ps : List Process) (top : TopPorts) (r : IsGiven q ps top
     clock_input =
         named_any (λ s b. b && (s == d.clk.0)) ports cols ports_fit ∙ any-append (λ (p : Port). p.is_input && (p.sig.0 == d.clk.0)) dp fresh ∙ ap (λ b. b || list_any (λ (p : Port). p.is_input && (p.sig.0 == d.clk.0)) fresh) input;
     clock_no_reset = clock_no_reset (length q.signals) (length names) ds d h placed;
+    async_input = λ t. absurd (false≢true (sym h.rising.sync_reset ∙ t));
   }
 
   domains_sound : AllByRecursion (IsClockDomain c) c.domains

@@ -208,11 +208,11 @@ made_owed q q' ps i p r s at h owed = by_side p.side refl owed
 
 -- ---- one domain
 
-pub domain_is : (name name' : List ℕ) (n : ℕ) (clk rst : SigId) → name ≡ name' → clk.0 ≡ n → rst.0 ≡ suc n → record { name = name; clk = clk; rst = Some rst } ≡ domain_at n name'
+pub domain_is : (name name' : List ℕ) (n : ℕ) (clk rst : SigId) → name ≡ name' → clk.0 ≡ n → rst.0 ≡ suc n → record { name = name; clk = clk; rst = Some rst; falling = false; async_reset = false } ≡ domain_at n name'
 domain_is name name' n clk rst a b c =
-    ap (λ m. record { name = m; clk = clk; rst = Some rst }) a
-    ∙ ap (λ (k : ℕ). record { name = name'; clk = record { 0 = k }; rst = Some rst }) b
-    ∙ ap (λ (k : ℕ). record { name = name'; clk = record { 0 = n }; rst = Some (record { 0 = k }) }) c
+    ap (λ m. record { name = m; clk = clk; rst = Some rst; falling = false; async_reset = false }) a
+    ∙ ap (λ (k : ℕ). record { name = name'; clk = record { 0 = k }; rst = Some rst; falling = false; async_reset = false }) b
+    ∙ ap (λ (k : ℕ). record { name = name'; clk = record { 0 = n }; rst = Some (record { 0 = k }); falling = false; async_reset = false }) c
 
 pub next_signal : (q r : Pooled) (name : List ℕ) (s : ℕ) → r ≡ signal_added q (bit_signal name) → s ≡ length r.signals → s ≡ suc (length q.signals)
 next_signal q r name s same e = omega (arith, e, ap (λ (p : Pooled). length p.signals) same, length-append q.signals (bit_signal name ∷ []))

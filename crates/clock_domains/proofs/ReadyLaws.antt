@@ -1,5 +1,5 @@
 -- What holds of a module whose domains were made.
-use Rattle.std.proofs.Common.{◌≡◌, ℕ, suc, ◌+◌, ◌-◌, ◌<◌, ◌≤◌, Bool, true, false, ◌&&◌, if◌then◌else◌, not, List, [], ◌∷◌, ◌++◌, map, length, Some, None, Result, Ok, Err, refl, sym, ap, ◌∙◌, subst, arith, append-nil}
+use Rattle.std.proofs.Common.{◌≡◌, ℕ, suc, ◌+◌, ◌-◌, ◌<◌, ◌≤◌, Bool, true, false, ◌&&◌, if◌then◌else◌, not, List, [], ◌∷◌, ◌++◌, map, length, Option, Some, None, Result, Ok, Err, refl, sym, ap, ◌∙◌, subst, arith, append-nil}
 use Rattle.std.specs.List.{AllByRecursion, filter, range_with_len}
 use Rattle.std.proofs.lemmas.List.Elements.{filter-append}
 use Rattle.design_ir.specs.declared.ids.SigId.{SigId}
@@ -14,6 +14,7 @@ use Rattle.design_ir.specs.Pools.{Pooled}
 use Rattle.design_ir.specs.PoolRules.{IsPool}
 use Rattle.design_ir.specs.Circuits.{Circuit, is_among}
 use Rattle.design_ir.specs.Designs.{IsDesign}
+use Rattle.design_ir.specs.Rising.{IsRisingSync, AllRisingSync}
 use Rattle.clock_domains.specs.declared.top.TopPorts.{TopPorts}
 use Rattle.clock_domains.specs.declared.stop.ResolveStop.{ResolveStop}
 use Rattle.clock_domains.specs.declared.stop.ResolveStop.TheVariants as stop
@@ -145,6 +146,31 @@ refused_in q ds ps top (stop.Limit p) h = ap (λ o. or_refused o (circuit_of q d
 refused_in q ds ps top stop.NoMemory h = tt
 
 -- within the limits
+-- ---- every domain rises
+
+rising_from : (n : ℕ) (names : List (List ℕ)) → AllByRecursion IsRisingSync (domains_from n names)
+rising_from n [] = tt
+rising_from n (name ∷ more) = (record { rising = refl; sync_reset = refl }, rising_from (n + 2) more)
+
+or_rising : (o : Option ResolveStop) (c d : Circuit) → AllRisingSync c → or_refused o c ≡ Ok d → AllRisingSync d
+or_rising None c d h e = let same : c ≡ d = cc in subst AllRisingSync same h
+or_rising (Some stop) c d h e = cc
+
+in_rising : (q : Pooled) (ds : List Domain) (ps : List Process) (top : TopPorts) (d : Circuit) → AllByRecursion IsRisingSync ds → resolved_in q ds ps top ≡ Ok d → AllRisingSync d
+unfolding resolved_in
+in_rising q ds ps top d h e = or_rising (driver_refusal q (top_inputs top) [] ps) (circuit_of q ds ps (ports_of q ds ps top)) d h e
+
+pub resolved_rising : (q : Pooled) (root : Fragment) (top : TopPorts) (d : Circuit) → resolved q root top ≡ Ok d → AllRisingSync d
+unfolding resolved
+resolved_rising q root top d e = by (is_past_limit q names) e
+  where
+    names : List (List ℕ)
+    names = domain_names root.processes
+
+    by : (past : Bool) → (if past then Err (stop.Limit file_start) else resolved_in (with_domains q names) (domains_from (length q.signals) names) root.processes top) ≡ Ok d → AllRisingSync d
+    by true f = cc
+    by false f = in_rising (with_domains q names) (domains_from (length q.signals) names) root.processes top d (rising_from (length q.signals) names) f
+
 pub resolved_is : (q : Pooled) (root : Fragment) (top : TopPorts) → is_past_limit q (domain_names root.processes) ≡ false → resolved q root top ≡ resolved_in (with_domains q (domain_names root.processes)) (domains_from (length q.signals) (domain_names root.processes)) root.processes top
 unfolding resolved
 resolved_is q root top e =

@@ -32,7 +32,7 @@ pub record IsMade (name : List ℕ) (old : Pooled) (s : ℕ) (new : Pooled) : Ty
   pub pool : new ≡ signal_added old (bit_signal name)
 
 abbrev pub domain_at : ℕ → List ℕ → Domain
-domain_at n name = record { name = name; clk = record { 0 = n }; rst = Some (record { 0 = suc n }) }
+domain_at n name = record { name = name; clk = record { 0 = n }; rst = Some (record { 0 = suc n }); falling = false; async_reset = false }
 
 abbrev pub with_domain : Pooled → List ℕ → Pooled
 with_domain q name = record q { signals = q.signals ++ domain_signals name }

@@ -54,10 +54,10 @@ domain_signals name = bit_signal (domain_prefix name ++ codes "clk") ∷ bit_sig
 abbrev pub with_domains : Pooled → List (List ℕ) → Pooled
 with_domains q names = record q { signals = q.signals ++ flat_map domain_signals names }
 
--- the clock of each is the next signal, and the reset the one behind it
+-- the clock of each is the next signal, and the reset the one behind it; they rise, and reset at edges
 abbrev pub domains_from : ℕ → List (List ℕ) → List Domain
 domains_from n [] = []
-domains_from n (name ∷ more) = record { name = name; clk = record { 0 = n }; rst = Some (record { 0 = suc n }) } ∷ domains_from (n + 2) more
+domains_from n (name ∷ more) = record { name = name; clk = record { 0 = n }; rst = Some (record { 0 = suc n }); falling = false; async_reset = false } ∷ domains_from (n + 2) more
 
 -- more domains than there may be, or too many signals with theirs, or too many bits
 abbrev pub is_past_limit : Pooled → List (List ℕ) → Bool

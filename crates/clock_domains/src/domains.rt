@@ -99,6 +99,8 @@ fn add_domain(
         name: copied(alloc, name.as_str())?,
         clk: clock,
         rst: Some(reset),
+        falling: false,
+        async_reset: false,
     })?;
     Ok(())
 }

@@ -1,6 +1,7 @@
 // From a module to a design.
 ghost use Rattle.std.specs.Prelude.{◌≡◌, Ok, map, IfOk, IfErr};
 ghost use Rattle.std.specs.List.{filter};
+ghost use Rattle.design_ir.specs.Rising.{AllRisingSync};
 ghost use Rattle.clock_domains.specs.Marks.{Flag};
 ghost use Rattle.clock_domains.specs.Reads.{is_driven};
 ghost use Rattle.clock_domains.specs.Ready.{IsReady};
@@ -85,7 +86,8 @@ fn design_in(
 
 /// The design of a module, or why it is none.
 ///
-/// Each clocked side has a domain, which is made at the top with its clock and its reset as inputs. `Limit` comes
+/// Each clocked side has a domain, which is made at the top with its clock and its reset as inputs; it rises, and resets
+/// at edges alone. `Limit` comes
 /// exactly where there would be more than 64 domains, or too many signals or bits with theirs; else `DrivenInput` or
 /// `TwoDrivers` exactly at the first statement that drives an input of `Members`, or a signal that an earlier one
 /// drives from another process. The other refusals come with definitions of domains.
@@ -97,6 +99,7 @@ pub fn resolve(
 ) -> Result<Design, ResolveStop>
     requires { IsResolvable pool root top }
     ensures design { IfOk result (λ d. resolved pool root top ≡ Ok d) }
+    ensures rising { IfOk result AllRisingSync }
     ensures refused { IfErr result (IsResolveRefusal (resolved pool root top)) }
 {
     let mut pool = pool;

@@ -21,7 +21,7 @@ use Rattle.design_ir.specs.Guards.{driven}
 use Rattle.design_ir.specs.Put.{put}
 use Rattle.design_ir.specs.Legal.{IsLegal}
 use Rattle.design_ir.specs.Circuits.{Circuit, State, at}
-use Rattle.design_ir.specs.Steps.{rises, is_reset, reset_to, reset_all, clocked_at, clocked, reads_now, read_word, clocked_read, clocked_reads, toggle_at, toggle, step, clock_low, first_state}
+use Rattle.design_ir.specs.Steps.{is_active, is_reset, is_cleared, reset_to, reset_all, clocked_at, clocked, cleared_at, cleared, reads_now, read_word, clocked_read, clocked_reads, toggle_at, toggle, moved, step, clock_low, first_state}
 use Rattle.design_ir.proofs.NumbersFit.{FitsSignals}
 use Rattle.comb_graph.specs.Laws.{FitsRows, FitsState}
 use Rattle.digraph.proofs.Members.{all_at}
@@ -67,7 +67,7 @@ module _ (c : Circuit) (rules : IsPool c.pool) (design : IsDesign c) where
         let after : List ℤ = put c.pool env p.body cur in
         let afters : FitsSignals c.pool after = put_fits c.pool env p.body cur rules is.targets fit in
         let reset : List ℤ = reset_all c.pool.signals after (driven c.pool p.body) in
-        cond_both (rises c env listed d.0) (if is_reset c env d.0 then reset else after) cur (FitsSignals c.pool)
+        cond_both (is_active c env listed d.0) (if is_reset c env d.0 then reset else after) cur (FitsSignals c.pool)
         (λ t. cond_both (is_reset c env d.0) reset after (FitsSignals c.pool) (λ u. resets_fit (driven c.pool p.body) after afters) (λ u. afters)) (λ t. fit)
 
     processes_fit : (ps : List DesignProcess) (cur : List ℤ) → AllByRecursion (IsProcess c) ps → FitsSignals c.pool cur → FitsSignals c.pool (fold (clocked c env listed) cur ps)
@@ -110,13 +110,29 @@ module _ (c : Circuit) (rules : IsPool c.pool) (design : IsDesign c) where
   toggles_fit [] cur fit = fit
   toggles_fit (d ∷ ds) cur fit = toggles_fit ds (toggle c.domains cur d) (toggle_fits d.0 (slice_get c.domains d.0) cur refl fit)
 
+  -- ---- asynchronous resets
+
+  clear_fits : (held : List ℤ) (d : Option DomainId) (p : DesignProcess) (cur : List ℤ) → FitsSignals c.pool cur → FitsSignals c.pool (cleared_at c held p cur d)
+  clear_fits held None p cur fit = fit
+  clear_fits held (Some d) p cur fit = cond_both (is_cleared c held d.0) (reset_all c.pool.signals cur (driven c.pool p.body)) cur (FitsSignals c.pool) (λ t. resets_fit (driven c.pool p.body) cur fit) (λ t. fit)
+
+  clears_fit : (held : List ℤ) (ps : List DesignProcess) (cur : List ℤ) → FitsSignals c.pool cur → FitsSignals c.pool (fold (cleared c held) cur ps)
+  clears_fit held [] cur fit = fit
+  clears_fit held (p ∷ ps) cur fit = clears_fit held ps (cleared c held cur p) (clear_fits held p.domain p cur fit)
+
   -- ---- events
 
-  pub step_fits : (st : State) (env : List ℤ) (e : Event) → IsLegal c e → FitsState c st → FitsState c (step c st env e)
-  step_fits st env (Set s n) legal fit = record { held = set_fits c.pool st.held s.0 n legal.2 fit.held; rows = fit.rows }
-  step_fits st env (Edge ds) legal fit =
+  moved_fits : (st : State) (env : List ℤ) (e : Event) → IsLegal c e → FitsState c st → FitsState c (moved c st env e)
+  moved_fits st env (Set s n) legal fit = record { held = set_fits c.pool st.held s.0 n legal.2 fit.held; rows = fit.rows }
+  moved_fits st env (Edge ds) legal fit =
       let registers : List ℤ = fold (clocked c env ds) st.held c.processes in
       record {
         held = toggles_fit ds (clocked_reads c env ds c.memories st.rows registers) (reads_fit env ds c.memories st.rows registers design.memories fit.rows (processes_fit env ds c.processes st.held design.processes fit.held));
         rows = rows_fit c env ds c.memories st.rows fit.rows;
       }
+
+  pub step_fits : (st : State) (env : List ℤ) (e : Event) → IsLegal c e → FitsState c st → FitsState c (step c st env e)
+  step_fits st env e legal fit =
+      let after : State = moved c st env e in
+      let fits : FitsState c after = moved_fits st env e legal fit in
+      record { held = clears_fit after.held c.processes after.held fits.held; rows = fits.rows }

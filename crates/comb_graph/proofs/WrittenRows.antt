@@ -17,7 +17,7 @@ use Rattle.design_ir.specs.declared.memory.Memory.{Memory}
 use Rattle.design_ir.specs.Values.{num}
 use Rattle.design_ir.specs.Circuits.{Circuit, at}
 use Rattle.design_ir.specs.Rows.{address, row_at, enabled_bits, written}
-use Rattle.design_ir.specs.Steps.{port_rises, write_row, rows_after, writes_through, shown_through, read_word}
+use Rattle.design_ir.specs.Steps.{port_active, write_row, rows_after, writes_through, shown_through, read_word}
 use Rattle.comb_graph.specs.Laws.{FitsRows}
 use Rattle.comb_graph.proofs.ReadBits.{row_of}
 
@@ -70,7 +70,7 @@ module _ (c : Circuit) (env : List ℤ) (m : Memory) where
     writes_of (w ∷ ws) rows h =
         let row : ℤ = written c.pool env m (row_at c.pool env rows w.addr) w in
         writes_of ws (write_row c env listed m rows w)
-        (cond_both (port_rises c env listed (Some w.domain)) (slice_set rows (address c.pool env w.addr) row) rows (AllByRecursion OfRow) (λ t. all_set rows (address c.pool env w.addr) row (written_of (row_at c.pool env rows w.addr) w) h) (λ t. h))
+        (cond_both (port_active c env listed (Some w.domain)) (slice_set rows (address c.pool env w.addr) row) rows (AllByRecursion OfRow) (λ t. all_set rows (address c.pool env w.addr) row (written_of (row_at c.pool env rows w.addr) w) h) (λ t. h))
 
     shown_of : (through : List ℕ) (addr i : ℕ) (ws : List MemWrite) (row : ℤ) → OfRow row → OfRow (shown_through c env listed m through addr i ws row)
     shown_of through addr i [] row h = h

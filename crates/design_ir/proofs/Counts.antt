@@ -27,7 +27,7 @@ below_any [] n q h any = cc
 below_any (x ∷ xs) n q h any = below_or (q == x) q x n xs refl h.0 (below_any xs n q h.1) any
 
 no_domain : Domain
-no_domain = record { name = []; clk = record { 0 = 0 }; rst = None }
+no_domain = record { name = []; clk = record { 0 = 0 }; rst = None; falling = false; async_reset = false }
 
 pub few_below : (xs : List ℕ) (n : ℕ) → IsDistinct nat_eq xs → AllByRecursion (λ x. x < n) xs → length xs ≤ n
 few_below xs n d h = length-le_from_distinct_below xs n d (λ q any. below_any xs n q h any)

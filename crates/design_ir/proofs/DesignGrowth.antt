@@ -21,7 +21,7 @@ use Rattle.design_ir.specs.Values.{form, form_step}
 use Rattle.design_ir.specs.Targets.{is_target, target_test, target_signals, signals_step}
 use Rattle.design_ir.specs.Guards.{Guard, Guarded, guarded, guarded_in, guarded_arms, driven, statement_exprs, choices_exprs, block_exprs}
 use Rattle.design_ir.specs.Circuits.{Circuit, is_among, is_register}
-use Rattle.design_ir.specs.Designs.{holds_reset, reset_test, IsUsable, IsUsableOf, IsDomain, IsProcess, IsSignalOf, IsReset, IsClockDomain, IsAddress, IsWritePort, IsClocking, IsReadPort, IsMemory, AreColumns, IsDesign, drivers}
+use Rattle.design_ir.specs.Designs.{holds_reset, reset_test, IsUsable, IsUsableOf, IsDomain, IsProcess, IsSignalOf, IsReset, IsInputReset, IsClockDomain, IsAddress, IsWritePort, IsClocking, IsReadPort, IsMemory, AreColumns, IsDesign, drivers}
 use Rattle.design_ir.proofs.Growth.{length_more}
 use Rattle.design_ir.proofs.Answers.{answers_append, answers_begin}
 
@@ -147,9 +147,14 @@ module _ (c : Circuit) (e : Expr) where
   reset None h = tt
   reset (Some s) h = signal_of (unsigned 1) s h
 
+  input : (s : Option SigId) → IsInputReset c s → IsInputReset d s
+  unfolding d
+  input None h = tt
+  input (Some s) h = h
+
   clock_domain : (x : Domain) → IsClockDomain c x → IsClockDomain d x
   unfolding d
-  clock_domain x h = record { clock = signal_of (unsigned 1) x.clk h.clock; reset = reset x.rst h.reset; clock_input = h.clock_input; clock_no_reset = h.clock_no_reset }
+  clock_domain x h = record { clock = signal_of (unsigned 1) x.clk h.clock; reset = reset x.rst h.reset; clock_input = h.clock_input; clock_no_reset = h.clock_no_reset; async_input = λ t. input x.rst (h.async_input t) }
 
   address : (m : Memory) (x : ExprId) → IsAddress c m x → IsAddress d m x
   unfolding d

@@ -3,6 +3,7 @@ pub mod Sizes
 pub mod SanityParts
 pub mod SanityValues
 pub mod SanityRuns
+pub mod SanityDomains
 pub mod SanityMemories
 pub mod SanityNeeds
 pub mod SanityAims
@@ -16,6 +17,9 @@ pub mod Commons
 pub mod DesignGrowth
 pub mod Events
 pub mod Unique
+pub mod Resets
+pub mod ClearedLaws
+pub mod RisingLaws
 pub mod Related
 pub mod PutLaws
 pub mod Congruence

@@ -2,6 +2,7 @@
 use Rattle.std.specs.Prelude.{refl, ℕ, List, [], ◌∷◌, All, pos, codes, IsTrue}
 use Rattle.std.specs.List.{IsDistinct}
 use Rattle.std.proofs.Common.{arith, inl}
+use Rattle.std.proofs.lemmas.Bool.{false≢true}
 use Rattle.lists.specs.Names.{IsName, IsPublicName, continues_name}
 use Rattle.shape_rules.specs.Forms.{unsigned}
 use Rattle.shape_rules.specs.declared.op.Op.TheVariants.{Not}
@@ -14,7 +15,7 @@ use Rattle.design_ir.specs.Values.{form}
 use Rattle.design_ir.specs.Targets.{is_target, target_signals}
 use Rattle.design_ir.specs.Circuits.{Circuit}
 use Rattle.design_ir.specs.Designs.{IsDesign, holds_reset}
-use Rattle.design_ir.proofs.SanityParts.{signal, e, s, set, clocked_by, input, domain}
+use Rattle.design_ir.proofs.SanityParts.{signal, e, s, set, comb, clocked_by, input, output, domain, async_domain}
 
 shown : List ℕ → ℕ → Column
 shown name n = record { name = name; sig = record { 0 = n } }
@@ -60,6 +61,7 @@ turning_is_design = record {
       reset = record { there = omega arith; shape = refl };
       clock_input = refl;
       clock_no_reset = refl;
+      async_input = λ h. refl;
     },
     tt,
   );
@@ -102,6 +104,20 @@ turning_is_pool = record {
     (record { names = (omega arith, tt); formed = tt; parts = refl; accepted = refl }, tt),
   );
 }
+
+-- ---- an asynchronous reset is an input: this one is an output that a statement drives
+
+driven_reset : Circuit
+driven_reset = record turning {
+  processes = comb (next (set 2 0) done) ∷ clocked_by 0 (next (set 0 1) done) ∷ [];
+  pool = record { signals = turning.pool.signals; exprs = s 2 ∷ Unary Not (e 0) ∷ s 1 ∷ [] };
+  domains = async_domain (codes "sync") 0 1 ∷ [];
+  ports = input 0 ∷ output 1 ∷ [];
+}
+
+driven_async_reset_is_refused : IsDesign driven_reset → ⊥
+unfolding driven_reset turning
+driven_async_reset_is_refused h = absurd (false≢true (h.domains.0.async_input refl))
 
 -- a design without anything
 pub bare_design : (p : Pooled) → IsDesign record { pool = p; processes = []; memories = []; domains = []; ports = []; columns = [] }

@@ -1,5 +1,5 @@
 -- Memories and loops of small designs.
-use Rattle.std.specs.Prelude.{◌≡◌, refl, ℕ, List, [], ◌∷◌, ℤ, pos, Some, None, codes}
+use Rattle.std.specs.Prelude.{◌≡◌, refl, ℕ, true, List, [], ◌∷◌, ℤ, pos, Some, None, codes}
 use Rattle.std.proofs.Common.{arith, inl}
 use Rattle.shape_rules.specs.Forms.{unsigned}
 use Rattle.design_ir.specs.declared.expr.Expr.TheVariants.{Slice}
@@ -15,7 +15,7 @@ use Rattle.design_ir.specs.Loops.{Loop}
 use Rattle.design_ir.specs.Circuits.{Circuit, State}
 use Rattle.design_ir.specs.Steps.{step}
 use Rattle.design_ir.specs.Histories.{History}
-use Rattle.design_ir.proofs.SanityParts.{signal, e, s, bit, set, comb, input, domain, gives, toggles}
+use Rattle.design_ir.proofs.SanityParts.{signal, e, s, bit, set, comb, input, domain, falling_domain, gives, toggles}
 
 -- ---- three rows of four bits, two of an enable bit each; two write ports, a transparent and a plain clocked read,
 -- ---- and a comb read. Signals: clk, rst, two write addresses, words and enables, the read address, three words
@@ -75,6 +75,11 @@ past_the_depth : step rows (state (row_numbers 0 3 15 3 0 0 0 3 1 7 7 0) 1 2 3) 
 unfolding rows edge row_numbers state write clocked_port comb_port form num
 past_the_depth = refl
 
+-- a write of the low half of row 1: a port that is transparent for it takes the new bits, another the old row
+transparent_port_takes_what_is_written : step rows (state (row_numbers 0 1 15 1 0 0 0 1 1 0 0 2) 1 2 3) (row_numbers 0 1 15 1 0 0 0 1 1 0 0 2) edge ≡ state (row_numbers 1 1 15 1 0 0 0 1 1 3 2 2) 1 3 3
+unfolding rows edge row_numbers state write clocked_port comb_port form num
+transparent_port_takes_what_is_written = refl
+
 -- an enable of 0 keeps the word that was read
 kept_word : step rows (state (row_numbers 0 0 0 0 0 0 0 2 0 5 6 3) 1 2 3) (row_numbers 0 0 0 0 0 0 0 2 0 5 6 3) edge ≡ state (row_numbers 1 0 0 0 0 0 0 2 0 5 6 3) 1 2 3
 unfolding rows edge row_numbers state write clocked_port comb_port form num
@@ -84,6 +89,35 @@ kept_word = refl
 fall : step rows (state (row_numbers 1 0 15 3 0 0 0 2 1 5 6 3) 1 2 3) (row_numbers 1 0 15 3 0 0 0 2 1 5 6 3) edge ≡ state (row_numbers 0 0 15 3 0 0 0 2 1 5 6 3) 1 2 3
 unfolding rows edge row_numbers state write clocked_port comb_port form num
 fall = refl
+
+-- ---- the same memory in a domain with a falling clock and an asynchronous reset
+
+falling_rows : Circuit
+falling_rows = record rows { domains = record (falling_domain (codes "sync") 0 1) { async_reset = true } ∷ [] }
+
+-- rows are written and read at the fall
+falling_ports_act_at_a_fall : step falling_rows (state (row_numbers 1 1 15 3 1 0 1 1 1 0 0 2) 1 2 3) (row_numbers 1 1 15 3 1 0 1 1 1 0 0 2) edge ≡ state (row_numbers 0 1 15 3 1 0 1 1 1 12 2 2) 1 12 3
+unfolding falling_rows rows edge row_numbers state write clocked_port comb_port form num
+falling_ports_act_at_a_fall = refl
+
+-- and not at the rise
+falling_ports_rest_at_a_rise : step falling_rows (state (row_numbers 0 1 15 3 1 0 1 1 1 5 6 2) 1 2 3) (row_numbers 0 1 15 3 1 0 1 1 1 5 6 2) edge ≡ state (row_numbers 1 1 15 3 1 0 1 1 1 5 6 2) 1 2 3
+unfolding falling_rows rows edge row_numbers state write clocked_port comb_port form num
+falling_ports_rest_at_a_rise = refl
+
+-- past the depth nothing is written and 0 is read, at a fall too
+falling_ports_past_the_depth : step falling_rows (state (row_numbers 1 3 15 3 0 0 0 3 1 7 7 0) 1 2 3) (row_numbers 1 3 15 3 0 0 0 3 1 7 7 0) edge ≡ state (row_numbers 0 3 15 3 0 0 0 3 1 0 0 0) 1 2 3
+unfolding falling_rows rows edge row_numbers state write clocked_port comb_port form num
+falling_ports_past_the_depth = refl
+
+-- rst at 1; the words of both clocked ports
+under_reset : ℕ → ℕ → ℕ → List ℤ
+under_reset rst x y = pos 0 ∷ pos rst ∷ pos 0 ∷ pos 0 ∷ pos 0 ∷ pos 0 ∷ pos 0 ∷ pos 0 ∷ pos 2 ∷ pos 1 ∷ pos x ∷ pos y ∷ pos 3 ∷ []
+
+-- no reset touches rows or read data
+async_reset_leaves_rows_and_words : step falling_rows (state (under_reset 0 5 6) 9 8 3) (under_reset 0 5 6) (gives 1 (pos 1)) ≡ state (under_reset 1 5 6) 9 8 3
+unfolding falling_rows rows under_reset state write clocked_port comb_port form num
+async_reset_leaves_rows_and_words = refl
 
 -- read data begins at 0, and a comb read follows its address at once, 0 past the depth
 rows_run : History rows (gives 8 (pos 2) ∷ edge ∷ gives 8 (pos 3) ∷ []) (row_numbers 0 0 0 0 0 0 0 0 1 0 0 1 ∷ row_numbers 0 0 0 0 0 0 0 2 1 0 0 3 ∷ row_numbers 1 0 0 0 0 0 0 2 1 3 3 3 ∷ row_numbers 1 0 0 0 0 0 0 3 1 3 3 0 ∷ [])

@@ -49,7 +49,13 @@ abbrev pub output : ℕ → Port
 output n = record { name = []; sig = record { 0 = n }; is_input = false }
 
 abbrev pub domain : List ℕ → ℕ → ℕ → Domain
-domain name clk rst = record { name = name; clk = record { 0 = clk }; rst = Some record { 0 = rst } }
+domain name clk rst = record { name = name; clk = record { 0 = clk }; rst = Some record { 0 = rst }; falling = false; async_reset = false }
+
+abbrev pub falling_domain : List ℕ → ℕ → ℕ → Domain
+falling_domain name clk rst = record (domain name clk rst) { falling = true }
+
+abbrev pub async_domain : List ℕ → ℕ → ℕ → Domain
+async_domain name clk rst = record (domain name clk rst) { async_reset = true }
 
 abbrev pub gives : ℕ → ℤ → Event
 gives n value = Set record { 0 = n } value

@@ -67,12 +67,18 @@ abbrev pub IsReset : Circuit → Option SigId → Type 0
 IsReset c None = ⊤
 IsReset c (Some s) = IsSignalOf c (unsigned 1) s
 
--- a clock is an input and no reset
+-- a reset is an input, where there is one
+abbrev pub IsInputReset : Circuit → Option SigId → Type 0
+IsInputReset c None = ⊤
+IsInputReset c (Some s) = IsTrue (is_input c s.0)
+
+-- a clock is an input and no reset, and an asynchronous reset is an input
 pub record IsClockDomain (c : Circuit) (d : Domain) : Type 0 where
   pub clock : IsSignalOf c (unsigned 1) d.clk
   pub reset : IsReset c d.rst
   pub clock_input : IsTrue (is_input c d.clk.0)
   pub clock_no_reset : list_any (λ (x : Domain). option_test (λ (s : SigId). s.0 == d.clk.0) x.rst) c.domains ≡ false
+  pub async_input : IsTrue d.async_reset → IsInputReset c d.rst
 
 -- the number of a domain's reset, where it has one
 abbrev pub reset_number : Domain → Option ℕ

@@ -19,6 +19,8 @@ pub mod Circuits
 pub mod Rows
 pub mod Settled
 pub mod Steps
+pub mod Clearing
+pub mod Rising
 pub mod Histories
 pub mod Legal
 pub mod Tests

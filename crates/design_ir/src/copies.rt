@@ -194,6 +194,8 @@ impl Copied for Domain {
             name: self.name.copied(alloc)?,
             clk: self.clk,
             rst: self.rst,
+            falling: self.falling,
+            async_reset: self.async_reset,
         })
     }
 }

@@ -36,7 +36,7 @@ pub use expr::{Expr, Pattern, Patterns};
 pub use exprs::Exprs;
 pub use fragment::{Fragment, Fragments};
 pub use ids::{Clocks, DomainId, ExprId, Ids, MemId, SigId};
-pub use laws::{aims_are_places, places_are_aims};
+pub use laws::{aims_are_places, places_are_aims, resets_act, rising_steps};
 pub use memory::{Ints, MemRead, MemReads, MemWrite, MemWrites, Memories, Memory};
 pub use pool::Pool;
 pub use port::{Column, Columns, Port, Ports};

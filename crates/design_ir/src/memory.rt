@@ -5,7 +5,7 @@ use amh_bits::Int;
 use amh_host::{Items, Numbers, Text};
 use shape_rules::Shape;
 
-/// A write port: at its domain's rising edge the row at `addr` takes the bits of `word` that `enable` lets
+/// A write port: at its domain's active edge the row at `addr` takes the bits of `word` that `enable` lets
 /// through. Each bit of `enable` stands for `granularity` bits of the row.
 #[derive(Drop)]
 pub struct MemWrite {
@@ -16,7 +16,7 @@ pub struct MemWrite {
     pub granularity: u8,
 }
 
-/// A read port: `word` is the row at `addr`, at once where there is no domain, else as it was before each rising
+/// A read port: `word` is the row at `addr`, at once where there is no domain, else as it was before each active
 /// edge at which `enable` is 1, with what the write ports of the numbers `transparent` write there put in.
 /// A domain and an enable are there exactly for a clocked port.
 #[derive(Drop)]

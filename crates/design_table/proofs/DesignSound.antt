@@ -98,6 +98,7 @@ module _ (pool : Pooled) (ports : List Port) (clocked : List Bool) (comb sync : 
       reset = tt;
       clock_input = signals.clock_input;
       clock_no_reset = refl;
+      async_input = λ t. tt;
     }
 
     one_domain : {K : Type 0} (eq : K → K → Bool) (f : Domain → K) → IsDistinct eq (map f (sync_domain ∷ []))

@@ -106,7 +106,7 @@ abbrev pub column_of : Port → Column
 column_of p = record { name = p.name; sig = p.sig }
 
 abbrev pub sync_domain : Domain
-sync_domain = record { name = codes "sync"; clk = record { 0 = 0 }; rst = None }
+sync_domain = record { name = codes "sync"; clk = record { 0 = 0 }; rst = None; falling = false; async_reset = false }
 
 abbrev pub processes_of : Block → Block → List DesignProcess
 processes_of comb sync = record { domain = None; body = comb } ∷ record { domain = Some (record { 0 = 0 }); body = sync } ∷ []

@@ -1,5 +1,6 @@
 // A design of the table from its lines.
 ghost use Rattle.std.specs.Prelude.{◌≡◌, [], IfOk};
+ghost use Rattle.design_ir.specs.Rising.{AllRisingSync};
 
 use crate::expressions::{expression, expressions};
 use crate::lines::{place_of, split_first, words_of};
@@ -29,7 +30,8 @@ struct Reader {
 
 /// The design that lines stand for.
 pub fn read_design(alloc: Global, lines: &[String]) -> Result<Design, Stop>
-    ensures { IfOk result (λ d. d.memories ≡ []) }
+    ensures flat { IfOk result (λ d. d.memories ≡ []) }
+    ensures rising { IfOk result AllRisingSync }
 {
     let mut reader = Reader {
         signals: Signals::new(alloc)?,
@@ -136,7 +138,8 @@ impl Reader {
 
     // The design, once all lines are read.
     fn end(self, alloc: Global) -> Result<Design, Stop>
-        ensures { IfOk result (λ d. d.memories ≡ []) }
+        ensures flat { IfOk result (λ d. d.memories ≡ []) }
+        ensures rising { IfOk result AllRisingSync }
     {
         let Reader {
             signals,

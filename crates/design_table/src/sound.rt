@@ -1,5 +1,6 @@
 // Whether parts keep the rules of designs.
 ghost use Rattle.std.specs.Prelude.{◌≡◌, [], ◌∷◌, true, false, map, IsTrue, IfOk};
+ghost use Rattle.design_ir.specs.Rising.{AllRisingSync};
 ghost use Rattle.design_table.specs.Tests.{AreSignals, IsSide, circuit_of, column_of, sync_domain, processes_of};
 
 use crate::blocks::block_fits;
@@ -58,6 +59,8 @@ fn domains_of(alloc: Global) -> Result<Domains, NoMemory>
         name: copied(alloc, "sync")?,
         clk: SigId(0),
         rst: None,
+        falling: false,
+        async_reset: false,
     })?;
     Ok(domains)
 }
@@ -95,7 +98,8 @@ fn made(alloc: Global, signals: Signals, comb: Stmts, sync: Stmts) -> Result<Des
 
 /// The design of these signals and statements, where they keep its rules.
 pub fn design_of(alloc: Global, signals: Signals, comb: Stmts, sync: Stmts) -> Result<Design, Stop>
-    ensures { IfOk result (λ d. d.memories ≡ []) }
+    ensures flat { IfOk result (λ d. d.memories ≡ []) }
+    ensures rising { IfOk result AllRisingSync }
 {
     if !are_signals(&signals) {
         return Err(Stop::NoCase);

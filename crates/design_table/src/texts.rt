@@ -1,5 +1,6 @@
 // The RTLIL texts of the designs that are accepted.
 ghost use Rattle.std.specs.Prelude.{◌≡◌, []};
+ghost use Rattle.design_ir.specs.Rising.{AllRisingSync};
 ghost use Rattle.comb_graph.specs.Rankings.{IsRanking};
 
 use crate::answer::name_of;
@@ -35,6 +36,7 @@ fn design_text(alloc: Global, lines: &[String]) -> Result<String, Stop> {
 // The RTLIL text of a design.
 fn lowered(alloc: Global, design: &Design, ranks: &Ranks) -> Result<String, Stop>
     requires flat { design.now.memories ≡ [] }
+    requires rising { AllRisingSync design.now }
     requires ranked { IsRanking design.now ranks.now }
 {
     let module = lower(alloc, design, ranks)?;

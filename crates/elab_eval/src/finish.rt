@@ -1,8 +1,9 @@
 // The end: what is held becomes a design.
-ghost use Rattle.std.specs.Prelude.{◌≡◌, ◌<◌, length, Some, None};
+ghost use Rattle.std.specs.Prelude.{◌≡◌, ◌<◌, length, Some, None, IfOk};
 ghost use Rattle.std.specs.List.{list_any};
 ghost use Rattle.py_values.specs.Heaps.{nothing};
 ghost use Rattle.amh_host.specs.declared.place.Kind.TheVariants.{Raised};
+ghost use Rattle.design_ir.specs.Rising.{AllRisingSync};
 ghost use Rattle.clock_domains.specs.Resolved.{file_start};
 ghost use Rattle.elab_eval.specs.declared.refusal.ElabStop.TheVariants.{Refused};
 ghost use Rattle.elab_eval.specs.Elaborates.{IsFound, design_of, module_in, root_module, without_modules, unresolved_stop};
@@ -113,7 +114,8 @@ pub(crate) fn finish(
 ) -> Result<Elaborated, ElabStop>
     requires sound { IsSound (held_of elaboration) }
     requires frozen { frozen.now ≡ nothing }
-    ensures { IsFound result (design_of (held_of elaboration) machine.going.state.heap) }
+    ensures found { IsFound result (design_of (held_of elaboration) machine.going.state.heap) }
+    ensures rising { IfOk result (λ e. AllRisingSync e.design) }
 {
     if has_reset(&elaboration.pool) {
         return Err(raised());

@@ -6,6 +6,7 @@ ghost use Rattle.py_frames.specs.declared.request.Answer.TheVariants.{Begin};
 ghost use Rattle.py_machine.specs.Lives.{IsOf};
 ghost use Rattle.amh_values.specs.Acts.{acted, Acts};
 ghost use Rattle.amh_things.specs.Held.{AreHeld};
+ghost use Rattle.design_ir.specs.Rising.{AllRisingSync};
 ghost use Rattle.elab_eval.specs.Elaborates.{IsElaborated, stop_of, told_at};
 ghost use Rattle.elab_eval.specs.Running.{IsRunning, Steps_to, Runs_to};
 ghost use Rattle.elab_eval.specs.Table.{prim};
@@ -196,6 +197,7 @@ pub fn elaborate<L: Ledger>(
 ) -> Result<Elaborated, ElabStop>
     requires { 0 < left.old.left }
     ensures comes { IsElaborated (program_of program.now) left.old.left left.new.left result }
+    ensures rising { IfOk result (λ e. AllRisingSync e.design) }
     ensures ticks { steps.old ≤ steps.new }
 {
     let frozen = Frozen::empty(alloc);

@@ -20,7 +20,7 @@ use Rattle.design_ir.specs.Pools.{Pooled}
 use Rattle.design_ir.specs.PoolRules.{IsPool}
 use Rattle.design_ir.specs.Guards.{driven, block_exprs}
 use Rattle.design_ir.specs.Circuits.{Circuit, is_among}
-use Rattle.design_ir.specs.Designs.{IsUsable, IsUsableOf, IsDomain, IsProcess, IsSignalOf, IsReset, IsClockDomain, IsAddress, IsWritePort, IsClocking, IsReadPort, IsMemory, AreColumns, IsDesign, share}
+use Rattle.design_ir.specs.Designs.{IsUsable, IsUsableOf, IsDomain, IsProcess, IsSignalOf, IsReset, IsInputReset, IsClockDomain, IsAddress, IsWritePort, IsClocking, IsReadPort, IsMemory, AreColumns, IsDesign, share}
 use Rattle.design_ir.proofs.Elements.{any_has, any_of}
 use Rattle.digraph.proofs.Members.{all_from_contains}
 use Rattle.flat_design.specs.Growing.{IsMore, IsReadable}
@@ -117,8 +117,12 @@ module _ (c : Circuit) (es : List Expr) (ps : List DesignProcess) (rules : IsPoo
   reset None h = tt
   reset (Some s) h = signal_of (unsigned 1) s h
 
+  input : (s : Option SigId) → IsInputReset c s → IsInputReset d s
+  input None h = tt
+  input (Some s) h = h
+
   clock_domain : (x : Domain) → IsClockDomain c x → IsClockDomain d x
-  clock_domain x h = record { clock = signal_of (unsigned 1) x.clk h.clock; reset = reset x.rst h.reset; clock_input = h.clock_input; clock_no_reset = h.clock_no_reset }
+  clock_domain x h = record { clock = signal_of (unsigned 1) x.clk h.clock; reset = reset x.rst h.reset; clock_input = h.clock_input; clock_no_reset = h.clock_no_reset; async_input = λ t. input x.rst (h.async_input t) }
 
   address : (m : Memory) (x : ExprId) → IsAddress c m x → IsAddress d m x
   address m x h = record {

@@ -18,7 +18,8 @@ use Rattle.design_ir.specs.Circuits.{Circuit, State, at, FitsSignals}
 use Rattle.design_ir.specs.Settled.{Settled}
 use Rattle.design_ir.specs.Histories.{HistoryFrom, History}
 use Rattle.design_ir.specs.Legal.{AllLegal}
-use Rattle.design_ir.specs.Steps.{clocked, read_word, reads_now, clocked_read, clocked_reads, toggle_at, toggle, clock_low, step, first_state}
+use Rattle.design_ir.specs.Steps.{clocked, read_word, reads_now, clocked_read, clocked_reads, toggle_at, toggle, moved, clock_low, step, first_state}
+use Rattle.design_ir.proofs.ClearedLaws.{clears_length}
 use Rattle.comb_graph.specs.Laws.{FitsState}
 use Rattle.comb_graph.proofs.StepFits.{first_fits, step_fits}
 use Rattle.comb_graph.proofs.DeltaLaws.{delta_fits}
@@ -55,11 +56,14 @@ toggles_length : (domains : List Domain) (ds : List DomainId) (cur : List ℤ) �
 toggles_length domains [] cur = refl
 toggles_length domains (d ∷ ds) cur = toggles_length domains ds (toggle domains cur d) ∙ toggle_length (slice_get domains d.0) cur
 
-step_length : (c : Circuit) (st : State) (env : List ℤ) (e : Event) → length (step c st env e).held ≡ length st.held
-step_length c st env (Set s n) = length-set st.held s.0 n
-step_length c st env (Edge ds) =
+moved_length : (c : Circuit) (st : State) (env : List ℤ) (e : Event) → length (moved c st env e).held ≡ length st.held
+moved_length c st env (Set s n) = length-set st.held s.0 n
+moved_length c st env (Edge ds) =
     let registers : List ℤ = fold (clocked c env ds) st.held c.processes in
     toggles_length c.domains ds (clocked_reads c env ds c.memories st.rows registers) ∙ reads_length c env ds c.memories st.rows registers ∙ registers_length c env ds c.processes st.held
+
+step_length : (c : Circuit) (st : State) (env : List ℤ) (e : Event) → length (step c st env e).held ≡ length st.held
+step_length c st env e = let after : State = moved c st env e in clears_length c after.held c.processes after.held ∙ moved_length c st env e
 
 lows_length : (ds : List Domain) (cur : List ℤ) → length (fold clock_low cur ds) ≡ length cur
 lows_length [] cur = refl

@@ -22,7 +22,8 @@ use Rattle.design_ir.specs.Rows.{written, row_at, address}
 use Rattle.design_ir.specs.Designs.{IsDesign, IsProcess, IsMemory, IsReadPort, IsWritePort, IsClocking}
 use Rattle.design_ir.specs.Circuits.{Circuit, State, at, is_among, is_held, option_test, FitsSignals}
 use Rattle.design_ir.specs.Settled.{starts, Settled}
-use Rattle.design_ir.specs.Steps.{rises, port_rises, is_reset, reset_all, clocked_at, clocked, write_row, rows_after, writes_through, shown_through, read_word, reads_now, clocked_read, clocked_reads, toggle, step}
+use Rattle.design_ir.specs.Steps.{is_active, port_active, is_reset, is_cleared, reset_all, clocked_at, clocked, cleared_at, cleared, write_row, rows_after, writes_through, shown_through, read_word, reads_now, clocked_read, clocked_reads, toggle, moved, step}
+use Rattle.design_ir.proofs.Resets.{resets_length, resets_same, resets_other}
 use Rattle.design_ir.proofs.PutLaws.{put_length, put_other}
 use Rattle.comb_graph.proofs.PutFits.{put_fits}
 use Rattle.comb_graph.proofs.DeltaLaws.{starts_length, delta_start}
@@ -33,7 +34,7 @@ use Rattle.flat_design.proofs.Growing.{num_more}
 use Rattle.flat_design.proofs.FlatPairs.{with_exprs, with_parts}
 use Rattle.flat_design.proofs.FlatRounds.{IsTurn, rounds_same}
 use Rattle.flat_design.proofs.DrivenOnce.{processes_distinct, uncomb, held, starts_held}
-use Rattle.flat_design.proofs.Resets.{resets_length, resets_same, resets_other, resets_fit}
+use Rattle.flat_design.proofs.Resets.{resets_fit}
 
 module _ (c : Circuit) (env : List ℤ) (listed : List DomainId) where
   pub after_length : (p : DesignProcess) (cur : List ℤ) (o : Option DomainId) → length (clocked_at c env listed p cur o) ≡ length cur
@@ -41,7 +42,7 @@ module _ (c : Circuit) (env : List ℤ) (listed : List DomainId) where
   after_length p cur (Some x) =
       let left : List ℤ = put c.pool env p.body cur in
       let reset : List ℤ = reset_all c.pool.signals left (driven c.pool p.body) in
-      cond_both (rises c env listed x.0) (if is_reset c env x.0 then reset else left) cur (λ y. length y ≡ length cur)
+      cond_both (is_active c env listed x.0) (if is_reset c env x.0 then reset else left) cur (λ y. length y ≡ length cur)
       (λ t. cond_both (is_reset c env x.0) reset left (λ y. length y ≡ length cur) (λ u. resets_length c.pool.signals (driven c.pool p.body) left ∙ put_length c.pool env p.body cur) (λ u. put_length c.pool env p.body cur)) (λ t. refl)
 
   after_other : (p : DesignProcess) (cur : List ℤ) (s : ℕ) (o : Option DomainId) → is_among (driven c.pool p.body) s ≡ false → at (clocked_at c env listed p cur o) s ≡ at cur s
@@ -49,7 +50,7 @@ module _ (c : Circuit) (env : List ℤ) (listed : List DomainId) where
   after_other p cur s (Some x) e =
       let left : List ℤ = put c.pool env p.body cur in
       let reset : List ℤ = reset_all c.pool.signals left (driven c.pool p.body) in
-      cond_both (rises c env listed x.0) (if is_reset c env x.0 then reset else left) cur (λ y. at y s ≡ at cur s)
+      cond_both (is_active c env listed x.0) (if is_reset c env x.0 then reset else left) cur (λ y. at y s ≡ at cur s)
       (λ t. cond_both (is_reset c env x.0) reset left (λ y. at y s ≡ at cur s) (λ u. resets_other c.pool.signals (driven c.pool p.body) left s e ∙ put_other c.pool env p.body cur s e) (λ u. put_other c.pool env p.body cur s e))
       (λ t. refl)
 
@@ -67,15 +68,15 @@ module _ (c : Circuit) (es : List Expr) (ps : List DesignProcess) (rules : IsPoo
         let left : List ℤ = put c.pool env p.body cur in
         let lefts : FitsSignals c.pool left = put_fits c.pool env p.body cur rules is.targets fit in
         let reset : List ℤ = reset_all c.pool.signals left (driven c.pool p.body) in
-        cond_both (rises c env listed x.0) (if is_reset c env x.0 then reset else left) cur (FitsSignals c.pool)
+        cond_both (is_active c env listed x.0) (if is_reset c env x.0 then reset else left) cur (FitsSignals c.pool)
         (λ t. cond_both (is_reset c env x.0) reset left (FitsSignals c.pool) (λ u. resets_fit c.pool rules (driven c.pool p.body) left lefts) (λ u. lefts)) (λ t. fit)
 
     after_same : (o : Option DomainId) (old new : DesignProcess) (cur : List ℤ) → (is_some o ≡ true → put (with_exprs c.pool es) env new.body cur ≡ put c.pool env old.body cur)
         → ((s : ℕ) → is_among (driven (with_exprs c.pool es) new.body) s ≡ is_among (driven c.pool old.body) s) → clocked_at d env listed new cur o ≡ clocked_at c env listed old cur o
     after_same None old new cur puts drives = refl
     after_same (Some x) old new cur puts drives =
-        ap (λ y. if rises c env listed x.0 then (if is_reset c env x.0 then reset_all c.pool.signals y (driven (with_exprs c.pool es) new.body) else y) else cur) (puts refl)
-        ∙ ap (λ y. if rises c env listed x.0 then (if is_reset c env x.0 then y else put c.pool env old.body cur) else cur)
+        ap (λ y. if is_active c env listed x.0 then (if is_reset c env x.0 then reset_all c.pool.signals y (driven (with_exprs c.pool es) new.body) else y) else cur) (puts refl)
+        ∙ ap (λ y. if is_active c env listed x.0 then (if is_reset c env x.0 then y else put c.pool env old.body cur) else cur)
         (resets_same c.pool.signals (driven (with_exprs c.pool es) new.body) (driven c.pool old.body) (put c.pool env old.body cur) drives)
 
     module _ (fit_env : FitsSignals c.pool env) where
@@ -125,8 +126,8 @@ module _ (c : Circuit) (es : List Expr) (ps : List DesignProcess) (rules : IsPoo
 
       row_same : (rows : List ℤ) (w : MemWrite) → IsWritePort c m w → write_row d env listed m rows w ≡ write_row c env listed m rows w
       row_same rows w is =
-          ap (λ a. if port_rises c env listed (Some w.domain) then slice_set rows a (written (with_exprs c.pool es) env m (at rows a) w) else rows) (address_same w.addr is.addr.usable.there)
-          ∙ ap (λ n. if port_rises c env listed (Some w.domain) then slice_set rows (address c.pool env w.addr) n else rows) (written_same (row_at c.pool env rows w.addr) w is)
+          ap (λ a. if port_active c env listed (Some w.domain) then slice_set rows a (written (with_exprs c.pool es) env m (at rows a) w) else rows) (address_same w.addr is.addr.usable.there)
+          ∙ ap (λ n. if port_active c env listed (Some w.domain) then slice_set rows (address c.pool env w.addr) n else rows) (written_same (row_at c.pool env rows w.addr) w is)
 
       rows_same : (ws : List MemWrite) (rows : List ℤ) → AllByRecursion (IsWritePort c m) ws → fold (write_row d env listed m) rows ws ≡ fold (write_row c env listed m) rows ws
       rows_same [] rows ports = refl
@@ -135,7 +136,7 @@ module _ (c : Circuit) (es : List Expr) (ps : List DesignProcess) (rules : IsPoo
       shown_same : (through : List ℕ) (addr i : ℕ) (ws : List MemWrite) (row : ℤ) → AllByRecursion (IsWritePort c m) ws → shown_through d env listed m through addr i ws row ≡ shown_through c env listed m through addr i ws row
       shown_same through addr i [] row ports = refl
       shown_same through addr i (w ∷ ws) row ports =
-          ap (λ a. shown_through d env listed m through addr (suc i) ws (if list_any (λ k. k == i) through && (port_rises c env listed (Some w.domain) && (a == addr)) then written (with_exprs c.pool es) env m row w else row))
+          ap (λ a. shown_through d env listed m through addr (suc i) ws (if list_any (λ k. k == i) through && (port_active c env listed (Some w.domain) && (a == addr)) then written (with_exprs c.pool es) env m row w else row))
           (address_same w.addr ports.0.addr.usable.there)
           ∙ ap (λ n. shown_through d env listed m through addr (suc i) ws (if writes_through c env listed through addr i w then n else row)) (written_same row w ports.0)
           ∙ shown_same through addr (suc i) ws (if writes_through c env listed through addr i w then written c.pool env m row w else row) ports.1
@@ -153,7 +154,7 @@ module _ (c : Circuit) (es : List Expr) (ps : List DesignProcess) (rules : IsPoo
 
       read_same : (rows : List ℤ) (cur : List ℤ) (r : MemRead) → IsMemory c m → IsReadPort c m r → clocked_read d env listed m rows cur r ≡ clocked_read c env listed m rows cur r
       read_same rows cur r is port =
-          ap (λ b. if port_rises c env listed r.domain && b then slice_set cur r.word.0 (read_word d env listed m rows r) else cur) (enable_same r.domain r.enable port.clocking)
+          ap (λ b. if port_active c env listed r.domain && b then slice_set cur r.word.0 (read_word d env listed m rows r) else cur) (enable_same r.domain r.enable port.clocking)
           ∙ ap (λ n. if reads_now c env listed r then slice_set cur r.word.0 n else cur) (word_same rows r is port)
 
       ports_same : (rows : List ℤ) (rs : List MemRead) (cur : List ℤ) → IsMemory c m → AllByRecursion (IsReadPort c m) rs → fold (clocked_read d env listed m rows) cur rs ≡ fold (clocked_read c env listed m rows) cur rs
@@ -172,12 +173,34 @@ module _ (c : Circuit) (es : List Expr) (ps : List DesignProcess) (rules : IsPoo
     all_rows_same (m ∷ ms) (rows ∷ all) are-memories =
         ap (λ x. x ∷ rows_after d env listed ms all) (rows_same m m.writes rows are-memories.0.writes) ∙ ap (λ xs. fold (write_row c env listed m) rows m.writes ∷ xs) (all_rows_same ms all are-memories.1)
 
+  -- ---- asynchronous resets
+
+  module _ (held : List ℤ) where
+    clear_same : (o : Option DomainId) (old new : DesignProcess) (cur : List ℤ) → ((s : ℕ) → is_among (driven (with_exprs c.pool es) new.body) s ≡ is_among (driven c.pool old.body) s)
+        → cleared_at d held new cur o ≡ cleared_at c held old cur o
+    clear_same None old new cur drives = refl
+    clear_same (Some x) old new cur drives =
+        ap (λ y. if is_cleared c held x.0 then y else cur) (resets_same c.pool.signals (driven (with_exprs c.pool es) new.body) (driven c.pool old.body) cur drives)
+
+    clears_same : (olds news : List DesignProcess) (cur : List ℤ) → AreFlatProcesses c.pool (with_exprs c.pool es) olds news → fold (cleared d held) cur news ≡ fold (cleared c held) cur olds
+    clears_same [] [] cur flat = refl
+    clears_same [] (n ∷ news) cur flat = absurd flat
+    clears_same (o ∷ olds) [] cur flat = absurd flat
+    clears_same (o ∷ olds) (n ∷ news) cur flat =
+        ap (λ x. fold (cleared d held) x news) (ap (cleared_at d held n cur) flat.0.domain ∙ clear_same o.domain o n cur flat.0.body.drives) ∙ clears_same olds news (cleared c held cur o) flat.1
+
   -- ---- events
 
-  pub step_same : (st : State) (env : List ℤ) (e : Event) → FitsSignals c.pool st.held → length st.held ≡ length c.pool.signals → FitsSignals c.pool env → Settled c st env → step d st env e ≡ step c st env e
-  step_same st env (Set s n) fit long fit_env settled = refl
-  step_same st env (Edge listed) fit long fit_env settled =
+  moved_same : (st : State) (env : List ℤ) (e : Event) → FitsSignals c.pool st.held → length st.held ≡ length c.pool.signals → FitsSignals c.pool env → Settled c st env → moved d st env e ≡ moved c st env e
+  moved_same st env (Set s n) fit long fit_env settled = refl
+  moved_same st env (Edge listed) fit long fit_env settled =
       let registers : List ℤ = fold (clocked c env listed) st.held c.processes in
       ap (λ x. record { held = fold (toggle c.domains) (clocked_reads d env listed c.memories st.rows x) listed; rows = rows_after d env listed c.memories st.rows }) (registers_same env listed fit_env st fit long settled)
       ∙ ap (λ x. record { held = fold (toggle c.domains) x listed; rows = rows_after d env listed c.memories st.rows }) (reads_same env listed c.memories st.rows registers design.memories)
       ∙ ap (λ x. record { held = fold (toggle c.domains) (clocked_reads c env listed c.memories st.rows registers) listed; rows = x }) (all_rows_same env listed c.memories st.rows design.memories)
+
+  pub step_same : (st : State) (env : List ℤ) (e : Event) → FitsSignals c.pool st.held → length st.held ≡ length c.pool.signals → FitsSignals c.pool env → Settled c st env → step d st env e ≡ step c st env e
+  step_same st env e fit long fit_env settled =
+      let after : State = moved c st env e in
+      ap (λ (x : State). record x { held = fold (cleared d x.held) x.held ps }) (moved_same st env e fit long fit_env settled)
+      ∙ ap (λ xs. record after { held = xs }) (clears_same after.held c.processes ps after.held are)

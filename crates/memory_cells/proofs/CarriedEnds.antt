@@ -11,16 +11,16 @@ read_back : (width n : ℕ) → n < 2 ^ width → Some (bits_number (number_bits
 read_back width n h = ap Some (bits_number-number_bits width n ∙ mod-eq_of_lt h)
 
 pub write_cells_carry : WriteCellsCarry
-write_cells_carry t m w p id k clock enable address word rises fits is lets has = record {
-  acts = rises;
+write_cells_carry t m w p id k clock enable address word active fits is lets has = record {
+  acts = active;
   address = ap (option_map bits_number) is ∙ read_back p.address _ fits;
   enable = lets;
   word = has;
 }
 
 pub read_cells_carry : ReadCellsCarry
-read_cells_carry t m r p id through clock enable address word rises fits is lets = record {
-  acts = rises;
+read_cells_carry t m r p id through clock enable address word active fits is lets = record {
+  acts = active;
   address = ap (option_map bits_number) is ∙ read_back p.address _ fits;
   enable = lets;
 }

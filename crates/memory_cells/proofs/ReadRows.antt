@@ -15,7 +15,7 @@ use Rattle.design_ir.specs.Values.{num}
 use Rattle.design_ir.specs.Circuits.{at, option_test}
 use Rattle.design_ir.specs.Rows.{written}
 use Rattle.design_ir.specs.Designs.{IsGranularity}
-use Rattle.design_ir.specs.Steps.{port_rises, shown_through, read_word, reads_now}
+use Rattle.design_ir.specs.Steps.{port_active, shown_through, read_word, reads_now}
 use Rattle.rtlil_text.specs.declared.cell.RtlCell.{RtlCell}
 use Rattle.rtlil_text.specs.Sources.{bits_at, memory_id}
 use Rattle.rtlil_text.specs.Cells.{bits_number}
@@ -80,7 +80,7 @@ module _ (t : Moment) (m : Memory) (through : List ℕ) (row k : ℕ) (there : r
       by : (b : Bool) → by_cells (bit_of acc k) (masked (through_from through (suc i) n) cells) ≡ Some (bit_of (shown_through t.design t.env t.listed m through row (suc i) writes acc) k)
           → by_cells (bit_of (after t m w row acc) k) (masked (through_from through (suc i) n) cells) ≡ Some (bit_of (shown_through t.design t.env t.listed m through row (suc i) writes (after t m w row acc)) k)
           → by_cells (bit_of acc k) (if b then c ∷ masked (through_from through (i + 1) n) cells else masked (through_from through (i + 1) n) cells)
-          ≡ Some (bit_of (shown_through t.design t.env t.listed m through row (suc i) writes (if b && (port_rises t.design t.env t.listed (Some w.domain) && (address_at t w.addr == row)) then written t.design.pool t.env m acc w else acc)) k)
+          ≡ Some (bit_of (shown_through t.design t.env t.listed m through row (suc i) writes (if b && (port_active t.design t.env t.listed (Some w.domain) && (address_at t w.addr == row)) then written t.design.pool t.env m acc w else acc)) k)
       by true same more =
           (λ j. fold (after_write t.rtl t.st t.old t.new row k) (one_write t m c w acc row k h.0 g.0 there lt j) (masked (next j) cells)) ∙ more
       by false same more = ap (λ (mask : List Bool). by_cells (bit_of acc k) (masked mask cells)) next ∙ same
@@ -117,7 +117,7 @@ module _ (t : Moment) (m : Memory) (c : RtlCell) (r : MemRead) (rows : List ℤ)
       let here : nat_lt a (length rows) ≡ true = lt-ltb a (length rows) (subst (λ n. a < n) (sym long) inside) in
       ap (λ j. bit_of (shown_at j) k) (guarded_is m.depth a inside) ∙ ap (λ (b : Bool). bit_of (if b then shown_at a else pos 0) k) (sym here)
 
-  kept_or_taken : (rises enabled_now x before : Bool) → (if rises then enabled (Some enabled_now) (Some x) (Some before) else Some before) ≡ Some (if rises && enabled_now then x else before)
+  kept_or_taken : (active enabled_now x before : Bool) → (if active then enabled (Some enabled_now) (Some x) (Some before) else Some before) ≡ Some (if active && enabled_now then x else before)
   kept_or_taken true true x before = refl
   kept_or_taken true false x before = refl
   kept_or_taken false e x before = refl
@@ -125,7 +125,7 @@ module _ (t : Moment) (m : Memory) (c : RtlCell) (r : MemRead) (rows : List ℤ)
   next_is : (before : Bool) → next_bit t.rtl t.st t.old t.new c k (Some before) MemoryRead ≡ Some (if reads_now t.design t.env t.listed r then bit_of (shown_at (guarded m.depth (address_at t r.addr))) k else before)
   next_is before =
       (λ i. if carries.acts i then enabled (carries.enable i) (taken_is i) (Some before) else Some before)
-      ∙ kept_or_taken (port_rises t.design t.env t.listed r.domain) (option_test (λ (e : ExprId). not (is_zero (num t.design.pool t.env e.0))) r.enable) (bit_of (shown_at (guarded m.depth (address_at t r.addr))) k) before
+      ∙ kept_or_taken (port_active t.design t.env t.listed r.domain) (option_test (λ (e : ExprId). not (is_zero (num t.design.pool t.env e.0))) r.enable) (bit_of (shown_at (guarded m.depth (address_at t r.addr))) k) before
 
 pub clocked_reads_follow : ClockedReadsFollow
 clocked_reads_follow t m c r rows k before stands carries long some has mask lt =

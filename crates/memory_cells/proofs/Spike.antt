@@ -47,7 +47,7 @@ design = record {
   };
   processes = [];
   memories = memory ∷ [];
-  domains = record { name = codes "sync"; clk = record { 0 = 0 }; rst = None } ∷ [];
+  domains = record { name = codes "sync"; clk = record { 0 = 0 }; rst = None; falling = false; async_reset = false } ∷ [];
   ports = input 0 ∷ input 1 ∷ input 2 ∷ input 3 ∷ input 4 ∷ output 5 ∷ [];
   columns = [];
 }

@@ -16,7 +16,7 @@ use Rattle.design_ir.specs.Values.{num}
 use Rattle.design_ir.specs.Circuits.{at}
 use Rattle.design_ir.specs.Rows.{granules, enabled_bits, written}
 use Rattle.design_ir.specs.Designs.{IsGranularity}
-use Rattle.design_ir.specs.Steps.{port_rises, write_row}
+use Rattle.design_ir.specs.Steps.{port_active, write_row}
 use Rattle.rtlil_text.specs.declared.cell.RtlCell.{RtlCell}
 use Rattle.rtlil_text.specs.Memories.{writes_of}
 use Rattle.rtlil_text.specs.Meaning.{memory_size}
@@ -58,8 +58,8 @@ module _ (pool : Pooled) (env : List ℤ) (m : Memory) (w : MemWrite) (h : IsGra
 -- ---- one write cell
 
 -- what an enable, a word and a guarded address make of a bit
-chosen : (rises : Bool) (depth a row : ℕ) (s word old new : Bool) (en stored : Option Bool) → row < depth → en ≡ Some (nat_lt a depth && s) → stored ≡ Some word → new ≡ (if s then word else old)
-    → (if rises then option_and_then (λ (at : ℕ). if at == row then enabled en stored (Some old) else Some old) (Some (guarded depth a)) else Some old) ≡ Some (if rises && (a == row) then new else old)
+chosen : (active : Bool) (depth a row : ℕ) (s word old new : Bool) (en stored : Option Bool) → row < depth → en ≡ Some (nat_lt a depth && s) → stored ≡ Some word → new ≡ (if s then word else old)
+    → (if active then option_and_then (λ (at : ℕ). if at == row then enabled en stored (Some old) else Some old) (Some (guarded depth a)) else Some old) ≡ Some (if active && (a == row) then new else old)
 chosen false depth a row s word old new en stored h e f g = refl
 chosen true depth a row s word old new en stored h e f g = by (nat_lt a depth) refl e
   where
@@ -85,7 +85,7 @@ chosen true depth a row s word old new en stored h e f g = by (nat_lt a depth) r
 module _ (t : Moment) (m : Memory) where
   -- the row after the port, where it writes there
   abbrev pub after : MemWrite → ℕ → ℤ → ℤ
-  after w row acc = if port_rises t.design t.env t.listed (Some w.domain) && (address_at t w.addr == row) then written t.design.pool t.env m acc w else acc
+  after w row acc = if port_active t.design t.env t.listed (Some w.domain) && (address_at t w.addr == row) then written t.design.pool t.env m acc w else acc
 
   lifted : (b : Bool) (x acc : ℤ) (k : ℕ) → Some (if b then bit_of x k else bit_of acc k) ≡ Some (bit_of (if b then x else acc) k)
   lifted true x acc k = refl
@@ -94,20 +94,20 @@ module _ (t : Moment) (m : Memory) where
   pub one_write : (c : RtlCell) (w : MemWrite) (acc : ℤ) (row k : ℕ) → CarriesWrite t m c w → IsGranularity m w.granularity → row < m.depth → k < m.shape.width
       → after_write t.rtl t.st t.old t.new row k (Some (bit_of acc k)) c ≡ Some (bit_of (after w row acc) k)
   one_write c w acc row k h g there lt =
-      let rises : Bool = port_rises t.design t.env t.listed (Some w.domain) in
+      let active : Bool = port_active t.design t.env t.listed (Some w.domain) in
       let a : ℕ = address_at t w.addr in
       let en = end_bit t.rtl t.st t.old c (codes "\\EN") k in
       let stored = end_bit t.rtl t.st t.old c (codes "\\DATA") k in
       let old : Bool = bit_of acc k in
       (λ i. if h.acts i then option_and_then (λ (at : ℕ). if at == row then enabled en stored (Some old) else Some old) (h.address i) else Some old)
-      ∙ chosen rises m.depth a row (is_set (enabled_bits t.design.pool t.env m w) k) (bit_of (num t.design.pool t.env w.word.0) k) old (bit_of (written t.design.pool t.env m acc w) k) en stored there (h.enable k lt) (h.word k lt)
+      ∙ chosen active m.depth a row (is_set (enabled_bits t.design.pool t.env m w) k) (bit_of (num t.design.pool t.env w.word.0) k) old (bit_of (written t.design.pool t.env m acc w) k) en stored there (h.enable k lt) (h.word k lt)
       (written_bit t.design.pool t.env m w g acc k lt)
-      ∙ lifted (rises && (a == row)) (written t.design.pool t.env m acc w) acc k
+      ∙ lifted (active && (a == row)) (written t.design.pool t.env m acc w) acc k
 
   -- ---- all of them
 
   at-write_row : (w : MemWrite) (rows : List ℤ) (row : ℕ) → row < length rows → at (write_row t.design t.env t.listed m rows w) row ≡ after w row (at rows row)
-  at-write_row w rows row there = by (port_rises t.design t.env t.listed (Some w.domain))
+  at-write_row w rows row there = by (port_active t.design t.env t.listed (Some w.domain))
     where
       a : ℕ
       a = address_at t w.addr
@@ -126,7 +126,7 @@ module _ (t : Moment) (m : Memory) where
       by false = refl
 
   length-write_row : (w : MemWrite) (rows : List ℤ) → length (write_row t.design t.env t.listed m rows w) ≡ length rows
-  length-write_row w rows = by (port_rises t.design t.env t.listed (Some w.domain))
+  length-write_row w rows = by (port_active t.design t.env t.listed (Some w.domain))
     where
       by : (b : Bool) → length (if b then slice_set rows (address_at t w.addr) (written t.design.pool t.env m (at rows (address_at t w.addr)) w) else rows) ≡ length rows
       by true = length-set rows (address_at t w.addr) (written t.design.pool t.env m (at rows (address_at t w.addr)) w)

@@ -13,7 +13,7 @@ use Rattle.shape_rules.specs.Operators.{is_zero}
 use Rattle.rtlil_text.specs.declared.sig.SigPart.{SigPart}
 use Rattle.design_ir.specs.Rows.{enabled, enabled_bits}
 use Rattle.design_ir.specs.Designs.{IsGranularity}
-use Rattle.design_ir.specs.Steps.{port_rises, write_row, read_word, reads_now}
+use Rattle.design_ir.specs.Steps.{port_active, write_row, read_word, reads_now}
 use Rattle.std.specs.Prelude.{fold}
 use Rattle.rtlil_text.specs.declared.cell.RtlCell.{RtlCell}
 use Rattle.rtlil_text.specs.declared.module.RtlModule.{RtlModule}
@@ -104,7 +104,7 @@ SpreadsCarry = (wires : Wires) (id : List ℕ) (granule count enable k : ℕ) �
 -- a write cell carries what its port does, where the bits at its ends are the guarded address, the word, and the enable under the guard
 abbrev pub WriteCellsCarry : Type 0
 WriteCellsCarry = (t : Moment) (m : Memory) (w : MemWrite) (p : Plan) (id : List ℕ) (k : ℕ) (clock enable address word : List SigPart)
-    → acts t.rtl t.st t.old t.new (write_cell p id k clock enable address word) ≡ port_rises t.design t.env t.listed (Some w.domain)
+    → acts t.rtl t.st t.old t.new (write_cell p id k clock enable address word) ≡ port_active t.design t.env t.listed (Some w.domain)
     → guarded m.depth (address_at t w.addr) < 2 ^ p.address
     → read (source_value (wire_bit t.rtl t.st t.old)) (spec_bits address) ≡ Some (number_bits p.address (guarded m.depth (address_at t w.addr)))
     → ((i : ℕ) → i < m.shape.width → bit_at (source_value (wire_bit t.rtl t.st t.old)) (spec_bits enable) i ≡ Some (nat_lt (address_at t w.addr) m.depth && is_set (enabled_bits t.design.pool t.env m w) i))
@@ -114,7 +114,7 @@ WriteCellsCarry = (t : Moment) (m : Memory) (w : MemWrite) (p : Plan) (id : List
 -- a clocked read cell, likewise
 abbrev pub ReadCellsCarry : Type 0
 ReadCellsCarry = (t : Moment) (m : Memory) (r : MemRead) (p : Plan) (id : List ℕ) (through : List ℕ) (clock enable address word : List SigPart)
-    → acts t.rtl t.st t.old t.new (clocked_read p id through clock enable address word) ≡ port_rises t.design t.env t.listed r.domain
+    → acts t.rtl t.st t.old t.new (clocked_read p id through clock enable address word) ≡ port_active t.design t.env t.listed r.domain
     → guarded m.depth (address_at t r.addr) < 2 ^ p.address
     → read (source_value (wire_bit t.rtl t.st t.old)) (spec_bits address) ≡ Some (number_bits p.address (guarded m.depth (address_at t r.addr)))
     → bit_at (source_value (wire_bit t.rtl t.st t.old)) (spec_bits enable) 0 ≡ Some (option_test (λ (e : ExprId). not (is_zero (num t.design.pool t.env e.0))) r.enable)

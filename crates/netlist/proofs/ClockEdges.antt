@@ -1,4 +1,4 @@
--- A register's cell has its edge where its domain rises.
+-- A register's cell has its edge where its domain is active.
 use Rattle.std.specs.Prelude.{◌≡◌, ◌≢◌, refl, ℕ, zero, suc, ◌<◌, ◌==◌, ◌&&◌, ◌||◌, nat_eq, Bool, true, false, not, cond, List, [], ◌∷◌, map, length, slice_get, ℤ, pos, negsuc, ◌-ℤ◌, Option, Some, None, fold, option_map, unwrap_or}
 use Rattle.std.specs.List.{AllByRecursion, IsDistinct, list_any}
 use Rattle.std.proofs.Common.{sym, ◌∙◌, ap, arith, subst, ⊎_elim}
@@ -16,7 +16,9 @@ use Rattle.design_ir.specs.Values.{signal_form}
 use Rattle.design_ir.specs.Circuits.{Circuit, State, at, option_test}
 use Rattle.design_ir.specs.Designs.{IsClockDomain, IsDesign}
 use Rattle.design_ir.specs.Legal.{Ascending}
-use Rattle.design_ir.specs.Steps.{rises, clocked, clocked_reads, toggle_at, toggle, step}
+use Rattle.design_ir.specs.Steps.{is_active, clocked, clocked_reads, toggle_at, toggle, moved}
+use Rattle.design_ir.specs.Rising.{AllRisingSync}
+use Rattle.design_ir.proofs.RisingLaws.{active_is_rising}
 use Rattle.rtlil_text.specs.Sources.{spec_bits}
 use Rattle.rtlil_text.specs.Cells.{bit_at}
 use Rattle.rtlil_text.specs.Meaning.{source_value}
@@ -109,7 +111,7 @@ module _ (c : Circuit) (design : IsDesign c) (flat : c.memories ≡ []) (env : L
   clock = all_at (IsClockDomain c) c.domains d.0 x design.domains is
 
   -- the clock toggles where its domain is listed
-  pub clock_after : at (step c st env (Edge listed)).held x.clk.0 ≡ cond (list_any (λ (e : DomainId). e.0 == d.0) listed) (pos 1 -ℤ at st.held x.clk.0) (at st.held x.clk.0)
+  pub clock_after : at (moved c st env (Edge listed)).held x.clk.0 ≡ cond (list_any (λ (e : DomainId). e.0 == d.0) listed) (pos 1 -ℤ at st.held x.clk.0) (at st.held x.clk.0)
   clock_after =
       let after : List ℤ = fold (clocked c env listed) st.held c.processes in
       let still : at after x.clk.0 ≡ at st.held x.clk.0 = fold_none (driven_by c) x.clk.0 (clocked c env listed) (λ cur q. length-clocked_at c env listed x.clk.0 q cur q.domain) (λ cur q h. clocked_at-other c env listed x.clk.0 q cur q.domain h)
@@ -119,21 +121,22 @@ module _ (c : Circuit) (design : IsDesign c) (flat : c.memories ≡ []) (env : L
       ∙ toggles_at c.domains design.clocks d.0 x is listed 0 after (omega (arith, long, count, clock.clock.there)) ordered
       ∙ ap (λ z. cond (list_any (λ (e : DomainId). e.0 == d.0) listed) (pos 1 -ℤ z) z) still
 
-  -- so the clock's bit goes from 0 to 1 where the domain rises
-  pub rises_edge : (old new : Wires) → at st.held x.clk.0 ≡ at env x.clk.0 → IsIn (signal_form c.pool.signals x.clk.0) (at env x.clk.0)
-      → Carries old (signal_value c x.clk.0) (at env x.clk.0) → Carries new (signal_value c x.clk.0) (at (step c st env (Edge listed)).held x.clk.0)
-      → is_edge 1 (bit_at (source_value old) (spec_bits (clock_of c d)) 0) (bit_at (source_value new) (spec_bits (clock_of c d)) 0) ≡ rises c env listed d.0
-  rises_edge old new same fits o n =
+  -- so the clock's bit goes from 0 to 1 where the domain is active, as each domain is active where it rises
+  pub rises_edge : AllRisingSync c → (old new : Wires) → at st.held x.clk.0 ≡ at env x.clk.0 → IsIn (signal_form c.pool.signals x.clk.0) (at env x.clk.0)
+      → Carries old (signal_value c x.clk.0) (at env x.clk.0) → Carries new (signal_value c x.clk.0) (at (moved c st env (Edge listed)).held x.clk.0)
+      → is_edge 1 (bit_at (source_value old) (spec_bits (clock_of c d)) 0) (bit_at (source_value new) (spec_bits (clock_of c d)) 0) ≡ is_active c env listed d.0
+  rises_edge rising old new same fits o n =
       let b : Bool = list_any (λ (e : DomainId). e.0 == d.0) listed in
       let z : ℤ = at env x.clk.0 in
       let shape : signal_form c.pool.signals x.clk.0 ≡ unsigned 1 = clock.clock.shape in
       let one : IsOf false 1 z = subst (λ (g : Form). IsIn g z) shape fits in
-      let after : at (step c st env (Edge listed)).held x.clk.0 ≡ cond b (pos 1 -ℤ z) z = clock_after ∙ ap (λ y. cond b (pos 1 -ℤ y) y) same in
-      let fits_after : IsIn (signal_form c.pool.signals x.clk.0) (at (step c st env (Edge listed)).held x.clk.0) =
-      subst (λ (g : Form). IsIn g (at (step c st env (Edge listed)).held x.clk.0)) (sym shape) (subst (IsOf false 1) (sym after) (turned b z one)) in
+      let after : at (moved c st env (Edge listed)).held x.clk.0 ≡ cond b (pos 1 -ℤ z) z = clock_after ∙ ap (λ y. cond b (pos 1 -ℤ y) y) same in
+      let fits_after : IsIn (signal_form c.pool.signals x.clk.0) (at (moved c st env (Edge listed)).held x.clk.0) =
+      subst (λ (g : Form). IsIn g (at (moved c st env (Edge listed)).held x.clk.0)) (sym shape) (subst (IsOf false 1) (sym after) (turned b z one)) in
       let spec : clock_of c d ≡ whole (signal_value c x.clk.0) = ap (λ o. unwrap_or (option_map (λ (y : Domain). whole (signal_value c y.clk.0)) o) []) is in
       ap (λ w. is_edge 1 (bit_at (source_value old) (spec_bits w) 0) (bit_at (source_value new) (spec_bits w) 0)) spec
       ∙ ap (λ t. is_edge 1 t (bit_at (source_value new) (spec_bits (whole (signal_value c x.clk.0))) 0)) (bit_at-signal old c x.clk.0 z shape fits o)
-      ∙ ap (is_edge 1 (Some (not (is_zero z)))) (bit_at-signal new c x.clk.0 (at (step c st env (Edge listed)).held x.clk.0) shape fits_after n ∙ ap (λ y. Some (not (is_zero y))) after)
+      ∙ ap (is_edge 1 (Some (not (is_zero z)))) (bit_at-signal new c x.clk.0 (at (moved c st env (Edge listed)).held x.clk.0) shape fits_after n ∙ ap (λ y. Some (not (is_zero y))) after)
       ∙ edge_bit z b one
       ∙ ap (λ o. b && option_test (λ (y : Domain). is_zero (at env y.clk.0)) o) (sym is)
+      ∙ sym (active_is_rising c rising env listed d.0)

@@ -26,7 +26,7 @@ use Rattle.design_ir.specs.Put.{with_bit, put, put_statement, put_number, put_bi
 use Rattle.design_ir.specs.Circuits.{Circuit, State, at}
 use Rattle.design_ir.specs.Designs.{IsClockDomain, IsDesign}
 use Rattle.design_ir.specs.Legal.{IsLegal}
-use Rattle.design_ir.specs.Steps.{rises, is_reset, reset_to, reset_all, clocked_at, clocked, clocked_reads, toggle_at, toggle, step, clock_low, first_state}
+use Rattle.design_ir.specs.Steps.{is_active, is_reset, reset_to, reset_all, clocked_at, clocked, clocked_reads, toggle_at, toggle, moved, clock_low, first_state}
 use Rattle.design_ir.proofs.NumbersFit.{FitsSignals}
 use Rattle.design_ir.proofs.Whole.{with_below}
 use Rattle.netlist.specs.Latest.{places, is_fixed, is_plain}
@@ -131,7 +131,7 @@ module _ (c : Circuit) (rules : IsPool c.pool) (design : IsDesign c) (plain : Ar
     clocked_at_held p (Some d) xs t h =
         let left : List ℤ = put c.pool env p.body xs in
         let put_so : AreHeld c.pool left = put_held c.pool env p.body xs t h in
-        cond_both (rises c env listed d.0) (cond (is_reset c env d.0) (reset_all c.pool.signals left (driven c.pool p.body)) left) xs (AreHeld c.pool)
+        cond_both (is_active c env listed d.0) (cond (is_reset c env d.0) (reset_all c.pool.signals left (driven c.pool p.body)) left) xs (AreHeld c.pool)
         (λ _. cond_both (is_reset c env d.0) (reset_all c.pool.signals left (driven c.pool p.body)) left (AreHeld c.pool) (λ _. reset_held c.pool rules (driven c.pool p.body) left put_so) (λ _. put_so))
         (λ _. h)
 
@@ -140,9 +140,9 @@ module _ (c : Circuit) (rules : IsPool c.pool) (design : IsDesign c) (plain : Ar
     clocked_held (p ∷ ps) xs t h = clocked_held ps (clocked c env listed xs p) t.1 (clocked_at_held p p.domain xs t.0 h)
 
   -- what is held after an event
-  pub step_held : (st : State) (env : List ℤ) (e : Event) → IsLegal c e → AreHeld c.pool st.held → AreHeld c.pool (step c st env e).held
-  step_held st env (Set s n) legal h = set_held c.pool st.held s.0 n legal.2 h
-  step_held st env (Edge listed) legal h =
+  pub moved_held : (st : State) (env : List ℤ) (e : Event) → IsLegal c e → AreHeld c.pool st.held → AreHeld c.pool (moved c st env e).held
+  moved_held st env (Set s n) legal h = set_held c.pool st.held s.0 n legal.2 h
+  moved_held st env (Edge listed) legal h =
       let after : List ℤ = fold (clocked c env listed) st.held c.processes in
       let reads : clocked_reads c env listed c.memories st.rows after ≡ after = ap (λ (ms : List Memory). clocked_reads c env listed ms st.rows after) flat in
       toggles_held listed (clocked_reads c env listed c.memories st.rows after) (subst (AreHeld c.pool) (sym reads) (clocked_held env listed c.processes st.held plain h))

@@ -9,8 +9,9 @@ use Rattle.design_ir.specs.PoolRules.{IsPool}
 use Rattle.design_ir.specs.Targets.{Bit}
 use Rattle.design_ir.specs.Circuits.{Circuit, State}
 use Rattle.design_ir.specs.Designs.{IsDesign}
-use Rattle.design_ir.specs.Steps.{step, first_state}
+use Rattle.design_ir.specs.Steps.{moved, step, first_state}
 use Rattle.design_ir.specs.Histories.{HistoryFrom}
+use Rattle.design_ir.proofs.RisingLaws.{steps_are_moves}
 use Rattle.design_ir.specs.Legal.{IsLegal, AllLegal}
 use Rattle.comb_graph.specs.Orders.{IsOrder}
 use Rattle.comb_graph.specs.Laws.{FitsRows, SettlesOnce}
@@ -31,11 +32,11 @@ use Rattle.netlist.proofs.ModuleRules.{module_rules}
 use Rattle.netlist.proofs.RegisterCells.{clocked_held}
 use Rattle.netlist.proofs.SettledNumbers.{settled_held}
 use Rattle.netlist.proofs.SignalWires.{named_by}
-use Rattle.netlist.proofs.HeldFits.{AreHeld, first_held, step_held}
+use Rattle.netlist.proofs.HeldFits.{AreHeld, first_held, moved_held}
 use Rattle.netlist.proofs.ModuleStates.{AgreeOnInputs, Keeps}
 use Rattle.netlist.proofs.SettledModule.{signals_carry, exprs_carry, shows}
 use Rattle.netlist.proofs.DefinedWires.{column_found, wires_defined}
-use Rattle.netlist.proofs.ModuleSteps.{inputs_agree, first_keeps, step_keeps}
+use Rattle.netlist.proofs.ModuleSteps.{inputs_agree, first_keeps, moved_keeps}
 
 module _ (c : Circuit) (order : List Bit) (rules : IsPool c.pool) (bytes : AllByRecursion HasByteStride c.pool.exprs) (design : IsDesign c) (plain : IsPlain c) (module_so : IsModule (module_of c)) (is_order : IsOrder c order) where
   -- the module is where the design is
@@ -63,16 +64,21 @@ module _ (c : Circuit) (order : List Bit) (rules : IsPool c.pool) (bytes : AllBy
         (exprs_carry c order rules bytes design plain module_so is_order st once.env once.settled once.fits kept ins h.agree h.keeps)
         (λ s p d clock there. sym (settled_held c once.env design st plain.flat once.settled s there (clocked_held c design rules plain.flat plain.plain s p d clock)))
 
-    -- so it is after an event
-    there_after : (e : Event) → IsLegal c e → IsThere (step c st once.env e) (rtl.step (module_of c) (inputs_at c ins) (inputs_at c (inputs_after c ins e)) kept) (inputs_after c ins e)
-    there_after e legal = record {
-      held = step_held c rules design plain.plain plain.flat st once.env e legal h.held;
+    -- so it is after an event, which clears nothing
+    there_moved : (e : Event) → IsLegal c e → IsThere (moved c st once.env e) (rtl.step (module_of c) (inputs_at c ins) (inputs_at c (inputs_after c ins e)) kept) (inputs_after c ins e)
+    there_moved e legal = record {
+      held = moved_held c rules design plain.plain plain.flat st once.env e legal h.held;
       agree = inputs_agree c design plain.flat st once.env ins e legal h.held.long h.agree;
       keeps =
-          step_keeps c rules design plain.flat plain.plain module_so st once.env once.settled once.fits kept ins h.held.long h.agree h.keeps
+          moved_keeps c rules design plain.flat plain.rising plain.plain module_so st once.env once.settled once.fits kept ins h.held.long h.agree h.keeps
           (signals_carry c order rules bytes design plain module_so is_order st once.env once.settled once.fits kept ins h.agree h.keeps)
           (shows c order rules bytes design plain module_so is_order st once.env once.settled once.fits kept ins h.agree h.keeps) e legal;
     }
+
+    there_after : (e : Event) → IsLegal c e → IsThere (step c st once.env e) (rtl.step (module_of c) (inputs_at c ins) (inputs_at c (inputs_after c ins e)) kept) (inputs_after c ins e)
+    there_after e legal =
+        subst (λ (x : State). IsThere x (rtl.step (module_of c) (inputs_at c ins) (inputs_at c (inputs_after c ins e)) kept) (inputs_after c ins e))
+        (sym (steps_are_moves c plain.rising st once.env e)) (there_moved e legal)
 
   there_first : IsThere (first_state c) (rtl.first_state (module_of c)) (first_inputs c)
   there_first = record { held = first_held c rules; agree = record { long = refl; same = λ s e. refl }; keeps = first_keeps c design module_so }

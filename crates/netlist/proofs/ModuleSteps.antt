@@ -20,7 +20,8 @@ use Rattle.design_ir.specs.Values.{signal_form}
 use Rattle.design_ir.specs.Circuits.{Circuit, State, at, is_input, is_held}
 use Rattle.design_ir.specs.Designs.{IsClockDomain, IsDesign}
 use Rattle.design_ir.specs.Legal.{IsLegal}
-use Rattle.design_ir.specs.Steps.{clocked, clocked_reads, toggle_at, toggle, clock_low, step, first_state}
+use Rattle.design_ir.specs.Steps.{clocked, clocked_reads, toggle_at, toggle, clock_low, moved, first_state}
+use Rattle.design_ir.specs.Rising.{AllRisingSync}
 use Rattle.design_ir.specs.Settled.{Settled}
 use Rattle.design_ir.proofs.NumbersFit.{element, FitsSignals}
 use Rattle.design_ir.proofs.Events.{settable_there}
@@ -79,7 +80,7 @@ module _ (c : Circuit) (design : IsDesign c) where
 
   -- inputs are after an event what the design holds of them
   pub inputs_agree : c.memories ≡ [] → (st : State) (env : List ℤ) (ins : List ℤ) (e : Event) → IsLegal c e → length st.held ≡ length c.pool.signals → AgreeOnInputs c ins st.held
-      → AgreeOnInputs c (inputs_after c ins e) (step c st env e).held
+      → AgreeOnInputs c (inputs_after c ins e) (moved c st env e).held
   inputs_agree flat st env ins (Set s n) legal long h =
       let there : s.0 < length c.pool.signals = settable_there c s.0 design (λ i. legal.0 i && not (legal.1 i)) in
       set_agrees ins st.held s.0 n (omega (arith, there, long, h.long)) h
@@ -129,7 +130,7 @@ any_at t [] k x e h = cc
 any_at t (y ∷ xs) zero x e h = let same : y ≡ x = cc in or_left (t y) (list_any t xs) (ap t same ∙ h)
 any_at t (y ∷ xs) (suc k) x e h = or_right (t y) (list_any t xs) (any_at t xs k x e h)
 
-module _ (c : Circuit) (rules : IsPool c.pool) (design : IsDesign c) (flat : c.memories ≡ []) (plain : ArePlain c) (module_rules : IsModule (module_of c))
+module _ (c : Circuit) (rules : IsPool c.pool) (design : IsDesign c) (flat : c.memories ≡ []) (rising : AllRisingSync c) (plain : ArePlain c) (module_rules : IsModule (module_of c))
     (st : State) (env : List ℤ) (settled : Settled c st env) (fit : FitsSignals c.pool env) (kept : Kept) (ins : List ℤ) (count : length st.held ≡ length c.pool.signals) (agree : AgreeOnInputs c ins st.held) (keeps : Keeps c kept st.held)
     (signals : (s : ℕ) → Carries (wire_bit (module_of c) kept (inputs_at c ins)) (signal_value c s) (at env s)) (shows : Shows (wire_bit (module_of c) kept (inputs_at c ins)) c env) where
   -- ---- an input takes a number
@@ -172,7 +173,7 @@ module _ (c : Circuit) (rules : IsPool c.pool) (design : IsDesign c) (flat : c.m
       (cases_lt t (length c.pool.signals))
 
   kept_after : (e : Event) → IsLegal c e → (s : ℕ) (p : DesignProcess) (d : DomainId) → driving c s ≡ ByClock p d → (i : ℕ) → i < (signal_form c.pool.signals s).width
-      → next_bit (module_of c) kept (inputs_at c ins) (inputs_at c (inputs_after c ins e)) (register_at c s p d (step_id (3 * s))) i (kept.registers (wire_id c s) i) Dff ≡ Some (bit_of (at (step c st env e).held s) i)
+      → next_bit (module_of c) kept (inputs_at c ins) (inputs_at c (inputs_after c ins e)) (register_at c s p d (step_id (3 * s))) i (kept.registers (wire_id c s) i) Dff ≡ Some (bit_of (at (moved c st env e).held s) i)
   kept_after (Set t n) legal s p d clock i l = set_keeps s p d clock i l t n legal
   kept_after (Edge ds) legal s p d clock i l =
       let m = module_of c in
@@ -181,10 +182,10 @@ module _ (c : Circuit) (rules : IsPool c.pool) (design : IsDesign c) (flat : c.m
       let there : s < length c.pool.signals = some_signal c.pool.signals s (omega (arith, l)) in
       let after = inputs_agree c design flat st env ins (Edge ds) legal count agree in
       ap (λ before. next_bit m kept old new (register_at c s p d (step_id (3 * s))) i before Dff) (keeps s p d clock i l)
-      ∙ next_bit-register c design rules flat plain s p d clock (omega (arith, l)) env fit st count held_same ds legal.2 m kept old new shows signals (obeys_signal c module_rules kept old s there)
-      (λ t input. input_carries c design module_rules kept (inputs_after c ins (Edge ds)) (step c st env (Edge ds)).held after t input) (step_id (3 * s)) i l
+      ∙ next_bit-register c design rules flat plain s p d clock rising (omega (arith, l)) env fit st count held_same ds legal.2 m kept old new shows signals (obeys_signal c module_rules kept old s there)
+      (λ t input. input_carries c design module_rules kept (inputs_after c ins (Edge ds)) (moved c st env (Edge ds)).held after t input) (step_id (3 * s)) i l
 
   -- the registers keep what the design holds after the event
-  pub step_keeps : (e : Event) → IsLegal c e → Keeps c (rtl.step (module_of c) (inputs_at c ins) (inputs_at c (inputs_after c ins e)) kept) (step c st env e).held
-  step_keeps e legal s p d clock i l =
+  pub moved_keeps : (e : Event) → IsLegal c e → Keeps c (rtl.step (module_of c) (inputs_at c ins) (inputs_at c (inputs_after c ins e)) kept) (moved c st env e).held
+  moved_keeps e legal s p d clock i l =
       next_register_is c design module_rules s p d clock i l kept (inputs_at c ins) (inputs_at c (inputs_after c ins e)) (kept.registers (wire_id c s) i) ∙ kept_after e legal s p d clock i l

@@ -1,4 +1,4 @@
--- A register's cell takes, bit by bit, what the design's step gives the register.
+-- A register's cell takes, bit by bit, what an event of the design gives the register.
 use Rattle.std.specs.Prelude.{◌≡◌, refl, ℕ, ◌<◌, ◌≤◌, Bool, true, false, cond, List, [], length, slice_get, ℤ, Option, Some, is_some}
 use Rattle.std.proofs.Common.{sym, ◌∙◌, ap, subst}
 use Rattle.shape_rules.specs.declared.cell.CellKind.TheVariants.{Dff}
@@ -11,7 +11,8 @@ use Rattle.design_ir.specs.Values.{signal_form}
 use Rattle.design_ir.specs.Circuits.{Circuit, State, at, is_input, is_register, is_held}
 use Rattle.design_ir.specs.Designs.{IsProcess, IsDomain, IsClockDomain, IsDesign}
 use Rattle.design_ir.specs.Legal.{Ascending}
-use Rattle.design_ir.specs.Steps.{rises, step}
+use Rattle.design_ir.specs.Steps.{is_active, moved}
+use Rattle.design_ir.specs.Rising.{AllRisingSync}
 use Rattle.design_ir.proofs.NumbersFit.{element, FitsSignals}
 use Rattle.std.proofs.lemmas.Bool.{or_left, or_right}
 use Rattle.rtlil_text.specs.declared.cell.RtlCell.{RtlCell}
@@ -49,25 +50,25 @@ module _ (c : Circuit) (design : IsDesign c) (rules : IsPool c.pool) (flat : c.m
       let there : IsDomain c p.domain = (only_holds (IsProcess c) (driven_by c) s c.processes p its_only design.processes).domain in
       element c.domains d.0 (subst (IsDomain c) (is_clocked c p d s clock).domain there)
 
-  module _ (some : 1 ≤ (signal_form c.pool.signals s).width) (env : List ℤ) (fit : FitsSignals c.pool env) (st : State) (count : length st.held ≡ length c.pool.signals) (same : (t : ℕ) → is_held c t ≡ true → at st.held t ≡ at env t)
+  module _ (rising : AllRisingSync c) (some : 1 ≤ (signal_form c.pool.signals s).width) (env : List ℤ) (fit : FitsSignals c.pool env) (st : State) (count : length st.held ≡ length c.pool.signals) (same : (t : ℕ) → is_held c t ≡ true → at st.held t ≡ at env t)
       (listed : List DomainId) (ordered : Ascending 0 listed) (m : RtlModule) (kept : Kept) (old new : Inputs)
       (shows : Shows (wire_bit m kept old) c env) (carried : (t : ℕ) → Carries (wire_bit m kept old) (signal_value c t) (at env t)) (obeys : ObeysComb (wire_bit m kept old) (signal_drawing c s))
-      (events : (t : ℕ) → is_input c t ≡ true → Carries (wire_bit m kept new) (signal_value c t) (at (step c st env (Edge listed)).held t)) where
+      (events : (t : ℕ) → is_input c t ≡ true → Carries (wire_bit m kept new) (signal_value c t) (at (moved c st env (Edge listed)).held t)) where
     edge_is : (id : List ℕ) (k : ℕ) (before : Option Bool) → next_bit m kept old new (register_at c s p d id) k before Dff
-        ≡ cond (rises c env listed d.0) (bit_at (source_value (wire_bit m kept old)) (spec_bits (next_spec c s p (reset_of c s d))) k) before
+        ≡ cond (is_active c env listed d.0) (bit_at (source_value (wire_bit m kept old)) (spec_bits (next_spec c s p (reset_of c s d))) k) before
     edge_is id k before =
         let x : Domain = its_domain.0 in
         let rule : IsClockDomain c x = all_at (IsClockDomain c) c.domains d.0 x design.domains its_domain.1 in
         let held : is_held c x.clk.0 ≡ true = or_left (is_input c x.clk.0) (is_register c x.clk.0) rule.clock_input in
         ap (λ t. cond t (bit_at (source_value (wire_bit m kept old)) (spec_bits (next_spec c s p (reset_of c s d))) k) before)
-        (rises_edge c design flat env st listed ordered count d x its_domain.1 (wire_bit m kept old) (wire_bit m kept new) (same x.clk.0 held) (fit x.clk.0 rule.clock.there) (carried x.clk.0) (events x.clk.0 rule.clock_input))
+        (rises_edge c design flat env st listed ordered count d x its_domain.1 rising (wire_bit m kept old) (wire_bit m kept new) (same x.clk.0 held) (fit x.clk.0 rule.clock.there) (carried x.clk.0) (events x.clk.0 rule.clock_input))
 
-    by_rise : (b : Bool) (k : ℕ) → k < (signal_form c.pool.signals s).width → rises c env listed d.0 ≡ b
-        → cond b (bit_at (source_value (wire_bit m kept old)) (spec_bits (next_spec c s p (reset_of c s d))) k) (Some (bit_of (at st.held s) k)) ≡ Some (bit_of (at (step c st env (Edge listed)).held s) k)
-    by_rise true k l e =
+    by_edge : (b : Bool) (k : ℕ) → k < (signal_form c.pool.signals s).width → is_active c env listed d.0 ≡ b
+        → cond b (bit_at (source_value (wire_bit m kept old)) (spec_bits (next_spec c s p (reset_of c s d))) k) (Some (bit_of (at st.held s) k)) ≡ Some (bit_of (at (moved c st env (Edge listed)).held s) k)
+    by_edge true k l e =
         (reads_register c design flat s p d clock env listed st (wire_bit m kept old) rules plain fit shows count (same s clocked_held) carried e some obeys).at k l
-    by_rise false k l e = ap (λ z. Some (bit_of z k)) (sym (held_register c design flat s p d clock env listed st e))
+    by_edge false k l e = ap (λ z. Some (bit_of z k)) (sym (held_register c design flat s p d clock env listed st e))
 
     pub next_bit-register : (id : List ℕ) (k : ℕ) → k < (signal_form c.pool.signals s).width
-        → next_bit m kept old new (register_at c s p d id) k (Some (bit_of (at st.held s) k)) Dff ≡ Some (bit_of (at (step c st env (Edge listed)).held s) k)
-    next_bit-register id k l = edge_is id k (Some (bit_of (at st.held s) k)) ∙ by_rise (rises c env listed d.0) k l refl
+        → next_bit m kept old new (register_at c s p d id) k (Some (bit_of (at st.held s) k)) Dff ≡ Some (bit_of (at (moved c st env (Edge listed)).held s) k)
+    next_bit-register id k l = edge_is id k (Some (bit_of (at st.held s) k)) ∙ by_edge (is_active c env listed d.0) k l refl

@@ -19,7 +19,7 @@ use Rattle.design_ir.specs.Values.{signal_form}
 use Rattle.design_ir.specs.Put.{put}
 use Rattle.design_ir.specs.Circuits.{Circuit, State, at, is_among, is_input}
 use Rattle.design_ir.specs.Designs.{IsClockDomain, IsDesign, IsReset, IsSignalOf}
-use Rattle.design_ir.specs.Steps.{rises, is_reset, reset_all, clocked_at, clocked, clocked_reads, toggle_at, toggle, step}
+use Rattle.design_ir.specs.Steps.{is_active, is_reset, reset_all, clocked_at, clocked, clocked_reads, toggle_at, toggle, moved}
 use Rattle.design_ir.proofs.NumbersFit.{element, FitsSignals}
 use Rattle.design_ir.proofs.PutLaws.{put_length, put_other}
 use Rattle.rtlil_text.specs.declared.sig.SigPart.{SigPart}
@@ -90,7 +90,7 @@ module _ (c : Circuit) (env : List ℤ) (listed : List DomainId) (s : ℕ) where
   clocked_at-other p cur (Some d) h =
       let left : List ℤ = put c.pool env p.body cur in
       let put_same : at left s ≡ at cur s = put_other c.pool env p.body cur s h in
-      cond_both (rises c env listed d.0) (cond (is_reset c env d.0) (reset_all c.pool.signals left (driven c.pool p.body)) left) cur (λ xs. at xs s ≡ at cur s)
+      cond_both (is_active c env listed d.0) (cond (is_reset c env d.0) (reset_all c.pool.signals left (driven c.pool p.body)) left) cur (λ xs. at xs s ≡ at cur s)
       (λ e. cond_both (is_reset c env d.0) (reset_all c.pool.signals left (driven c.pool p.body)) left (λ xs. at xs s ≡ at cur s) (λ f. reset_all-other c.pool.signals s (driven c.pool p.body) left h ∙ put_same) (λ f. put_same))
       (λ e. refl)
 
@@ -99,7 +99,7 @@ module _ (c : Circuit) (env : List ℤ) (listed : List DomainId) (s : ℕ) where
   length-clocked_at p cur (Some d) =
       let left : List ℤ = put c.pool env p.body cur in
       let put_same : length left ≡ length cur = put_length c.pool env p.body cur in
-      cond_both (rises c env listed d.0) (cond (is_reset c env d.0) (reset_all c.pool.signals left (driven c.pool p.body)) left) cur (λ xs. length xs ≡ length cur)
+      cond_both (is_active c env listed d.0) (cond (is_reset c env d.0) (reset_all c.pool.signals left (driven c.pool p.body)) left) cur (λ xs. length xs ≡ length cur)
       (λ e. cond_both (is_reset c env d.0) (reset_all c.pool.signals left (driven c.pool p.body)) left (λ xs. length xs ≡ length cur) (λ f. length-reset_all c.pool.signals s (driven c.pool p.body) left ∙ put_same) (λ f. put_same))
       (λ e. refl)
 
@@ -165,7 +165,7 @@ module _ (c : Circuit) (design : IsDesign c) (flat : c.memories ≡ []) (s : ℕ
     folded = fold_only (driven_by c) s (clocked c env listed) (λ cur q. length-clocked_at c env listed s q cur q.domain) (λ cur q h. clocked_at-other c env listed s q cur q.domain h) c.processes p st.held only
 
     -- its number is left by its process alone
-    by_process : at (step c st env (Edge listed)).held s ≡ at (clocked_at c env listed p folded.then (Some d)) s
+    by_process : at (moved c st env (Edge listed)).held s ≡ at (clocked_at c env listed p folded.then (Some d)) s
     by_process =
         toggles-other c env listed s listed (clocked_reads c env listed c.memories st.rows (fold (clocked c env listed) st.held c.processes)) (no_clock c s design.domains (is_clocked c p d s clock).no_input)
         ∙ ap (λ (ms : List Memory). at (clocked_reads c env listed ms st.rows (fold (clocked c env listed) st.held c.processes)) s) flat
@@ -173,20 +173,20 @@ module _ (c : Circuit) (design : IsDesign c) (flat : c.memories ≡ []) (s : ℕ
         ∙ ap (λ o. at (clocked_at c env listed p folded.then o) s) (is_clocked c p d s clock).domain
 
     -- where its domain does not rise, it keeps its number
-    pub held_register : rises c env listed d.0 ≡ false → at (step c st env (Edge listed)).held s ≡ at st.held s
+    pub held_register : is_active c env listed d.0 ≡ false → at (moved c st env (Edge listed)).held s ≡ at st.held s
     held_register e =
         by_process
         ∙ ap (λ t. at (cond t (cond (is_reset c env d.0) (reset_all c.pool.signals (put c.pool env p.body folded.then) (driven c.pool p.body)) (put c.pool env p.body folded.then)) folded.then) s) e
         ∙ folded.same
 
-    risen : rises c env listed d.0 ≡ true
-        → at (step c st env (Edge listed)).held s ≡ at (cond (is_reset c env d.0) (reset_all c.pool.signals (put c.pool env p.body folded.then) (driven c.pool p.body)) (put c.pool env p.body folded.then)) s
+    risen : is_active c env listed d.0 ≡ true
+        → at (moved c st env (Edge listed)).held s ≡ at (cond (is_reset c env d.0) (reset_all c.pool.signals (put c.pool env p.body folded.then) (driven c.pool p.body)) (put c.pool env p.body folded.then)) s
     risen e =
         by_process
         ∙ ap (λ t. at (cond t (cond (is_reset c env d.0) (reset_all c.pool.signals (put c.pool env p.body folded.then) (driven c.pool p.body)) (put c.pool env p.body folded.then)) folded.then) s) e
 
     module _ (wires : Wires) (rules : IsPool c.pool) (plain : ArePlain c) (fit : FitsSignals c.pool env) (shows : Shows wires c env)
-        (count : length st.held ≡ length c.pool.signals) (same : at st.held s ≡ at env s) (carried : (t : ℕ) → Carries wires (signal_value c t) (at env t)) (up : rises c env listed d.0 ≡ true) where
+        (count : length st.held ≡ length c.pool.signals) (same : at st.held s ≡ at env s) (carried : (t : ℕ) → Carries wires (signal_value c t) (at env t)) (up : is_active c env listed d.0 ≡ true) where
       left : ℤ
       left = at (put c.pool env p.body folded.then) s
 
@@ -202,7 +202,7 @@ module _ (c : Circuit) (design : IsDesign c) (flat : c.memories ≡ []) (s : ℕ
         there = omega (arith, put_length c.pool env p.body folded.then, folded.long, count, some_signal c.pool.signals s some)
 
         -- with no reset that it heeds, it takes what the statements leave
-        unreset : reset_of c s d ≡ None → at (step c st env (Edge listed)).held s ≡ left
+        unreset : reset_of c s d ≡ None → at (moved c st env (Edge listed)).held s ≡ left
         unfolding left
         unreset e =
             let after : List ℤ = put c.pool env p.body folded.then in
@@ -214,7 +214,7 @@ module _ (c : Circuit) (design : IsDesign c) (flat : c.memories ≡ []) (s : ℕ
             (λ off. refl)
 
         -- with one, it takes its init where that is not 0
-        reset_is : (r : ℕ) → reset_of c s d ≡ Some r → at (step c st env (Edge listed)).held s ≡ cond (not (is_zero (at env r))) sig.0.init left
+        reset_is : (r : ℕ) → reset_of c s d ≡ Some r → at (moved c st env (Edge listed)).held s ≡ cond (not (is_zero (at env r))) sig.0.init left
         unfolding left
         reset_is r e =
             let after : List ℤ = put c.pool env p.body folded.then in
@@ -225,15 +225,15 @@ module _ (c : Circuit) (design : IsDesign c) (flat : c.memories ≡ []) (s : ℕ
             (λ on. reset_all-full c.pool.signals s sig.0 sig.1 h.0 (driven c.pool p.body) after there only.here ∙ sym (cond-true (not (is_zero (at env r))) sig.0.init (at after s) on))
             (λ off. sym (cond-false (not (is_zero (at env r))) sig.0.init (at after s) off))
 
-        by_reset : (o : Option ℕ) → reset_of c s d ≡ o → ObeysComb wires (register_drawing c s p d o) → Reads wires (next_spec c s p o) (signal_form c.pool.signals s).width (at (step c st env (Edge listed)).held s)
+        by_reset : (o : Option ℕ) → reset_of c s d ≡ o → ObeysComb wires (register_drawing c s p d o) → Reads wires (next_spec c s p o) (signal_form c.pool.signals s).width (at (moved c st env (Edge listed)).held s)
         by_reset None e obeys = subst (Reads wires (bits_at_last c true p s) (signal_form c.pool.signals s).width) (sym (unreset e)) reads_left
         by_reset (Some r) e obeys =
             let n : ℕ = (signal_form c.pool.signals s).width in
             let out : List ℕ = step_id (3 * s + 1) in
             let chosen : HasBits wires out n (cond (not (is_zero (at env r))) sig.0.init left) = choice_bits env wires rules plain fit shows carried sig.0 sig.1 r left e reads_left obeys in
-            reads_low wires out n n (at (step c st env (Edge listed)).held s) (omega arith)
-            (has_equal wires out n (cond (not (is_zero (at env r))) sig.0.init left) (at (step c st env (Edge listed)).held s) (sym (reset_is r e)) chosen)
+            reads_low wires out n n (at (moved c st env (Edge listed)).held s) (omega arith)
+            (has_equal wires out n (cond (not (is_zero (at env r))) sig.0.init left) (at (moved c st env (Edge listed)).held s) (sym (reset_is r e)) chosen)
 
         -- the bits at D are those of its number after the edge
-        pub reads_register : ObeysComb wires (signal_drawing c s) → Reads wires (next_spec c s p (reset_of c s d)) (signal_form c.pool.signals s).width (at (step c st env (Edge listed)).held s)
+        pub reads_register : ObeysComb wires (signal_drawing c s) → Reads wires (next_spec c s p (reset_of c s d)) (signal_form c.pool.signals s).width (at (moved c st env (Edge listed)).held s)
         reads_register obeys = by_reset (reset_of c s d) refl (subst (ObeysComb wires) (signal_drawing-some c s (ByClock p d) some clock) obeys)

@@ -1,8 +1,9 @@
--- Designs that can be lowered so far: no memories, no choices, and fixed targets alone.
+-- Designs that can be lowered so far: no memories, domains that rise and reset at edges alone, no choices, and fixed targets alone.
 use Rattle.std.specs.Prelude.{◌≡◌, true, []}
 use Rattle.std.specs.List.{AllByRecursion}
 use Rattle.design_ir.specs.declared.process.DesignProcess.{DesignProcess}
 use Rattle.design_ir.specs.Circuits.{Circuit}
+use Rattle.design_ir.specs.Rising.{AllRisingSync}
 use Rattle.netlist.specs.Latest.{is_plain}
 
 -- no process has a choice, or a target that is not fixed
@@ -11,4 +12,5 @@ ArePlain c = AllByRecursion (λ (p : DesignProcess). is_plain c.pool p.body ≡ 
 
 pub record IsPlain (c : Circuit) : Type 0 where
   pub flat : c.memories ≡ []
+  pub rising : AllRisingSync c
   pub plain : ArePlain c

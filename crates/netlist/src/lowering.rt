@@ -5,6 +5,7 @@ ghost use Rattle.comb_graph.specs.Orders.{IsOrder};
 ghost use Rattle.comb_graph.specs.Rankings.{bit_of, IsRanking};
 ghost use Rattle.design_ir.specs.PoolRules.{IsPool};
 ghost use Rattle.design_ir.specs.Designs.{IsDesign};
+ghost use Rattle.design_ir.specs.Rising.{AllRisingSync};
 ghost use Rattle.rtlil_text.specs.Rules.{IsModule};
 ghost use Rattle.netlist.specs.Expressions.{part_total};
 ghost use Rattle.netlist.specs.Module.{column_wires, signal_wires, expr_wires, module_of};
@@ -28,12 +29,13 @@ use flat_design::{flat_has_the_history, flat_keeps_orders, flatten};
 use rtlil_text::{RtlModule, RtlWire};
 use std::alloc::Global;
 
-/// The module of a design that has no memories. It keeps the rules of RTLIL text, has the design's columns, and has the
+/// The module of a design that has no memories, and whose domains rise and reset at edges alone. It keeps the rules of RTLIL text, has the design's columns, and has the
 /// design's history over all legal events, with a value on every bit of every wire. Wires have first values where registers
 /// drive them, and nowhere else. Choices become multiplexers, and so do
 /// targets with computed offsets and indices. Cells whose bits need each other in turn are cut into cells of one bit.
 pub fn lower(alloc: Global, design: &Design, ranks: &Ranks) -> Result<RtlModule, NoMemory>
     requires flat { design.now.memories ≡ [] }
+    requires rising { AllRisingSync design.now }
     requires ranked { IsRanking design.now ranks.now }
     ensures rules { IfOk result IsModule }
     ensures corresponds { IfOk result (Corresponds design.now) }

@@ -8,4 +8,4 @@ run-requires-clause-running g c = begun (program_of c.args.program.now) c.args.l
 
 pub returns-in-Ok-run-clause-comes : goal.returns-in-Ok-run-clause-comes
 returns-in-Ok-run-clause-comes g c =
-    elaborated (program_of c.args.program.now) c.args.left.now.left c.run.new.left.left c.run.new.machine (held_of c.run.new.elaboration) c.finish.result c.in-Ok-run.ensures.comes c.finish.ensures
+    elaborated (program_of c.args.program.now) c.args.left.now.left c.run.new.left.left c.run.new.machine (held_of c.run.new.elaboration) c.finish.result c.in-Ok-run.ensures.comes c.finish.ensures.found
