@@ -57,7 +57,7 @@ module _ (p : Pooled) where
         ∙ ap (λ xs. xs ++ flat_map of_guarded (guarded gs rest)) (statement_driven gs s)
         ∙ ap (λ xs. statement_listed (target_signals p) s ++ xs) (body_driven gs rest)
 
-  driven_is : (b : Block) → driven p b ≡ listed (target_signals p) b
+  pub driven_is : (b : Block) → driven p b ≡ listed (target_signals p) b
   driven_is b = body_driven [] b
 
 module _ (n : ℕ) (f : ℕ → List SigId) (g : ℕ → List ℕ) (like : (k : ℕ) → k < n → IsLike (numbers_of (f k)) (g k)) where

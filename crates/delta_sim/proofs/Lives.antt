@@ -76,11 +76,6 @@ module _ (c : Circuit) (flat : c.memories ≡ []) where
         reaches = subst (λ st. Reaches c [] st s.env) state (start s.env (subst (λ st. Settled c st s.env) (sym state) settled));
       }
 
--- the same simulator with other numbers
-pub sim_of_next : (c : Circuit) (old new : Simulated) (held env : List ℤ) → new ≡ record old { held = held; env = env } → IsSimOf c old → AreNumbersOf c held → AreNumbersOf c env → IsSimOf c new
-sim_of_next c old new held env is of held_of env_of =
-    subst (IsSimOf c) (sym is) (record { held = held_of; env = env_of; sweeps = of.sweeps; given = of.given; targets = of.targets })
-
 pub inits_turn : (sigs : List Sig) (s : ℕ) (x : Sig) (now more all : List ℤ) → slice_get sigs s ≡ Some x → more ≡ now ++ x.init ∷ [] → now ++ inits (drop s sigs) ≡ all → more ++ inits (drop (s + 1) sigs) ≡ all
 inits_turn sigs s x now more all is grown known =
     append_turn now more (x.init ∷ []) (inits (drop (s + 1) sigs)) all grown

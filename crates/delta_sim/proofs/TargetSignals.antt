@@ -35,7 +35,7 @@ step_same f g (Cast a signed) h = h.0
 step_same f g (Matches a patterns) h = refl
 step_same f g (Reset domain place) h = refl
 
-signals_are : (p : Pooled) (k : ℕ) (e : Expr) → IsPool p → slice_get p.exprs k ≡ Some e → target_signals p k ≡ signals_step (target_signals p) e
+pub signals_are : (p : Pooled) (k : ℕ) (e : Expr) → IsPool p → slice_get p.exprs k ≡ Some e → target_signals p k ≡ signals_step (target_signals p) e
 unfolding target_signals
 signals_are p k e rules is =
     let names = (standing p k e rules is).names in

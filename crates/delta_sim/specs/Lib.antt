@@ -1,6 +1,15 @@
 pub mod Standing
 pub mod Reading
-pub mod Rounds
 pub mod Driven
 pub mod Given
 pub mod After
+pub mod Reads
+pub mod Woken
+pub mod Tasks
+pub mod Waiting
+pub mod Walked
+pub mod Plans
+pub mod Settling
+pub mod Marks
+pub mod Compiled
+pub mod Tables

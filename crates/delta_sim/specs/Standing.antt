@@ -1,22 +1,33 @@
 -- What a simulator stands for: the events that a design has had.
-use Rattle.std.specs.Prelude.{◌≡◌, ℕ, false, Bool, List, [], length, ℤ}
+use Rattle.std.specs.Prelude.{◌≡◌, ℕ, List, [], map, length, ℤ, fold}
 use Rattle.design_ir.specs.declared.event.Event.{Event}
-use Rattle.design_ir.specs.declared.ids.SigId.{SigId}
-use Rattle.design_ir.specs.Circuits.{Circuit, State, is_held}
-use Rattle.design_ir.specs.Histories.{Reaches}
+use Rattle.design_ir.specs.declared.signal.Sig.{Sig}
+use Rattle.design_ir.specs.Circuits.{Circuit, State}
+use Rattle.design_ir.specs.Histories.{Reaches, Deltas}
+use Rattle.design_ir.specs.Settled.{Settled}
+use Rattle.design_ir.specs.Steps.{clock_low}
 use Rattle.design_ir.proofs.NumbersFit.{FitsSignals}
-use Rattle.delta_sim.specs.Driven.{AreTargets}
-use Rattle.delta_sim.specs.Reading.{AreFirst}
-use Rattle.delta_sim.specs.Rounds.{SettlesIn}
+use Rattle.comb_graph.specs.Orders.{IsLongest}
+use Rattle.delta_sim.specs.declared.settle.Counts.{Counts}
+use Rattle.delta_sim.specs.declared.plan.Plan.{Plan}
+use Rattle.delta_sim.specs.Plans.{IsPlan}
+use Rattle.delta_sim.specs.Settling.{AreCounts, nobody}
+use Rattle.delta_sim.specs.Tasks.{AreFitting}
+use Rattle.delta_sim.specs.Waiting.{Waiting}
 
--- the numbers of all signals, those that the state holds and those of the settled environment; and of the design how
--- many sweeps settle it, which signals a state gives, and of which signals each target is a part
+-- the numbers of all signals, those that the state holds and those of the settled environment; how many deltas and runs
+-- the last event took; and what the simulator works with, which only `IsSimOf` speaks of
 pub record Simulated : Type 0 where
   pub held : List ℤ
   pub env : List ℤ
-  pub sweeps : ℕ
-  pub given : List Bool
-  pub targets : List (List SigId)
+  pub counts : Counts
+  pub longest : ℕ
+  pub plan : Plan
+  pub numbers : List ℤ
+  pub next : List ℤ
+  pub waits : Waiting
+  pub then : Waiting
+  pub woken : Waiting
 
 -- a state of a design without memories
 abbrev pub state_of : List ℤ → State
@@ -27,15 +38,39 @@ pub record AreNumbersOf (c : Circuit) (numbers : List ℤ) : Type 0 where
   pub count : length numbers ≡ length c.pool.signals
   pub fits : FitsSignals c.pool numbers
 
--- a simulator of this design
+-- a simulator of this design, settled
 pub record IsSimOf (c : Circuit) (s : Simulated) : Type 0 where
   pub held : AreNumbersOf c s.held
   pub env : AreNumbersOf c s.env
-  pub sweeps : SettlesIn c s.sweeps
-  pub given : AreFirst false (is_held c) (length c.pool.signals) s.given
-  pub targets : AreTargets c.pool (length c.pool.exprs) s.targets
+  pub settled : Settled c (state_of s.held) s.env
+  pub longest : IsLongest c s.longest
+  pub plan : IsPlan c (length s.numbers) s.plan
+  pub numbers : AreFitting c.pool s.numbers
+  pub next : AreNumbersOf c s.next
+  pub waits : s.waits ≡ nobody (length s.plan.tasks)
+  pub then : s.then ≡ nobody (length s.plan.tasks)
+  pub woken : s.woken ≡ nobody (length c.processes)
+
+-- a simulator of this design before any event, not yet settled
+pub record IsFresh (c : Circuit) (s : Simulated) : Type 0 where
+  pub held : s.held ≡ fold clock_low (map (λ (x : Sig). x.init) c.pool.signals) c.domains
+  pub env : s.env ≡ s.held
+  pub longest : IsLongest c s.longest
+  pub plan : IsPlan c (length s.numbers) s.plan
+  pub numbers : AreFitting c.pool s.numbers
+  pub next : s.next ≡ s.held
+  pub waits : s.waits ≡ nobody (length s.plan.tasks)
+  pub then : s.then ≡ nobody (length s.plan.tasks)
+  pub woken : s.woken ≡ nobody (length c.processes)
 
 -- the design has had these events, and is settled behind them
 pub record Stands (c : Circuit) (events : List Event) (s : Simulated) : Type 0 where
   pub of_design : IsSimOf c s
   pub reaches : Reaches c events (state_of s.held) s.env
+
+-- the numbers of the simulator are those of an event's last delta, and it counted the deltas in which processes ran,
+-- and their runs
+pub record Settles (c : Circuit) (old new : Simulated) : Type 0 where
+  pub deltas : List (List ℤ)
+  pub are : Deltas c (state_of new.held) old.env deltas
+  pub counts : AreCounts c old.env deltas new.counts.deltas new.counts.runs

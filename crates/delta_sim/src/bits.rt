@@ -1,31 +1,34 @@
 // Writing bits of signals.
 ghost use Rattle.std.specs.Prelude.{◌≡◌, ◌+◌, ◌<◌, ◌≤◌, ◌^◌, length};
-ghost use Rattle.std.specs.List.{AllByRecursion};
 ghost use Rattle.amh_bits.specs.Patterns.{number, pattern, nat_bit};
-ghost use Rattle.design_ir.specs.Put.{with_bit, put_bit, put_place, put_number};
+ghost use Rattle.design_ir.specs.Put.{with_bit, put_bit, put_place};
 ghost use Rattle.design_ir.specs.Values.{signal_form};
 ghost use Rattle.delta_sim.specs.Reading.{IsInside};
 
-use crate::places::SignalBit;
 use amh_bits::{Bits, Int};
-use design_ir::Design;
+use design_ir::{Design, SigId};
 use shape_rules::Shape;
+use std::marker::Model;
 
-/// Writes the low bits of an integer into these places, as many as there are.
-pub fn put_number(design: &Design, places: &[Option<SignalBit>], n: Int, cur: &mut [Int])
-    requires few { length places.now ≤ 128 }
-    requires inside { AllByRecursion (IsInside design.now.pool.signals) places.now }
-    requires signals { length cur.old ≡ length design.now.pool.signals }
-    ensures { cur.new ≡ put_number design.now.pool places.now n cur.old }
-{
-    let bits = n.to_bits(places.len() as u8);
-    for i in 0..places.len() {
-        put_place(design, places[i], bit_at(bits, i as u32), cur);
-    }
+/// One bit of a signal.
+#[derive(Clone, Copy, Debug, PartialEq, Eq, Drop)]
+pub struct SignalBit {
+    pub sig: SigId,
+    pub index: u8,
+}
+
+impl Model for SignalBit {
+    ghost use Rattle.design_ir.specs.Targets.{Bit};
+
+    ghost Value = { Bit };
+
+    ghost view = { λ a. record { sig = a.sig.0; index = a.index } };
+
+    ghost inverse = { λ b. record { sig = record { 0 = b.sig }; index = b.index } };
 }
 
 // A bit of a vector, 0 past its width.
-fn bit_at(bits: Bits, i: u32) -> u128
+pub fn bit_at(bits: Bits, i: u32) -> u128
     requires { i < 128 }
     ensures { result ≡ nat_bit bits.bits i }
 {
@@ -33,7 +36,7 @@ fn bit_at(bits: Bits, i: u32) -> u128
 }
 
 // What is written to no bit is dropped.
-fn put_place(design: &Design, place: Option<SignalBit>, bit: u128, cur: &mut [Int])
+pub fn put_place(design: &Design, place: Option<SignalBit>, bit: u128, cur: &mut [Int])
     requires bit { bit < 2 }
     requires inside { IsInside design.now.pool.signals place }
     requires signals { length cur.old ≡ length design.now.pool.signals }

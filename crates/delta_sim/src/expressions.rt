@@ -1,4 +1,4 @@
-// The integers of all expressions in an environment.
+// The integer of an expression, from those of the expressions that it names.
 ghost use Rattle.std.specs.Prelude.{◌≡◌, ◌<◌, ◌≤◌, ◌*◌, ◌^◌, ◌≢◌, false, [], length, map, pos, slice_index_or, unsigned_abs, IfOk};
 ghost use Rattle.std.specs.List.{list_any};
 ghost use Rattle.amh_bits.specs.Integers.{floor_quotient};
@@ -15,34 +15,8 @@ use design_ir::{Design, Expr, ExprId, Exprs, Ids, Patterns};
 use shape_rules::{Shape, compute};
 use std::alloc::Global;
 
-/// The integers of all expressions where the signals have these numbers.
-pub fn numbers(alloc: Global, design: &Design, env: &[Int]) -> Result<Vec<Int>, NoMemory>
-    requires signals { length env.now ≡ length design.now.pool.signals }
-    requires fits { FitsSignals design.now.pool env.now }
-    ensures { IfOk result (λ nums. AreNumbers design.now.pool env.now (length design.now.pool.exprs) nums.items) }
-{
-    let mut nums = Vec::new(alloc);
-    for k in 0..design.count() {
-        let n = number(design, env, nums.as_slice(), ExprId(k));
-        nums.push(n)?;
-    }
-    Ok(nums)
-}
-
-// The integer of an expression, by those of all expressions before it.
-fn number(design: &Design, env: &[Int], nums: &[Int], k: ExprId) -> Int
-    requires there { k.0 < length design.now.pool.exprs }
-    requires signals { length env.now ≡ length design.now.pool.signals }
-    requires fits { FitsSignals design.now.pool env.now }
-    requires earlier { AreNumbers design.now.pool env.now k.0 nums.now }
-    ensures { result ≡ num design.now.pool env.now k.0 }
-{
-    let _ = design.count();
-    value(design, env, nums, design.at(k))
-}
-
-// What the integer of an expression comes to.
-fn value(design: &Design, env: &[Int], nums: &[Int], e: &Expr) -> Int
+/// What the integer of an expression comes to.
+pub fn value(design: &Design, env: &[Int], nums: &[Int], e: &Expr) -> Int
     requires ready { IsReady design.now.pool env.now nums.now e.now }
     ensures { result ≡ value_step (form design.now.pool) env.now (λ k. slice_index_or nums.now k (pos 0)) e.now }
 {

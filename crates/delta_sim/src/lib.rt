@@ -1,25 +1,36 @@
 //! The simulator of a design without memories: the numbers of its signals, from event to event.
 //!
 //! A `Sim` stands for a list of legal events (specs/Standing.antt): its numbers are those of the settled environment
-//! behind them, as design_ir defines it. It settles by sweeps: each computes every combinational signal at once from the
-//! numbers before (specs/Rounds.antt), until nothing changes, which comes after one sweep more than there are bits on
-//! the longest chain of needs at the latest. A sweep first computes the integers of all expressions and the places of
-//! all targets (specs/Reading.antt), and then carries out the statements. At an edge of clocks the registers take theirs
-//! from what was read before it, and a reset gives each signal that a process drives its init (specs/Driven.antt).
+//! behind them, as design_ir defines it. What is needed again and again is worked out once (specs/Plans.antt): tasks,
+//! each some statements of a process with the expressions that stand in them in order (specs/Tasks.antt), and who reads
+//! each signal (specs/Reads.antt). An event changes what is held; the tasks that read what changed wait, and run in the
+//! next delta, all from the numbers before it; what they change wakes others, until none waits. How many deltas there
+//! were in which a process ran, and how often one ran, is counted (specs/Woken.antt). No event takes memory.
 #![tactic(auto)]
 
+mod agenda;
 mod bits;
-mod counter;
+mod clocks;
+mod compile;
+mod compute;
+mod delta;
 mod driven;
-mod edge;
+mod event;
 mod expressions;
 mod given;
-mod places;
-mod put;
-mod reading;
+mod place;
+mod plan;
+mod roots;
+mod run;
 mod settle;
 mod sim;
-mod sweep;
+mod spread;
+mod statements;
+mod tables;
 mod targets;
+mod task;
+mod wake;
+mod write;
 
+pub use settle::Counts;
 pub use sim::Sim;

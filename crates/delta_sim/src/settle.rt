@@ -1,61 +1,111 @@
-// Sweeping until nothing changes.
-ghost use Rattle.std.specs.Prelude.{◌≡◌, [], false, length, IsTrue, IfOk};
-ghost use Rattle.design_ir.specs.Circuits.{is_held};
+// Delta after delta until nothing changes.
+ghost use Rattle.std.specs.Prelude.{◌≡◌, ◌+◌, ◌<◌, ◌≤◌, ◌^◌, [], ◌∷◌, false, List, ℤ, length, replicate};
+ghost use Rattle.design_ir.specs.Histories.{DeltasFrom};
 ghost use Rattle.design_ir.specs.Settled.{Settled};
 ghost use Rattle.design_ir.proofs.NumbersFit.{FitsSignals};
-ghost use Rattle.delta_sim.specs.Reading.{AreFirst};
-ghost use Rattle.delta_sim.specs.Rounds.{SettlesIn};
+ghost use Rattle.comb_graph.specs.Laws.{FitsState};
+ghost use Rattle.delta_sim.specs.Plans.{IsPlan, Rests, Wakes};
+ghost use Rattle.delta_sim.specs.Settling.{EndsIn, AreCounts, nobody};
 ghost use Rattle.delta_sim.specs.Standing.{state_of};
+ghost use Rattle.delta_sim.specs.Tasks.{AreFitting};
+ghost use Rattle.delta_sim.specs.Woken.{one_if_some};
 
-use crate::counter::Counter;
-use crate::reading::Reading;
-use crate::sweep::sweep;
+use crate::agenda::Agenda;
+use crate::delta::delta;
+use crate::plan::Plan;
 use amh_bits::Int;
-use amh_host::NoMemory;
+use amh_host::Steps;
 use design_ir::{Design, Exprs};
-use std::alloc::Global;
+use std::sync::ledger::Ledger;
 
-/// The settled numbers of all signals, by sweeps that begin with these.
-pub fn settle<C: Counter>(
-    alloc: Global,
-    design: &Design,
-    given: &[bool],
-    held: &[Int],
-    sweeps: u64,
-    first: Vec<Int>,
-    steps: &mut C,
-) -> Result<Vec<Int>, NoMemory>
-    requires flat { design.now.memories ≡ [] }
-    requires given { AreFirst false (is_held design.now) (length design.now.pool.signals) given.now }
-    requires held { length held.now ≡ length design.now.pool.signals }
-    requires held_fits { FitsSignals design.now.pool held.now }
-    requires first { length first.items ≡ length design.now.pool.signals }
-    requires first_fits { FitsSignals design.now.pool first.items }
-    requires enough { SettlesIn design.now sweeps }
-    ensures settled { IfOk result (λ v. Settled design.now (state_of held.now) v.items) }
-{
-    let _ = design.count();
-    let mut env = first;
-    for _ in 0..sweeps {
-        let reading = Reading::new(alloc, design, env)?;
-        let next = sweep(alloc, design, given, held, &reading, steps)?;
-        if same(next.as_slice(), reading.env.as_slice()) {
-            return Ok(next);
-        }
-        env = next;
-    }
-    Ok(env)
+/// How many deltas there were in which a process ran, and how often processes ran.
+#[derive(Clone, Copy, Debug, PartialEq, Eq, Drop)]
+pub struct Counts {
+    pub deltas: u64,
+    pub runs: u64,
 }
 
-// Whether these are the same numbers.
-fn same(a: &[Int], b: &[Int]) -> bool
-    requires { length a.now ≡ length b.now }
-    ensures { IsTrue result → a.now ≡ b.now }
+/// Settles the state that is held, one step for each run of a process.
+pub fn settle<L: Ledger>(
+    design: &Design,
+    plan: &Plan,
+    most: u64,
+    held: &[Int],
+    env: &mut Vec<Int>,
+    nums: &mut Vec<Int>,
+    next: &mut [Int],
+    waits: &mut Agenda,
+    then: &mut Agenda,
+    woken: &mut Agenda,
+    steps: &mut Steps<L>,
+) -> Counts
+    requires flat { design.now.memories ≡ [] }
+    requires plan { IsPlan design.now (length nums.old.items) plan.now }
+    requires state { FitsState design.now (state_of held.now) }
+    requires signals { length env.old.items ≡ length design.now.pool.signals }
+    requires fits { FitsSignals design.now.pool env.old.items }
+    requires numbers { AreFitting design.now.pool nums.old.items }
+    requires next { length next.old ≡ length design.now.pool.signals }
+    requires next_fits { FitsSignals design.now.pool next.old }
+    requires waits { length waits.old.marks ≡ length plan.now.tasks }
+    requires then { then.old ≡ nobody (length plan.now.tasks) }
+    requires woken { length woken.old.marks ≡ length design.now.processes }
+    requires rests { Rests design.now (state_of held.now) plan.now.tasks waits.old.marks env.old.items }
+    requires ends { EndsIn design.now (state_of held.now) env.old.items most }
+    requires most { most ≤ 2 ^ 32 + 1 }
+    ensures settled { Settled design.now (state_of held.now) env.new.items }
+    ensures signals { length env.new.items ≡ length design.now.pool.signals }
+    ensures fits { FitsSignals design.now.pool env.new.items }
+    ensures count { length nums.new.items ≡ length nums.old.items }
+    ensures numbers { AreFitting design.now.pool nums.new.items }
+    ensures next { length next.new ≡ length design.now.pool.signals }
+    ensures next_fits { FitsSignals design.now.pool next.new }
+    ensures waits { waits.new ≡ nobody (length plan.now.tasks) }
+    ensures then { then.new ≡ nobody (length plan.now.tasks) }
+    ensures woken { woken.new ≡ nobody (length design.now.processes) }
+    ensures counts { (old : List ℤ) (rest : List (List ℤ)) → Wakes plan.now.processes old env.old.items (replicate (length design.now.processes) false) woken.old.marks → DeltasFrom design.now (state_of held.now) env.old.items rest → AreCounts design.now old (env.old.items ∷ rest) result.deltas result.runs }
+    ensures steps { steps.new ≡ steps.old + result.runs }
 {
-    for i in 0..a.len() {
-        if a[i] != b[i] {
-            return false;
+    let _ = design.count();
+    let _ = design.processes();
+    let _ = held;
+    let mut counts = Counts { deltas: 0, runs: 0 };
+    for _ in 0..most {
+        let count = woken.len();
+        counts = counted(counts, count);
+        tick(count, steps);
+        woken.clear();
+        if waits.len() == 0 {
+            waits.clear();
+            return counts;
         }
+        delta(design, plan, env, nums, next, waits, then, woken);
     }
-    true
+    counts
+}
+
+// One delta more, in which so many processes run.
+fn counted(counts: Counts, runs: usize) -> Counts
+    requires deltas { counts.deltas < 2 ^ 63 }
+    requires runs { counts.runs + runs < 2 ^ 64 }
+    ensures deltas { result.deltas ≡ counts.deltas + one_if_some runs }
+    ensures runs { result.runs ≡ counts.runs + runs }
+{
+    Counts {
+        deltas: if runs == 0 {
+            counts.deltas
+        } else {
+            counts.deltas + 1
+        },
+        runs: counts.runs + runs as u64,
+    }
+}
+
+// So many steps.
+fn tick<L: Ledger>(count: usize, steps: &mut Steps<L>)
+    ensures { steps.new ≡ steps.old + count }
+{
+    for _ in 0..count {
+        steps.tick();
+    }
 }

@@ -1,40 +1,40 @@
 // A simulator, from event to event.
-ghost use Rattle.std.specs.Prelude.{◌≡◌, ◌<◌, ◌++◌, ◌∷◌, [], List, map, length, slice_set, fold, IfOk, MatchResult};
+ghost use Rattle.std.specs.Prelude.{◌≡◌, ◌+◌, ◌<◌, ◌^◌, ◌++◌, ◌∷◌, [], ℕ, true, false, List, map, length, slice_index_or, slice_set, fold, IfOk, MatchResult, Ok};
 ghost use Rattle.design_ir.specs.declared.event.Event.{Event};
 ghost use Rattle.design_ir.specs.Circuits.{at};
 ghost use Rattle.design_ir.specs.Legal.{IsLegal};
-ghost use Rattle.design_ir.specs.Settled.{Settled};
 ghost use Rattle.design_ir.specs.Steps.{clock_low};
 ghost use Rattle.comb_graph.specs.Rankings.{IsRanking};
-ghost use Rattle.delta_sim.specs.After.{after};
-ghost use Rattle.delta_sim.specs.Driven.{AreTargets};
-ghost use Rattle.delta_sim.specs.Standing.{state_of, AreNumbersOf, IsSimOf, Stands};
+ghost use Rattle.delta_sim.specs.Standing.{IsFresh, IsSimOf, Settles, Stands};
 
-use crate::counter::Uncounted;
-use crate::edge::after_edge;
-use crate::given::given_signals;
-use crate::reading::Reading;
-use crate::settle::settle;
-use crate::targets::{SigIds, all_targets};
+use crate::agenda::Agenda;
+use crate::event::hold;
+use crate::plan::Plan;
+use crate::settle::{Counts, settle};
+use crate::tables::plan_of;
+use crate::wake::take_given;
 use amh_bits::Int;
 use amh_host::{NoMemory, Steps};
-use comb_graph::{Ranks, rounds_settle};
+use comb_graph::{Ranks, deltas_are_few};
 use design_ir::{Design, DomainId, Event, Exprs, SigId};
 use std::alloc::Global;
-use std::marker::Model;
-use std::sync::ledger::Ledger;
+use std::marker::{Brand, Model};
+use std::sync::ledger::{Blank, Ledger};
 
 /// The numbers of a design's signals behind a list of events: those that its state holds, and those of the settled
-/// environment. Beside them stands what is the same at each event: how many sweeps are enough, which signals a state
-/// gives, and of which signals each target is a part.
+/// environment. Beside them stands what is worked out of the design once, and the room in which events are carried out.
 #[derive(Drop)]
 pub struct Sim {
-    alloc: Global,
     held: Vec<Int>,
     env: Vec<Int>,
-    sweeps: u64,
-    given: Vec<bool>,
-    targets: Vec<SigIds>,
+    counts: Counts,
+    longest: u32,
+    plan: Plan,
+    numbers: Vec<Int>,
+    next: Vec<Int>,
+    waits: Agenda,
+    then: Agenda,
+    woken: Agenda,
 }
 
 impl Model for Sim {
@@ -42,7 +42,7 @@ impl Model for Sim {
 
     ghost Value = { Simulated };
 
-    ghost view = { λ s. record { held = s.held.items; env = s.env.items; sweeps = s.sweeps; given = s.given.items; targets = s.targets.items } };
+    ghost view = { λ s. record { held = s.held.items; env = s.env.items; counts = s.counts; longest = s.longest; plan = s.plan; numbers = s.numbers.items; next = s.next.items; waits = s.waits; then = s.then; woken = s.woken } };
 }
 
 impl Sim {
@@ -52,34 +52,28 @@ impl Sim {
         requires ranked { IsRanking design.now ranks.now }
         ensures { IfOk result (Stands design.now []) }
     {
-        rounds_settle();
-        let _ = design.count();
-        let _ = design.processes();
-        let targets = all_targets(alloc, design)?;
-        let given = given_signals(alloc, design, targets.as_slice())?;
-        let sweeps = ranks.longest() as u64 + 1;
+        let plan = plan_of(alloc, design)?;
         let held = first_held(alloc, design)?;
-        let first = Vec::from_slice(alloc, held.as_slice())?;
-        let env = settle(
-            alloc,
-            design,
-            given.as_slice(),
-            held.as_slice(),
-            sweeps,
-            first,
-            &mut Uncounted,
-        )?;
-        Ok(Sim {
-            alloc,
+        let env = Vec::from_slice(alloc, held.as_slice())?;
+        let next = Vec::from_slice(alloc, held.as_slice())?;
+        let tasks = plan.tasks.len();
+        let mut sim = Sim {
             held,
             env,
-            sweeps,
-            given,
-            targets,
-        })
+            counts: Counts { deltas: 0, runs: 0 },
+            longest: ranks.longest(),
+            plan,
+            numbers: vec![in alloc; Int::of_u128(0); design.count() as usize]?,
+            next,
+            waits: Agenda::new(alloc, tasks)?,
+            then: Agenda::new(alloc, tasks)?,
+            woken: Agenda::new(alloc, design.processes().len())?,
+        };
+        first_settled::<Brand>(&mut sim, design, Blank::new(1));
+        Ok(sim)
     }
 
-    /// What an event does. Where memory runs out, nothing has happened.
+    /// What an event does. It takes no memory and is always Ok, and takes one step for each run of a process.
     pub fn apply<L: Ledger>(
         &mut self,
         design: &Design,
@@ -89,72 +83,44 @@ impl Sim {
         requires flat { design.now.memories ≡ [] }
         requires legal { IsLegal design.now event.now }
         requires of_design { IsSimOf design.now self.old }
+        ensures ok { result ≡ Ok tt }
         ensures of_design { IsSimOf design.now self.new }
         ensures lives { (events : List Event) → Stands design.now events self.old → MatchResult result (λ _. Stands design.now (events ++ event.now ∷ []) self.new) (λ _. Stands design.now events self.new) }
+        ensures counts { Settles design.now self.old self.new }
+        ensures steps { steps.new ≡ steps.old + self.new.counts.runs }
     {
         let _ = design.count();
         let _ = design.processes();
-        let held = self.held_after(design, event, steps)?;
-        let env = self.settled(design, held.as_slice(), steps)?;
-        self.put(held, env);
+        deltas_are_few();
+        hold(
+            design,
+            &self.plan,
+            event,
+            self.env.as_slice(),
+            &mut self.numbers,
+            &mut self.held,
+        );
+        take_given(
+            &self.plan,
+            self.held.as_slice(),
+            &mut self.env,
+            &mut self.waits,
+            &mut self.woken,
+        );
+        self.counts = settle(
+            design,
+            &self.plan,
+            self.longest as u64 + 2,
+            self.held.as_slice(),
+            &mut self.env,
+            &mut self.numbers,
+            &mut self.next,
+            &mut self.waits,
+            &mut self.then,
+            &mut self.woken,
+            steps,
+        );
         Ok(())
-    }
-
-    // The numbers that are held after an event.
-    fn held_after<L: Ledger>(
-        &self,
-        design: &Design,
-        event: &Event,
-        steps: &mut Steps<L>,
-    ) -> Result<Vec<Int>, NoMemory>
-        requires flat { design.now.memories ≡ [] }
-        requires legal { IsLegal design.now event.now }
-        requires of_design { IsSimOf design.now self.now }
-        ensures { IfOk result (λ v. v.items ≡ after design.now self.now.held self.now.env event.now) }
-    {
-        match event {
-            Event::Set { sig, value } => {
-                with_number(self.alloc, self.held.as_slice(), *sig, *value)
-            }
-            Event::Edge(clocks) => {
-                let env = Vec::from_slice(self.alloc, self.env.as_slice())?;
-                let reading = Reading::new(self.alloc, design, env)?;
-                after_edge(
-                    self.alloc,
-                    design,
-                    self.targets.as_slice(),
-                    &reading,
-                    clocks.as_slice(),
-                    self.held.as_slice(),
-                    steps,
-                )
-            }
-        }
-    }
-
-    // The numbers of all signals where these are held.
-    fn settled<L: Ledger>(
-        &self,
-        design: &Design,
-        held: &[Int],
-        steps: &mut Steps<L>,
-    ) -> Result<Vec<Int>, NoMemory>
-        requires flat { design.now.memories ≡ [] }
-        requires of_design { IsSimOf design.now self.now }
-        requires held { AreNumbersOf design.now held.now }
-        ensures { IfOk result (λ v. Settled design.now (state_of held.now) v.items) }
-    {
-        let first = Vec::from_slice(self.alloc, self.env.as_slice())?;
-        let given = self.given.as_slice();
-        settle(self.alloc, design, given, held, self.sweeps, first, steps)
-    }
-
-    // Takes these numbers in place of its own.
-    fn put(&mut self, held: Vec<Int>, env: Vec<Int>)
-        ensures { self.new ≡ record self.old { held = held.items; env = env.items } }
-    {
-        self.held = held;
-        self.env = env;
     }
 
     /// The number of a signal.
@@ -171,23 +137,51 @@ impl Sim {
     {
         self.env.as_slice()
     }
+
+    /// In how many deltas of the last event a process ran, and how often processes ran in them.
+    pub fn counts(&self) -> Counts
+        ensures { result ≡ self.now.counts }
+    {
+        self.counts
+    }
 }
 
-// These numbers with one of them changed.
-fn with_number(alloc: Global, held: &[Int], sig: SigId, value: Int) -> Result<Vec<Int>, NoMemory>
-    ensures { IfOk result (λ v. v.items ≡ slice_set held.now sig.0 value) }
+// Settles a simulator that has had no event, with a counter of steps of its own.
+fn first_settled<L: Ledger>(sim: &mut Sim, design: &Design, blank: Blank)
+    requires flat { design.now.memories ≡ [] }
+    requires fresh { IsFresh design.now sim.old }
+    requires blank { (blank.name ≡ L.name) × (blank.parts ≡ L.parts) × (0 < L.parts) }
+    ensures of_design { IsSimOf design.now sim.new }
+    ensures held { sim.new.held ≡ sim.old.held }
 {
-    let mut held = Vec::from_slice(alloc, held)?;
-    set_number(&mut held, sig, value);
-    Ok(held)
+    let _ = design.count();
+    let _ = design.processes();
+    let mut steps = Steps::<L>::new(blank);
+    wake_all(sim.plan.tasks.len(), &mut sim.waits);
+    let _ = settle(
+        design,
+        &sim.plan,
+        sim.longest as u64 + 2,
+        sim.held.as_slice(),
+        &mut sim.env,
+        &mut sim.numbers,
+        &mut sim.next,
+        &mut sim.waits,
+        &mut sim.then,
+        &mut sim.woken,
+        &mut steps,
+    );
 }
 
-fn set_number(held: &mut [Int], sig: SigId, value: Int)
-    ensures { held.new ≡ slice_set held.old sig.0 value }
+// Lets all of so many wait.
+fn wake_all(count: usize, waits: &mut Agenda)
+    requires few { count < 2 ^ 32 }
+    requires bound { length waits.old.marks ≡ count }
+    ensures count { length waits.new.marks ≡ count }
+    ensures all { (k : ℕ) → k < count → slice_index_or waits.new.marks k false ≡ true }
 {
-    let s = sig.0 as usize;
-    if s < held.len() {
-        held[s] = value;
+    for k in 0..count {
+        waits.mark(k as u32);
     }
 }
 
@@ -206,6 +200,15 @@ fn lower_clocks(design: &Design, held: &mut [Int])
     for d in 0..design.domains() {
         let clk = design.domain(DomainId(d)).clk;
         set_number(held, clk, Int::of_u128(0));
+    }
+}
+
+fn set_number(held: &mut [Int], sig: SigId, value: Int)
+    ensures { held.new ≡ slice_set held.old sig.0 value }
+{
+    let s = sig.0 as usize;
+    if s < held.len() {
+        held[s] = value;
     }
 }
 

@@ -6,6 +6,7 @@ use Rattle.amh_host.specs.Calls.{Adds, AddsFront}
 use Rattle.amh_host.proofs.SeenLaws.{IsAt, IsAt-put, IsAt-refused}
 use Rattle.rtlil_text.proofs.WriteLaws.{WritesFront-start, Writes-last}
 use Rattle.amh_tool.specs.Trace.{Done, timed, head_line, done_line, column_line, first_line, row_lines, trace_text}
+use Rattle.amh_tool.proofs.Refused.{HasCause-memory, HasCause-handed}
 use Rattle.amh_tool.proofs.TraceLaws.{begins_with, has_trace, history_trace, trace_text-order}
 use Rattle.amh_tool.proofs.trace.write_trace.Goals as goal
 
@@ -112,6 +113,25 @@ returns-in_err-put-2-clause-text g c =
     let s4 = g.H.Host.seen c.put-2.new.self in
     let front : AddsFront (written name) first s3 s4 = subst (λ (b : List ℕ). AddsFront (written name) b s3 s4) first_is c.in_err-put-2.ensures.done in
     (all, trace, rw p.1 (inr (IsAt-refused name (head_line ++ columns) first (rows ++ done_line) all old s3 s4 at3 order3 front)))
+
+pub returns-in_err-first-clause-cause : goal.returns-in_err-first-clause-cause
+returns-in_err-first-clause-cause g c = HasCause-memory (g.H.Host.faults c.args.host.now) c.from_residual-in_err-first.result c.from_residual-in_err-first.ensures.1
+
+pub returns-in_err-start-clause-cause : goal.returns-in_err-start-clause-cause
+returns-in_err-start-clause-cause g c =
+    HasCause-handed (g.H.Host.faults c.args.host.now) (g.H.Host.faults c.args.host.now) (g.H.Host.faults c.start-2.new.self) c.in_err-start.field-0.0 c.start-2.result c.from_residual-in_err-start.result c.in_err-start.was refl c.start-2.ensures.cause c.from_residual-in_err-start.ensures.1
+
+pub returns-in_err-put-clause-cause : goal.returns-in_err-put-clause-cause
+returns-in_err-put-clause-cause g c =
+    HasCause-handed (g.H.Host.faults c.args.host.now) (g.H.Host.faults c.start-2.new.self) (g.H.Host.faults c.put.new.self) c.in_err-put.field-0.0 c.put.result c.from_residual-in_err-put.result c.in_err-put.was c.in_ok-start.ensures.cause.ok c.put.ensures.cause c.from_residual-in_err-put.ensures.1
+
+pub returns-in_err-put_columns-clause-cause : goal.returns-in_err-put_columns-clause-cause
+returns-in_err-put_columns-clause-cause g c =
+    HasCause-handed (g.H.Host.faults c.args.host.now) (g.H.Host.faults c.put.new.self) (g.H.Host.faults c.put_columns.new.host) c.in_err-put_columns.field-0.0 c.put_columns.result c.from_residual-in_err-put_columns.result c.in_err-put_columns.was (c.in_ok-put.ensures.cause.ok ∙ c.in_ok-start.ensures.cause.ok) c.put_columns.ensures.cause c.from_residual-in_err-put_columns.ensures.1
+
+pub returns-in_err-put-2-clause-cause : goal.returns-in_err-put-2-clause-cause
+returns-in_err-put-2-clause-cause g c =
+    HasCause-handed (g.H.Host.faults c.args.host.now) (g.H.Host.faults c.put_columns.new.host) (g.H.Host.faults c.put-2.new.self) c.in_err-put-2.field-0.0 c.put-2.result c.from_residual-in_err-put-2.result c.in_err-put-2.was (c.in_ok-put_columns.ensures.cause.ok ∙ c.in_ok-put.ensures.cause.ok ∙ c.in_ok-start.ensures.cause.ok) c.put-2.ensures.cause c.from_residual-in_err-put-2.ensures.1
 
 pub returns-in_err-put_rows-clause-text : goal.returns-in_err-put_rows-clause-text
 returns-in_err-put_rows-clause-text g c =

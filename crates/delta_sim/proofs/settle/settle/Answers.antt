@@ -1,27 +1,126 @@
-use Rattle.std.proofs.Common.{length, ap, subst, sym, ◌∙◌}
-use Rattle.design_ir.specs.Settled.{delta}
+use Rattle.std.proofs.Common.{◌≡◌, ◌+◌, ◌*◌, ◌≤◌, ◌∙◌, ℕ, sym, ap, subst, arith, false, refl, length, replicate}
 use Rattle.design_ir.proofs.NumbersFit.{FitsSignals}
+use Rattle.comb_graph.proofs.DeltaLaws.{delta_length, delta_fits}
+use Rattle.delta_sim.specs.Plans.{IsPlan, Wakes}
+use Rattle.delta_sim.specs.Settling.{nobody}
 use Rattle.delta_sim.specs.Standing.{state_of}
-use Rattle.delta_sim.proofs.Settling.{rounds_turn}
-use Rattle.delta_sim.proofs.SweepsFit.{delta_length, delta_fits}
+use Rattle.delta_sim.specs.Waiting.{Waiting}
+use Rattle.delta_sim.proofs.Resting.{rests_next}
+use Rattle.delta_sim.proofs.Settles.{idle_of, left_first, left_turn, left_next, idle_settles, count_here, count_next, count_end, runs_fit, runs_next, awake, one_most}
+use Rattle.delta_sim.proofs.Waits.{count_most, replicate_length}
 use Rattle.delta_sim.proofs.settle.settle.Goals as goal
+
+pub loop-init : goal.loop-init
+loop-init g c =
+    let d = c.args.design.now in
+    let st = state_of c.args.held.now in
+    record {
+      signals = c.requires.signals;
+      fits = c.requires.fits;
+      count = refl;
+      numbers = c.requires.numbers;
+      next = c.requires.next;
+      next_fits = c.requires.next_fits;
+      waits = c.requires.waits;
+      then = c.requires.then;
+      woken = c.requires.woken;
+      rests = c.requires.rests;
+      left = left_first d st c.args.env.now.items c.args.waits.now.marks c.args.most c.requires.ends;
+      counts = λ old rest wakes are. record { old = old; rest = rest; are = are; wakes = wakes; many_deltas = omega arith; many_runs = omega arith };
+      few_deltas = omega arith;
+      few_runs = omega arith;
+      steps = omega arith;
+    }
+
+pub counted-counts-requires-clause-deltas : goal.counted-counts-requires-clause-deltas
+counted-counts-requires-clause-deltas g c = omega (arith, c.loop.invariant.few_deltas, c.loop-test.true, c.requires.most)
+
+pub counted-counts-requires-clause-runs : goal.counted-counts-requires-clause-runs
+counted-counts-requires-clause-runs g c =
+    let some : c.len-count.result ≤ length c.args.design.now.processes = omega (arith, c.len-count.ensures.count, c.len-count.ensures.rules.count, count_most c.loop.woken.marks, c.loop.invariant.woken) in
+    runs_fit c.loop.counter (length c.args.design.now.processes) c.len-count.result c.loop.counts.runs c.args.most c.loop.invariant.few_runs some c.loop-test.true c.requires.most c.processes.ensures.rules.few_processes
+
+pub returns-then-len-eq0 : goal.returns-then-len-eq0
+returns-then-len-eq0 g c =
+    let d = c.args.design.now in
+    let st = state_of c.args.held.now in
+    let idle = idle_of c.loop.waits c.len.ensures.rules (sym c.len.ensures.count ∙ c.if-len-eq0.true) in
+    let settled = idle_settles d st c.count.ensures.rules c.processes.ensures.rules c.args.plan.now.tasks c.loop.waits.marks c.loop.env.items c.loop.invariant.signals c.loop.invariant.rests idle in
+    let plan = subst (λ n. IsPlan d n c.args.plan.now) (sym c.loop.invariant.count) c.requires.plan in
+    record {
+      settled = settled;
+      signals = c.loop.invariant.signals;
+      fits = c.loop.invariant.fits;
+      count = c.loop.invariant.count;
+      numbers = c.loop.invariant.numbers;
+      next = c.loop.invariant.next;
+      next_fits = c.loop.invariant.next_fits;
+      waits = c.clear-then-len-eq0.ensures ∙ ap nobody c.loop.invariant.waits;
+      then = c.loop.invariant.then;
+      woken = c.clear.ensures ∙ ap nobody c.loop.invariant.woken;
+      counts = λ old rest wakes are.
+          let here = count_here d st c.requires.flat (length c.loop.nums.items) c.args.plan.now plan c.loop.env.items c.loop.woken.marks c.len-count.result c.loop.counts.deltas c.loop.counts.runs _ _ c.loop.invariant.woken (c.len-count.ensures.count ∙ c.len-count.ensures.rules.count) (c.loop.invariant.counts old rest wakes are) in
+          let all = count_end d st c.loop.env.items _ _ _ _ settled here in
+          record { many_deltas = c.counted-counts.ensures.deltas ∙ all.0; many_runs = c.counted-counts.ensures.runs ∙ all.1 };
+      steps = omega (arith, c.tick.ensures, c.loop.invariant.steps, c.counted-counts.ensures.runs);
+    }
+
+pub delta-requires : goal.delta-requires
+delta-requires g c =
+    let d = c.args.design.now in
+    record {
+      flat = c.requires.flat;
+      plan = subst (λ n. IsPlan d n c.args.plan.now) (sym c.loop.invariant.count) c.requires.plan;
+      signals = c.loop.invariant.signals;
+      fits = c.loop.invariant.fits;
+      numbers = c.loop.invariant.numbers;
+      next = c.loop.invariant.next;
+      next_fits = c.loop.invariant.next_fits;
+      waits = c.loop.invariant.waits;
+      then = c.loop.invariant.then;
+      woken = ap (λ (w : Waiting). length w.marks) (c.clear.ensures ∙ ap nobody c.loop.invariant.woken) ∙ replicate_length false (length d.processes);
+    }
 
 pub loop-preserved : goal.loop-preserved
 loop-preserved g c =
     let d = c.args.design.now in
     let st = state_of c.args.held.now in
-    let swept = c.in_ok-next.ensures ∙ ap (delta d st) c.in_ok-reading.ensures.env in
+    let rules = c.count.ensures.rules in
+    let design = c.processes.ensures.rules in
+    let env = c.loop.env.items in
+    let new = c.delta.new.env.items in
+    let plan = subst (λ n. IsPlan d n c.args.plan.now) (sym c.loop.invariant.count) c.requires.plan in
+    let e = c.delta.ensures.env st c.requires.state c.loop.invariant.rests in
+    let long : length new ≡ length d.pool.signals = ap length e ∙ delta_length d st rules design env in
+    let fits : FitsSignals d.pool new = subst (FitsSignals d.pool) (sym e) (delta_fits d st rules design c.requires.state env) in
+    let n : ℕ = length d.processes in
+    let some = awake c.loop.waits c.len.ensures.rules (λ z. c.if-len-eq0.false (c.len.ensures.count ∙ z)) in
+    let clear = ap (λ (w : Waiting). w.marks) (c.clear.ensures ∙ ap nobody c.loop.invariant.woken) in
+    let woken = subst (λ was. Wakes c.args.plan.now.processes env new was c.delta.new.woken.marks) clear c.delta.ensures.woken in
+    let few : c.len-count.result ≤ n = omega (arith, c.len-count.ensures.count, c.len-count.ensures.rules.count, count_most c.loop.woken.marks, c.loop.invariant.woken) in
+    let most_one = one_most c.len-count.result in
     record {
-      rounds = rounds_turn d st c.loop.counter c.args.first.items c.loop.env.items c.in_ok-next.next.items swept c.loop.invariant.rounds;
-      signals = ap length swept ∙ delta_length d st c.requires.flat c.loop.env.items;
-      fits = subst (FitsSignals d.pool) (sym swept) (delta_fits d st c.requires.flat c.count.ensures.rules c.requires.held_fits c.loop.env.items);
+      signals = long;
+      fits = fits;
+      count = c.delta.ensures.count ∙ c.loop.invariant.count;
+      numbers = c.delta.ensures.numbers;
+      next = c.delta.ensures.next;
+      next_fits = c.delta.ensures.next_fits;
+      waits = c.delta.ensures.waits.count ∙ replicate_length false (length c.args.plan.now.tasks);
+      then = c.delta.ensures.then;
+      woken = woken.count ∙ replicate_length false n;
+      rests = rests_next d c.requires.flat rules design (length c.loop.nums.items) c.loop.invariant.numbers.few c.args.plan.now plan st env new (replicate (length c.args.plan.now.tasks) false) c.delta.new.waits.marks c.requires.state e long (delta_length d st rules design new) c.delta.ensures.waits;
+      left = left_next d st c.args.plan.now.readers (length c.args.plan.now.tasks) env new c.loop.waits.marks c.delta.new.waits.marks c.args.most c.loop.counter c.loop.invariant.left some e c.delta.ensures.waits;
+      counts = λ old rest wakes are.
+          let here = count_here d st c.requires.flat (length c.loop.nums.items) c.args.plan.now plan env c.loop.woken.marks c.len-count.result c.loop.counts.deltas c.loop.counts.runs _ _ c.loop.invariant.woken (c.len-count.ensures.count ∙ c.len-count.ensures.rules.count) (c.loop.invariant.counts old rest wakes are) in
+          let same = rw (← c.counted-counts.ensures.deltas, ← c.counted-counts.ensures.runs) at here in
+          count_next d st c.requires.flat c.args.plan.now.processes env new c.delta.new.woken.marks c.counted-counts.result.deltas c.counted-counts.result.runs _ _ e woken same;
+      few_deltas = omega (arith, c.counted-counts.ensures.deltas, c.loop.invariant.few_deltas, most_one);
+      few_runs = subst (λ k. k ≤ (c.loop.counter + 1) * n) (sym c.counted-counts.ensures.runs) (runs_next c.loop.counter n c.len-count.result c.loop.counts.runs c.loop.invariant.few_runs few);
+      steps = omega (arith, c.tick.ensures, c.loop.invariant.steps, c.counted-counts.ensures.runs);
     }
 
-pub same-requires : goal.same-requires
-same-requires g c =
-    let d = c.args.design.now in
-    let st = state_of c.args.held.now in
-    let swept = c.in_ok-next.ensures ∙ ap (delta d st) c.in_ok-reading.ensures.env in
-    ap length (c.as_slice.ensures.value ∙ swept)
-    ∙ delta_length d st c.requires.flat c.loop.env.items
-    ∙ sym (ap length (c.as_slice-in-loop.ensures.value ∙ c.in_ok-reading.ensures.env) ∙ c.loop.invariant.signals)
+pub returns : goal.returns
+returns g c =
+    let turn = left_turn c.args.design.now (state_of c.args.held.now) c.loop.env.items c.loop.waits.marks c.args.most c.loop.counter c.loop.invariant.left in
+    absurd (omega (arith, turn, c.loop-test.false))

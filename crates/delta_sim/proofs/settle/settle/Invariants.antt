@@ -1,12 +1,30 @@
-use Rattle.std.proofs.Common.{◌≡◌, length}
+use Rattle.std.proofs.Common.{◌≡◌, ◌+◌, ◌*◌, ◌≤◌, [], ◌∷◌, List, ℤ, false, length, replicate}
+use Rattle.design_ir.specs.Histories.{DeltasFrom}
 use Rattle.design_ir.proofs.NumbersFit.{FitsSignals}
-use Rattle.comb_graph.specs.Laws.{rounds}
+use Rattle.delta_sim.specs.Plans.{Rests, Wakes}
+use Rattle.delta_sim.specs.Settling.{nobody}
 use Rattle.delta_sim.specs.Standing.{state_of}
+use Rattle.delta_sim.specs.Tasks.{AreFitting}
+use Rattle.delta_sim.specs.Woken.{deltas_of, runs_of}
+use Rattle.delta_sim.proofs.Settles.{Left, Counted}
 use Rattle.delta_sim.proofs.settle.settle.Given as goal
 
 abbrev pub invariant-loop : goal.invariant-loop
 invariant-loop g l = record {
-  rounds : l.env.items ≡ rounds l.design (state_of l.held) l.counter l.fn.first.items;
   signals : length l.env.items ≡ length l.design.pool.signals;
   fits : FitsSignals l.design.pool l.env.items;
+  count : length l.nums.items ≡ length l.initial.nums.items;
+  numbers : AreFitting l.design.pool l.nums.items;
+  next : length l.next ≡ length l.design.pool.signals;
+  next_fits : FitsSignals l.design.pool l.next;
+  waits : length l.waits.marks ≡ length l.plan.tasks;
+  then : l.then ≡ nobody (length l.plan.tasks);
+  woken : length l.woken.marks ≡ length l.design.processes;
+  rests : Rests l.design (state_of l.held) l.plan.tasks l.waits.marks l.env.items;
+  left : Left l.design (state_of l.held) l.env.items l.waits.marks l.most l.counter;
+  counts : (old : List ℤ) (rest : List (List ℤ)) → Wakes l.plan.processes old l.initial.env.items (replicate (length l.design.processes) false) l.initial.woken.marks → DeltasFrom l.design (state_of l.held) l.initial.env.items rest
+      → Counted l.design (state_of l.held) l.plan.processes l.env.items l.woken.marks l.counts.deltas l.counts.runs (deltas_of l.design [] [] old (l.initial.env.items ∷ rest)) (runs_of l.design [] [] old (l.initial.env.items ∷ rest));
+  few_deltas : l.counts.deltas ≤ l.counter;
+  few_runs : l.counts.runs ≤ l.counter * length l.design.processes;
+  steps : l.steps ≡ l.initial.steps + l.counts.runs;
 }

@@ -1,30 +1,207 @@
-use Rattle.std.proofs.Common.{subst, sym, ap, ◌∙◌}
+use Rattle.std.proofs.Common.{◌≡◌, ◌+◌, ◌∙◌, ◌∷◌, sym, ap, subst, false, ◌<◌, ◌++◌, take, drop, length}
+use Rattle.std.specs.List.{AllByRecursion}
+use Rattle.design_ir.specs.Histories.{DeltasFrom}
+use Rattle.comb_graph.specs.Laws.{FitsState}
 use Rattle.design_ir.specs.Settled.{Settled}
-use Rattle.delta_sim.specs.Standing.{Simulated, state_of, AreNumbersOf}
-use Rattle.delta_sim.proofs.Lives.{after_numbers, settled_numbers, happened, sim_of_next}
+use Rattle.design_ir.proofs.NumbersFit.{FitsSignals}
+use Rattle.delta_sim.specs.After.{after}
+use Rattle.delta_sim.specs.Driven.{numbers_of}
+use Rattle.delta_sim.specs.Plans.{taken, Rests, IsTable, IsPlan, Wakes}
+use Rattle.delta_sim.specs.Settling.{EndsIn}
+use Rattle.delta_sim.specs.Standing.{Simulated, IsSimOf, Settles, Stands, state_of, AreNumbersOf}
+use Rattle.delta_sim.specs.Waiting.{Waiting}
+use Rattle.delta_sim.proofs.Applying.{begins, vec_whole}
+use Rattle.delta_sim.proofs.Lives.{happened, after_numbers}
+use Rattle.delta_sim.proofs.Waits.{replicate_length}
 use Rattle.delta_sim.proofs.sim.Sim.apply.Goals as goal
 
-pub settled-requires-clause-held : goal.settled-requires-clause-held
-settled-requires-clause-held g c =
+pub hold-requires : goal.hold-requires
+hold-requires g c =
     let d = c.args.design.now in
-    let s = c.args.self.now in
-    subst (AreNumbersOf d) (sym (c.as_slice.ensures.value ∙ c.in_ok-held.ensures))
-    (after_numbers d c.requires.flat s.held s.env c.args.event.now c.count.ensures.rules c.processes.ensures.rules c.requires.legal c.requires.of_design.held)
+    let of = subst (IsSimOf d) (sym c.self.view_is) c.requires.of_design in
+    record {
+      legal = c.requires.legal;
+      plan = of.plan;
+      env = ap length c.as_slice.ensures.value ∙ of.env.count;
+      env_fits = subst (FitsSignals d.pool) (sym c.as_slice.ensures.value) of.env.fits;
+      numbers = of.numbers;
+      signals = of.held.count;
+      fits = of.held.fits;
+    }
+
+pub take_given-requires : goal.take_given-requires
+take_given-requires g c =
+    let d = c.args.design.now in
+    let i = c.self.inside in
+    let of = subst (IsSimOf d) (sym c.self.view_is) c.requires.of_design in
+    let marks_long : length i.waits.marks ≡ length i.plan.tasks = ap (λ (w : Waiting). length w.marks) of.waits ∙ replicate_length false (length i.plan.tasks) in
+    let woken_long : length i.woken.marks ≡ length d.processes = ap (λ (w : Waiting). length w.marks) of.woken ∙ replicate_length false (length d.processes) in
+    let held_long = ap length (c.hold.ensures.held ∙ ap (λ xs. after d i.held.items xs c.args.event.now) c.as_slice.ensures.value) in
+    record {
+      tasks = subst (λ n. IsTable n (length i.waits.marks) i.plan.readers) (sym of.env.count) (subst (λ b. IsTable (length d.pool.signals) b i.plan.readers) (sym marks_long) of.plan.readers);
+      processes = subst (λ n. IsTable n (length i.woken.marks) i.plan.processes) (sym of.env.count) (subst (λ b. IsTable (length d.pool.signals) b i.plan.processes) (sym woken_long) of.plan.processes);
+      below = subst (λ n. AllByRecursion (λ s. s < n) (numbers_of i.plan.given)) (sym of.env.count) of.plan.given_below;
+      long = ap length c.as_slice-2.ensures.value ∙ held_long ∙ (after_numbers d c.requires.flat i.held.items i.env.items c.args.event.now c.count.ensures.rules c.processes.ensures.rules c.requires.legal of.held).count ∙ sym of.env.count;
+    }
+
+pub settle-self-inside-requires-clause-state : goal.settle-self-inside-requires-clause-state
+settle-self-inside-requires-clause-state g c =
+    let d = c.args.design.now in
+    let i = c.self.inside in
+    let of = subst (IsSimOf d) (sym c.self.view_is) c.requires.of_design in
+    let held = c.hold.new.held.items in
+    let first = c.take_given.new.env.items in
+    let marks = c.take_given.new.waits.marks in
+    let held_is = c.hold.ensures.held ∙ ap (λ xs. after d i.held.items xs c.args.event.now) c.as_slice.ensures.value in
+    let first_is = c.take_given.ensures.env ∙ ap (λ xs. taken xs (numbers_of i.plan.given) i.env.items) c.as_slice-2.ensures.value in
+    let begun = begins d c.requires.flat c.count.ensures.rules c.processes.ensures.rules _ of c.args.event.now c.requires.legal c.deltas_are_few.ensures held first i.waits.marks marks held_is first_is c.take_given.ensures.waits in
+    subst (λ xs. FitsState d (state_of xs)) (sym c.as_slice-3.ensures.value) begun.fit
+
+pub settle-self-inside-requires-clause-signals : goal.settle-self-inside-requires-clause-signals
+settle-self-inside-requires-clause-signals g c =
+    let d = c.args.design.now in
+    let i = c.self.inside in
+    let of = subst (IsSimOf d) (sym c.self.view_is) c.requires.of_design in
+    let held = c.hold.new.held.items in
+    let first = c.take_given.new.env.items in
+    let marks = c.take_given.new.waits.marks in
+    let held_is = c.hold.ensures.held ∙ ap (λ xs. after d i.held.items xs c.args.event.now) c.as_slice.ensures.value in
+    let first_is = c.take_given.ensures.env ∙ ap (λ xs. taken xs (numbers_of i.plan.given) i.env.items) c.as_slice-2.ensures.value in
+    let begun = begins d c.requires.flat c.count.ensures.rules c.processes.ensures.rules _ of c.args.event.now c.requires.legal c.deltas_are_few.ensures held first i.waits.marks marks held_is first_is c.take_given.ensures.waits in
+    begun.numbers.count
+
+pub settle-self-inside-requires-clause-fits : goal.settle-self-inside-requires-clause-fits
+settle-self-inside-requires-clause-fits g c =
+    let d = c.args.design.now in
+    let i = c.self.inside in
+    let of = subst (IsSimOf d) (sym c.self.view_is) c.requires.of_design in
+    let held = c.hold.new.held.items in
+    let first = c.take_given.new.env.items in
+    let marks = c.take_given.new.waits.marks in
+    let held_is = c.hold.ensures.held ∙ ap (λ xs. after d i.held.items xs c.args.event.now) c.as_slice.ensures.value in
+    let first_is = c.take_given.ensures.env ∙ ap (λ xs. taken xs (numbers_of i.plan.given) i.env.items) c.as_slice-2.ensures.value in
+    let begun = begins d c.requires.flat c.count.ensures.rules c.processes.ensures.rules _ of c.args.event.now c.requires.legal c.deltas_are_few.ensures held first i.waits.marks marks held_is first_is c.take_given.ensures.waits in
+    begun.numbers.fits
+
+pub settle-self-inside-requires-clause-rests : goal.settle-self-inside-requires-clause-rests
+settle-self-inside-requires-clause-rests g c =
+    let d = c.args.design.now in
+    let i = c.self.inside in
+    let of = subst (IsSimOf d) (sym c.self.view_is) c.requires.of_design in
+    let held = c.hold.new.held.items in
+    let first = c.take_given.new.env.items in
+    let marks = c.take_given.new.waits.marks in
+    let held_is = c.hold.ensures.held ∙ ap (λ xs. after d i.held.items xs c.args.event.now) c.as_slice.ensures.value in
+    let first_is = c.take_given.ensures.env ∙ ap (λ xs. taken xs (numbers_of i.plan.given) i.env.items) c.as_slice-2.ensures.value in
+    let begun = begins d c.requires.flat c.count.ensures.rules c.processes.ensures.rules _ of c.args.event.now c.requires.legal c.deltas_are_few.ensures held first i.waits.marks marks held_is first_is c.take_given.ensures.waits in
+    subst (λ xs. Rests d (state_of xs) i.plan.tasks marks first) (sym c.as_slice-3.ensures.value) begun.rests
+
+pub settle-self-inside-requires-clause-ends : goal.settle-self-inside-requires-clause-ends
+settle-self-inside-requires-clause-ends g c =
+    let d = c.args.design.now in
+    let i = c.self.inside in
+    let of = subst (IsSimOf d) (sym c.self.view_is) c.requires.of_design in
+    let held = c.hold.new.held.items in
+    let first = c.take_given.new.env.items in
+    let marks = c.take_given.new.waits.marks in
+    let held_is = c.hold.ensures.held ∙ ap (λ xs. after d i.held.items xs c.args.event.now) c.as_slice.ensures.value in
+    let first_is = c.take_given.ensures.env ∙ ap (λ xs. taken xs (numbers_of i.plan.given) i.env.items) c.as_slice-2.ensures.value in
+    let begun = begins d c.requires.flat c.count.ensures.rules c.processes.ensures.rules _ of c.args.event.now c.requires.legal c.deltas_are_few.ensures held first i.waits.marks marks held_is first_is c.take_given.ensures.waits in
+    subst (λ xs. EndsIn d (state_of xs) first (i.longest + 2)) (sym c.as_slice-3.ensures.value) begun.ends
 
 pub returns-clause-of_design : goal.returns-clause-of_design
 returns-clause-of_design g c =
     let d = c.args.design.now in
-    let s = c.args.self.now in
-    let held_of : AreNumbersOf d c.in_ok-held.held.items = subst (AreNumbersOf d) (sym c.in_ok-held.ensures) (after_numbers d c.requires.flat s.held s.env c.args.event.now c.count.ensures.rules c.processes.ensures.rules c.requires.legal c.requires.of_design.held) in
-    let settled : Settled d (state_of c.in_ok-held.held.items) c.in_ok-env.env.items = subst (λ held. Settled d (state_of held) c.in_ok-env.env.items) c.as_slice.ensures.value c.in_ok-env.ensures in
-    let env_of = settled_numbers d c.requires.flat c.in_ok-held.held.items c.in_ok-env.env.items c.count.ensures.rules held_of settled in
-    sim_of_next d s _ c.in_ok-held.held.items c.in_ok-env.env.items c.put.ensures c.requires.of_design held_of env_of
+    let i = c.self.inside in
+    let of = subst (IsSimOf d) (sym c.self.view_is) c.requires.of_design in
+    let held = c.hold.new.held.items in
+    let first = c.take_given.new.env.items in
+    let marks = c.take_given.new.waits.marks in
+    let held_is = c.hold.ensures.held ∙ ap (λ xs. after d i.held.items xs c.args.event.now) c.as_slice.ensures.value in
+    let first_is = c.take_given.ensures.env ∙ ap (λ xs. taken xs (numbers_of i.plan.given) i.env.items) c.as_slice-2.ensures.value in
+    let begun = begins d c.requires.flat c.count.ensures.rules c.processes.ensures.rules _ of c.args.event.now c.requires.legal c.deltas_are_few.ensures held first i.waits.marks marks held_is first_is c.take_given.ensures.waits in
+    let next_long = c.settle-self-inside.ensures.next ∙ sym of.next.count ∙ sym (ap length c.deref_mut.ensures.value) ∙ c.deref_mut.ensures.len in
+    let settled = subst (λ xs. Settled d (state_of xs) c.settle-self-inside.new.env.items) c.as_slice-3.ensures.value c.settle-self-inside.ensures.settled in
+    record {
+      held = begun.held_of;
+      env = record { count = c.settle-self-inside.ensures.signals; fits = c.settle-self-inside.ensures.fits };
+      settled = settled;
+      longest = of.longest;
+      plan = subst (λ n. IsPlan d n i.plan) (sym (c.settle-self-inside.ensures.count ∙ c.hold.ensures.count)) of.plan;
+      numbers = c.settle-self-inside.ensures.numbers;
+      next = subst (AreNumbersOf d) (sym (vec_whole i.next.len c.settle-self-inside.new.next i.next.items next_long)) (record { count = c.settle-self-inside.ensures.next; fits = c.settle-self-inside.ensures.next_fits });
+      waits = c.settle-self-inside.ensures.waits;
+      then = c.settle-self-inside.ensures.then;
+      woken = c.settle-self-inside.ensures.woken;
+    }
 
 pub returns-clause-lives : goal.returns-clause-lives
 returns-clause-lives g c = λ events stands.
     let d = c.args.design.now in
-    let held = ap (λ (s : Simulated). s.held) c.put.ensures in
-    let env = ap (λ (s : Simulated). s.env) c.put.ensures in
-    let settled : Settled d (state_of c.in_ok-held.held.items) c.in_ok-env.env.items = subst (λ xs. Settled d (state_of xs) c.in_ok-env.env.items) c.as_slice.ensures.value c.in_ok-env.ensures in
-    let here : Settled d (state_of c.put.new.self.held) c.put.new.self.env = subst (λ (s : Simulated). Settled d (state_of s.held) s.env) (sym c.put.ensures) settled in
-    happened d c.requires.flat events c.args.event.now c.args.self.now c.put.new.self (returns-clause-of_design g c) (held ∙ c.in_ok-held.ensures) here stands
+    let i = c.self.inside in
+    let of = subst (IsSimOf d) (sym c.self.view_is) c.requires.of_design in
+    let held = c.hold.new.held.items in
+    let first = c.take_given.new.env.items in
+    let marks = c.take_given.new.waits.marks in
+    let held_is = c.hold.ensures.held ∙ ap (λ xs. after d i.held.items xs c.args.event.now) c.as_slice.ensures.value in
+    let first_is = c.take_given.ensures.env ∙ ap (λ xs. taken xs (numbers_of i.plan.given) i.env.items) c.as_slice-2.ensures.value in
+    let begun = begins d c.requires.flat c.count.ensures.rules c.processes.ensures.rules _ of c.args.event.now c.requires.legal c.deltas_are_few.ensures held first i.waits.marks marks held_is first_is c.take_given.ensures.waits in
+    let next_long = c.settle-self-inside.ensures.next ∙ sym of.next.count ∙ sym (ap length c.deref_mut.ensures.value) ∙ c.deref_mut.ensures.len in
+    let settled = subst (λ xs. Settled d (state_of xs) c.settle-self-inside.new.env.items) c.as_slice-3.ensures.value c.settle-self-inside.ensures.settled in
+    let new : Simulated = record {
+      held = c.hold.new.held.items;
+      env = c.settle-self-inside.new.env.items;
+      counts = c.settle-self-inside.result;
+      longest = c.self.inside.longest;
+      plan = c.self.inside.plan;
+      numbers = c.settle-self-inside.new.nums.items;
+      next = take c.self.inside.next.len (c.settle-self-inside.new.next ++ drop (length c.settle-self-inside.new.next) c.self.inside.next.items);
+      waits = c.settle-self-inside.new.waits;
+      then = c.settle-self-inside.new.then;
+      woken = c.settle-self-inside.new.woken;
+    } in
+    let is_sim : IsSimOf d new = record {
+      held = begun.held_of;
+      env = record { count = c.settle-self-inside.ensures.signals; fits = c.settle-self-inside.ensures.fits };
+      settled = settled;
+      longest = of.longest;
+      plan = subst (λ n. IsPlan d n i.plan) (sym (c.settle-self-inside.ensures.count ∙ c.hold.ensures.count)) of.plan;
+      numbers = c.settle-self-inside.ensures.numbers;
+      next = subst (AreNumbersOf d) (sym (vec_whole i.next.len c.settle-self-inside.new.next i.next.items next_long)) (record { count = c.settle-self-inside.ensures.next; fits = c.settle-self-inside.ensures.next_fits });
+      waits = c.settle-self-inside.ensures.waits;
+      then = c.settle-self-inside.ensures.then;
+      woken = c.settle-self-inside.ensures.woken;
+    } in
+    let was : Simulated = record { held = i.held.items; env = i.env.items; counts = i.counts; longest = i.longest; plan = i.plan; numbers = i.numbers.items; next = i.next.items; waits = i.waits; then = i.then; woken = i.woken } in
+    happened d c.requires.flat events c.args.event.now was new is_sim held_is settled (subst (Stands d events) (sym c.self.view_is) stands)
+
+pub returns-clause-counts : goal.returns-clause-counts
+returns-clause-counts g c =
+    let d = c.args.design.now in
+    let i = c.self.inside in
+    let of = subst (IsSimOf d) (sym c.self.view_is) c.requires.of_design in
+    let held = c.hold.new.held.items in
+    let first = c.take_given.new.env.items in
+    let marks = c.take_given.new.waits.marks in
+    let held_is = c.hold.ensures.held ∙ ap (λ xs. after d i.held.items xs c.args.event.now) c.as_slice.ensures.value in
+    let first_is = c.take_given.ensures.env ∙ ap (λ xs. taken xs (numbers_of i.plan.given) i.env.items) c.as_slice-2.ensures.value in
+    let begun = begins d c.requires.flat c.count.ensures.rules c.processes.ensures.rules _ of c.args.event.now c.requires.legal c.deltas_are_few.ensures held first i.waits.marks marks held_is first_is c.take_given.ensures.waits in
+    let rest = begun.ends.rest in
+    let none = ap (λ (w : Waiting). w.marks) of.woken in
+    let wakes = subst (λ was. Wakes i.plan.processes i.env.items first was c.take_given.new.woken.marks) none c.take_given.ensures.woken in
+    let are = subst (λ xs. DeltasFrom d (state_of xs) first rest) (sym c.as_slice-3.ensures.value) begun.ends.are in
+    let new : Simulated = record {
+      held = c.hold.new.held.items;
+      env = c.settle-self-inside.new.env.items;
+      counts = c.settle-self-inside.result;
+      longest = c.self.inside.longest;
+      plan = c.self.inside.plan;
+      numbers = c.settle-self-inside.new.nums.items;
+      next = take c.self.inside.next.len (c.settle-self-inside.new.next ++ drop (length c.settle-self-inside.new.next) c.self.inside.next.items);
+      waits = c.settle-self-inside.new.waits;
+      then = c.settle-self-inside.new.then;
+      woken = c.settle-self-inside.new.woken;
+    } in
+    let was : Simulated = record { held = i.held.items; env = i.env.items; counts = i.counts; longest = i.longest; plan = i.plan; numbers = i.numbers.items; next = i.next.items; waits = i.waits; then = i.then; woken = i.woken } in
+    let here : Settles d was new = record { deltas = first ∷ rest; are = begun.deltas rest begun.ends.are; counts = c.settle-self-inside.ensures.counts i.env.items rest wakes are } in
+    subst (λ (s : Simulated). Settles d s new) c.self.view_is here

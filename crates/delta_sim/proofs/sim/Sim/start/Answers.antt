@@ -1,52 +1,32 @@
-use Rattle.std.proofs.Common.{◌+◌, ℕ, suc, subst, sym, ap, ◌∙◌, add-one}
-use Rattle.comb_graph.specs.Laws.{FitsRows}
-use Rattle.design_ir.specs.Settled.{Settled}
-use Rattle.delta_sim.specs.Rounds.{SettlesIn}
-use Rattle.delta_sim.specs.Standing.{state_of, AreNumbersOf}
-use Rattle.delta_sim.proofs.Lives.{first_numbers, settled_numbers, started}
+use Rattle.std.proofs.Common.{◌∙◌, ap, sym, subst, length, arith}
+use Rattle.std.specs.Prelude.{replicate}
+use Rattle.delta_sim.specs.Plans.{IsPlan}
+use Rattle.delta_sim.specs.Settling.{nobody}
+use Rattle.delta_sim.specs.Tasks.{AreFitting}
+use Rattle.delta_sim.proofs.Beginning.{zeros_fit, zeros_long}
+use Rattle.delta_sim.proofs.Lives.{started}
 use Rattle.delta_sim.proofs.sim.Sim.start.Goals as goal
 
-pub settle-requires-clause-held : goal.settle-requires-clause-held
-settle-requires-clause-held c =
+pub first_settled-requires-clause-fresh : goal.first_settled-requires-clause-fresh
+first_settled-requires-clause-fresh c =
     let d = c.args.design.now in
-    (subst (AreNumbersOf d) (sym c.as_slice-4.ensures.value) (first_numbers d c.in_ok-held.held.items c.count.ensures.rules c.in_ok-held.ensures)).count
-
-pub settle-requires-clause-held_fits : goal.settle-requires-clause-held_fits
-settle-requires-clause-held_fits c =
-    let d = c.args.design.now in
-    (subst (AreNumbersOf d) (sym c.as_slice-4.ensures.value) (first_numbers d c.in_ok-held.held.items c.count.ensures.rules c.in_ok-held.ensures)).fits
-
-pub settle-requires-clause-first : goal.settle-requires-clause-first
-settle-requires-clause-first c =
-    let d = c.args.design.now in
-    let same = c.in_ok-first.ensures.items ∙ c.as_slice-2.ensures.value in
-    (subst (AreNumbersOf d) (sym same) (first_numbers d c.in_ok-held.held.items c.count.ensures.rules c.in_ok-held.ensures)).count
-
-pub settle-requires-clause-first_fits : goal.settle-requires-clause-first_fits
-settle-requires-clause-first_fits c =
-    let d = c.args.design.now in
-    let same = c.in_ok-first.ensures.items ∙ c.as_slice-2.ensures.value in
-    (subst (AreNumbersOf d) (sym same) (first_numbers d c.in_ok-held.held.items c.count.ensures.rules c.in_ok-held.ensures)).fits
+    let p = d.pool in
+    let zeros = c.in_ok-vec.ensures.items_if_clones_equal (λ y h. h) ∙ ap (replicate c.count.result) c.of_u128.ensures in
+    record {
+      held = c.in_ok-held.ensures;
+      env = c.in_ok-env.ensures.items ∙ c.as_slice.ensures.value;
+      longest = rw (← c.longest.ensures) at c.requires.ranked.longest;
+      plan = subst (λ n. IsPlan d n c.in_ok-plan.plan) (sym (ap length zeros ∙ zeros_long c.count.result ∙ c.count.ensures.value)) c.in_ok-plan.ensures;
+      numbers = subst (AreFitting p) (sym zeros) (zeros_fit p c.count.result (omega (arith, c.count.ensures.value)));
+      next = c.in_ok-next.ensures.items ∙ c.as_slice-2.ensures.value;
+      waits = c.in_ok-new.ensures ∙ ap nobody c.len-tasks.ensures;
+      then = c.in_ok-new-2.ensures ∙ ap nobody c.len-tasks.ensures;
+      woken = c.in_ok-new-3.ensures ∙ ap nobody (c.len.ensures ∙ ap length c.processes.ensures.value);
+    }
 
 pub returns : goal.returns
 returns c =
     let d = c.args.design.now in
-    let held = c.in_ok-held.held.items in
-    let env = c.in_ok-env.env.items in
-    let held_of = first_numbers d held c.count.ensures.rules c.in_ok-held.ensures in
-    let settled : Settled d (state_of held) env = subst (λ xs. Settled d (state_of xs) env) c.as_slice-4.ensures.value c.in_ok-env.ensures.settled in
-    let enough : SettlesIn d (suc c.args.ranks.now.longest) =
-    λ st fit e.
-    c.rounds_settle.ensures d c.args.ranks.now.longest c.count.ensures.rules c.processes.ensures.rules c.requires.ranked.longest st
-    (record { held = fit; rows = subst (λ ms. FitsRows ms st.rows) (sym c.requires.flat) tt }) e
-    in
-    let sweeps = sym (ap (λ (n : ℕ). n + 1) c.longest.ensures ∙ add-one c.args.ranks.now.longest) in
-    started d c.requires.flat _
-    (record {
-      held = held_of;
-      env = settled_numbers d c.requires.flat held env c.count.ensures.rules held_of settled;
-      sweeps = subst (SettlesIn d) sweeps enough;
-      given = c.in_ok-given.ensures;
-      targets = c.in_ok-targets.ensures;
-    })
-    c.in_ok-held.ensures settled
+    let s = c.first_settled.new.sim in
+    let of = c.first_settled.ensures.of_design in
+    started d c.requires.flat s of (c.first_settled.ensures.held ∙ c.in_ok-held.ensures) of.settled

@@ -1,0 +1,5 @@
+use Rattle.delta_sim.specs.Tables.{AreTables}
+use Rattle.delta_sim.proofs.tables.all_tables.Given as goal
+
+abbrev pub invariant-loop-k : goal.invariant-loop-k
+invariant-loop-k l = AreTables l.design l.k l.tables.clocked l.tables.tasks l.tables.readers.items l.tables.processes.items

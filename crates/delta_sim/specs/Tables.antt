@@ -1,0 +1,29 @@
+-- What is known of the first processes while a plan grows.
+use Rattle.std.specs.Prelude.{◌≡◌, ◌≢◌, ℕ, ◌<◌, ◌≤◌, ◌==◌, ◌&&◌, ◌||◌, true, false, List, length, is_none, slice_get, Some, None}
+use Rattle.design_ir.specs.declared.ids.DomainId.{DomainId}
+use Rattle.design_ir.specs.declared.process.DesignProcess.{DesignProcess}
+use Rattle.design_ir.specs.Circuits.{Circuit, is_among}
+use Rattle.design_ir.specs.Guards.{driven}
+use Rattle.delta_sim.specs.declared.task.Task.{Task}
+use Rattle.delta_sim.specs.Driven.{numbers_of}
+use Rattle.delta_sim.specs.Plans.{IsTable, HasClocked, IsCombTask, IsCovered, readers_of}
+use Rattle.delta_sim.specs.Reads.{block_reads}
+use Rattle.delta_sim.specs.Tasks.{picked}
+
+-- these signals have one reader more
+pub record IsAdded (reads : List ℕ) (n : ℕ) (old new : List (List ℕ)) : Type 0 where
+  pub count : length new ≡ length old
+  pub each : (s k : ℕ) → s < length old → is_among (readers_of new s) k ≡ (is_among (readers_of old s) k || (is_among reads s && (n == k)))
+
+-- the tasks of the first so many processes, and who of them reads each signal
+pub record AreTables (c : Circuit) (n : ℕ) (clocks combs : List Task) (task_table process_table : List (List ℕ)) : Type 0 where
+  pub clocked_count : length clocks ≡ n
+  pub clocked : (k : ℕ) (p : DesignProcess) (d : DomainId) → k < n → slice_get c.processes k ≡ Some p → p.domain ≡ Some d → HasClocked c (length c.pool.exprs) clocks k p
+  pub few : length combs ≤ n
+  pub tasks : (j : ℕ) (t : Task) → slice_get combs j ≡ Some t → IsCombTask c (length c.pool.exprs) t × (t.process < n)
+  pub covered : (k : ℕ) (p : DesignProcess) (s : ℕ) → k < n → slice_get c.processes k ≡ Some p → p.domain ≡ None → is_among (driven c.pool p.body) s ≡ true → IsCovered combs k s
+  pub apart : (i j : ℕ) (a b : Task) (s : ℕ) → slice_get combs i ≡ Some a → slice_get combs j ≡ Some b → i ≢ j → is_among (numbers_of a.outs) s ≡ true → is_among (numbers_of b.outs) s ≡ false
+  pub readers : IsTable (length c.pool.signals) (length combs) task_table
+  pub awake : (s j : ℕ) (t : Task) (p : DesignProcess) → slice_get combs j ≡ Some t → slice_get c.processes t.process ≡ Some p → block_reads c.pool s (picked p.body t.statements) ≡ true → is_among (readers_of task_table s) j ≡ true
+  pub processes : IsTable (length c.pool.signals) n process_table
+  pub exact : (s k : ℕ) (p : DesignProcess) → s < length c.pool.signals → k < n → slice_get c.processes k ≡ Some p → is_among (readers_of process_table s) k ≡ (is_none p.domain && block_reads c.pool s p.body)

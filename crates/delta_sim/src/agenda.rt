@@ -1,0 +1,91 @@
+// Numbers that wait, each once.
+ghost use Rattle.std.specs.Prelude.{◌≡◌, ◌<◌, [], false, true, length, ℕ, slice_set, slice_index, slice_index_or, replicate, IfOk};
+ghost use Rattle.std.specs.List.{AllByRecursion};
+ghost use Rattle.design_ir.specs.Circuits.{is_among};
+ghost use Rattle.delta_sim.specs.Waiting.{IsWaiting};
+
+use amh_host::NoMemory;
+use std::alloc::Global;
+use std::marker::Model;
+
+/// Some of the numbers below a bound, each once, in the order in which they came. Once it is made it takes no memory.
+#[derive(Drop)]
+pub struct Agenda {
+    marks: Vec<bool>,
+    list: Vec<u32>,
+    len: usize,
+}
+
+impl Model for Agenda {
+    ghost use Rattle.std.specs.Prelude.{◌≡◌, ◌≤◌, take, length};
+    ghost use Rattle.delta_sim.specs.Waiting.{Waiting, IsWaiting};
+
+    ghost Value = { Waiting };
+
+    ghost view = { λ a. record { marks = a.marks.items; list = take a.len a.list.items } };
+
+    ghost invariant = { λ a. (a.len ≤ length a.list.items) × (length a.list.items ≡ length a.marks.items) × IsWaiting record { marks = a.marks.items; list = take a.len a.list.items } };
+}
+
+impl Agenda {
+    /// None of the numbers below a bound.
+    pub fn new(alloc: Global, bound: usize) -> Result<Agenda, NoMemory>
+        ensures { IfOk result (λ a. a ≡ record { marks = replicate bound false; list = [] }) }
+    {
+        let marks = vec![in alloc; false; bound]?;
+        let list = vec![in alloc; 0; bound]?;
+        Ok(Agenda {
+            marks,
+            list,
+            len: 0,
+        })
+    }
+
+    /// How many wait.
+    pub fn len(&self) -> usize
+        ensures count { result ≡ length self.now.list }
+        ensures rules { IsWaiting self.now }
+    {
+        self.len
+    }
+
+    /// One of those that wait.
+    pub fn get(&self, i: usize) -> u32
+        requires { i < length self.now.list }
+        ensures { result ≡ slice_index self.now.list i }
+    {
+        self.list[i]
+    }
+
+    /// Lets a number wait.
+    pub fn mark(&mut self, n: u32)
+        requires { n < length self.old.marks }
+        ensures { self.new.marks ≡ slice_set self.old.marks n true }
+    {
+        if self.marks[n as usize] {
+            return;
+        }
+        self.marks[n as usize] = true;
+        self.list[self.len] = n;
+        self.len += 1;
+    }
+
+    /// Lets none wait any more.
+    pub fn clear(&mut self)
+        ensures { self.new ≡ record { marks = replicate (length self.old.marks) false; list = [] } }
+    {
+        unmark(&self.list[..self.len], &mut self.marks);
+        self.len = 0;
+    }
+}
+
+// Takes the marks of these numbers away.
+fn unmark(list: &[u32], marks: &mut Vec<bool>)
+    requires { AllByRecursion (λ n. n < length marks.old.items) list.now }
+    ensures count { length marks.new.items ≡ length marks.old.items }
+    ensures gone { (n : ℕ) → slice_index_or marks.new.items n false ≡ true → (is_among list.now n ≡ false) × (slice_index_or marks.old.items n false ≡ true) }
+{
+    for n in list {
+        marks[*n as usize] = false;
+    }
+}

@@ -1,0 +1,114 @@
+// One delta.
+ghost use Rattle.std.specs.Prelude.{◌≡◌, ◌<◌, ℕ, [], true, false, length, replicate, slice_get, slice_index_or, Some};
+ghost use Rattle.std.specs.List.{AllByRecursion};
+ghost use Rattle.design_ir.specs.Circuits.{State, at, is_among};
+ghost use Rattle.design_ir.specs.Settled.{delta};
+ghost use Rattle.design_ir.proofs.NumbersFit.{FitsSignals};
+ghost use Rattle.comb_graph.specs.Laws.{FitsState};
+ghost use Rattle.delta_sim.specs.declared.task.Task.{Task};
+ghost use Rattle.delta_sim.specs.Driven.{numbers_of};
+ghost use Rattle.delta_sim.specs.Plans.{IsPlan, IsTable, Rests, Wakes, IsUntouched};
+ghost use Rattle.delta_sim.specs.Tasks.{AreFitting};
+
+use crate::agenda::Agenda;
+use crate::plan::Plan;
+use crate::run::run;
+use crate::wake::take;
+use amh_bits::Int;
+use design_ir::{Design, Exprs};
+
+/// Runs the tasks that wait, all from the same numbers; then their signals take what they came to, and the tasks wait
+/// that read a signal whose number changed.
+pub fn delta(
+    design: &Design,
+    plan: &Plan,
+    env: &mut Vec<Int>,
+    nums: &mut Vec<Int>,
+    next: &mut [Int],
+    waits: &mut Agenda,
+    then: &mut Agenda,
+    woken: &mut Agenda,
+)
+    requires flat { design.now.memories ≡ [] }
+    requires plan { IsPlan design.now (length nums.old.items) plan.now }
+    requires signals { length env.old.items ≡ length design.now.pool.signals }
+    requires fits { FitsSignals design.now.pool env.old.items }
+    requires numbers { AreFitting design.now.pool nums.old.items }
+    requires next { length next.old ≡ length design.now.pool.signals }
+    requires next_fits { FitsSignals design.now.pool next.old }
+    requires waits { length waits.old.marks ≡ length plan.now.tasks }
+    requires then { then.old ≡ record { marks = replicate (length plan.now.tasks) false; list = [] } }
+    requires woken { length woken.old.marks ≡ length design.now.processes }
+    ensures env { (st : State) → FitsState design.now st → Rests design.now st plan.now.tasks waits.old.marks env.old.items → env.new.items ≡ delta design.now st env.old.items }
+    ensures count { length nums.new.items ≡ length nums.old.items }
+    ensures numbers { AreFitting design.now.pool nums.new.items }
+    ensures next { length next.new ≡ length design.now.pool.signals }
+    ensures next_fits { FitsSignals design.now.pool next.new }
+    ensures waits { Wakes plan.now.readers env.old.items env.new.items (replicate (length plan.now.tasks) false) waits.new.marks }
+    ensures then { then.new ≡ record { marks = replicate (length plan.now.tasks) false; list = [] } }
+    ensures woken { Wakes plan.now.processes env.old.items env.new.items woken.old.marks woken.new.marks }
+{
+    let _ = design.count();
+    let _ = design.processes();
+    run_all(design, plan, waits, env.as_slice(), nums, next);
+    take_all(plan, waits, next, env, then, woken);
+    waits.clear();
+    std::mem::swap(waits, then);
+}
+
+// Runs the tasks that wait.
+fn run_all(
+    design: &Design,
+    plan: &Plan,
+    waits: &Agenda,
+    env: &[Int],
+    nums: &mut Vec<Int>,
+    next: &mut [Int],
+)
+    requires flat { design.now.memories ≡ [] }
+    requires plan { IsPlan design.now (length nums.old.items) plan.now }
+    requires signals { length env.now ≡ length design.now.pool.signals }
+    requires fits { FitsSignals design.now.pool env.now }
+    requires numbers { AreFitting design.now.pool nums.old.items }
+    requires next { length next.old ≡ length design.now.pool.signals }
+    requires next_fits { FitsSignals design.now.pool next.old }
+    requires waits { length waits.now.marks ≡ length plan.now.tasks }
+    ensures ran { (st : State) (j s : ℕ) (t : Task) → slice_get plan.now.tasks j ≡ Some t → slice_index_or waits.now.marks j false ≡ true → is_among (numbers_of t.outs) s ≡ true → at next.new s ≡ at (delta design.now st env.now) s }
+    ensures count { length nums.new.items ≡ length nums.old.items }
+    ensures numbers { AreFitting design.now.pool nums.new.items }
+    ensures next { length next.new ≡ length design.now.pool.signals }
+    ensures next_fits { FitsSignals design.now.pool next.new }
+{
+    let _ = design.count();
+    let _ = design.processes();
+    for i in 0..waits.len() {
+        let task = plan.tasks.get(waits.get(i) as usize);
+        run(design, task, env, nums, next);
+    }
+}
+
+// The signals of the tasks that wait take what they came to.
+fn take_all(
+    plan: &Plan,
+    waits: &Agenda,
+    next: &[Int],
+    env: &mut Vec<Int>,
+    then: &mut Agenda,
+    woken: &mut Agenda,
+)
+    requires tasks { IsTable (length env.old.items) (length then.old.marks) plan.now.readers }
+    requires processes { IsTable (length env.old.items) (length woken.old.marks) plan.now.processes }
+    requires waits { length waits.now.marks ≡ length plan.now.tasks }
+    requires below { (j : ℕ) (t : Task) → slice_get plan.now.tasks j ≡ Some t → AllByRecursion (λ s. s < length env.old.items) (numbers_of t.outs) }
+    requires long { length next.now ≡ length env.old.items }
+    ensures count { length env.new.items ≡ length env.old.items }
+    ensures kept { (s : ℕ) → IsUntouched plan.now.tasks waits.now.marks s → at env.new.items s ≡ at env.old.items s }
+    ensures taken { (j s : ℕ) (t : Task) → slice_get plan.now.tasks j ≡ Some t → slice_index_or waits.now.marks j false ≡ true → is_among (numbers_of t.outs) s ≡ true → at env.new.items s ≡ at next.now s }
+    ensures waits { Wakes plan.now.readers env.old.items env.new.items then.old.marks then.new.marks }
+    ensures woken { Wakes plan.now.processes env.old.items env.new.items woken.old.marks woken.new.marks }
+{
+    for i in 0..waits.len() {
+        let task = plan.tasks.get(waits.get(i) as usize);
+        take(plan, task.outs.as_slice(), next, env, then, woken);
+    }
+}

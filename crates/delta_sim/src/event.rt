@@ -1,0 +1,43 @@
+// What an event does to what is held.
+ghost use Rattle.std.specs.Prelude.{◌≡◌, ◌<◌, [], length, slice_set};
+ghost use Rattle.design_ir.specs.Legal.{IsLegal};
+ghost use Rattle.design_ir.proofs.NumbersFit.{FitsSignals};
+ghost use Rattle.delta_sim.specs.After.{after};
+ghost use Rattle.delta_sim.specs.Plans.{IsPlan};
+ghost use Rattle.delta_sim.specs.Tasks.{AreFitting};
+
+use crate::clocks::after_edge;
+use crate::plan::Plan;
+use amh_bits::Int;
+use design_ir::{Design, Event, Exprs};
+
+/// Puts what is held after an event in place of what was held.
+pub fn hold(
+    design: &Design,
+    plan: &Plan,
+    event: &Event,
+    env: &[Int],
+    nums: &mut Vec<Int>,
+    held: &mut Vec<Int>,
+)
+    requires legal { IsLegal design.now event.now }
+    requires plan { IsPlan design.now (length nums.old.items) plan.now }
+    requires env { length env.now ≡ length design.now.pool.signals }
+    requires env_fits { FitsSignals design.now.pool env.now }
+    requires numbers { AreFitting design.now.pool nums.old.items }
+    requires signals { length held.old.items ≡ length design.now.pool.signals }
+    requires fits { FitsSignals design.now.pool held.old.items }
+    ensures held { held.new.items ≡ after design.now held.old.items env.now event.now }
+    ensures count { length nums.new.items ≡ length nums.old.items }
+    ensures numbers { AreFitting design.now.pool nums.new.items }
+{
+    match event {
+        Event::Set { sig, value } => {
+            let s = sig.0 as usize;
+            if s < held.len() {
+                held[s] = *value;
+            }
+        }
+        Event::Edge(clocks) => after_edge(design, plan, env, nums, clocks.as_slice(), held),
+    }
+}

@@ -1,0 +1,16 @@
+// What is worked out of a design once.
+
+use crate::targets::SigIds;
+use crate::task::Task;
+use amh_host::{Items, Numbers};
+
+/// Which signals a state gives; for each process, by its number, the task that carries it out where it is clocked; the
+/// tasks of the combinational ones; and for each signal the tasks and the processes that read it.
+#[derive(Drop)]
+pub struct Plan {
+    pub given: SigIds,
+    pub clocked: Items<Task>,
+    pub tasks: Items<Task>,
+    pub readers: Items<Numbers>,
+    pub processes: Items<Numbers>,
+}

@@ -1,0 +1,15 @@
+// What is computed at a time.
+
+use crate::targets::SigIds;
+use amh_host::Items;
+use design_ir::Ids;
+
+/// Statements of one process by their places in it, the signals that they drive, and the expressions that stand in them,
+/// each behind those that it names.
+#[derive(Drop)]
+pub struct Task {
+    pub process: u32,
+    pub statements: Items<usize>,
+    pub outs: SigIds,
+    pub exprs: Ids,
+}
