@@ -16,6 +16,7 @@ pub mod PutFits
 pub mod ReadBits
 pub mod WrittenRows
 pub mod StepFits
+pub mod Undriven
 pub mod OneHistory
 pub mod SameNumbers
 pub mod ChainRounds

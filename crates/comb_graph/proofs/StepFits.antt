@@ -116,7 +116,7 @@ module _ (c : Circuit) (rules : IsPool c.pool) (design : IsDesign c) where
   clear_fits held None p cur fit = fit
   clear_fits held (Some d) p cur fit = cond_both (is_cleared c held d.0) (reset_all c.pool.signals cur (driven c.pool p.body)) cur (FitsSignals c.pool) (λ t. resets_fit (driven c.pool p.body) cur fit) (λ t. fit)
 
-  clears_fit : (held : List ℤ) (ps : List DesignProcess) (cur : List ℤ) → FitsSignals c.pool cur → FitsSignals c.pool (fold (cleared c held) cur ps)
+  pub clears_fit : (held : List ℤ) (ps : List DesignProcess) (cur : List ℤ) → FitsSignals c.pool cur → FitsSignals c.pool (fold (cleared c held) cur ps)
   clears_fit held [] cur fit = fit
   clears_fit held (p ∷ ps) cur fit = clears_fit held ps (cleared c held cur p) (clear_fits held p.domain p cur fit)
 

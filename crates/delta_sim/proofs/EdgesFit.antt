@@ -14,7 +14,7 @@ use Rattle.design_ir.specs.Designs.{IsDesign, IsClockDomain}
 use Rattle.design_ir.specs.Guards.{driven}
 use Rattle.design_ir.specs.Put.{put}
 use Rattle.design_ir.specs.Circuits.{Circuit, at}
-use Rattle.design_ir.specs.Steps.{rises, is_reset, reset_to, reset_all, clocked_at, clocked, toggle_at, toggle}
+use Rattle.design_ir.specs.Steps.{is_active, is_reset, reset_to, reset_all, clocked_at, clocked, toggle_at, toggle}
 use Rattle.design_ir.proofs.NumbersFit.{FitsSignals}
 use Rattle.design_ir.proofs.PutLaws.{put_length}
 use Rattle.delta_sim.proofs.ResetLaws.{resets_length}
@@ -47,7 +47,7 @@ module _ (c : Circuit) where
         let after : List ℤ = put c.pool env p.body cur in
         let fits : FitsSignals c.pool after = put_fits c.pool env p.body cur fit in
         let reset : List ℤ = reset_all c.pool.signals after (driven c.pool p.body) in
-        either (FitsSignals c.pool) (rises c env listed d.0) (if is_reset c env d.0 then reset else after) cur
+        either (FitsSignals c.pool) (is_active c env listed d.0) (if is_reset c env d.0 then reset else after) cur
         (either (FitsSignals c.pool) (is_reset c env d.0) reset after (resets_fit (driven c.pool p.body) after rules fits) fits) fit
 
     pub clocks_fit : (ps : List DesignProcess) (cur : List ℤ) → IsPool c.pool → FitsSignals c.pool cur → FitsSignals c.pool (fold (clocked c env listed) cur ps)
@@ -60,7 +60,7 @@ module _ (c : Circuit) where
         let after : List ℤ = put c.pool env p.body cur in
         let reset : List ℤ = reset_all c.pool.signals after (driven c.pool p.body) in
         let long : length after ≡ length cur = put_length c.pool env p.body cur in
-        either (λ (xs : List ℤ). length xs ≡ length cur) (rises c env listed d.0) (if is_reset c env d.0 then reset else after) cur
+        either (λ (xs : List ℤ). length xs ≡ length cur) (is_active c env listed d.0) (if is_reset c env d.0 then reset else after) cur
         (either (λ (xs : List ℤ). length xs ≡ length cur) (is_reset c env d.0) reset after (resets_length c.pool.signals (driven c.pool p.body) after ∙ long) long) refl
 
     pub clock_length : (cur more : List ℤ) (p : DesignProcess) → more ≡ clocked c env listed cur p → length more ≡ length cur

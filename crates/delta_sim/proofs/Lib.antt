@@ -29,6 +29,7 @@ pub mod Rooting
 pub mod Spreading
 pub mod Applying
 pub mod Clocking
+pub mod Clearing
 pub mod Settles
 pub mod StatementTurns
 pub mod TaskValues

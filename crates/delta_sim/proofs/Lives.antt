@@ -14,10 +14,12 @@ use Rattle.design_ir.specs.Histories.{Reaches, start, after as reaches_after}
 use Rattle.design_ir.specs.Legal.{IsLegal}
 use Rattle.design_ir.specs.PoolRules.{IsPool}
 use Rattle.design_ir.specs.Settled.{Settled}
-use Rattle.design_ir.specs.Steps.{clocked, clocked_reads, rows_after, toggle, step, clock_low, first_state}
+use Rattle.design_ir.specs.Steps.{clocked, clocked_reads, rows_after, toggle, moved, all_cleared, step, clock_low, first_state}
 use Rattle.design_ir.specs.Values.{signal_form}
+use Rattle.design_ir.proofs.ClearedLaws.{clears_length}
 use Rattle.design_ir.proofs.NumbersFit.{FitsSignals}
-use Rattle.delta_sim.specs.After.{after}
+use Rattle.comb_graph.proofs.StepFits.{clears_fit}
+use Rattle.delta_sim.specs.After.{held_before, after}
 use Rattle.delta_sim.specs.Standing.{Simulated, state_of, AreNumbersOf, IsSimOf, Stands}
 use Rattle.delta_sim.proofs.DrivenLists.{append_turn}
 use Rattle.delta_sim.proofs.Starts.{drop_get}
@@ -29,24 +31,33 @@ use Rattle.delta_sim.proofs.WritesFit.{set_fits}
 module _ (c : Circuit) (flat : c.memories ≡ []) where
   -- ---- events
 
-  pub step_is : (held env : List ℤ) (e : Event) → step c (state_of held) env e ≡ state_of (after c held env e)
-  step_is held env (Set s n) = refl
-  step_is held env (Edge listed) =
+  moved_is : (held env : List ℤ) (e : Event) → moved c (state_of held) env e ≡ state_of (held_before c held env e)
+  moved_is held env (Set s n) = refl
+  moved_is held env (Edge listed) =
       let registers : List ℤ = fold (clocked c env listed) held c.processes in
       let both : List Memory → State = λ ms. record { held = fold (toggle c.domains) (clocked_reads c env listed ms [] registers) listed; rows = rows_after c env listed ms [] } in
       ap both flat
 
-  pub after_numbers : (held env : List ℤ) (e : Event) → IsPool c.pool → IsDesign c → IsLegal c e → AreNumbersOf c held → AreNumbersOf c (after c held env e)
-  after_numbers held env (Set s n) rules design legal numbers = record {
+  pub step_is : (held env : List ℤ) (e : Event) → step c (state_of held) env e ≡ state_of (after c held env e)
+  step_is held env e = ap (all_cleared c) (moved_is held env e)
+
+  before_numbers : (held env : List ℤ) (e : Event) → IsPool c.pool → IsDesign c → IsLegal c e → AreNumbersOf c held → AreNumbersOf c (held_before c held env e)
+  before_numbers held env (Set s n) rules design legal numbers = record {
     count = length-set held s.0 n ∙ numbers.count;
     fits = set_fits c.pool held s.0 n legal.2 numbers.fits;
   }
-  after_numbers held env (Edge listed) rules design legal numbers =
+  before_numbers held env (Edge listed) rules design legal numbers =
       let registers : List ℤ = fold (clocked c env listed) held c.processes in
       record {
         count = toggles_length c listed registers ∙ clocks_length c env listed c.processes held ∙ numbers.count;
         fits = toggles_fit c listed registers design (clocks_fit c env listed c.processes held rules numbers.fits);
       }
+
+  pub after_numbers : (held env : List ℤ) (e : Event) → IsPool c.pool → IsDesign c → IsLegal c e → AreNumbersOf c held → AreNumbersOf c (after c held env e)
+  after_numbers held env e rules design legal numbers =
+      let before : List ℤ = held_before c held env e in
+      let were = before_numbers held env e rules design legal numbers in
+      record { count = clears_length c before c.processes before ∙ were.count; fits = clears_fit c rules design before c.processes before were.fits }
 
   pub settled_numbers : (held env : List ℤ) → IsPool c.pool → AreNumbersOf c held → Settled c (state_of held) env → AreNumbersOf c env
   settled_numbers held env rules numbers settled = record {

@@ -6,7 +6,7 @@ ghost use Rattle.design_ir.specs.declared.ids.DomainId.{DomainId};
 ghost use Rattle.design_ir.specs.declared.process.DesignProcess.{DesignProcess};
 ghost use Rattle.design_ir.specs.Circuits.{at};
 ghost use Rattle.design_ir.specs.Put.{put};
-ghost use Rattle.design_ir.specs.Steps.{rises, is_reset, reset_to, reset_all, clocked, toggle};
+ghost use Rattle.design_ir.specs.Steps.{is_before_edge, is_active, is_reset, reset_to, reset_all, clocked, toggle};
 ghost use Rattle.design_ir.proofs.NumbersFit.{FitsSignals};
 ghost use Rattle.delta_sim.specs.Driven.{numbers_of};
 ghost use Rattle.delta_sim.specs.Plans.{IsPlan, HasClocked};
@@ -16,7 +16,7 @@ use crate::compute::compute;
 use crate::plan::Plan;
 use crate::statements::{is_zero, put_task};
 use amh_bits::Int;
-use design_ir::{Design, DesignProcess, DomainId, Exprs, SigId};
+use design_ir::{Design, DesignProcess, Domain, DomainId, Exprs, SigId};
 
 /// What is held after an edge of these domains, all read before it, in place of what was held.
 pub fn after_edge(
@@ -42,7 +42,7 @@ pub fn after_edge(
     toggle_all(design, listed, held);
 }
 
-// Carries out the processes whose domains rise.
+// Carries out the processes whose domains are active.
 fn clock_all(
     design: &Design,
     plan: &Plan,
@@ -70,7 +70,7 @@ fn clock_all(
     }
 }
 
-// Carries out a process where its domain rises.
+// Carries out a process where its domain is active.
 fn clock(
     design: &Design,
     plan: &Plan,
@@ -95,7 +95,7 @@ fn clock(
     let Some(d) = p.domain else {
         return;
     };
-    if !rises(design, env, listed, d) {
+    if !is_active(design, env, listed, d) {
         return;
     }
     carry_out(design, plan, k, p, env, nums, held);
@@ -129,8 +129,8 @@ fn carry_out(
     put_task(design, task, &p.body, env, nums.as_slice(), held);
 }
 
-// Gives these signals their inits.
-fn reset_all(design: &Design, signals: &[SigId], cur: &mut [Int])
+/// Gives these signals their inits.
+pub fn reset_all(design: &Design, signals: &[SigId], cur: &mut [Int])
     requires { length cur.old ≡ length design.now.pool.signals }
     ensures { cur.new ≡ reset_all design.now.pool.signals cur.old (numbers_of signals.now) }
 {
@@ -153,12 +153,24 @@ fn reset(design: &Design, s: SigId, cur: &mut [Int])
     }
 }
 
-// Whether a domain is listed and its clock is 0.
-fn rises(design: &Design, env: &[Int], listed: &[DomainId], d: DomainId) -> bool
+// Whether a domain is listed and its clock stands before its active edge.
+fn is_active(design: &Design, env: &[Int], listed: &[DomainId], d: DomainId) -> bool
     requires { d.0 < length design.now.domains }
-    ensures { result ≡ rises design.now env.now listed.now d.0 }
+    ensures { result ≡ is_active design.now env.now listed.now d.0 }
 {
-    is_listed(listed, d) && is_zero(number_at(env, design.domain(d).clk))
+    let domain = design.domain(d);
+    is_listed(listed, d) && is_before_edge(domain, number_at(env, domain.clk))
+}
+
+// Whether a clock with this number stands before the active edge of its domain.
+fn is_before_edge(domain: &Domain, clock: Int) -> bool
+    ensures { result ≡ is_before_edge domain.now clock }
+{
+    if domain.falling {
+        !is_zero(clock)
+    } else {
+        is_zero(clock)
+    }
 }
 
 fn is_listed(listed: &[DomainId], d: DomainId) -> bool
@@ -167,8 +179,8 @@ fn is_listed(listed: &[DomainId], d: DomainId) -> bool
     listed.iter().any(|x| x.0 == d.0)
 }
 
-// Whether a domain has a reset that is 1.
-fn is_reset(design: &Design, env: &[Int], d: DomainId) -> bool
+/// Whether a domain has a reset that is 1.
+pub fn is_reset(design: &Design, env: &[Int], d: DomainId) -> bool
     requires { d.0 < length design.now.domains }
     ensures { result ≡ is_reset design.now env.now d.0 }
 {

@@ -2,10 +2,11 @@
 ghost use Rattle.std.specs.Prelude.{◌≡◌, ◌<◌, [], length, slice_set};
 ghost use Rattle.design_ir.specs.Legal.{IsLegal};
 ghost use Rattle.design_ir.proofs.NumbersFit.{FitsSignals};
-ghost use Rattle.delta_sim.specs.After.{after};
+ghost use Rattle.delta_sim.specs.After.{after, held_before};
 ghost use Rattle.delta_sim.specs.Plans.{IsPlan};
 ghost use Rattle.delta_sim.specs.Tasks.{AreFitting};
 
+use crate::clears::clear_all;
 use crate::clocks::after_edge;
 use crate::plan::Plan;
 use amh_bits::Int;
@@ -28,6 +29,31 @@ pub fn hold(
     requires signals { length held.old.items ≡ length design.now.pool.signals }
     requires fits { FitsSignals design.now.pool held.old.items }
     ensures held { held.new.items ≡ after design.now held.old.items env.now event.now }
+    ensures count { length nums.new.items ≡ length nums.old.items }
+    ensures numbers { AreFitting design.now.pool nums.new.items }
+{
+    change(design, plan, event, env, nums, held);
+    clear_all(design, plan, held);
+}
+
+// What it does before asynchronous resets act.
+fn change(
+    design: &Design,
+    plan: &Plan,
+    event: &Event,
+    env: &[Int],
+    nums: &mut Vec<Int>,
+    held: &mut Vec<Int>,
+)
+    requires legal { IsLegal design.now event.now }
+    requires plan { IsPlan design.now (length nums.old.items) plan.now }
+    requires env { length env.now ≡ length design.now.pool.signals }
+    requires env_fits { FitsSignals design.now.pool env.now }
+    requires numbers { AreFitting design.now.pool nums.old.items }
+    requires signals { length held.old.items ≡ length design.now.pool.signals }
+    requires fits { FitsSignals design.now.pool held.old.items }
+    ensures held { held.new.items ≡ held_before design.now held.old.items env.now event.now }
+    ensures signals { length held.new.items ≡ length design.now.pool.signals }
     ensures count { length nums.new.items ≡ length nums.old.items }
     ensures numbers { AreFitting design.now.pool nums.new.items }
 {

@@ -10,6 +10,7 @@
 
 mod agenda;
 mod bits;
+mod clears;
 mod clocks;
 mod compile;
 mod compute;

@@ -28,5 +28,5 @@ returns-then-is_reset-clause-held c = λ q is.
     ap (λ ss. reset_all sigs after (numbers_of ss)) c.as_slice.ensures ∙ ap (λ (t : Task). reset_all sigs after (numbers_of t.outs)) task in
     let like = resets_like sigs (numbers_of has.t.outs) (driven d.pool body) after has.is_task.outs in
     let put = ap (λ xs. reset_all sigs xs (driven d.pool body)) c.carry_out.ensures.held in
-    let clock = clocked_reset d env c.args.listed.now c.args.held.now c.get-p.result.now c.in-Some.d c.in-Some.is (sym c.if-not-rises.ensures) (sym c.if-is_reset.ensures) in
+    let clock = clocked_reset d env c.args.listed.now c.args.held.now c.get-p.result.now c.in-Some.d c.in-Some.is (sym c.if-not-is_active.ensures) (sym c.if-is_reset.ensures) in
     c.reset_all.ensures ∙ outs ∙ like ∙ put ∙ sym clock ∙ ap (clocked d env c.args.listed.now c.args.held.now) (sym same)
