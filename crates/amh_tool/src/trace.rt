@@ -8,7 +8,6 @@ ghost use Rattle.amh_host.specs.Written.{Writes};
 ghost use Rattle.design_ir.specs.declared.event.Event.{Event};
 ghost use Rattle.design_ir.specs.Histories.{History};
 ghost use Rattle.design_ir.specs.Legal.{IsLegal, AllLegal};
-ghost use Rattle.design_ir.specs.Rising.{AllRisingSync};
 ghost use Rattle.comb_graph.specs.Laws.{HasOneHistory};
 ghost use Rattle.delta_sim.specs.Standing.{IsSimOf, Stands};
 ghost use Rattle.amh_tool.specs.Headline.{IsTrace};
@@ -111,7 +110,6 @@ fn put_rows<H: Host>(
 // What an event does, with a counter of steps of its own: nothing is said yet of how many a simulator takes.
 fn apply(sim: &mut Sim, design: &Design, event: &Event) -> Result<(), NoMemory>
     requires flat { design.now.memories ≡ [] }
-    requires rising { AllRisingSync design.now }
     requires legal { IsLegal design.now event.now }
     requires of_design { IsSimOf design.now sim.old }
     ensures of_design { IsSimOf design.now sim.new }
@@ -129,7 +127,6 @@ fn counted_apply<L: Ledger>(
 ) -> Result<(), NoMemory>
     requires blank { (blank.name ≡ L.name) × (blank.parts ≡ L.parts) × (0 < L.parts) }
     requires flat { design.now.memories ≡ [] }
-    requires rising { AllRisingSync design.now }
     requires legal { IsLegal design.now event.now }
     requires of_design { IsSimOf design.now sim.old }
     ensures of_design { IsSimOf design.now sim.new }

@@ -1,6 +1,5 @@
 // What is said of a design.
 ghost use Rattle.std.specs.Prelude.{◌≡◌, []};
-ghost use Rattle.design_ir.specs.Rising.{AllRisingSync};
 ghost use Rattle.comb_graph.specs.Rankings.{IsRanking};
 
 use crate::events::played;
@@ -41,8 +40,7 @@ pub fn name_of(alloc: Global, lines: &[String]) -> Result<String, Stop> {
 }
 
 fn design_said(alloc: Global, design: &Design, lines: &[String]) -> Result<String, Stop>
-    requires flat { design.now.memories ≡ [] }
-    requires rising { AllRisingSync design.now }
+    requires { design.now.memories ≡ [] }
 {
     match rank(alloc, design) {
         Ok(ranks) => accepted_said(alloc, design, &ranks, lines),
@@ -73,7 +71,6 @@ fn accepted_said(
     lines: &[String],
 ) -> Result<String, Stop>
     requires flat { design.now.memories ≡ [] }
-    requires rising { AllRisingSync design.now }
     requires ranked { IsRanking design.now ranks.now }
 {
     let mut said = format!(in alloc; "accepted {} {}", ranks.longest(), ranks.order().len())?;

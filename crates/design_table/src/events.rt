@@ -1,7 +1,6 @@
 // The numbers of a design's signals behind events.
 ghost use Rattle.std.specs.Prelude.{◌≡◌, ◌<◌, [], IfOk, IfSome};
 ghost use Rattle.design_ir.specs.Legal.{IsLegal};
-ghost use Rattle.design_ir.specs.Rising.{AllRisingSync};
 ghost use Rattle.comb_graph.specs.Rankings.{IsRanking};
 ghost use Rattle.delta_sim.specs.Standing.{IsSimOf};
 
@@ -25,7 +24,6 @@ pub fn played(
     lines: &[String],
 ) -> Result<String, Stop>
     requires flat { design.now.memories ≡ [] }
-    requires rising { AllRisingSync design.now }
     requires ranked { IsRanking design.now ranks.now }
 {
     let mut said = String::new(alloc);
@@ -43,7 +41,6 @@ pub fn played(
 // What the event of a line does, where it has one.
 fn play_line(alloc: Global, sim: &mut Sim, design: &Design, words: &[&str]) -> Result<(), Stop>
     requires flat { design.now.memories ≡ [] }
-    requires rising { AllRisingSync design.now }
     requires of_design { IsSimOf design.now sim.old }
     ensures { IsSimOf design.now sim.new }
 {
@@ -98,7 +95,6 @@ fn edge_event(alloc: Global) -> Result<Event, Stop> {
 // What an event does, with a counter of steps of its own.
 fn apply(sim: &mut Sim, design: &Design, event: &Event) -> Result<(), NoMemory>
     requires flat { design.now.memories ≡ [] }
-    requires rising { AllRisingSync design.now }
     requires legal { IsLegal design.now event.now }
     requires of_design { IsSimOf design.now sim.old }
     ensures { IsSimOf design.now sim.new }
@@ -115,7 +111,6 @@ fn counted_apply<L: Ledger>(
 ) -> Result<(), NoMemory>
     requires blank { (blank.name ≡ L.name) × (blank.parts ≡ L.parts) × (0 < L.parts) }
     requires flat { design.now.memories ≡ [] }
-    requires rising { AllRisingSync design.now }
     requires legal { IsLegal design.now event.now }
     requires of_design { IsSimOf design.now sim.old }
     ensures { IsSimOf design.now sim.new }
