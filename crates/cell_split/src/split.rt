@@ -20,11 +20,11 @@ use rtlil_text::{RtlCell, RtlCells, RtlModule, RtlWires};
 use shape_rules::CellKind;
 use std::alloc::Global;
 
-/// The module with each bitwise cell cut into cells of one bit where it lies on a loop between cells, so that who takes
-/// cells whole sees loops only where bits need themselves. Its wires, memories and links stay, it keeps the rules of
-/// RTLIL text, and every bit of every wire has the value of before after every event, or has none in both; registers
-/// drive the same bits. Which cells lie on a loop is found in time that is linear in the bits of the module, but for
-/// the look-up of wires by their ids. `NoMemory` comes where memory lacks, and for no other reason.
+/// The module with each bitwise cell cut into cells of one bit where it lies on a loop between cells, so that a reader
+/// that takes cells whole sees loops only where bits need themselves. Its wires, memories and links stay, it keeps the
+/// rules of RTLIL text, and every bit of every wire has the value of before after every event, or has none in both;
+/// registers drive the same bits. Which cells lie on a loop is found in time that is linear in the bits of the module,
+/// but for the look-up of wires by their ids. `NoMemory` comes where memory lacks, and for no other reason.
 pub fn split_tangled(alloc: Global, rtl: RtlModule) -> Result<RtlModule, NoMemory>
     requires { IsModule rtl }
     ensures rules { IfOk result IsModule }
