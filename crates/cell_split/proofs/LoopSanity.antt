@@ -1,5 +1,5 @@
 -- Loops through cells, and loops through bits, in small modules.
-use Rattle.std.proofs.Common.{◌≡◌, ◌≢◌, ◌⊎◌, ◌∙◌, inl, inr, ◌&&◌, not, ℕ, Bool, true, false, List, [], ◌∷◌, refl, sym, ap, arith, subst}
+use Rattle.std.proofs.Common.{◌≡◌, ◌≢◌, ◌⊎◌, ◌∙◌, inl, inr, ◌&&◌, not, ℕ, Bool, true, false, List, [], ◌∷◌, ◌+◌, ◌≤◌, All, Contains, refl, sym, ap, arith, subst}
 use Rattle.std.specs.Prelude.{Some, codes}
 use Rattle.lists.specs.Texts.{text_eq}
 use Rattle.shape_rules.specs.declared.cell.CellKind.TheVariants.{And, Add}
@@ -10,6 +10,17 @@ use Rattle.rtlil_text.specs.declared.module.WirePort.TheVariants.{Inner, Input}
 use Rattle.rtlil_text.specs.declared.module.RtlModule.{RtlModule}
 use Rattle.rtlil_text.specs.Sources.{Source, Net, end_bits}
 use Rattle.rtlil_text.proofs.Among.{Among, Among-slice_get, Among-contains}
+use Rattle.rtlil_text.specs.declared.cell.RtlParameter.{RtlParameter}
+use Rattle.rtlil_text.specs.declared.cell.RtlEnd.{RtlEnd}
+use Rattle.rtlil_text.specs.declared.module.WirePort.{WirePort}
+use Rattle.rtlil_text.specs.declared.module.RtlWire.{RtlWire}
+use Rattle.rtlil_text.specs.Numerals.{numeral}
+use Rattle.rtlil_text.specs.Ids.{IsId}
+use Rattle.rtlil_text.specs.MemoryRules.{MemoryFits}
+use Rattle.rtlil_text.specs.Rules.{IsModule, ValueFits, SpecFits, PartFits, WireFits, CellFits, LinkFits, module_ids}
+use Rattle.rtlil_text.proofs.Distinct.{AreDistinct-are_distinct}
+use Rattle.rtlil_text.proofs.GateSanity.{public}
+use Rattle.std.proofs.lemmas.List.Elements.{All-from_recursion, All-nil}
 use Rattle.rtlil_text.proofs.Builders.{wire, whole, binary, mux}
 use Rattle.cell_split.specs.Pieces.{is_shared, numbered_id}
 use Rattle.cell_split.specs.Split.{split_of}
@@ -104,6 +115,59 @@ and_tangled h = and_bits (h (bit y 0) and_whole)
 and_cut : (split_of 5 (true ∷ []) tangle).cells
     ≡ binary And (numbered_id 5) 0 0 1 1 1 (slice a 0 ∷ []) (slice b 0 ∷ []) (slice y 0 ∷ []) ∷ binary And (numbered_id 6) 0 0 1 1 1 (slice y 0 ∷ []) (slice b 1 ∷ []) (slice y 1 ∷ []) ∷ []
 and_cut = refl
+
+-- ---- the rules hold of that module, so the clause of `split_tangled` speaks of it
+
+abbrev wire_a : RtlWire
+wire_a = wire a 2 (Input 1)
+
+abbrev wire_b : RtlWire
+wire_b = wire b 2 (Input 2)
+
+abbrev wire_y : RtlWire
+wire_y = wire y 2 Inner
+
+slice_fits : (w : RtlWire) (low width : ℕ) → Contains tangle.wires w → 1 ≤ width → low + width ≤ w.width → PartFits tangle.wires (parts.Wire w.id low width)
+slice_fits w low width among some within = record { wire = w; among = among; named = refl; some = some; within = within }
+
+whole_fits : (w : RtlWire) → Contains tangle.wires w → w.width ≡ 2 → SpecFits tangle.wires (whole w.id 2)
+whole_fits w among e = All-from_recursion (PartFits tangle.wires) (whole w.id 2) (slice_fits w 0 2 among (omega arith) (omega (arith, e)), tt)
+
+and_fits : CellFits tangle the_and
+and_fits = record {
+  parameters = refl;
+  values = All-from_recursion (λ (p : RtlParameter). ValueFits p.value) the_and.parameters (tt, (tt, (tt, (tt, (tt, tt)))));
+  ends = refl;
+  specs = All-from_recursion (λ (e : RtlEnd). SpecFits tangle.wires e.spec) the_and.ends (
+    All-from_recursion (PartFits tangle.wires) (slice y 0 ∷ slice a 0 ∷ []) (slice_fits wire_y 0 1 (2, omega arith, refl) (omega arith) (omega arith), (slice_fits wire_a 0 1 (0, omega arith, refl) (omega arith) (omega arith), tt)),
+    (whole_fits wire_b (1, omega arith, refl) refl, (whole_fits wire_y (2, omega arith, refl) refl, tt)),
+  );
+  rules = record {
+    widths = record { a = refl; b = refl; y = refl; sign_a = omega arith; sign_b = omega arith };
+    equal_b = refl;
+    equal_y = refl;
+    same_sign = refl;
+  };
+}
+
+wire_fits : {id : List ℕ} {port : WirePort} → WireFits (wire id 2 port)
+wire_fits = record { wide = omega arith; init = tt }
+
+tangle_ids : All IsId (module_ids tangle)
+unfolding numeral
+tangle_ids = All-from_recursion IsId (module_ids tangle) (public 97 refl, (public 98 refl, (inr (1, refl), (inr (2, refl), tt))))
+
+IsModule-tangle : IsModule tangle
+IsModule-tangle = record {
+  distinct = AreDistinct-are_distinct (module_ids tangle) refl;
+  ids = tangle_ids;
+  wires = All-from_recursion WireFits tangle.wires (wire_fits, (wire_fits, (wire_fits, tt)));
+  memories = All-nil (MemoryFits tangle);
+  cells = All-from_recursion (CellFits tangle) tangle.cells (and_fits, tt);
+  links = All-nil (LinkFits tangle);
+  ports = refl;
+  drivers = record { moves = []; below = tt; is = refl };
+}
 
 -- ---- loops of bits stay
 

@@ -78,6 +78,6 @@ Way feeds a (b ∷ between) end = feeds a b × Way feeds b between end
 abbrev pub OnLoop : (Bit → Bit → Type 0) → Bit → Type 0
 OnLoop feeds b = (between : List Bit) × Way feeds b between b
 
--- who takes cells whole sees loops only where bits need themselves
+-- a reader that takes cells whole sees loops only where bits need themselves
 abbrev pub LoopsAreOfBits : RtlModule → Type 0
 LoopsAreOfBits m = (b : Bit) → OnLoop (FeedsWhole m) b → OnLoop (Feeds m) b

@@ -61,39 +61,7 @@ fn free_block(taken: &[bool]) -> usize
 
 // ---- the blocks of ids
 
-// The number of an inner id.
-fn number_of(id: &str) -> Option<u128>
-    ensures { (k : ℕ) → k < 2 ^ 128 → id.now ≡ numbered_id k → result ≡ Some k }
-{
-    match id.strip_prefix('$') {
-        Some(digits) => match digits.parse::<u128>() {
-            Ok(number) => Some(number),
-            Err(_) => None,
-        },
-        None => None,
-    }
-}
-
-fn mark(taken: &mut [bool], id: &str)
-    ensures kept { Marks taken.old taken.new }
-    ensures one { count_taken taken.new ≤ count_taken taken.old + 1 }
-    ensures marked { MarksId taken.new id.now }
-{
-    if let Some(number) = number_of(id) {
-        mark_block(taken, number / BLOCK);
-    }
-}
-
-fn mark_block(taken: &mut [bool], block: u128)
-    ensures kept { Marks taken.old taken.new }
-    ensures one { count_taken taken.new ≤ count_taken taken.old + 1 }
-    ensures marked { block < length taken.old → is_taken taken.new block ≡ true }
-{
-    if block < taken.len() as u128 {
-        taken[block as usize] = true;
-    }
-}
-
+// Marks the blocks of the numbers in all ids.
 fn mark_all(taken: &mut [bool], rtl: &RtlModule)
     ensures size { length taken.new ≡ length taken.old }
     ensures few { count_taken taken.new ≤ count_taken taken.old + length (module_ids rtl.now) }
@@ -131,5 +99,39 @@ fn mark_cells(taken: &mut [bool], cells: &RtlCells)
 {
     for cell in cells.as_slice() {
         mark(taken, cell.id.as_str());
+    }
+}
+
+// Marks the block of the number in an id, where it is one of these.
+fn mark(taken: &mut [bool], id: &str)
+    ensures kept { Marks taken.old taken.new }
+    ensures one { count_taken taken.new ≤ count_taken taken.old + 1 }
+    ensures marked { MarksId taken.new id.now }
+{
+    if let Some(number) = number_of(id) {
+        mark_block(taken, number / BLOCK);
+    }
+}
+
+fn mark_block(taken: &mut [bool], block: u128)
+    ensures kept { Marks taken.old taken.new }
+    ensures one { count_taken taken.new ≤ count_taken taken.old + 1 }
+    ensures marked { block < length taken.old → is_taken taken.new block ≡ true }
+{
+    if block < taken.len() as u128 {
+        taken[block as usize] = true;
+    }
+}
+
+// The number of an inner id.
+fn number_of(id: &str) -> Option<u128>
+    ensures { (k : ℕ) → k < 2 ^ 128 → id.now ≡ numbered_id k → result ≡ Some k }
+{
+    match id.strip_prefix('$') {
+        Some(digits) => match digits.parse::<u128>() {
+            Ok(number) => Some(number),
+            Err(_) => None,
+        },
+        None => None,
     }
 }

@@ -96,7 +96,8 @@ fn lead_at(
 
 // ---- cells
 
-fn number(cell: &RtlCell, name: &str) -> u32
+/// The number under a parameter, or 0 where the cell has none there.
+pub(crate) fn number(cell: &RtlCell, name: &str) -> u32
     ensures { result ≡ number_at cell.now name.now }
 {
     match cell.parameter(name) {

@@ -11,18 +11,20 @@ ghost use Rattle.cell_split.specs.Short.{IsPlainCell, AreNarrow, width_name};
 
 use crate::copies::copied_cell;
 use crate::laws::{splits_keep_the_history, splits_keep_the_registers, splits_keep_the_rules};
+use crate::needs::number;
 use crate::numbers::free_number;
 use crate::pieces::{is_bitwise, push_pieces};
 use crate::tangled::tangled;
 use amh_host::{Items, NoMemory};
-use rtlil_text::{RtlCell, RtlCells, RtlModule, RtlValue, RtlWires};
+use rtlil_text::{RtlCell, RtlCells, RtlModule, RtlWires};
 use shape_rules::CellKind;
 use std::alloc::Global;
 
-/// The module with each bitwise cell cut into cells of one bit where it lies on a loop between cells. Its wires,
-/// memories and links stay, it keeps the rules of RTLIL text, and every bit of every wire has the value of before
-/// after every event, or has none in both; registers drive the same bits. Which cells lie on a loop is found in time that is linear in the bits of
-/// the module, but for the look-up of wires by their ids.
+/// The module with each bitwise cell cut into cells of one bit where it lies on a loop between cells, so that a reader
+/// that takes cells whole sees loops only where bits need themselves. Its wires, memories and links stay, it keeps the
+/// rules of RTLIL text, and every bit of every wire has the value of before after every event, or has none in both;
+/// registers drive the same bits. Which cells lie on a loop is found in time that is linear in the bits of the module,
+/// but for the look-up of wires by their ids. `NoMemory` comes where memory lacks, and for no other reason.
 pub fn split_tangled(alloc: Global, rtl: RtlModule) -> Result<RtlModule, NoMemory>
     requires { IsModule rtl }
     ensures rules { IfOk result IsModule }
@@ -90,14 +92,9 @@ fn is_narrow(_width: u32)
 fn output_width(cell: &RtlCell) -> u32
     ensures { result ≡ number_at cell.now (width_name cell.now.kind) }
 {
-    let name = if cell.kind == CellKind::Mux {
-        "\\WIDTH"
-    } else {
-        "\\Y_WIDTH"
-    };
-    match cell.parameter(name) {
-        Some(RtlValue::Number(n)) => *n,
-        _ => 0,
+    match cell.kind {
+        CellKind::Mux => number(cell, "\\WIDTH"),
+        _ => number(cell, "\\Y_WIDTH"),
     }
 }
 

@@ -1,5 +1,6 @@
-// What no clause says: which cells are marked.
+// What no clause says: that no other cells are marked, and which numbers are chosen.
 
+use crate::numbers::free_number;
 use crate::tangled::tangled;
 use amh_host::{NoMemory, Text};
 use rtlil_text::{
@@ -150,5 +151,34 @@ fn a_register_between_is_no_loop(rt: HostRuntime) -> Result<(), Fail> {
     cells.push(register(alloc)?)?;
     let marks = tangled(alloc, &rtl(alloc, cells, RtlLinks::new(alloc))?)?;
     assert_eq!(rt; marks.as_slice(), [false, false].as_slice());
+    Ok(())
+}
+
+// A module of one wire with this id.
+fn one_wire(alloc: Global, id: &str) -> Result<RtlModule, NoMemory> {
+    let mut wires = RtlWires::new(alloc);
+    wires.push(wire(alloc, id)?)?;
+    Ok(RtlModule {
+        wires,
+        memories: RtlMemories::new(alloc),
+        cells: RtlCells::new(alloc),
+        links: RtlLinks::new(alloc),
+    })
+}
+
+#[test]
+fn new_numbers_have_more_digits(rt: HostRuntime) -> Result<(), Fail> {
+    let alloc = rt.alloc();
+    let first = free_number(alloc, &one_wire(alloc, "$17")?)?;
+    assert_eq!(rt; first, 1000);
+    Ok(())
+}
+
+#[test]
+fn a_long_id_leaves_small_numbers(rt: HostRuntime) -> Result<(), Fail> {
+    let alloc = rt.alloc();
+    let long = "$9999999999999999999999999999999999999999";
+    let first = free_number(alloc, &one_wire(alloc, long)?)?;
+    assert_eq!(rt; first, 0);
     Ok(())
 }
