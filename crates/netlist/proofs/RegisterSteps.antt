@@ -172,7 +172,7 @@ module _ (c : Circuit) (design : IsDesign c) (flat : c.memories ≡ []) (s : ℕ
         ∙ folded.result
         ∙ ap (λ o. at (clocked_at c env listed p folded.then o) s) (is_clocked c p d s clock).domain
 
-    -- where its domain does not rise, it keeps its number
+    -- where its domain is not active, it keeps its number
     pub held_register : is_active c env listed d.0 ≡ false → at (moved c st env (Edge listed)).held s ≡ at st.held s
     held_register e =
         by_process
