@@ -5,7 +5,7 @@ use Rattle.std.specs.Result.{IsErrAnd}
 use Rattle.std.proofs.lemmas.Result.{err_from_is_err_and}
 use Rattle.amh_host.specs.Causes.{HasCause, Rose}
 use Rattle.amh_host.specs.declared.host.HostStop.{HostStop}
-use Rattle.amh_host.specs.declared.host.HostStop.TheVariants.{Failed, NoMemory}
+use Rattle.amh_host.specs.declared.host.HostStop.TheVariants.{NoMemory}
 
 module _ {T : Type 0} where
   -- a refusal for want of memory, where nothing has failed

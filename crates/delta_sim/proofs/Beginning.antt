@@ -110,25 +110,27 @@ module _ (c : Circuit) (flat : c.memories ≡ []) (rules : IsPool c.pool) (desig
         (λ (t : is_held c s ≡ false). free_at s x.0 x.1 t ∙ sym (begun ∙ ap (λ b. if b then at held s else x.0.init) t))
         (cases_Bool (is_held c s)))
 
-    ready_at : (s : ℕ) → is_comb c s ≡ false → at held s ≡ at (delta c st held) s
-    ready_at s comb = start_at s ∙ sym (delta_start c st rules design held s comb)
+    -- numbers that differ from what is held only where combinational processes drive
+    module _ (env : List ℤ) (of : AreNumbersOf c env) (same : (s : ℕ) → is_comb c s ≡ false → at env s ≡ at held s) where
+      ready_at : (s : ℕ) → is_comb c s ≡ false → at env s ≡ at (delta c st env) s
+      ready_at s comb = same s comb ∙ start_at s ∙ sym (delta_start c st rules design env s comb)
 
-    ready : IsReady c rules design st fit held
-    ready = record { whole = record { fits = numbers.fits; long = numbers.count }; held = ready_at }
+      ready : IsReady c rules design st fit env
+      ready = record { whole = record { fits = of.fits; long = of.count }; held = ready_at }
 
-    pub first_ends : (longest : ℕ) → IsLongest c longest → EndsIn c (state_of held) held (longest + 2)
-    first_ends longest chain = ends_in c st held longest (settled_after c rules design st fit held ready longest chain)
+      pub first_ends : (longest : ℕ) → IsLongest c longest → EndsIn c (state_of held) env (longest + 2)
+      first_ends longest chain = ends_in c st env longest (settled_after c rules design st fit env ready longest chain)
 
-    -- where all tasks wait, whatever none of them drives rests
-    pub first_rests : (count : ℕ) (plan : Plan) (marks : List Bool) → IsPlan c count plan → ((j : ℕ) → j < length plan.tasks → slice_index_or marks j false ≡ true) → Rests c (state_of held) plan.tasks marks held
-    first_rests count plan marks planned all s untouched =
-        ⊎_elim
-        (λ (comb : is_comb c s ≡ true).
-        let o = comb_signal c flat s comb in
-        let v = planned.covered o.k o.p s o.stands o.comb o.drives in
-        absurd (false≢true (sym (untouched v.j v.t v.stands (all v.j (place_below plan.tasks v.j v.t v.stands))) ∙ v.drives)))
-        (λ (comb : is_comb c s ≡ false). sym (ready_at s comb))
-        (cases_Bool (is_comb c s))
+      -- where all tasks wait, whatever none of them drives rests
+      pub first_rests : (count : ℕ) (plan : Plan) (marks : List Bool) → IsPlan c count plan → ((j : ℕ) → j < length plan.tasks → slice_index_or marks j false ≡ true) → Rests c (state_of held) plan.tasks marks env
+      first_rests count plan marks planned all s untouched =
+          ⊎_elim
+          (λ (comb : is_comb c s ≡ true).
+          let o = comb_signal c flat s comb in
+          let v = planned.covered o.k o.p s o.stands o.comb o.drives in
+          absurd (false≢true (sym (untouched v.j v.t v.stands (all v.j (place_below plan.tasks v.j v.t v.stands))) ∙ v.drives)))
+          (λ (comb : is_comb c s ≡ false). sym (ready_at s comb))
+          (cases_Bool (is_comb c s))
 
 -- ---- what is computed at first
 

@@ -1,6 +1,7 @@
--- The task of all statements of a process.
-use Rattle.std.specs.Prelude.{◌≡◌, refl, ℕ, zero, suc, ◌+◌, ◌<◌, ◌≤◌, Bool, true, false, List, [], ◌++◌, length, replicate, slice_get, slice_index_or, Some}
+-- The task of some statements of a process.
+use Rattle.std.specs.Prelude.{◌≡◌, refl, ℕ, zero, suc, ◌+◌, ◌<◌, ◌≤◌, ◌||◌, Bool, true, false, List, [], ◌∷◌, ◌++◌, length, map, replicate, slice_get, slice_index_or, Some}
 use Rattle.std.specs.List.{AllByRecursion, range_with_len}
+use Rattle.std.specs.List.Sorted.{IsNonDecreasing}
 use Rattle.std.proofs.Common.{sym, ◌∙◌, ap, arith, subst}
 use Rattle.design_ir.specs.declared.ids.ExprId.{ExprId}
 use Rattle.design_ir.specs.declared.ids.SigId.{SigId}
@@ -14,19 +15,21 @@ use Rattle.design_ir.specs.Put.{put}
 use Rattle.design_ir.specs.Targets.{is_target}
 use Rattle.design_ir.specs.Trees.{Statement, assign, choose, Choices, none, arm, Block, done, next, statements, block_len}
 use Rattle.design_ir.proofs.Equations.{standing}
-use Rattle.delta_sim.specs.declared.task.Task.{Task}
+use Rattle.delta_sim.specs.declared.compile.Compiled.{Compiled}
 use Rattle.delta_sim.specs.Compiled.{IsCompiled, HoldsSignal}
-use Rattle.delta_sim.specs.Driven.{AreTargets, numbers_of, listed}
+use Rattle.delta_sim.specs.Driven.{AreTargets, numbers_of, listed, statement_listed}
 use Rattle.delta_sim.specs.Given.{marked}
-use Rattle.delta_sim.specs.Marks.{is_marked, AreMarked, AreSpread, ReadOnly, Stays, listed_of}
+use Rattle.delta_sim.specs.Groups.{IsApart, drives_at, drives_of}
+use Rattle.delta_sim.specs.Marks.{is_marked, AreMarked, AreSpread, ReadOnly, Stays}
 use Rattle.delta_sim.specs.Plans.{IsClockedTask}
 use Rattle.delta_sim.specs.Reading.{AreBelow, AreThere}
 use Rattle.delta_sim.specs.Reads.{block_reads}
-use Rattle.delta_sim.specs.Tasks.{IsProgram, AreAmong, AreTargetsOf, picked, places_of, block_targets, statement_targets, choices_targets, block_values, statement_values, choices_values}
+use Rattle.delta_sim.specs.Tasks.{IsTask, AreAmong, AreTargetsOf, picked, places_of, block_targets, statement_targets, choices_targets, block_values, statement_values, choices_values}
 use Rattle.delta_sim.proofs.DrivenLists.{driven_like}
 use Rattle.delta_sim.proofs.EdgesFit.{all_get}
 use Rattle.delta_sim.proofs.Listing.{listed_program, all_among, whole, block_either, block_aims, first_targets}
 use Rattle.delta_sim.proofs.Marks.{usable_there, marked_length}
+use Rattle.delta_sim.proofs.Picking.{picked_all, drives_is, drives_part, group_same}
 use Rattle.delta_sim.proofs.ReadMarks.{first_only, reads_exact}
 use Rattle.delta_sim.proofs.SignalsInside.{driven_there, all_of}
 use Rattle.delta_sim.proofs.DeltaSteps.{below_of}
@@ -88,7 +91,11 @@ statements_len : (b : Block) → length (statements b) ≡ block_len b
 statements_len done = refl
 statements_len (next s rest) = ap suc (statements_len rest)
 
--- ---- a process
+-- all places of a block
+pub whole_inside : (b : Block) (n : ℕ) (is : List ℕ) → is ≡ range_with_len 0 n → n ≡ block_len b → AllByRecursion (λ i. i < length (statements b)) is
+whole_inside b n is e many = subst (AllByRecursion (λ i. i < length (statements b))) (sym e) (range_below 0 n (length (statements b)) (omega (arith, statements_len b, many)))
+
+-- ---- some statements of a process
 
 module _ (c : Circuit) (rules : IsPool c.pool) (design : IsDesign c) (k : ℕ) (p : DesignProcess) (stands : slice_get c.processes k ≡ Some p) where
   is_process : IsProcess c p
@@ -97,73 +104,114 @@ module _ (c : Circuit) (rules : IsPool c.pool) (design : IsDesign c) (k : ℕ) (
   pub expressions : AreThere c.pool (block_exprs p.body)
   expressions = usable_there c (block_exprs p.body) is_process.expressions
 
-  aims_are : AreTargetsOf c.pool (block_targets p.body)
-  aims_are = block_aims c.pool [] p.body is_process.targets
+  -- the signals of each of its statements
+  module _ (targets : List (List SigId)) (known : AreTargets c.pool (length c.pool.exprs) targets) (drives : List (List SigId)) (are : drives ≡ map (statement_listed (λ j. slice_index_or targets j [])) (statements p.body)) where
+    pub drives_many : length drives ≡ length (statements p.body)
+    drives_many = ap length are ∙ mapped (statements p.body)
+      where
+        mapped : (xs : List Statement) → length (map (statement_listed (λ j. slice_index_or targets j [])) xs) ≡ length xs
+        mapped [] = refl
+        mapped (x ∷ xs) = ap suc (mapped xs)
 
-  -- no more is marked first than targets
-  pub first_aims : (n : ℕ) (aims : List Bool) → aims ≡ marked (places_of (block_targets p.body)) (replicate n false) → (j : ℕ) → is_marked aims j ≡ true → is_target c.pool j ≡ true
-  first_aims n aims e j h = first_targets c.pool (block_targets p.body) (replicate n false) (none_marked n) aims_are j (sym (ap (λ m. is_marked m j) e) ∙ h)
+    pub drives_are : (i s : ℕ) → i < length (statements p.body) → is_among (drives_of drives i) s ≡ drives_at c.pool p.body i s
+    drives_are = drives_is c.pool targets p.body drives known expressions are
 
-  pub first_length : (n : ℕ) (ss : List ℕ) (marks : List Bool) → n ≡ length c.pool.exprs → marks ≡ marked ss (replicate n false) → length marks ≡ length c.pool.exprs
-  first_length n ss marks many e = ap length e ∙ marked_length ss (replicate n false) ∙ replicate_length false n ∙ many
+    pub drives_below : (n : ℕ) → n ≡ length c.pool.signals → (i : ℕ) → i < length drives → AllByRecursion (λ s. s < n) (drives_of drives i)
+    drives_below n many i h = all_of (λ s. s < n) (drives_of drives i) (λ s m.
+        let at : drives_at c.pool p.body i s ≡ true = sym (drives_are i s (omega (arith, h, drives_many))) ∙ m in
+        let below = below_of (length c.pool.signals) (driven c.pool p.body) s (driven_there c.pool rules p.body expressions) (drives_part c.pool s p.body (i ∷ []) at) in
+        omega (arith, below, many))
 
-  module _ (n : ℕ) (many : n ≡ length c.pool.exprs) (aims0 values0 aims values : List Bool)
-      (ea : aims0 ≡ marked (places_of (block_targets p.body)) (replicate n false)) (ev : values0 ≡ marked (places_of (block_values p.body)) (replicate n false))
-      (long : length aims ≡ length c.pool.exprs) (long' : length values ≡ length c.pool.exprs) (stay : Stays aims0 aims) (stay' : Stays values0 values) (closed : AreSpread c.pool 0 aims values)
-      (are : (j : ℕ) → is_marked aims j ≡ true → is_target c.pool j ≡ true) (only : (r : ℕ → Bool) → ReadOnly c.pool aims0 values0 r → ReadOnly c.pool aims values r) where
-    within : length (replicate n false) ≡ length c.pool.exprs
-    within = replicate_length false n ∙ many
+  module _ (places : List ℕ) where
+    abbrev body : Block
+    body = picked p.body places
 
-    marked_first : (es : List ExprId) → AreThere c.pool es → AreMarked (marked (places_of es) (replicate n false)) es
-    marked_first es there = marks_new es (replicate n false) (subst (λ m. AreBelow m es) (sym within) there)
+    pub there : AreThere c.pool (block_exprs body)
+    there = picked_all (λ (e : ExprId). e.0 < length c.pool.exprs) block_exprs statement_exprs (λ s r. refl) p.body places expressions tt
 
-    aims_marked : AreMarked aims (block_targets p.body)
-    aims_marked = all_stay aims0 aims (block_targets p.body) stay (subst (λ m. AreMarked m (block_targets p.body)) (sym ea) (marked_first (block_targets p.body) (aims_below (length c.pool.exprs) p.body expressions)))
+    aims_are : AreTargetsOf c.pool (block_targets body)
+    aims_are = picked_all (λ (e : ExprId). is_target c.pool e.0 ≡ true) block_targets statement_targets (λ s r. refl) p.body places (block_aims c.pool [] p.body is_process.targets) tt
 
-    values_marked : AreMarked values (block_values p.body)
-    values_marked = all_stay values0 values (block_values p.body) stay' (subst (λ m. AreMarked m (block_values p.body)) (sym ev) (marked_first (block_values p.body) (values_below (length c.pool.exprs) p.body expressions)))
+    -- no more is marked first than targets
+    pub first_aims : (n : ℕ) (aims : List Bool) → aims ≡ marked (places_of (block_targets body)) (replicate n false) → (j : ℕ) → is_marked aims j ≡ true → is_target c.pool j ≡ true
+    first_aims n aims e j h = first_targets c.pool (block_targets body) (replicate n false) (none_marked n) aims_are j (sym (ap (λ m. is_marked m j) e) ∙ h)
 
-    only_reads : ReadOnly c.pool aims values (λ s. block_reads c.pool s p.body)
-    only_reads =
-        only (λ s. block_reads c.pool s p.body)
-        (subst (λ m. ReadOnly c.pool m values0 (λ s. block_reads c.pool s p.body)) (sym ea)
-        (subst (λ m. ReadOnly c.pool (marked (places_of (block_targets p.body)) (replicate n false)) m (λ s. block_reads c.pool s p.body)) (sym ev)
-        (first_only c.pool p.body (replicate n false) (replicate n false) (none_marked n) (none_marked n))))
+    pub first_length : (ss : List ℕ) (marks : List Bool) → marks ≡ marked ss (replicate (length c.pool.exprs) false) → length marks ≡ length c.pool.exprs
+    first_length ss marks e = ap length e ∙ marked_length ss (replicate (length c.pool.exprs) false) ∙ replicate_length false (length c.pool.exprs)
 
-    module _ (t : Task) (targets : List (List SigId)) (known : AreTargets c.pool (length c.pool.exprs) targets) (process : t.process ≡ k) (places : t.statements ≡ range_with_len 0 (block_len p.body))
-        (outs : t.outs ≡ listed (λ j. slice_index_or targets j []) p.body) (exprs : t.exprs ≡ listed_of aims values) where
-      is_whole : picked p.body t.statements ≡ p.body
-      is_whole = ap (picked p.body) (places ∙ ap (range_with_len 0) (sym (statements_len p.body))) ∙ whole p.body
+    module _ (aims0 values0 aims values : List Bool)
+        (ea : aims0 ≡ marked (places_of (block_targets body)) (replicate (length c.pool.exprs) false)) (ev : values0 ≡ marked (places_of (block_values body)) (replicate (length c.pool.exprs) false))
+        (long : length aims ≡ length c.pool.exprs) (long' : length values ≡ length c.pool.exprs) (stay : Stays aims0 aims) (stay' : Stays values0 values) (closed : AreSpread c.pool aims values)
+        (are : (j : ℕ) → is_marked aims j ≡ true → is_target c.pool j ≡ true) (only : (r : ℕ → Bool) → ReadOnly c.pool aims0 values0 r → ReadOnly c.pool aims values r) where
+      abbrev unmarked : List Bool
+      unmarked = replicate (length c.pool.exprs) false
 
-      outs_like : (s : ℕ) → is_among (numbers_of t.outs) s ≡ is_among (driven c.pool p.body) s
-      outs_like = driven_like c.pool targets p.body t.outs known expressions outs
+      marked_first : (es : List ExprId) → AreThere c.pool es → AreMarked (marked (places_of es) unmarked) es
+      marked_first es there = marks_new es unmarked (subst (λ m. AreBelow m es) (sym (replicate_length false (length c.pool.exprs))) there)
 
-      all_computed : AreAmong t.exprs (block_exprs p.body)
-      all_computed =
-          subst (λ list. AreAmong list (block_exprs p.body)) (sym exprs)
-          (all_among c.pool rules aims values long long' closed are (block_exprs p.body) expressions (block_either aims values p.body aims_marked values_marked))
+      aims_marked : AreMarked aims (block_targets body)
+      aims_marked = all_stay aims0 aims (block_targets body) stay (subst (λ m. AreMarked m (block_targets body)) (sym ea) (marked_first (block_targets body) (aims_below (length c.pool.exprs) body there)))
 
-      pub task_whole : IsClockedTask c (length c.pool.exprs) t p
-      task_whole = record {
-        task = record {
-          process = ap (slice_get c.processes) process ∙ stands;
-          inside = subst (AllByRecursion (λ i. i < length (statements p.body))) (sym places) (range_below 0 (block_len p.body) (length (statements p.body)) (omega (arith, statements_len p.body)));
-          outs = λ s. outs_like s ∙ ap (λ b. is_among (driven c.pool b) s) (sym is_whole);
-          drives = λ s h. sym (outs_like s) ∙ h;
-          same = λ env cur s h. ap (λ b. at (put c.pool env b cur) s) (sym is_whole);
-          program = subst (IsProgram c.pool (length c.pool.exprs)) (sym exprs) (listed_program c.pool rules aims values long long' closed are);
-          computed = subst (λ b. AreAmong t.exprs (block_exprs b)) (sym is_whole) all_computed;
-          targets = subst (λ b. AreTargetsOf c.pool (block_targets b)) (sym is_whole) aims_are;
-        };
-        whole = is_whole;
-        outs = outs_like;
-      }
+      values_marked : AreMarked values (block_values body)
+      values_marked = all_stay values0 values (block_values body) stay' (subst (λ m. AreMarked m (block_values body)) (sym ev) (marked_first (block_values body) (values_below (length c.pool.exprs) body there)))
 
-      pub compiled : (reads : List SigId) → ((j : ℕ) (s : SigId) → slice_get c.pool.exprs j ≡ Some (expr.TheVariants.Sig s) → is_marked values j ≡ true → is_among (numbers_of reads) s.0 ≡ true) → ((s : ℕ) → is_among (numbers_of reads) s ≡ true → HoldsSignal c.pool values s) → IsCompiled c k p record { task = t; reads = reads }
-      compiled reads all_in only_in = record {
+      only_reads : ReadOnly c.pool aims values (λ s. block_reads c.pool s body)
+      only_reads =
+          only (λ s. block_reads c.pool s body)
+          (subst (λ m. ReadOnly c.pool m values0 (λ s. block_reads c.pool s body)) (sym ea)
+          (subst (λ m. ReadOnly c.pool (marked (places_of (block_targets body)) unmarked) m (λ s. block_reads c.pool s body)) (sym ev)
+          (first_only c.pool body unmarked unmarked (none_marked (length c.pool.exprs)) (none_marked (length c.pool.exprs)))))
+
+      pub compiled : (x : Compiled) (targets : List (List SigId)) → AreTargets c.pool (length c.pool.exprs) targets → x.task.process ≡ k → x.task.statements ≡ places → x.task.outs ≡ listed (λ j. slice_index_or targets j []) body
+          → IsNonDecreasing (places_of x.task.exprs) → ((j : ℕ) → is_among (places_of x.task.exprs) j ≡ (is_marked aims j || is_marked values j))
+          → ((j : ℕ) (s : SigId) → slice_get c.pool.exprs j ≡ Some (expr.TheVariants.Sig s) → is_marked values j ≡ true → is_among (numbers_of x.reads) s.0 ≡ true) → ((s : ℕ) → is_among (numbers_of x.reads) s ≡ true → HoldsSignal c.pool values s) → IsCompiled c k p places x
+      compiled x targets known process statements outs order has all_in only_in = record {
         process = process;
-        task = task_whole;
-        below = all_of (λ s. s < length c.pool.signals) (numbers_of t.outs) (λ s h. below_of (length c.pool.signals) (driven c.pool p.body) s (driven_there c.pool rules p.body expressions) (sym (outs_like s) ∙ h));
-        reads = reads_exact c.pool rules p.body aims values long long' closed aims_marked values_marked only_reads reads all_in only_in;
-        reads_below = all_of (λ s. s < length c.pool.signals) (numbers_of reads) (λ s h. let x = only_in s h in subst (λ i. i < length c.pool.signals) x.same (standing c.pool x.k (expr.TheVariants.Sig x.sig) rules x.is).askable.parts);
+        statements = statements;
+        program = listed_program c.pool rules aims values long long' closed are x.task.exprs order has;
+        computed = all_among c.pool rules aims values long long' closed are x.task.exprs order has (block_exprs body) (block_either aims values body aims_marked values_marked);
+        targets = aims_are;
+        outs = outs_like;
+        outs_below = all_of (λ s. s < length c.pool.signals) (numbers_of x.task.outs) (λ s h. below_of (length c.pool.signals) (driven c.pool body) s (driven_there c.pool rules body there) (sym (outs_like s) ∙ h));
+        reads = reads_exact c.pool rules body aims values long long' closed aims_marked values_marked only_reads x.reads all_in only_in;
+        reads_below = all_of (λ s. s < length c.pool.signals) (numbers_of x.reads) (λ s h. let y = only_in s h in subst (λ i. i < length c.pool.signals) y.same (standing c.pool y.k (expr.TheVariants.Sig y.sig) rules y.is).askable.parts);
       }
+        where
+          outs_like : (s : ℕ) → is_among (numbers_of x.task.outs) s ≡ is_among (driven c.pool body) s
+          outs_like = driven_like c.pool targets body x.task.outs known there outs
+
+-- ---- tasks
+
+module _ (c : Circuit) (k : ℕ) (p : DesignProcess) (stands : slice_get c.processes k ≡ Some p) (x : Compiled) where
+  -- the task of all statements
+  pub task_whole : IsCompiled c k p (range_with_len 0 (block_len p.body)) x → IsClockedTask c (length c.pool.exprs) x.task p
+  task_whole of = record {
+    task = record {
+      process = ap (slice_get c.processes) of.process ∙ stands;
+      inside = subst (AllByRecursion (λ i. i < length (statements p.body))) (sym of.statements) (range_below 0 (block_len p.body) (length (statements p.body)) (omega (arith, statements_len p.body)));
+      outs = λ s. of.outs s ∙ ap (λ is. is_among (driven c.pool (picked p.body is)) s) (sym of.statements);
+      drives = λ s h. ap (λ b. is_among (driven c.pool b) s) (sym all) ∙ sym (of.outs s) ∙ h;
+      same = λ env cur s h. ap (λ b. at (put c.pool env b cur) s) (sym all ∙ ap (picked p.body) (sym of.statements));
+      program = of.program;
+      computed = subst (λ is. AreAmong x.task.exprs (block_exprs (picked p.body is))) (sym of.statements) of.computed;
+      targets = subst (λ is. AreTargetsOf c.pool (block_targets (picked p.body is))) (sym of.statements) of.targets;
+    };
+    whole = ap (picked p.body) of.statements ∙ all;
+    outs = λ s. of.outs s ∙ ap (λ b. is_among (driven c.pool b) s) all;
+  }
+    where
+      all : picked p.body (range_with_len 0 (block_len p.body)) ≡ p.body
+      all = ap (λ n. picked p.body (range_with_len 0 n)) (sym (statements_len p.body)) ∙ whole p.body
+
+  -- the task of a group
+  pub task_group : (group : List ℕ) → IsApart c.pool p.body group → IsCompiled c k p group x → IsTask c (length c.pool.exprs) x.task p
+  task_group group apart of = record {
+    process = ap (slice_get c.processes) of.process ∙ stands;
+    inside = subst (AllByRecursion (λ i. i < length (statements p.body))) (sym of.statements) apart.inside;
+    outs = λ s. of.outs s ∙ ap (λ is. is_among (driven c.pool (picked p.body is)) s) (sym of.statements);
+    drives = λ s h. drives_part c.pool s p.body group (sym (of.outs s) ∙ h);
+    same = λ env cur s h. group_same c.pool env p.body s group cur apart (sym (of.outs s) ∙ h) ∙ ap (λ is. at (put c.pool env (picked p.body is) cur) s) (sym of.statements);
+    program = of.program;
+    computed = subst (λ is. AreAmong x.task.exprs (block_exprs (picked p.body is))) (sym of.statements) of.computed;
+    targets = subst (λ is. AreTargetsOf c.pool (block_targets (picked p.body is))) (sym of.statements) of.targets;
+  }

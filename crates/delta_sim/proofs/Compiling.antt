@@ -1,7 +1,10 @@
 -- What is worked out of one process.
-use Rattle.std.specs.Prelude.{◌≡◌, refl, ℕ, ◌+◌, ◌<◌, ◌≤◌, ◌⊎◌, ◌==◌, ◌||◌, if◌then◌else◌, Bool, true, false, List, [], ◌++◌, slice_get, Some}
-use Rattle.std.proofs.Common.{sym, ◌∙◌, ap, arith, ⊎_elim, inl, inr}
-use Rattle.std.proofs.lemmas.Bool.{cases_Bool, cases_lt, eq-eqb, eqb-true, false≢true}
+use Rattle.std.specs.Prelude.{◌≡◌, refl, ℕ, ◌+◌, ◌<◌, ◌≤◌, ◌⊎◌, ◌==◌, ◌||◌, Bool, true, false, List, [], ◌++◌, length, slice_get, Some}
+use Rattle.std.specs.List.{AllByRecursion}
+use Rattle.std.specs.List.Sorted.{IsPermutation}
+use Rattle.std.proofs.lemmas.List.Sorted.{list_any-IsPermutation}
+use Rattle.std.proofs.Common.{sym, ◌∙◌, ap, arith, ⊎_elim, inl, inr, get_or}
+use Rattle.std.proofs.lemmas.Bool.{cases_lt, eq-eqb, eqb-true, false≢true}
 use Rattle.design_ir.specs.declared.expr.Expr as expr
 use Rattle.design_ir.specs.declared.expr.Expr.{Expr}
 use Rattle.design_ir.specs.declared.expr.Expr.TheVariants.{Const, Unary, Binary, Mux, Slice, Cat, Part, Pick, Cast, Matches, Reset}
@@ -11,8 +14,11 @@ use Rattle.design_ir.specs.Pools.{Pooled}
 use Rattle.delta_sim.specs.Compiled.{HoldsSignal, own_signal}
 use Rattle.delta_sim.specs.Driven.{numbers_of}
 use Rattle.delta_sim.specs.Marks.{is_marked}
+use Rattle.delta_sim.specs.Waiting.{Waiting, IsWaiting}
 use Rattle.delta_sim.proofs.Agrees.{left, right}
 use Rattle.delta_sim.proofs.Likes.{among_append, numbers_append}
+use Rattle.delta_sim.proofs.SignalsInside.{all_of}
+use Rattle.delta_sim.proofs.Spreading.{place_of, turn_marked, within}
 
 or_cases : (a b : Bool) → (a || b) ≡ true → (a ≡ true) ⊎ (b ≡ true)
 or_cases true b e = inl refl
@@ -40,30 +46,44 @@ own_is p values k s (Cast a signed) is m h = absurd (false≢true h)
 own_is p values k s (Matches a patterns) is m h = absurd (false≢true h)
 own_is p values k s (Reset domain place) is m h = absurd (false≢true h)
 
-module _ (p : Pooled) (values : List Bool) (k : ℕ) (e : Expr) (is : slice_get p.exprs k ≡ Some e) (v : Bool) (at : v ≡ is_marked values k) (list new : List SigId) (grown : new ≡ list ++ (if v then own_signal e else [])) where
-  here : (s : ℕ) → is_among (numbers_of new) s ≡ (is_among (numbers_of list) s || is_among (numbers_of (if v then own_signal e else [])) s)
-  here s = ap (λ xs. is_among (numbers_of xs) s) grown ∙ among_parts list (if v then own_signal e else []) s
+module _ (p : Pooled) (w : Waiting) (rules : IsWaiting w) (i k : ℕ) (there : i < length w.list) (here : k ≡ get_or w.list i 0) (e : Expr) (is : slice_get p.exprs k ≡ Some e) (list new : List SigId) (grown : new ≡ list ++ own_signal e) where
+  parts : (s : ℕ) → is_among (numbers_of new) s ≡ (is_among (numbers_of list) s || is_among (numbers_of (own_signal e)) s)
+  parts s = ap (λ xs. is_among (numbers_of xs) s) grown ∙ among_parts list (own_signal e) s
 
-  pub signals_all : ((j : ℕ) (s : SigId) → j < k → slice_get p.exprs j ≡ Some (expr.TheVariants.Sig s) → is_marked values j ≡ true → is_among (numbers_of list) s.0 ≡ true)
-      → (j : ℕ) (s : SigId) → j < k + 1 → slice_get p.exprs j ≡ Some (expr.TheVariants.Sig s) → is_marked values j ≡ true → is_among (numbers_of new) s.0 ≡ true
-  signals_all was j s below sig marked =
+  pub signals_all : ((j : ℕ) (s : SigId) → j < i → slice_get p.exprs (get_or w.list j 0) ≡ Some (expr.TheVariants.Sig s) → is_among (numbers_of list) s.0 ≡ true)
+      → (j : ℕ) (s : SigId) → j < i + 1 → slice_get p.exprs (get_or w.list j 0) ≡ Some (expr.TheVariants.Sig s) → is_among (numbers_of new) s.0 ≡ true
+  signals_all was j s below sig =
       ⊎_elim
-      (λ (lt : j < k). here s.0 ∙ left (is_among (numbers_of list) s.0) _ (was j s lt sig marked))
-      (λ (ge : k ≤ j).
-      let same : j ≡ k = omega (arith, below, ge) in
-      let e_is : e ≡ expr.TheVariants.Sig s = let f : Some e ≡ Some (expr.TheVariants.Sig s) = sym is ∙ ap (slice_get p.exprs) (sym same) ∙ sig in cc in
-      let v_is : v ≡ true = at ∙ ap (is_marked values) (sym same) ∙ marked in
-      here s.0 ∙ right (is_among (numbers_of list) s.0) _
-      (ap (λ b. is_among (numbers_of (if b then own_signal e else [])) s.0) v_is ∙ ap (λ x. is_among (numbers_of (own_signal x)) s.0) e_is ∙ left (s.0 == s.0) false (eq-eqb s.0 s.0 refl)))
-      (cases_lt j k)
+      (λ (lt : j < i). parts s.0 ∙ left (is_among (numbers_of list) s.0) _ (was j s lt sig))
+      (λ (ge : i ≤ j).
+      let same : j ≡ i = omega (arith, below, ge) in
+      let e_is : e ≡ expr.TheVariants.Sig s = let f : Some e ≡ Some (expr.TheVariants.Sig s) = sym is ∙ ap (slice_get p.exprs) (here ∙ ap (λ n. get_or w.list n 0) (sym same)) ∙ sig in cc in
+      parts s.0 ∙ right (is_among (numbers_of list) s.0) _ (ap (λ x. is_among (numbers_of (own_signal x)) s.0) e_is ∙ left (s.0 == s.0) false (eq-eqb s.0 s.0 refl)))
+      (cases_lt j i)
 
-  pub signals_only : ((s : ℕ) → is_among (numbers_of list) s ≡ true → HoldsSignal p values s) → (s : ℕ) → is_among (numbers_of new) s ≡ true → HoldsSignal p values s
+  pub signals_only : ((s : ℕ) → is_among (numbers_of list) s ≡ true → HoldsSignal p w.marks s) → (s : ℕ) → is_among (numbers_of new) s ≡ true → HoldsSignal p w.marks s
   signals_only was s h =
+      ⊎_elim (λ old. was s old) (λ own. own_is p w.marks k s e is (turn_marked w rules i k there here) own) (or_cases (is_among (numbers_of list) s) _ (sym (parts s) ∙ h))
+
+-- the signals of all that are marked
+pub signals_listed : (p : Pooled) (w : Waiting) → IsWaiting w → (i : ℕ) → length w.list ≤ i → (list : List SigId)
+    → ((j : ℕ) (s : SigId) → j < i → slice_get p.exprs (get_or w.list j 0) ≡ Some (expr.TheVariants.Sig s) → is_among (numbers_of list) s.0 ≡ true)
+    → (k : ℕ) (s : SigId) → slice_get p.exprs k ≡ Some (expr.TheVariants.Sig s) → is_marked w.marks k ≡ true → is_among (numbers_of list) s.0 ≡ true
+signals_listed p w rules i h list all k s is m =
+    let r = place_of w.list k (sym (rules.listed k) ∙ m) in
+    all r.0 s (omega (arith, r.1, h)) (ap (slice_get p.exprs) r.2 ∙ is)
+
+-- ---- marked expressions in order
+
+module _ (aims values : Waiting) (of_aims : IsWaiting aims) (of_values : IsWaiting values) (all sorted : List ℕ) (are : all ≡ ([] ++ aims.list) ++ values.list) (moved : IsPermutation all sorted) where
+  pub sorted_has : (j : ℕ) → is_among sorted j ≡ (is_marked aims.marks j || is_marked values.marks j)
+  sorted_has j =
+      sym (list_any-IsPermutation (λ x. x == j) all sorted moved) ∙ ap (λ xs. is_among xs j) are ∙ among_append aims.list values.list j
+      ∙ ap (λ b. b || is_among values.list j) (sym (of_aims.listed j)) ∙ ap (λ b. is_marked aims.marks j || b) (sym (of_values.listed j))
+
+  pub sorted_below : (n : ℕ) → length aims.marks < n → length values.marks < n → AllByRecursion (λ k. k < n) sorted
+  sorted_below n la lv = all_of (λ k. k < n) sorted (λ k h.
       ⊎_elim
-      (λ old. was s old)
-      (λ (own : is_among (numbers_of (if v then own_signal e else [])) s ≡ true).
-      ⊎_elim
-      (λ (t : v ≡ true). own_is p values k s e is (sym at ∙ t) (sym (ap (λ b. is_among (numbers_of (if b then own_signal e else [])) s) t) ∙ own))
-      (λ (t : v ≡ false). absurd (false≢true (sym (ap (λ b. is_among (numbers_of (if b then own_signal e else [])) s) t) ∙ own)))
-      (cases_Bool v))
-      (or_cases (is_among (numbers_of list) s) _ (sym (here s) ∙ h))
+      (λ (m : is_marked aims.marks k ≡ true). omega (arith, within aims.marks k m, la))
+      (λ (m : is_marked values.marks k ≡ true). omega (arith, within values.marks k m, lv))
+      (or_cases (is_marked aims.marks k) (is_marked values.marks k) (sym (sorted_has k) ∙ h)))

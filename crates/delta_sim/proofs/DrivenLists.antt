@@ -1,5 +1,5 @@
 -- The signals that statements drive, by their targets one after another.
-use Rattle.std.specs.Prelude.{◌≡◌, refl, ℕ, ◌+◌, ◌<◌, true, false, List, [], ◌∷◌, ◌++◌, drop, length, slice_index_or}
+use Rattle.std.specs.Prelude.{◌≡◌, refl, ℕ, ◌+◌, ◌<◌, true, false, List, [], ◌∷◌, ◌++◌, map, drop, length, slice_index_or}
 use Rattle.std.specs.List.{flat_map}
 use Rattle.std.proofs.Common.{sym, ◌∙◌, ap, append_assoc, append-nil, get_or}
 use Rattle.design_ir.specs.declared.ids.ExprId.{ExprId}
@@ -11,10 +11,12 @@ use Rattle.design_ir.specs.Guards.{Guard, Guarded, guarded, guarded_in, guarded_
 use Rattle.design_ir.specs.Pools.{Pooled}
 use Rattle.design_ir.specs.Statements.{statement_of, block_of, choices_of}
 use Rattle.design_ir.specs.Targets.{target_signals}
-use Rattle.design_ir.specs.Trees.{Statement, assign, choose, Choices, none, arm, Block, done, next}
+use Rattle.design_ir.specs.Trees.{Statement, assign, choose, Choices, none, arm, Block, done, next, statements}
 use Rattle.delta_sim.specs.Driven.{AreTargets, IsLike, numbers_of, listed, statement_listed, choices_listed}
 use Rattle.delta_sim.specs.Reading.{AreBelow, AreThere}
+use Rattle.delta_sim.specs.Tasks.{picked}
 use Rattle.delta_sim.proofs.Likes.{like_append, numbers_append}
+use Rattle.delta_sim.proofs.StatementTurns.{picked_at}
 use Rattle.delta_sim.proofs.Walks.{all_parts, block_at, choices_at}
 
 pub append_turn : {A : Type 0} (old new x rest all : List A) → new ≡ old ++ x → old ++ (x ++ rest) ≡ all → new ++ rest ≡ all
@@ -23,6 +25,16 @@ append_turn old new x rest all e known = ap (λ ys. ys ++ rest) e ∙ append_ass
 pub listed_turn : {A : Type 0} (of : ℕ → List A) (ss : List Stmt) (i : ℕ) (s : Stmt) (old new all : List A) → i < length ss → s ≡ get_or ss i s → new ≡ old ++ statement_listed of (statement_of s) → old ++ listed of (block_of (drop i ss)) ≡ all → new ++ listed of (block_of (drop (i + 1) ss)) ≡ all
 listed_turn of ss i s old new all h is e known =
     append_turn old new (statement_listed of (statement_of s)) (listed of (block_of (drop (i + 1) ss))) all e (sym (ap (λ b. old ++ listed of b) (block_at ss i s h is)) ∙ known)
+
+pub picked_turn : {A : Type 0} (of : ℕ → List A) (body : Block) (ss : List Stmt) (is_body : body ≡ block_of ss) (is : List ℕ) (j i : ℕ) (s : Stmt) (more : j < length is) (here : i ≡ get_or is j i) (h : i < length ss) (stands : s ≡ get_or ss i s)
+    → (old new all : List A) → new ≡ old ++ statement_listed of (statement_of s) → old ++ listed of (picked body (drop j is)) ≡ all → new ++ listed of (picked body (drop (j + 1) is)) ≡ all
+picked_turn of body ss is_body is j i s more here h stands old new all e known =
+    append_turn old new (statement_listed of (statement_of s)) (listed of (picked body (drop (j + 1) is))) all e (sym (ap (λ b. old ++ listed of b) (picked_at body ss is_body is j i s more here h stands)) ∙ known)
+
+pub each_turn : {A : Type 0} (of : ℕ → List A) (ss : List Stmt) (i : ℕ) (s : Stmt) (old new : List (List A)) (one : List A) (all : List (List A)) → i < length ss → s ≡ get_or ss i s → one ≡ [] ++ statement_listed of (statement_of s) → new ≡ old ++ one ∷ [] → old ++ map (statement_listed of) (statements (block_of (drop i ss))) ≡ all → new ++ map (statement_listed of) (statements (block_of (drop (i + 1) ss))) ≡ all
+each_turn of ss i s old new one all h is e grown known =
+    append_turn old new (one ∷ []) (map (statement_listed of) (statements (block_of (drop (i + 1) ss)))) all grown
+    (ap (λ x. old ++ (x ∷ map (statement_listed of) (statements (block_of (drop (i + 1) ss))))) e ∙ sym (ap (λ b. old ++ map (statement_listed of) (statements b)) (block_at ss i s h is)) ∙ known)
 
 pub arms_turn : {A : Type 0} (of : ℕ → List A) (arms : List Arm) (i : ℕ) (a : Arm) (old new all : List A) → i < length arms → a ≡ get_or arms i a → new ≡ old ++ listed of a.body → old ++ choices_listed of (choices_of (drop i arms)) ≡ all → new ++ choices_listed of (choices_of (drop (i + 1) arms)) ≡ all
 arms_turn of arms i a old new all h is e known =

@@ -10,6 +10,12 @@ pub mod TargetsInside
 pub mod Walks
 pub mod Agrees
 pub mod Frames
+pub mod Forests
+pub mod Fronts
+pub mod Grouping
+pub mod Guessing
+pub mod GroupTables
+pub mod Picking
 pub mod Waits
 pub mod PlaceWalks
 pub mod Programs

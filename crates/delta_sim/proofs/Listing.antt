@@ -1,6 +1,7 @@
 -- The marked expressions in order are a program in which all that is marked stands.
-use Rattle.std.specs.Prelude.{◌≡◌, refl, ℕ, zero, suc, ◌+◌, ◌<◌, ◌≤◌, ◌==◌, ◌||◌, if◌then◌else◌, Bool, true, false, List, [], ◌∷◌, ◌++◌, take, length, slice_get, Some}
+use Rattle.std.specs.Prelude.{◌≡◌, refl, ℕ, zero, suc, ◌+◌, ◌<◌, ◌≤◌, ◌==◌, ◌||◌, Bool, true, false, List, [], ◌∷◌, ◌++◌, take, length, slice_get, Some}
 use Rattle.std.specs.List.{AllByRecursion, range_with_len}
+use Rattle.std.specs.List.Sorted.{IsNonDecreasing}
 use Rattle.std.proofs.Common.{sym, ◌∙◌, ap, arith, subst, ⊎_elim}
 use Rattle.std.proofs.lemmas.Bool.{cases_Bool, eq-eqb, eqb-true, false≢true}
 use Rattle.design_ir.specs.declared.ids.ExprId.{ExprId}
@@ -16,83 +17,44 @@ use Rattle.design_ir.specs.Targets.{is_target, target_test}
 use Rattle.design_ir.specs.Trees.{Statement, assign, choose, Choices, none, arm, Block, done, next, statements}
 use Rattle.design_ir.proofs.Equations.{standing}
 use Rattle.design_ir.proofs.TargetLaws.{is_target_is}
-use Rattle.delta_sim.specs.Marks.{aimed_names, placing_names, is_marked, AreMarked, AreSpread, listed_from, listed_of}
+use Rattle.delta_sim.specs.Marks.{aimed_names, placing_names, is_marked, AreMarked, AreSpread}
 use Rattle.delta_sim.specs.Tasks.{places_of, AreAmong, AreTargetsOf, IsProgram, statement_at, and_then, picked, block_targets, statement_targets, choices_targets, block_values, statement_values, choices_values}
 use Rattle.delta_sim.specs.Given.{marked}
 use Rattle.delta_sim.proofs.Agrees.{left, right}
-use Rattle.delta_sim.proofs.Spreading.{marks_back}
+use Rattle.delta_sim.proofs.Spreading.{marks_back, place_of, within}
 
--- ---- what is listed
+-- ---- expressions in order
 
-pub listed_below : (k n : ℕ) (bs vs : List Bool) → k + length bs ≤ n → AllByRecursion (λ (e : ExprId). e.0 < n) (listed_from k bs vs)
-listed_below k n [] vs h = tt
-listed_below k n (a ∷ bs) [] h = tt
-listed_below k n (a ∷ bs) (v ∷ vs) h = go (a || v) (listed_below (suc k) n bs vs (omega (arith, h)))
+-- an expression that is named before another stands before it
+pub stands_before : (es : List ExprId) (i : ℕ) (e : ExprId) (n : ℕ) → slice_get es i ≡ Some e → IsNonDecreasing (places_of es) → n < e.0 → is_among (places_of es) n ≡ true → is_among (places_of (take i es)) n ≡ true
+stands_before [] i e n at up lt h = absurd (false≢true h)
+stands_before (y ∷ ys) zero e n at up lt h =
+    let same : y ≡ e = cc in
+    let least : e.0 ≤ n = subst (λ (z : ExprId). z.0 ≤ n) same (first_least y ys n up h) in
+    absurd (omega (arith, least, lt))
   where
-    go : (t : Bool) → AllByRecursion (λ (e : ExprId). e.0 < n) (listed_from (suc k) bs vs) → AllByRecursion (λ (e : ExprId). e.0 < n) (if t then record { 0 = k } ∷ listed_from (suc k) bs vs else listed_from (suc k) bs vs)
-    go true r = (omega (arith, h), r)
-    go false r = r
+    first_least : (y : ExprId) (ys : List ExprId) (n : ℕ) → IsNonDecreasing (places_of (y ∷ ys)) → is_among (places_of (y ∷ ys)) n ≡ true → y.0 ≤ n
+    first_least y ys n up h =
+        let r = place_of (places_of (y ∷ ys)) n h in
+        let le = up 0 r.0 0 (omega arith) r.1 in
+        omega (arith, le, r.2)
+stands_before (y ∷ ys) (suc i) e n at up lt h =
+    ⊎_elim
+    (λ (s : (y.0 == n) ≡ true). left (y.0 == n) (is_among (places_of (take i ys)) n) s)
+    (λ (s : (y.0 == n) ≡ false).
+    right (y.0 == n) (is_among (places_of (take i ys)) n)
+    (stands_before ys i e n at (λ a b d le there. up (suc a) (suc b) d (omega (arith, le)) (omega (arith, there))) lt (sym (ap (λ b. b || is_among (places_of ys) n) s) ∙ h)))
+    (cases_Bool (y.0 == n))
 
--- what is marked before a listed expression is listed before it
-earlier_has : (k : ℕ) (bs vs : List Bool) (i : ℕ) (e : ExprId) (j : ℕ) → slice_get (listed_from k bs vs) i ≡ Some e → k + j < e.0 → j < length bs → j < length vs → (is_marked bs j || is_marked vs j) ≡ true → is_among (places_of (take i (listed_from k bs vs))) (k + j) ≡ true
-earlier_has k [] vs i e j at lt la lv m = absurd (omega (arith, la))
-earlier_has k (a ∷ bs) [] i e j at lt la lv m = absurd (omega (arith, lv))
-earlier_has k (a ∷ bs) (v ∷ vs) i e j at lt la lv m = go (a || v) refl (λ i j at lt la lv m. earlier_has (suc k) bs vs i e j at lt la lv m) i j at lt la lv m
-  where
-    rest : List ExprId
-    rest = listed_from (suc k) bs vs
+-- what holds of all numbers among these holds of each
+pub each_of : (P : ℕ → Type 0) (es : List ExprId) → ((j : ℕ) → is_among (places_of es) j ≡ true → P j) → AllByRecursion (λ (e : ExprId). P e.0) es
+each_of P [] f = tt
+each_of P (e ∷ es) f = (f e.0 (left (e.0 == e.0) (is_among (places_of es) e.0) (eq-eqb e.0 e.0 refl)), each_of P es (λ j h. f j (right (e.0 == j) (is_among (places_of es) j) h)))
 
-    deeper : ((i j : ℕ) → slice_get (listed_from (suc k) bs vs) i ≡ Some e → suc k + j < e.0 → j < length bs → j < length vs → (is_marked bs j || is_marked vs j) ≡ true → is_among (places_of (take i (listed_from (suc k) bs vs))) (suc k + j) ≡ true) → (i j : ℕ) → slice_get rest i ≡ Some e → k + suc j < e.0 → suc j < length (a ∷ bs) → suc j < length (v ∷ vs) → (is_marked bs j || is_marked vs j) ≡ true → is_among (places_of (take i rest)) (k + suc j) ≡ true
-    deeper again i j at lt la lv m =
-        let s : suc k + j ≡ k + suc j = omega arith in
-        subst (λ n. is_among (places_of (take i rest)) n ≡ true) s (again i j at (omega (arith, lt)) (omega (arith, la)) (omega (arith, lv)) m)
-
-    go : (t : Bool) → (a || v) ≡ t → ((i j : ℕ) → slice_get (listed_from (suc k) bs vs) i ≡ Some e → suc k + j < e.0 → j < length bs → j < length vs → (is_marked bs j || is_marked vs j) ≡ true → is_among (places_of (take i (listed_from (suc k) bs vs))) (suc k + j) ≡ true) → (i j : ℕ) → slice_get (if t then record { 0 = k } ∷ rest else rest) i ≡ Some e → k + j < e.0 → j < length (a ∷ bs) → j < length (v ∷ vs) → (is_marked (a ∷ bs) j || is_marked (v ∷ vs) j) ≡ true → is_among (places_of (take i (if t then record { 0 = k } ∷ rest else rest))) (k + j) ≡ true
-    go true t again zero j at lt la lv m =
-        let f : k ≡ e.0 = cc in absurd (omega (arith, lt, f))
-    go true t again (suc i) zero at lt la lv m = let s : k ≡ k + zero = omega arith in left (k == (k + zero)) (is_among (places_of (take i rest)) (k + zero)) (eq-eqb k (k + zero) s)
-    go true t again (suc i) (suc j) at lt la lv m = right (k == (k + suc j)) (is_among (places_of (take i rest)) (k + suc j)) (deeper again i j at lt la lv m)
-    go false t again i zero at lt la lv m = absurd (false≢true (sym t ∙ m))
-    go false t again i (suc j) at lt la lv m = deeper again i j at lt la lv m
-
-pub all_listed : (k : ℕ) (bs vs : List Bool) (j : ℕ) → j < length bs → j < length vs → (is_marked bs j || is_marked vs j) ≡ true → is_among (places_of (listed_from k bs vs)) (k + j) ≡ true
-all_listed k [] vs j la lv m = absurd (omega (arith, la))
-all_listed k (a ∷ bs) [] j la lv m = absurd (omega (arith, lv))
-all_listed k (a ∷ bs) (v ∷ vs) j la lv m = go (a || v) refl (λ j la lv m. all_listed (suc k) bs vs j la lv m) j la lv m
-  where
-    rest : List ExprId
-    rest = listed_from (suc k) bs vs
-
-    deeper : ((j : ℕ) → j < length bs → j < length vs → (is_marked bs j || is_marked vs j) ≡ true → is_among (places_of (listed_from (suc k) bs vs)) (suc k + j) ≡ true) → (j : ℕ) → suc j < length (a ∷ bs) → suc j < length (v ∷ vs) → (is_marked bs j || is_marked vs j) ≡ true → is_among (places_of rest) (k + suc j) ≡ true
-    deeper again j la lv m =
-        let s : suc k + j ≡ k + suc j = omega arith in
-        subst (λ n. is_among (places_of rest) n ≡ true) s (again j (omega (arith, la)) (omega (arith, lv)) m)
-
-    go : (t : Bool) → (a || v) ≡ t → ((j : ℕ) → j < length bs → j < length vs → (is_marked bs j || is_marked vs j) ≡ true → is_among (places_of (listed_from (suc k) bs vs)) (suc k + j) ≡ true) → (j : ℕ) → j < length (a ∷ bs) → j < length (v ∷ vs) → (is_marked (a ∷ bs) j || is_marked (v ∷ vs) j) ≡ true → is_among (places_of (if t then record { 0 = k } ∷ rest else rest)) (k + j) ≡ true
-    go true t again zero la lv m = let s : k ≡ k + zero = omega arith in left (k == (k + zero)) (is_among (places_of rest) (k + zero)) (eq-eqb k (k + zero) s)
-    go true t again (suc j) la lv m = right (k == (k + suc j)) (is_among (places_of rest) (k + suc j)) (deeper again j la lv m)
-    go false t again zero la lv m = absurd (false≢true (sym t ∙ m))
-    go false t again (suc j) la lv m = deeper again j la lv m
-
--- only what is marked is listed
-listed_marked : (k : ℕ) (bs vs : List Bool) (i : ℕ) (e : ExprId) → slice_get (listed_from k bs vs) i ≡ Some e → (j : ℕ) × (e.0 ≡ k + j) × ((is_marked bs j || is_marked vs j) ≡ true)
-listed_marked k [] vs i e at = cc
-listed_marked k (a ∷ bs) [] i e at = cc
-listed_marked k (a ∷ bs) (v ∷ vs) i e at = go (a || v) refl (λ i at. listed_marked (suc k) bs vs i e at) i at
-  where
-    rest : List ExprId
-    rest = listed_from (suc k) bs vs
-
-    deeper : ((i : ℕ) → slice_get (listed_from (suc k) bs vs) i ≡ Some e → (j : ℕ) × (e.0 ≡ suc k + j) × ((is_marked bs j || is_marked vs j) ≡ true)) → (i : ℕ) → slice_get rest i ≡ Some e → (j : ℕ) × (e.0 ≡ k + j) × ((is_marked (a ∷ bs) j || is_marked (v ∷ vs) j) ≡ true)
-    deeper again i at =
-        let r = again i at in
-        let s : e.0 ≡ k + suc r.0 = omega (arith, r.1) in
-        (suc r.0, s, r.2)
-
-    go : (t : Bool) → (a || v) ≡ t → ((i : ℕ) → slice_get (listed_from (suc k) bs vs) i ≡ Some e → (j : ℕ) × (e.0 ≡ suc k + j) × ((is_marked bs j || is_marked vs j) ≡ true)) → (i : ℕ) → slice_get (if t then record { 0 = k } ∷ rest else rest) i ≡ Some e → (j : ℕ) × (e.0 ≡ k + j) × ((is_marked (a ∷ bs) j || is_marked (v ∷ vs) j) ≡ true)
-    go true t again zero at = let f : k ≡ e.0 = cc in let s : e.0 ≡ k + zero = omega (arith, f) in (zero, s, t)
-    go true t again (suc i) at = deeper again i at
-    go false t again i at = deeper again i at
+pub get_among : (es : List ExprId) (i : ℕ) (e : ExprId) → slice_get es i ≡ Some e → is_among (places_of es) e.0 ≡ true
+get_among [] i e at = cc
+get_among (y ∷ ys) zero e at = let same : y ≡ e = cc in left (y.0 == e.0) (is_among (places_of ys) e.0) (eq-eqb y.0 e.0 (ap (λ (z : ExprId). z.0) same))
+get_among (y ∷ ys) (suc i) e at = right (y.0 == e.0) (is_among (places_of ys) e.0) (get_among ys i e at)
 
 from_zero : (n : ℕ) → 0 + n ≡ n
 from_zero n = omega arith
@@ -123,40 +85,38 @@ named_both is aims values (Matches a patterns) t h k = absurd (false≢true t)
 named_both is aims values (Reset domain place) t h k = absurd (false≢true t)
 
 module _ (p : Pooled) (rules : IsPool p) (aims values : List Bool) (long : length aims ≡ length p.exprs) (long' : length values ≡ length p.exprs)
-    (closed : AreSpread p 0 aims values) (are : (j : ℕ) → is_marked aims j ≡ true → is_target p j ≡ true) where
+    (closed : AreSpread p aims values) (are : (j : ℕ) → is_marked aims j ≡ true → is_target p j ≡ true)
+    (list : List ExprId) (order : IsNonDecreasing (places_of list)) (has : (j : ℕ) → is_among (places_of list) j ≡ (is_marked aims j || is_marked values j)) where
   names_marked : (j : ℕ) (x : Expr) → slice_get p.exprs j ≡ Some x → (is_marked aims j || is_marked values j) ≡ true → AllByRecursion (λ (e : ExprId). (is_marked aims e.0 || is_marked values e.0) ≡ true) (named x)
   names_marked j x at m =
       ⊎_elim
-      (λ (a : is_marked aims j ≡ true). named_both (is_target p) aims values x (sym (is_target_is p j x rules at) ∙ are j a) (closed.aims_named j x (omega arith) at a) (closed.aims_placed j x (omega arith) at a))
-      (λ (a : is_marked aims j ≡ false). or_all aims values (named x) (closed.values_named j x (omega arith) at (sym (ap (λ b. b || is_marked values j) a) ∙ m)))
+      (λ (a : is_marked aims j ≡ true). named_both (is_target p) aims values x (sym (is_target_is p j x rules at) ∙ are j a) (closed.of_aims.named j x at a) (closed.of_aims.placed j x at a))
+      (λ (a : is_marked aims j ≡ false). or_all aims values (named x) (closed.of_values j x at (sym (ap (λ b. b || is_marked values j) a) ∙ m)))
       (cases_Bool (is_marked aims j))
 
-  behind_all : (i : ℕ) (e : ExprId) (es : List ExprId) → slice_get (listed_of aims values) i ≡ Some e → e.0 < length p.exprs → AllBelow e.0 es → AllByRecursion (λ (x : ExprId). (is_marked aims x.0 || is_marked values x.0) ≡ true) es → AreAmong (take i (listed_of aims values)) es
-  behind_all i e [] at h b m = tt
-  behind_all i e (x ∷ es) at h b m = (
-    subst (λ n. is_among (places_of (take i (listed_of aims values))) n ≡ true) (from_zero x.0) (earlier_has 0 aims values i e x.0 at (omega (arith, b.0)) (omega (arith, b.0, h, long)) (omega (arith, b.0, h, long')) m.0),
-    behind_all i e es at h b.1 m.1,
-  )
+  behind_all : (i : ℕ) (e : ExprId) (es : List ExprId) → slice_get list i ≡ Some e → AllBelow e.0 es → AllByRecursion (λ (x : ExprId). (is_marked aims x.0 || is_marked values x.0) ≡ true) es → AreAmong (take i list) es
+  behind_all i e [] at b m = tt
+  behind_all i e (x ∷ es) at b m = (stands_before list i e x.0 at order b.0 (has x.0 ∙ m.0), behind_all i e es at b.1 m.1)
 
-  within : (k : ℕ) (x : Expr) (xs : List Expr) → slice_get xs k ≡ Some x → k < length xs
-  within k x [] at = cc
-  within zero x (y ∷ xs) at = omega arith
-  within (suc k) x (y ∷ xs) at = let h = within k x xs at in omega (arith, h)
+  inside : (j : ℕ) → (is_marked aims j || is_marked values j) ≡ true → j < length p.exprs
+  inside j m =
+      ⊎_elim
+      (λ (a : is_marked aims j ≡ true). omega (arith, within aims j a, long))
+      (λ (a : is_marked aims j ≡ false). omega (arith, within values j (sym (ap (λ b. b || is_marked values j) a) ∙ m), long'))
+      (cases_Bool (is_marked aims j))
 
-  pub listed_program : IsProgram p (length p.exprs) (listed_of aims values)
+  pub listed_program : IsProgram p (length p.exprs) list
   listed_program = record {
-    there = listed_below 0 (length p.exprs) aims values (omega (arith, long));
+    there = each_of (λ j. j < length p.exprs) list (λ j h. inside j (sym (has j) ∙ h));
     behind = λ i e x at is.
-        let r = listed_marked 0 aims values i e at in
-        let same : r.0 ≡ e.0 = omega (arith, r.1) in
-        behind_all i e (named x) at (within e.0 x p.exprs is) (standing p e.0 x rules is).names
-        (names_marked e.0 x is (subst (λ j. (is_marked aims j || is_marked values j) ≡ true) same r.2));
+        behind_all i e (named x) at (standing p e.0 x rules is).names
+        (names_marked e.0 x is (sym (has e.0) ∙ get_among list i e at));
   }
 
   -- all that is marked is listed
-  pub all_among : (es : List ExprId) → AllBelow (length p.exprs) es → AllByRecursion (λ (e : ExprId). (is_marked aims e.0 || is_marked values e.0) ≡ true) es → AreAmong (listed_of aims values) es
-  all_among [] b m = tt
-  all_among (e ∷ es) b m = (subst (λ n. is_among (places_of (listed_of aims values)) n ≡ true) (from_zero e.0) (all_listed 0 aims values e.0 (omega (arith, b.0, long)) (omega (arith, b.0, long')) m.0), all_among es b.1 m.1)
+  pub all_among : (es : List ExprId) → AllByRecursion (λ (e : ExprId). (is_marked aims e.0 || is_marked values e.0) ≡ true) es → AreAmong list es
+  all_among [] m = tt
+  all_among (e ∷ es) m = (has e.0 ∙ m.0, all_among es m.1)
 
 -- ---- all statements of a block
 

@@ -1,6 +1,6 @@
 -- One process more, while a plan grows.
 use Rattle.std.specs.Prelude.{◌≡◌, ◌≢◌, refl, ℕ, zero, suc, ◌+◌, ◌<◌, ◌≤◌, ◌⊎◌, ◌==◌, ◌&&◌, ◌||◌, Bool, true, false, List, [], ◌∷◌, ◌++◌, drop, length, replicate, is_none, is_some, slice_get, slice_set, slice_index_or, Option, Some, None, Result, Ok, Err, OnOk}
-use Rattle.std.proofs.Common.{sym, ◌∙◌, ap, arith, subst, inl, inr, ⊎_elim, get_or}
+use Rattle.std.proofs.Common.{sym, ◌∙◌, ap, arith, subst, inl, inr, ⊎_elim, get_or, append-nil}
 use Rattle.std.proofs.lemmas.Bool.{cases_Bool, cases_eq, cases_lt, eqb-true, eq-eqb, false≢true}
 use Rattle.std.proofs.lemmas.List.{get_or_past, get_or-set_same, get_or-set_other, length-set, at_drop_all}
 use Rattle.std.proofs.Math.ListN.{length-append}
@@ -10,22 +10,26 @@ use Rattle.design_ir.specs.declared.process.DesignProcess.{DesignProcess}
 use Rattle.design_ir.specs.Circuits.{Circuit, is_among, is_held}
 use Rattle.design_ir.specs.Designs.{IsDesign}
 use Rattle.design_ir.specs.Guards.{driven}
+use Rattle.design_ir.specs.Trees.{statements}
 use Rattle.design_ir.proofs.Equations.{place_below}
 use Rattle.delta_sim.specs.declared.compile.Compiled.{Compiled}
 use Rattle.delta_sim.specs.declared.plan.Plan.{Plan}
 use Rattle.delta_sim.specs.declared.task.Task.{Task}
 use Rattle.delta_sim.specs.Compiled.{IsCompiled}
 use Rattle.delta_sim.specs.Driven.{numbers_of}
+use Rattle.delta_sim.specs.Groups.{AreOthers, IsApart}
 use Rattle.delta_sim.specs.Marks.{is_marked}
-use Rattle.delta_sim.specs.Plans.{IsPlan, IsTable, IsClockedTask, IsCombTask, readers_of}
+use Rattle.delta_sim.specs.Plans.{IsPlan, IsTable, IsClockedTask, IsCombTask, IsCovered, readers_of}
 use Rattle.delta_sim.specs.Reads.{block_reads}
 use Rattle.delta_sim.specs.Reading.{AreFirst}
-use Rattle.delta_sim.specs.Tables.{IsAdded, AreTables}
+use Rattle.delta_sim.specs.Tables.{IsAdded, AreTables, ArePartial}
 use Rattle.delta_sim.specs.Tasks.{picked}
 use Rattle.delta_sim.proofs.Agrees.{left, right}
+use Rattle.delta_sim.proofs.CompiledTasks.{task_group}
 use Rattle.delta_sim.proofs.DeltaSteps.{below_of}
 use Rattle.delta_sim.proofs.Likes.{among_append, numbers_at}
 use Rattle.delta_sim.proofs.Marks.{or_false}
+use Rattle.delta_sim.proofs.Picking.{drives_both, drives_part, drives_some, drives_there, drives_whole, reads_both, reads_whole}
 use Rattle.delta_sim.proofs.SignalsInside.{all_of}
 use Rattle.delta_sim.proofs.TaskValues.{no_other}
 
@@ -177,7 +181,6 @@ module _ (c : Circuit) where
   no_tables readers processes er ep = record {
     clocked_count = refl;
     clocked = λ k p d lt is dom. absurd (omega (arith, lt));
-    few = omega arith;
     tasks = λ j t is. cc;
     covered = λ k p s lt is dom h. absurd (omega (arith, lt));
     apart = λ i j a b s ia ib ne h. cc;
@@ -228,7 +231,6 @@ module _ (c : Circuit) (flat : c.memories ≡ []) (design : IsDesign c) (n : ℕ
         let place : k ≡ length clocked = e ∙ sym was.clocked_count in
         record { t = t; stands = ap (slice_get (clocked ++ t ∷ [])) place ∙ get_last clocked t; is_task = subst (IsClockedTask c (length c.pool.exprs) t) (sym (same_process k q e is)) task })
         (older k lt);
-    few = omega (arith, was.few);
     tasks = λ j x is. let r = was.tasks j x is in (r.0, omega (arith, r.1));
     covered = λ k q s lt is dom h.
         ⊎_elim
@@ -248,114 +250,176 @@ module _ (c : Circuit) (flat : c.memories ≡ []) (design : IsDesign c) (n : ℕ
         (older k lt);
   }
 
-  -- a combinational process more
-  module _ (x : Compiled) (comb : p.domain ≡ None) (compiled : IsCompiled c n p x) (new_clocked : List Task) (readers' processes' : List (List ℕ))
-      (long : length new_clocked ≡ length clocked + 1) (kept : (i : ℕ) → i < length clocked → slice_get new_clocked i ≡ slice_get clocked i)
-      (added : IsAdded (numbers_of x.reads) (length tasks) readers readers') (added' : IsAdded (numbers_of x.reads) n processes processes') where
-    is_comb_task : IsCombTask c (length c.pool.exprs) x.task
-    is_comb_task = record { p = p; task = compiled.task.task; comb = comb; below = compiled.below }
+  -- none of its statements yet
+  pub partial_first : ArePartial c n p [] tasks readers processes
+  partial_first = record {
+    tasks = λ j t is. let r = was.tasks j t is in (r.0, omega (arith, r.1));
+    now = λ j t s is e h. absurd (omega (arith, e, (was.tasks j t is).1));
+    covered = was.covered;
+    covered_now = λ s h. absurd (false≢true h);
+    apart = was.apart;
+    readers = was.readers;
+    awake = was.awake;
+    processes = wider processes n (n + 1) (omega arith) was.processes;
+    exact = was.exact;
+    exact_now = λ s inside. none_new s;
+  }
 
-    -- nothing that an earlier task drives is driven by this one
-    apart_old : (j : ℕ) (b : Task) (s : ℕ) → slice_get tasks j ≡ Some b → is_among (numbers_of b.outs) s ≡ true → is_among (numbers_of x.task.outs) s ≡ false
-    apart_old j b s is h =
-        let old = was.tasks j b is in
-        compiled.task.outs s
-        ∙ no_other c flat design b.process old.0.p s old.0.task.process (old.0.task.drives s h) n p stands (λ e. absurd (omega (arith, e, old.1)))
-
-    back : (a b : Bool) → (b ≡ true → a ≡ false) → a ≡ true → b ≡ false
-    back a true f e = absurd (false≢true (sym (f refl) ∙ e))
-    back a false f e = refl
-
-    reads_new : (s j : ℕ) (q : DesignProcess) → j ≡ length tasks → q ≡ p → block_reads c.pool s (picked q.body x.task.statements) ≡ true → is_among (readers_of readers' s) j ≡ true
-    reads_new s j q e same h =
-        let read : is_among (numbers_of x.reads) s ≡ true = compiled.reads s ∙ ap (block_reads c.pool s) (sym compiled.task.whole) ∙ ap (λ (y : DesignProcess). block_reads c.pool s (picked y.body x.task.statements)) (sym same) ∙ h in
-        let inside : s < length readers = subst (λ m. s < m) (sym was.readers.count) (below_of (length c.pool.signals) (numbers_of x.reads) s compiled.reads_below read) in
-        added.each s j inside
-        ∙ right (is_among (readers_of readers s) j) (is_among (numbers_of x.reads) s && (length tasks == j)) (ap (λ b. b && (length tasks == j)) read ∙ eq-eqb (length tasks) j (sym e))
-
-    exact_new : (s k : ℕ) (q : DesignProcess) → s < length c.pool.signals → k ≡ n → slice_get c.processes k ≡ Some q → is_among (readers_of processes' s) k ≡ (is_none q.domain && block_reads c.pool s q.body)
-    exact_new s k q inside e is =
+  -- all of its statements
+  pub partial_last : (comb : p.domain ≡ None) (t : Task) (gone : List ℕ) (tasks' : List Task) (readers' processes' : List (List ℕ)) → ((i : ℕ) → i < length (statements p.body) → is_among gone i ≡ true) → ArePartial c n p gone tasks' readers' processes' → AreTables c (n + 1) (clocked ++ t ∷ []) tasks' readers' processes'
+  partial_last comb t gone tasks' readers' processes' all now = record {
+    clocked_count = longer t;
+    clocked = λ k q d lt is dom.
+        ⊎_elim
+        (λ (old : k < n). let h = was.clocked k q d old is dom in record { t = h.t; stands = get_old clocked t h.t k h.stands; is_task = h.is_task })
+        (λ (e : k ≡ n). let f : Some d ≡ None = sym dom ∙ ap (λ (y : DesignProcess). y.domain) (same_process k q e is) ∙ comb in cc)
+        (older k lt);
+    tasks = λ j x is. let r = now.tasks j x is in (r.0, omega (arith, r.1));
+    covered = λ k q s lt is dom h.
+        ⊎_elim
+        (λ (old : k < n). now.covered k q s old is dom h)
+        (λ (e : k ≡ n).
+        let here : is_among (driven c.pool p.body) s ≡ true = ap (λ (y : DesignProcess). is_among (driven c.pool y.body) s) (sym (same_process k q e is)) ∙ h in
+        subst (λ m. IsCovered tasks' m s) (sym e) (now.covered_now s (drives_whole c.pool s p.body gone all ∙ here)))
+        (older k lt);
+    apart = now.apart;
+    readers = now.readers;
+    awake = now.awake;
+    processes = now.processes;
+    exact = λ s k q inside lt is.
+        ⊎_elim
+        (λ (old : k < n). now.exact s k q inside old is)
+        (λ (e : k ≡ n).
         let here = ap (λ (y : DesignProcess). is_none y.domain && block_reads c.pool s y.body) (same_process k q e is) ∙ ap (λ (o : Option DomainId). is_none o && block_reads c.pool s p.body) comb in
-        ap (is_among (readers_of processes' s)) e
-        ∙ added'.each s n (subst (λ m. s < m) (sym was.processes.count) inside)
-        ∙ ap (λ b. b || (is_among (numbers_of x.reads) s && (n == n))) (none_new s)
-        ∙ ap (λ b. is_among (numbers_of x.reads) s && b) (eq-eqb n n refl)
-        ∙ and_same (is_among (numbers_of x.reads) s)
-        ∙ compiled.reads s
-        ∙ sym here
-      where
-        and_same : (b : Bool) → (b && true) ≡ b
-        and_same true = refl
-        and_same false = refl
+        ap (is_among (readers_of processes' s)) e ∙ now.exact_now s inside ∙ reads_whole c.pool s p.body gone all ∙ sym here)
+        (older k lt);
+  }
 
-    exact_old : (s k : ℕ) (q : DesignProcess) → s < length c.pool.signals → k < n → slice_get c.processes k ≡ Some q → is_among (readers_of processes' s) k ≡ (is_none q.domain && block_reads c.pool s q.body)
-    exact_old s k q inside lt is =
-        let other : (n == k) ≡ false = ⊎_elim (λ (t : (n == k) ≡ true). absurd (omega (arith, lt, eqb-true n k t))) (λ (t : (n == k) ≡ false). t) (cases_Bool (n == k)) in
-        added'.each s k (subst (λ m. s < m) (sym was.processes.count) inside)
-        ∙ ap (λ b. is_among (readers_of processes s) k || (is_among (numbers_of x.reads) s && b)) other
-        ∙ none_or (is_among (readers_of processes s) k) (is_among (numbers_of x.reads) s)
-        ∙ was.exact s k q inside lt is
-      where
-        none_or : (a b : Bool) → (a || (b && false)) ≡ a
-        none_or true b = refl
-        none_or false true = refl
-        none_or false false = refl
+-- ---- a group of its statements more
 
-    pub comb_more : AreTables c (n + 1) new_clocked (tasks ++ x.task ∷ []) readers' processes'
-    comb_more = record {
-      clocked_count = long ∙ ap (λ k. k + 1) was.clocked_count;
-      clocked = λ k q d lt is dom.
-          ⊎_elim
-          (λ (old : k < n).
-          let h = was.clocked k q d old is dom in
-          record { t = h.t; stands = kept k (subst (λ m. k < m) (sym was.clocked_count) old) ∙ h.stands; is_task = h.is_task })
-          (λ (e : k ≡ n). let f : Some d ≡ None = sym dom ∙ ap (λ (y : DesignProcess). y.domain) (same_process k q e is) ∙ comb in cc)
-          (older k lt);
-      few = omega (arith, was.few, length-append tasks (x.task ∷ []));
-      tasks = λ j t is.
-          ⊎_elim
-          (λ (old : slice_get tasks j ≡ Some t). let r = was.tasks j t old in (r.0, omega (arith, r.1)))
-          (λ (h : (j ≡ length tasks) × (x.task ≡ t)). subst (λ (y : Task). IsCombTask c (length c.pool.exprs) y × (y.process < n + 1)) h.1 (is_comb_task, omega (arith, compiled.process)))
-          (get_more tasks x.task t j is);
-      covered = λ k q s lt is dom h.
-          ⊎_elim
-          (λ (old : k < n).
-          let v = was.covered k q s old is dom h in
-          record { j = v.j; t = v.t; stands = get_old tasks x.task v.t v.j v.stands; process = v.process; drives = v.drives })
-          (λ (e : k ≡ n).
-          record {
-            j = length tasks;
-            t = x.task;
-            stands = get_last tasks x.task;
-            process = compiled.process ∙ sym e;
-            drives = compiled.task.outs s ∙ ap (λ (y : DesignProcess). is_among (driven c.pool y.body) s) (sym (same_process k q e is)) ∙ h;
-          })
-          (older k lt);
-      apart = λ i j a b s ia ib ne h.
-          ⊎_elim
-          (λ (oa : slice_get tasks i ≡ Some a).
-          ⊎_elim
-          (λ (ob : slice_get tasks j ≡ Some b). was.apart i j a b s oa ob ne h)
-          (λ (nb : (j ≡ length tasks) × (x.task ≡ b)). subst (λ (y : Task). is_among (numbers_of y.outs) s ≡ false) nb.1 (apart_old i a s oa h))
-          (get_more tasks x.task b j ib))
-          (λ (na : (i ≡ length tasks) × (x.task ≡ a)).
-          ⊎_elim
-          (λ (ob : slice_get tasks j ≡ Some b). back (is_among (numbers_of a.outs) s) (is_among (numbers_of b.outs) s) (λ t. subst (λ (y : Task). is_among (numbers_of y.outs) s ≡ false) na.1 (apart_old j b s ob t)) h)
-          (λ (nb : (j ≡ length tasks) × (x.task ≡ b)). absurd (ne (na.0 ∙ sym nb.0)))
-          (get_more tasks x.task b j ib))
-          (get_more tasks x.task a i ia);
-      readers = table_more (length c.pool.signals) (length tasks) (length (tasks ++ x.task ∷ [])) (length tasks) (numbers_of x.reads) readers readers' was.readers added (omega (arith, length-append tasks (x.task ∷ []))) (omega (arith, length-append tasks (x.task ∷ [])));
-      awake = λ s j t q is there h.
-          ⊎_elim
-          (λ (old : slice_get tasks j ≡ Some t). still_reads (length tasks) (numbers_of x.reads) readers readers' added s j (was.awake s j t q old there h))
-          (λ (e : (j ≡ length tasks) × (x.task ≡ t)).
-          let same : q ≡ p = same_process t.process q (ap (λ (y : Task). y.process) (sym e.1) ∙ compiled.process) there in
-          reads_new s j q e.0 same (ap (λ (y : Task). block_reads c.pool s (picked q.body y.statements)) e.1 ∙ h))
-          (get_more tasks x.task t j is);
-      processes = table_more (length c.pool.signals) n (n + 1) n (numbers_of x.reads) processes processes' was.processes added' (omega arith) (omega arith);
-      exact = λ s k q inside lt is.
-          ⊎_elim (λ (old : k < n). exact_old s k q inside old is) (λ (e : k ≡ n). exact_new s k q inside e is) (older k lt);
-    }
+module _ (c : Circuit) (flat : c.memories ≡ []) (design : IsDesign c) (n : ℕ) (p : DesignProcess) (stands : slice_get c.processes n ≡ Some p) (comb : p.domain ≡ None)
+    (gone group : List ℕ) (tasks : List Task) (readers processes : List (List ℕ)) (was : ArePartial c n p gone tasks readers processes) (other : AreOthers gone group) (apart : IsApart c.pool p.body group)
+    (x : Compiled) (compiled : IsCompiled c n p group x) (readers' processes' : List (List ℕ))
+    (added : IsAdded (numbers_of x.reads) (length tasks) readers readers') (added' : IsAdded (numbers_of x.reads) n processes processes') where
+  is_comb_task : IsCombTask c (length c.pool.exprs) x.task
+  is_comb_task = record { p = p; task = task_group c n p stands x group apart compiled; comb = comb; below = compiled.outs_below }
+
+  process_is : (k : ℕ) (q : DesignProcess) → k ≡ n → slice_get c.processes k ≡ Some q → q ≡ p
+  process_is k q e is = same_some (slice_get c.processes n) q p (ap (slice_get c.processes) (sym e) ∙ is) stands
+
+  none_of : (b : Bool) → (b ≡ true → ⊥) → b ≡ false
+  none_of b f = ⊎_elim (λ (t : b ≡ true). absurd (f t)) (λ (t : b ≡ false). t) (cases_Bool b)
+
+  -- what earlier statements of the process drive, those of the group do not
+  gone_apart : (s : ℕ) → is_among (driven c.pool (picked p.body gone)) s ≡ true → is_among (numbers_of x.task.outs) s ≡ false
+  gone_apart s h = none_of (is_among (numbers_of x.task.outs) s) (λ t.
+      let r = drives_some c.pool s p.body gone h in
+      let mine = apart.alone r.0 s (drives_there c.pool s p.body r.0 r.2) r.2 (sym (compiled.outs s) ∙ t) in
+      false≢true (sym (other r.0 r.1) ∙ mine))
+
+  -- nothing that an earlier task drives is driven by this one
+  apart_old : (j : ℕ) (b : Task) (s : ℕ) → slice_get tasks j ≡ Some b → is_among (numbers_of b.outs) s ≡ true → is_among (numbers_of x.task.outs) s ≡ false
+  apart_old j b s is h =
+      let old = was.tasks j b is in
+      ⊎_elim
+      (λ (e : b.process ≡ n). gone_apart s (was.now j b s is e h))
+      (λ (e : b.process ≢ n).
+      none_of (is_among (numbers_of x.task.outs) s) (λ t.
+      let free = no_other c flat design b.process old.0.p s old.0.task.process (old.0.task.drives s h) n p stands (λ f. e (sym f)) in
+      false≢true (sym free ∙ drives_part c.pool s p.body group (sym (compiled.outs s) ∙ t))))
+      (cases_eq b.process n)
+
+  back : (a b : Bool) → (b ≡ true → a ≡ false) → a ≡ true → b ≡ false
+  back a true f e = absurd (false≢true (sym (f refl) ∙ e))
+  back a false f e = refl
+
+  reads_new : (s j : ℕ) (q : DesignProcess) → j ≡ length tasks → q ≡ p → block_reads c.pool s (picked q.body x.task.statements) ≡ true → is_among (readers_of readers' s) j ≡ true
+  reads_new s j q e same h =
+      let read : is_among (numbers_of x.reads) s ≡ true = compiled.reads s ∙ ap (λ is. block_reads c.pool s (picked p.body is)) (sym compiled.statements) ∙ ap (λ (y : DesignProcess). block_reads c.pool s (picked y.body x.task.statements)) (sym same) ∙ h in
+      let inside : s < length readers = subst (λ m. s < m) (sym was.readers.count) (below_of (length c.pool.signals) (numbers_of x.reads) s compiled.reads_below read) in
+      added.each s j inside
+      ∙ right (is_among (readers_of readers s) j) (is_among (numbers_of x.reads) s && (length tasks == j)) (ap (λ b. b && (length tasks == j)) read ∙ eq-eqb (length tasks) j (sym e))
+
+  exact_now : (s : ℕ) → s < length c.pool.signals → is_among (readers_of processes' s) n ≡ block_reads c.pool s (picked p.body (gone ++ group))
+  exact_now s inside =
+      added'.each s n (subst (λ m. s < m) (sym was.processes.count) inside)
+      ∙ ap (λ b. b || (is_among (numbers_of x.reads) s && (n == n))) (was.exact_now s inside)
+      ∙ ap (λ b. block_reads c.pool s (picked p.body gone) || (is_among (numbers_of x.reads) s && b)) (eq-eqb n n refl)
+      ∙ ap (λ b. block_reads c.pool s (picked p.body gone) || b) (and_same (is_among (numbers_of x.reads) s) ∙ compiled.reads s)
+      ∙ sym (reads_both c.pool s p.body gone group)
+    where
+      and_same : (b : Bool) → (b && true) ≡ b
+      and_same true = refl
+      and_same false = refl
+
+  exact_old : (s k : ℕ) (q : DesignProcess) → s < length c.pool.signals → k < n → slice_get c.processes k ≡ Some q → is_among (readers_of processes' s) k ≡ (is_none q.domain && block_reads c.pool s q.body)
+  exact_old s k q inside lt is =
+      let other_place : (n == k) ≡ false = none_of (n == k) (λ t. omega (arith, lt, eqb-true n k t)) in
+      added'.each s k (subst (λ m. s < m) (sym was.processes.count) inside)
+      ∙ ap (λ b. is_among (readers_of processes s) k || (is_among (numbers_of x.reads) s && b)) other_place
+      ∙ none_or (is_among (readers_of processes s) k) (is_among (numbers_of x.reads) s)
+      ∙ was.exact s k q inside lt is
+    where
+      none_or : (a b : Bool) → (a || (b && false)) ≡ a
+      none_or true b = refl
+      none_or false true = refl
+      none_or false false = refl
+
+  pub partial_turn : ArePartial c n p (gone ++ group) (tasks ++ x.task ∷ []) readers' processes'
+  partial_turn = record {
+    tasks = λ j t is.
+        ⊎_elim
+        (λ (old : slice_get tasks j ≡ Some t). was.tasks j t old)
+        (λ (h : (j ≡ length tasks) × (x.task ≡ t)). subst (λ (y : Task). IsCombTask c (length c.pool.exprs) y × (y.process ≤ n)) h.1 (is_comb_task, omega (arith, compiled.process)))
+        (get_more tasks x.task t j is);
+    now = λ j t s is e h.
+        drives_both c.pool s p.body gone group
+        ∙ ⊎_elim
+        (λ (old : slice_get tasks j ≡ Some t). left (is_among (driven c.pool (picked p.body gone)) s) (is_among (driven c.pool (picked p.body group)) s) (was.now j t s old e h))
+        (λ (m : (j ≡ length tasks) × (x.task ≡ t)).
+        right (is_among (driven c.pool (picked p.body gone)) s) (is_among (driven c.pool (picked p.body group)) s) (sym (compiled.outs s) ∙ ap (λ (y : Task). is_among (numbers_of y.outs) s) m.1 ∙ h))
+        (get_more tasks x.task t j is);
+    covered = λ k q s lt is dom h.
+        let v = was.covered k q s lt is dom h in
+        record { j = v.j; t = v.t; stands = get_old tasks x.task v.t v.j v.stands; process = v.process; drives = v.drives };
+    covered_now = λ s h.
+        ⊎_elim
+        (λ (old : is_among (driven c.pool (picked p.body gone)) s ≡ true).
+        let v = was.covered_now s old in
+        record { j = v.j; t = v.t; stands = get_old tasks x.task v.t v.j v.stands; process = v.process; drives = v.drives })
+        (λ (new : is_among (driven c.pool (picked p.body group)) s ≡ true).
+        record { j = length tasks; t = x.task; stands = get_last tasks x.task; process = compiled.process; drives = compiled.outs s ∙ new })
+        (or_cases (is_among (driven c.pool (picked p.body gone)) s) (is_among (driven c.pool (picked p.body group)) s) (sym (drives_both c.pool s p.body gone group) ∙ h));
+    apart = λ i j a b s ia ib ne h.
+        ⊎_elim
+        (λ (oa : slice_get tasks i ≡ Some a).
+        ⊎_elim
+        (λ (ob : slice_get tasks j ≡ Some b). was.apart i j a b s oa ob ne h)
+        (λ (nb : (j ≡ length tasks) × (x.task ≡ b)). subst (λ (y : Task). is_among (numbers_of y.outs) s ≡ false) nb.1 (apart_old i a s oa h))
+        (get_more tasks x.task b j ib))
+        (λ (na : (i ≡ length tasks) × (x.task ≡ a)).
+        ⊎_elim
+        (λ (ob : slice_get tasks j ≡ Some b). back (is_among (numbers_of a.outs) s) (is_among (numbers_of b.outs) s) (λ t. subst (λ (y : Task). is_among (numbers_of y.outs) s ≡ false) na.1 (apart_old j b s ob t)) h)
+        (λ (nb : (j ≡ length tasks) × (x.task ≡ b)). absurd (ne (na.0 ∙ sym nb.0)))
+        (get_more tasks x.task b j ib))
+        (get_more tasks x.task a i ia);
+    readers = table_more (length c.pool.signals) (length tasks) (length (tasks ++ x.task ∷ [])) (length tasks) (numbers_of x.reads) readers readers' was.readers added (omega (arith, length-append tasks (x.task ∷ []))) (omega (arith, length-append tasks (x.task ∷ [])));
+    awake = λ s j t q is there h.
+        ⊎_elim
+        (λ (old : slice_get tasks j ≡ Some t). still_reads (length tasks) (numbers_of x.reads) readers readers' added s j (was.awake s j t q old there h))
+        (λ (e : (j ≡ length tasks) × (x.task ≡ t)).
+        let same : q ≡ p = process_is t.process q (ap (λ (y : Task). y.process) (sym e.1) ∙ compiled.process) there in
+        reads_new s j q e.0 same (ap (λ (y : Task). block_reads c.pool s (picked q.body y.statements)) e.1 ∙ h))
+        (get_more tasks x.task t j is);
+    processes = table_more (length c.pool.signals) (n + 1) (n + 1) n (numbers_of x.reads) processes processes' was.processes added' (omega arith) (omega arith);
+    exact = exact_old;
+    exact_now = exact_now;
+  }
+
+-- no statement more
+pub partial_none : (c : Circuit) (n : ℕ) (p : DesignProcess) (gone group : List ℕ) (tasks : List Task) (readers processes : List (List ℕ)) → length group ≡ 0 → ArePartial c n p gone tasks readers processes → ArePartial c n p (gone ++ group) tasks readers processes
+partial_none c n p gone [] tasks readers processes e was = subst (λ xs. ArePartial c n p xs tasks readers processes) (sym (append-nil gone)) was
+partial_none c n p gone (i ∷ is) tasks readers processes e was = absurd (omega (arith, e))
 
 -- ---- results
 
@@ -367,9 +431,10 @@ pub on_ok : {A E : Type 0} {P Q : Type 0} (r : Result A E) → (P → Q) → OnO
 on_ok (Ok a) f p = f p
 on_ok (Err e) f p = tt
 
-pub all_ok : {A E : Type 0} {P Q R S T U : Type 0} (r : Result A E) → (P → Q → R → S → T → U) → OnOk r P → OnOk r Q → OnOk r R → OnOk r S → OnOk r T → OnOk r U
-all_ok (Ok a) f p q r s t = f p q r s t
-all_ok (Err e) f p q r s t = tt
+-- what holds whatever the answer
+pub if_ok : {A E : Type 0} {Q : Type 0} (r : Result A E) → Q → OnOk r Q
+if_ok (Ok a) q = q
+if_ok (Err e) q = tt
 
 -- ---- all processes
 
@@ -383,7 +448,6 @@ planned c design plan marks first given all = record {
       (λ (past : length c.pool.signals ≤ s). absurd (false≢true (sym (given s ∙ get_or_past marks s false (subst (λ n. n ≤ s) (sym first.count) past)) ∙ h)))
       (cases_lt s (length c.pool.signals)));
   clocked = λ k p d is dom. all.clocked k p d (place_below c.processes k p is) is dom;
-  few = omega (arith, all.few, design.few_processes);
   tasks = λ j t is. (all.tasks j t is).0;
   covered = λ k p s is dom h. all.covered k p s (place_below c.processes k p is) is dom h;
   apart = all.apart;

@@ -77,7 +77,7 @@ marked_parts m (x ∷ xs) ys h = let r = marked_parts m xs ys h.1 in ((h.0, r.0)
 within : (xs : List Bool) (k : ℕ) → is_marked xs k ≡ true → k < length xs
 within xs k h = ⊎_elim (λ l. l) (λ (past : length xs ≤ k). absurd (false≢true (sym (get_or_past xs k false past) ∙ h))) (cases_lt k (length xs))
 
-module _ (p : Pooled) (rules : IsPool p) (aims values : List Bool) (long : length aims ≡ length p.exprs) (long' : length values ≡ length p.exprs) (closed : AreSpread p 0 aims values) (s : ℕ) where
+module _ (p : Pooled) (rules : IsPool p) (aims values : List Bool) (long : length aims ≡ length p.exprs) (long' : length values ≡ length p.exprs) (closed : AreSpread p aims values) (s : ℕ) where
   -- a marked expression in which the signal stands leads to one that is the signal
   stands_down : (n k : ℕ) → k < n → is_marked values k ≡ true → stands_in p s k ≡ true → HoldsSignal p values s
   stands_down zero k lt m h = absurd (omega (arith, lt))
@@ -86,7 +86,7 @@ module _ (p : Pooled) (rules : IsPool p) (aims values : List Bool) (long : lengt
       ⊎_elim
       (λ (own : IsOwn s at.0). record { k = k; sig = own.0; is = at.1 ∙ ap (λ z. Some z) own.1; same = own.2; marked = m })
       (λ (any : list_any (λ (e : ExprId). stands_in p s e.0) (named at.0) ≡ true).
-      let r = find (stands_in p s) values k (named at.0) (standing p k at.0 rules at.1).names (closed.values_named k at.0 (omega arith) at.1 m) any in
+      let r = find (stands_in p s) values k (named at.0) (standing p k at.0 rules at.1).names (closed.of_values k at.0 at.1 m) any in
       stands_down n r.0 (omega (arith, lt, r.1)) r.2 r.3)
       (stands_cases s (stands_in p s) at.0 (sym (stands_is p s k at.0 rules at.1) ∙ h))
 
@@ -97,10 +97,10 @@ module _ (p : Pooled) (rules : IsPool p) (aims values : List Bool) (long : lengt
       let below = (standing p k at.0 rules at.1).names in
       ⊎_elim
       (λ (any : list_any (λ (e : ExprId). places p s e.0) (aimed_names at.0) ≡ true).
-      let r = find (places p s) aims k (aimed_names at.0) (aimed_below k at.0 below) (closed.aims_named k at.0 (omega arith) at.1 m) any in
+      let r = find (places p s) aims k (aimed_names at.0) (aimed_below k at.0 below) (closed.of_aims.named k at.0 at.1 m) any in
       places_down n r.0 (omega (arith, lt, r.1)) r.2 r.3)
       (λ (any : list_any (λ (e : ExprId). stands_in p s e.0) (placing_names at.0) ≡ true).
-      let r = find (stands_in p s) values k (placing_names at.0) (placing_below k at.0 below) (closed.aims_placed k at.0 (omega arith) at.1 m) any in
+      let r = find (stands_in p s) values k (placing_names at.0) (placing_below k at.0 below) (closed.of_aims.placed k at.0 at.1 m) any in
       stands_down (suc r.0) r.0 (omega arith) r.2 r.3)
       (placing_cases p s (places p s) at.0 (sym (places_is p s k at.0 rules at.1) ∙ h))
 
@@ -191,7 +191,7 @@ both false true f g = g refl
 both false false f g = refl
 
 -- the signals of the marked expressions are exactly what the statements read
-pub reads_exact : (p : Pooled) → IsPool p → (b : Block) (aims values : List Bool) → length aims ≡ length p.exprs → length values ≡ length p.exprs → AreSpread p 0 aims values → AreMarked aims (block_targets b) → AreMarked values (block_values b) → ReadOnly p aims values (λ s. block_reads p s b)
+pub reads_exact : (p : Pooled) → IsPool p → (b : Block) (aims values : List Bool) → length aims ≡ length p.exprs → length values ≡ length p.exprs → AreSpread p aims values → AreMarked aims (block_targets b) → AreMarked values (block_values b) → ReadOnly p aims values (λ s. block_reads p s b)
     → (list : List SigId) → ((k : ℕ) (s : SigId) → slice_get p.exprs k ≡ Some (expr.TheVariants.Sig s) → is_marked values k ≡ true → is_among (numbers_of list) s.0 ≡ true) → ((s : ℕ) → is_among (numbers_of list) s ≡ true → HoldsSignal p values s)
     → (s : ℕ) → is_among (numbers_of list) s ≡ block_reads p s b
 reads_exact p rules b aims values long long' closed a v only list all_in only_in s =

@@ -1,7 +1,7 @@
 -- One expression more whose parts are marked.
-use Rattle.std.specs.Prelude.{◌≡◌, refl, ℕ, suc, ◌<◌, ◌≤◌, ◌⊎◌, ◌==◌, ◌||◌, if◌then◌else◌, Bool, true, false, List, [], ◌∷◌, length, slice_get, Some}
+use Rattle.std.specs.Prelude.{◌≡◌, refl, ℕ, zero, suc, ◌+◌, ◌<◌, ◌≤◌, ◌⊎◌, ◌==◌, ◌||◌, Bool, true, false, List, [], ◌∷◌, length, slice_get, Some}
 use Rattle.std.specs.List.{list_any, list_all}
-use Rattle.std.proofs.Common.{sym, ◌∙◌, ap, arith, subst, inl, inr, ⊎_elim}
+use Rattle.std.proofs.Common.{sym, ◌∙◌, ap, arith, subst, inl, inr, ⊎_elim, get_or}
 use Rattle.std.proofs.lemmas.Bool.{cases_Bool, cases_lt, eq-eqb, eqb-true, false≢true}
 use Rattle.std.proofs.lemmas.List.{get_or_past}
 use Rattle.design_ir.specs.declared.ids.ExprId.{ExprId}
@@ -14,18 +14,20 @@ use Rattle.design_ir.specs.Pools.{Pooled}
 use Rattle.design_ir.specs.PoolRules.{IsPool}
 use Rattle.design_ir.specs.Targets.{is_target, target_test}
 use Rattle.design_ir.proofs.Equations.{standing}
-use Rattle.design_ir.proofs.NumbersFit.{element}
 use Rattle.design_ir.proofs.TargetLaws.{and_true, is_target_is}
 use Rattle.delta_sim.specs.Given.{marked}
-use Rattle.delta_sim.specs.Marks.{aimed_names, placing_names, is_marked, AreMarked, AreSpread, ReadOnly, Stays, option_names, aims_after, placed_after, named_after}
+use Rattle.delta_sim.specs.Marks.{aimed_names, placing_names, is_marked, AreMarked, AimsSpread, ValuesSpread, ReadOnly, StandsOnly, Stays}
 use Rattle.delta_sim.specs.Reads.{stands_step, stands_in, placing_step, places}
 use Rattle.delta_sim.specs.Tasks.{places_of}
+use Rattle.delta_sim.specs.Waiting.{Waiting, IsWaiting, IsFront}
 use Rattle.delta_sim.proofs.Agrees.{stands_is, places_is, left, right}
+use Rattle.delta_sim.proofs.Fronts.{front_get}
 use Rattle.delta_sim.proofs.Marks.{marked_at, marked_length}
+use Rattle.delta_sim.proofs.Waits.{count_most, waits_below}
 
 -- ---- marks
 
-within : (xs : List Bool) (k : ℕ) → is_marked xs k ≡ true → k < length xs
+pub within : (xs : List Bool) (k : ℕ) → is_marked xs k ≡ true → k < length xs
 within xs k h = ⊎_elim (λ l. l) (λ (past : length xs ≤ k). absurd (false≢true (sym (get_or_past xs k false past) ∙ h))) (cases_lt k (length xs))
 
 pub marks_stay : (ss : List ℕ) (m : List Bool) → Stays m (marked ss m)
@@ -54,12 +56,6 @@ marks_new es m below = go es below (λ k h. h)
 pub all_stay : (was is : List Bool) (es : List ExprId) → Stays was is → AreMarked was es → AreMarked is es
 all_stay was is [] s h = tt
 all_stay was is (e ∷ es) s h = (s e.0 h.0, all_stay was is es s h.1)
-
--- what is named is below
-below_none : (k j : ℕ) (es : List ExprId) → AllBelow k es → k ≤ j → is_among (places_of es) j ≡ false
-below_none k j [] h le = refl
-below_none k j (e ∷ es) h le =
-    ⊎_elim (λ (t : (e.0 == j) ≡ true). absurd (omega (arith, h.0, le, eqb-true e.0 j t))) (λ (t : (e.0 == j) ≡ false). ap (λ b. b || is_among (places_of es) j) t ∙ below_none k j es h.1 le) (cases_Bool (e.0 == j))
 
 among_all : (holds : ℕ → Bool) (es : List ExprId) (k : ℕ) → is_among (places_of es) k ≡ true → holds k ≡ true → list_any (λ (e : ExprId). holds e.0) es ≡ true
 among_all holds [] k h t = absurd (false≢true h)
@@ -171,137 +167,121 @@ placing_below k (Mux i a b) h = tt
 placing_below k (Matches a patterns) h = tt
 placing_below k (Reset domain place) h = tt
 
-below_more : (k n : ℕ) (es : List ExprId) → k ≤ n → AllBelow k es → AllBelow n es
-below_more k n [] le h = tt
-below_more k n (e ∷ es) le h = (omega (arith, h.0, le), below_more k n es le h.1)
-
 -- ---- one expression more
 
--- marks where what one expression names is marked if it is
-abbrev pub maybe : Bool → List ℕ → List Bool → List Bool
-maybe t ss m = if t then marked ss m else m
+-- the first so many of these targets have what they are made of marked
+abbrev pub AimsDone : Pooled → ℕ → List ℕ → List Bool → List Bool → Type 0
+AimsDone p n list aims values = (j : ℕ) (x : Expr) → j < n → j < length list → slice_get p.exprs (get_or list j 0) ≡ Some x → AreMarked aims (aimed_names x) × AreMarked values (placing_names x)
 
-maybe_stay : (t : Bool) (ss : List ℕ) (m : List Bool) → Stays m (maybe t ss m)
-maybe_stay true ss m = marks_stay ss m
-maybe_stay false ss m = λ k h. h
+-- the first so many of these expressions have what they name marked
+abbrev pub ValuesDone : Pooled → ℕ → List ℕ → List Bool → Type 0
+ValuesDone p n list values = (j : ℕ) (x : Expr) → j < n → j < length list → slice_get p.exprs (get_or list j 0) ≡ Some x → AreMarked values (named x)
 
-maybe_back : (t : Bool) (ss : List ℕ) (m : List Bool) (k : ℕ) → is_marked (maybe t ss m) k ≡ true → (is_marked m k ≡ true) ⊎ ((t ≡ true) × (is_among ss k ≡ true))
-maybe_back true ss m k h = ⊎_elim (λ a. inl a) (λ b. inr (refl, b)) (marks_back ss m k h)
-maybe_back false ss m k h = inl h
+pub place_of : (xs : List ℕ) (k : ℕ) → is_among xs k ≡ true → (i : ℕ) × (i < length xs) × (get_or xs i 0 ≡ k)
+place_of [] k h = absurd (false≢true h)
+place_of (x ∷ xs) k h =
+    ⊎_elim
+    (λ (e : (x == k) ≡ true). (0, omega arith, eqb-true x k e))
+    (λ (e : is_among xs k ≡ true). let r = place_of xs k e in (suc r.0, omega (arith, r.1), r.2))
+    (or_cases (x == k) (is_among xs k) h)
 
-maybe_new : (t : Bool) (es : List ExprId) (m : List Bool) → t ≡ true → AllBelow (length m) es → AreMarked (maybe t (places_of es) m) es
-maybe_new true es m e below = marks_new es m below
-maybe_new false es m e below = absurd (false≢true e)
+-- once all are done, all that is marked is
+pub aims_spread : (p : Pooled) (i : ℕ) (w : Waiting) (values : List Bool) → IsWaiting w → length w.list ≤ i → AimsDone p i w.list w.marks values → AimsSpread p w.marks values
+aims_spread p i w values rules h done = record {
+  named = λ j x is m. (at j x is m).0;
+  placed = λ j x is m. (at j x is m).1;
+}
+  where
+    at : (j : ℕ) (x : Expr) → slice_get p.exprs j ≡ Some x → is_marked w.marks j ≡ true → AreMarked w.marks (aimed_names x) × AreMarked values (placing_names x)
+    at j x is m =
+        let r = place_of w.list j (sym (rules.listed j) ∙ m) in
+        done r.0 x (omega (arith, r.1, h)) r.1 (ap (slice_get p.exprs) r.2 ∙ is)
 
-pub maybe_length : (t : Bool) (ss : List ℕ) (m : List Bool) → length (maybe t ss m) ≡ length m
-maybe_length true ss m = marked_length ss m
-maybe_length false ss m = refl
+pub values_spread : (p : Pooled) (i : ℕ) (w : Waiting) → IsWaiting w → length w.list ≤ i → ValuesDone p i w.list w.marks → ValuesSpread p w.marks
+values_spread p i w rules h done j x is m =
+    let r = place_of w.list j (sym (rules.listed j) ∙ m) in
+    done r.0 x (omega (arith, r.1, h)) r.1 (ap (slice_get p.exprs) r.2 ∙ is)
 
-module _ (p : Pooled) (rules : IsPool p) (i : ℕ) (there : i < length p.exprs) (aims values aims' placed values' : List Bool) (long : length aims ≡ length p.exprs) (long' : length values ≡ length p.exprs)
-    (ea : aims' ≡ aims_after p i aims) (ep : placed ≡ placed_after p i aims values) (ev : values' ≡ named_after p i placed) where
-  abbrev x : Expr
-  x = (element p.exprs i there).0
+-- no more wait than there are expressions
+pub turns_left : (n i : ℕ) (w : Waiting) → IsWaiting w → length w.marks ≡ n → i < length w.list → i < n
+turns_left n i w rules long h = omega (arith, rules.count, count_most w.marks, long, h)
 
-  is : slice_get p.exprs i ≡ Some x
-  is = (element p.exprs i there).1
+among_get : (xs : List ℕ) (i : ℕ) → i < length xs → is_among xs (get_or xs i 0) ≡ true
+among_get [] i h = absurd (omega (arith, h))
+among_get (x ∷ xs) zero h = left (x == x) (is_among xs x) (eq-eqb x x refl)
+among_get (x ∷ xs) (suc i) h = right (x == get_or xs i 0) (is_among xs (get_or xs i 0)) (among_get xs i (omega (arith, h)))
 
-  below : AllBelow i (named x)
-  below = (standing p i x rules is).names
+-- one that waits is marked
+pub turn_marked : (w : Waiting) → IsWaiting w → (i k : ℕ) → i < length w.list → k ≡ get_or w.list i 0 → is_marked w.marks k ≡ true
+turn_marked w rules i k h e = rules.listed k ∙ ap (is_among w.list) e ∙ among_get w.list i h
 
-  ea' : aims' ≡ maybe (is_marked aims i) (places_of (aimed_names x)) aims
-  ea' = ea ∙ ap (λ o. maybe (is_marked aims i) (option_names aimed_names o) aims) is
+-- one that waits is an expression
+pub turn_there : (n i : ℕ) (w : Waiting) → IsWaiting w → length w.marks ≡ n → i < length w.list → get_or w.list i 0 < n
+turn_there n i w rules long h = omega (arith, waits_below w rules i h, long)
 
-  ep' : placed ≡ maybe (is_marked aims i) (places_of (placing_names x)) values
-  ep' = ep ∙ ap (λ o. maybe (is_marked aims i) (option_names placing_names o) values) is
+module _ (p : Pooled) (rules : IsPool p) (k : ℕ) (x : Expr) (is : slice_get p.exprs k ≡ Some x) where
+  pub names_below : AllBelow (length p.exprs) (named x)
+  names_below = (standing p k x rules is).askable.names
 
-  ev' : values' ≡ maybe (is_marked placed i) (places_of (named x)) placed
-  ev' = ev ∙ ap (λ o. maybe (is_marked placed i) (option_names named o) placed) is
+  same : (j : ℕ) (y : Expr) → j ≡ k → slice_get p.exprs j ≡ Some y → x ≡ y
+  same j y e h = let f : Some x ≡ Some y = sym is ∙ ap (slice_get p.exprs) (sym e) ∙ h in cc
 
-  pub aims_stay : Stays aims aims'
-  aims_stay k h = ap (λ m. is_marked m k) ea' ∙ maybe_stay (is_marked aims i) (places_of (aimed_names x)) aims k h
+  -- what a target is made of is marked
+  module _ (aims values aims' values' : List Bool) (here : is_marked aims k ≡ true) (ea : aims' ≡ marked (places_of (aimed_names x)) aims) (ep : values' ≡ marked (places_of (placing_names x)) values) where
+    pub aims_stay : Stays aims aims'
+    aims_stay j h = ap (λ m. is_marked m j) ea ∙ marks_stay (places_of (aimed_names x)) aims j h
 
-  placed_stay : Stays values placed
-  placed_stay k h = ap (λ m. is_marked m k) ep' ∙ maybe_stay (is_marked aims i) (places_of (placing_names x)) values k h
+    pub placed_stay : Stays values values'
+    placed_stay j h = ap (λ m. is_marked m j) ep ∙ marks_stay (places_of (placing_names x)) values j h
 
-  named_stay : Stays placed values'
-  named_stay k h = ap (λ m. is_marked m k) ev' ∙ maybe_stay (is_marked placed i) (places_of (named x)) placed k h
+    aims_back : (j : ℕ) → is_marked aims' j ≡ true → (is_marked aims j ≡ true) ⊎ (is_among (places_of (aimed_names x)) j ≡ true)
+    aims_back j h = marks_back (places_of (aimed_names x)) aims j (sym (ap (λ m. is_marked m j) ea) ∙ h)
 
-  pub values_stay : Stays values values'
-  values_stay k h = named_stay k (placed_stay k h)
+    placed_back : (j : ℕ) → is_marked values' j ≡ true → (is_marked values j ≡ true) ⊎ (is_among (places_of (placing_names x)) j ≡ true)
+    placed_back j h = marks_back (places_of (placing_names x)) values j (sym (ap (λ m. is_marked m j) ep) ∙ h)
 
-  aims_back : (k : ℕ) → is_marked aims' k ≡ true → (is_marked aims k ≡ true) ⊎ ((is_marked aims i ≡ true) × (is_among (places_of (aimed_names x)) k ≡ true))
-  aims_back k h = maybe_back (is_marked aims i) (places_of (aimed_names x)) aims k (sym (ap (λ m. is_marked m k) ea') ∙ h)
+    pub targets_turn : ((j : ℕ) → is_marked aims j ≡ true → is_target p j ≡ true) → (j : ℕ) → is_marked aims' j ≡ true → is_target p j ≡ true
+    targets_turn was j h = ⊎_elim (λ a. was j a) (λ (b : is_among (places_of (aimed_names x)) j ≡ true). aims_are p x j (sym (is_target_is p k x rules is) ∙ was k here) b) (aims_back j h)
 
-  placed_back : (k : ℕ) → is_marked placed k ≡ true → (is_marked values k ≡ true) ⊎ ((is_marked aims i ≡ true) × (is_among (places_of (placing_names x)) k ≡ true))
-  placed_back k h = maybe_back (is_marked aims i) (places_of (placing_names x)) values k (sym (ap (λ m. is_marked m k) ep') ∙ h)
+    pub read_turn : (r : ℕ → Bool) → ReadOnly p aims values r → ReadOnly p aims' values' r
+    read_turn r was = (
+      λ j s h t. ⊎_elim (λ a. was.0 j s a t) (λ (b : is_among (places_of (placing_names x)) j ≡ true). was.1 k s here (places_is p s k x rules is ∙ placed_up p s x j b t)) (placed_back j h),
+      λ j s h t. ⊎_elim (λ a. was.1 j s a t) (λ (b : is_among (places_of (aimed_names x)) j ≡ true). was.1 k s here (places_is p s k x rules is ∙ aims_up p s x j b t)) (aims_back j h),
+    )
 
-  named_back : (k : ℕ) → is_marked values' k ≡ true → (is_marked placed k ≡ true) ⊎ ((is_marked placed i ≡ true) × (is_among (places_of (named x)) k ≡ true))
-  named_back k h = maybe_back (is_marked placed i) (places_of (named x)) placed k (sym (ap (λ m. is_marked m k) ev') ∙ h)
-
-  -- from the expression on no mark is new
-  aims_old : (k : ℕ) → i ≤ k → is_marked aims' k ≡ true → is_marked aims k ≡ true
-  aims_old k le h = ⊎_elim (λ a. a) (λ (b : (is_marked aims i ≡ true) × (is_among (places_of (aimed_names x)) k ≡ true)). absurd (false≢true (sym (below_none i k (aimed_names x) (aimed_below i x below) le) ∙ b.1))) (aims_back k h)
-
-  placed_old : (k : ℕ) → i ≤ k → is_marked placed k ≡ true → is_marked values k ≡ true
-  placed_old k le h = ⊎_elim (λ a. a) (λ (b : (is_marked aims i ≡ true) × (is_among (places_of (placing_names x)) k ≡ true)). absurd (false≢true (sym (below_none i k (placing_names x) (placing_below i x below) le) ∙ b.1))) (placed_back k h)
-
-  values_old : (k : ℕ) → i ≤ k → is_marked values' k ≡ true → is_marked placed k ≡ true
-  values_old k le h = ⊎_elim (λ a. a) (λ (b : (is_marked placed i ≡ true) × (is_among (places_of (named x)) k ≡ true)). absurd (false≢true (sym (below_none i k (named x) below le) ∙ b.1))) (named_back k h)
-
-  placed_long : length placed ≡ length p.exprs
-  placed_long = ap length ep' ∙ maybe_length (is_marked aims i) (places_of (placing_names x)) values ∙ long'
-
-  same : (j : ℕ) (y : Expr) → j ≡ i → slice_get p.exprs j ≡ Some y → y ≡ x
-  same j y e h = let f : Some y ≡ Some x = sym h ∙ ap (slice_get p.exprs) e ∙ is in cc
-
-  inside : (es : List ExprId) → AllBelow i es → (m : List Bool) → length m ≡ length p.exprs → AllBelow (length m) es
-  inside es h m l = below_more i (length m) es (omega (arith, there, l)) h
-
-  pub spread_turn : AreSpread p (suc i) aims values → AreSpread p i aims' values'
-  spread_turn was = record {
-    values_named = λ j y le at h.
-        let old = placed_old j le (values_old j le h) in
+    pub aims_turn : (i : ℕ) (list list' : List ℕ) → length aims ≡ length p.exprs → length values ≡ length p.exprs → i < length list → k ≡ get_or list i 0 → IsFront list list' → AimsDone p i list aims values → AimsDone p (i + 1) list' aims' values'
+    aims_turn i list list' long long' there e front was j y lt inside at =
         ⊎_elim
-        (λ (lt : i < j). all_stay values values' (named y) values_stay (was.values_named j y (omega (arith, lt)) at old))
-        (λ (ge : j ≤ i).
-        let e : j ≡ i = omega (arith, le, ge) in
-        let here : is_marked placed i ≡ true = ap (is_marked placed) (sym e) ∙ values_old j le h in
-        subst (λ z. AreMarked values' (named z)) (sym (same j y e at))
-        (subst (λ m. AreMarked m (named x)) (sym ev') (maybe_new (is_marked placed i) (named x) placed here (inside (named x) below placed placed_long))))
-        (cases_lt i j);
-    aims_named = λ j y le at h.
-        let old = aims_old j le h in
+        (λ (old : j < i).
+        let h = was j y old (omega (arith, old, there)) (ap (slice_get p.exprs) (sym (front_get list list' front j (omega (arith, old, there)))) ∙ at) in
+        (all_stay aims aims' (aimed_names y) aims_stay h.0, all_stay values values' (placing_names y) placed_stay h.1))
+        (λ (new : i ≤ j).
+        let last : j ≡ i = omega (arith, lt, new) in
+        let y_is : x ≡ y = same (get_or list' j 0) y (ap (λ m. get_or list' m 0) last ∙ front_get list list' front i there ∙ sym e) at in
+        subst (λ z. AreMarked aims' (aimed_names z) × AreMarked values' (placing_names z)) y_is (
+          subst (λ m. AreMarked m (aimed_names x)) (sym ea) (marks_new (aimed_names x) aims (subst (λ n. AllBelow n (aimed_names x)) (sym long) (aimed_below (length p.exprs) x names_below))),
+          subst (λ m. AreMarked m (placing_names x)) (sym ep) (marks_new (placing_names x) values (subst (λ n. AllBelow n (placing_names x)) (sym long') (placing_below (length p.exprs) x names_below))),
+        ))
+        (cases_lt j i)
+
+  -- what an expression names is marked
+  module _ (values values' : List Bool) (here : is_marked values k ≡ true) (ev : values' ≡ marked (places_of (named x)) values) where
+    pub values_stay : Stays values values'
+    values_stay j h = ap (λ m. is_marked m j) ev ∙ marks_stay (places_of (named x)) values j h
+
+    pub stands_turn : (r : ℕ → Bool) → StandsOnly p values r → StandsOnly p values' r
+    stands_turn r was j s h t =
         ⊎_elim
-        (λ (lt : i < j). all_stay aims aims' (aimed_names y) aims_stay (was.aims_named j y (omega (arith, lt)) at old))
-        (λ (ge : j ≤ i).
-        let e : j ≡ i = omega (arith, le, ge) in
-        subst (λ z. AreMarked aims' (aimed_names z)) (sym (same j y e at))
-        (subst (λ m. AreMarked m (aimed_names x)) (sym ea') (maybe_new (is_marked aims i) (aimed_names x) aims (ap (is_marked aims) (sym e) ∙ old) (inside (aimed_names x) (aimed_below i x below) aims long))))
-        (cases_lt i j);
-    aims_placed = λ j y le at h.
-        let old = aims_old j le h in
+        (λ a. was j s a t)
+        (λ (b : is_among (places_of (named x)) j ≡ true). was k s here (stands_is p s k x rules is ∙ stands_up p s x j b t))
+        (marks_back (places_of (named x)) values j (sym (ap (λ m. is_marked m j) ev) ∙ h))
+
+    pub values_turn : (i : ℕ) (list list' : List ℕ) → length values ≡ length p.exprs → i < length list → k ≡ get_or list i 0 → IsFront list list' → ValuesDone p i list values → ValuesDone p (i + 1) list' values'
+    values_turn i list list' long there e front was j y lt inside at =
         ⊎_elim
-        (λ (lt : i < j). all_stay values values' (placing_names y) values_stay (was.aims_placed j y (omega (arith, lt)) at old))
-        (λ (ge : j ≤ i).
-        let e : j ≡ i = omega (arith, le, ge) in
-        subst (λ z. AreMarked values' (placing_names z)) (sym (same j y e at))
-        (all_stay placed values' (placing_names x) named_stay (subst (λ m. AreMarked m (placing_names x)) (sym ep') (maybe_new (is_marked aims i) (placing_names x) values (ap (is_marked aims) (sym e) ∙ old) (inside (placing_names x) (placing_below i x below) values long')))))
-        (cases_lt i j);
-  }
-
-  pub targets_turn : ((j : ℕ) → is_marked aims j ≡ true → is_target p j ≡ true) → (j : ℕ) → is_marked aims' j ≡ true → is_target p j ≡ true
-  targets_turn was j h = ⊎_elim (λ a. was j a) (λ (b : (is_marked aims i ≡ true) × (is_among (places_of (aimed_names x)) j ≡ true)). aims_are p x j (sym (is_target_is p i x rules is) ∙ was i b.0) b.1) (aims_back j h)
-
-  pub only_turn : (r : ℕ → Bool) → ReadOnly p aims values r → ReadOnly p aims' values' r
-  only_turn r was =
-      let placed_only : (j s : ℕ) → is_marked placed j ≡ true → stands_in p s j ≡ true → r s ≡ true =
-      λ j s h t. ⊎_elim (λ a. was.0 j s a t) (λ (b : (is_marked aims i ≡ true) × (is_among (places_of (placing_names x)) j ≡ true)). was.1 i s b.0 (places_is p s i x rules is ∙ placed_up p s x j b.1 t)) (placed_back j h) in (
-        λ j s h t. ⊎_elim (λ a. placed_only j s a t) (λ (b : (is_marked placed i ≡ true) × (is_among (places_of (named x)) j ≡ true)). placed_only i s b.0 (stands_is p s i x rules is ∙ stands_up p s x j b.1 t)) (named_back j h),
-        λ j s h t. ⊎_elim (λ a. was.1 j s a t) (λ (b : (is_marked aims i ≡ true) × (is_among (places_of (aimed_names x)) j ≡ true)). was.1 i s b.0 (places_is p s i x rules is ∙ aims_up p s x j b.1 t)) (aims_back j h),
-      )
-
-  pub aims_long : length aims' ≡ length p.exprs
-  aims_long = ap length ea' ∙ maybe_length (is_marked aims i) (places_of (aimed_names x)) aims ∙ long
-
-  pub values_long : length values' ≡ length p.exprs
-  values_long = ap length ev' ∙ maybe_length (is_marked placed i) (places_of (named x)) placed ∙ placed_long
+        (λ (old : j < i). all_stay values values' (named y) values_stay (was j y old (omega (arith, old, there)) (ap (slice_get p.exprs) (sym (front_get list list' front j (omega (arith, old, there)))) ∙ at)))
+        (λ (new : i ≤ j).
+        let last : j ≡ i = omega (arith, lt, new) in
+        let y_is : x ≡ y = same (get_or list' j 0) y (ap (λ m. get_or list' m 0) last ∙ front_get list list' front i there ∙ sym e) at in
+        subst (λ z. AreMarked values' (named z)) y_is (subst (λ m. AreMarked m (named x)) (sym ev) (marks_new (named x) values (subst (λ n. AllBelow n (named x)) (sym long) names_below))))
+        (cases_lt j i)

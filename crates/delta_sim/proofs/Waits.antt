@@ -89,7 +89,7 @@ module _ (marks : List Bool) (items : List ℕ) (len n : ℕ) (within : len ≤ 
   pub mark_room : len < length items
   mark_room = omega (arith, count_gap marks n there free, waits.count, take_all len items within, long)
 
-  more : take (len + 1) (slice_set items len n) ≡ take len items ++ n ∷ []
+  pub more : take (len + 1) (slice_set items len n) ≡ take len items ++ n ∷ []
   more = ap (λ k. take k (slice_set items len n)) (add-one len) ∙ take-suc-set items len n mark_room
 
   listed : (k : ℕ) → slice_index_or (slice_set marks n true) k false ≡ is_among (take len items ++ n ∷ []) k

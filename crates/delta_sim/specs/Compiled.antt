@@ -1,4 +1,4 @@
--- What is worked out of one process.
+-- What is worked out of some statements of a process.
 use Rattle.std.specs.Prelude.{◌≡◌, ℕ, ◌<◌, Bool, true, List, [], ◌∷◌, length, slice_get, Some}
 use Rattle.std.specs.List.{AllByRecursion}
 use Rattle.design_ir.specs.declared.expr.Expr as expr
@@ -7,12 +7,13 @@ use Rattle.design_ir.specs.declared.expr.Expr.TheVariants.{Const, Unary, Binary,
 use Rattle.design_ir.specs.declared.ids.SigId.{SigId}
 use Rattle.design_ir.specs.declared.process.DesignProcess.{DesignProcess}
 use Rattle.design_ir.specs.Circuits.{Circuit, is_among}
+use Rattle.design_ir.specs.Guards.{block_exprs, driven}
 use Rattle.design_ir.specs.Pools.{Pooled}
 use Rattle.delta_sim.specs.declared.compile.Compiled.{Compiled}
 use Rattle.delta_sim.specs.Driven.{numbers_of}
 use Rattle.delta_sim.specs.Marks.{is_marked}
-use Rattle.delta_sim.specs.Plans.{IsClockedTask}
 use Rattle.delta_sim.specs.Reads.{block_reads}
+use Rattle.delta_sim.specs.Tasks.{IsProgram, AreAmong, AreTargetsOf, picked, block_targets}
 
 -- a marked expression is the signal
 pub record HoldsSignal (p : Pooled) (marks : List Bool) (s : ℕ) : Type 0 where
@@ -22,12 +23,16 @@ pub record HoldsSignal (p : Pooled) (marks : List Bool) (s : ℕ) : Type 0 where
   pub same : sig.0 ≡ s
   pub marked : is_marked marks k ≡ true
 
--- the task of all statements of process k, and the signals that they read
-pub record IsCompiled (c : Circuit) (k : ℕ) (p : DesignProcess) (x : Compiled) : Type 0 where
+-- the task of the statements of process k at these places, and the signals that they read
+pub record IsCompiled (c : Circuit) (k : ℕ) (p : DesignProcess) (places : List ℕ) (x : Compiled) : Type 0 where
   pub process : x.task.process ≡ k
-  pub task : IsClockedTask c (length c.pool.exprs) x.task p
-  pub below : AllByRecursion (λ s. s < length c.pool.signals) (numbers_of x.task.outs)
-  pub reads : (s : ℕ) → is_among (numbers_of x.reads) s ≡ block_reads c.pool s p.body
+  pub statements : x.task.statements ≡ places
+  pub program : IsProgram c.pool (length c.pool.exprs) x.task.exprs
+  pub computed : AreAmong x.task.exprs (block_exprs (picked p.body places))
+  pub targets : AreTargetsOf c.pool (block_targets (picked p.body places))
+  pub outs : (s : ℕ) → is_among (numbers_of x.task.outs) s ≡ is_among (driven c.pool (picked p.body places)) s
+  pub outs_below : AllByRecursion (λ s. s < length c.pool.signals) (numbers_of x.task.outs)
+  pub reads : (s : ℕ) → is_among (numbers_of x.reads) s ≡ block_reads c.pool s (picked p.body places)
   pub reads_below : AllByRecursion (λ s. s < length c.pool.signals) (numbers_of x.reads)
 
 -- the signal that an expression is

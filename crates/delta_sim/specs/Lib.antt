@@ -6,6 +6,7 @@ pub mod After
 pub mod Reads
 pub mod Woken
 pub mod Tasks
+pub mod Groups
 pub mod Waiting
 pub mod Walked
 pub mod Plans

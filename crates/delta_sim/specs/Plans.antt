@@ -1,5 +1,5 @@
 -- What a simulator works out of a design once: its tasks, and who reads each signal.
-use Rattle.std.specs.Prelude.{◌≡◌, ◌≢◌, ℕ, ◌<◌, ◌^◌, ◌&&◌, ◌⊎◌, Bool, true, false, List, [], ◌∷◌, length, is_none, slice_get, slice_set, slice_index_or, ℤ, Option, Some, None}
+use Rattle.std.specs.Prelude.{◌≡◌, ◌≢◌, ℕ, ◌<◌, ◌&&◌, ◌⊎◌, Bool, true, false, List, [], ◌∷◌, length, is_none, slice_get, slice_set, slice_index_or, ℤ, Option, Some, None}
 use Rattle.std.specs.List.{AllByRecursion}
 use Rattle.design_ir.specs.declared.ids.DomainId.{DomainId}
 use Rattle.design_ir.specs.declared.process.DesignProcess.{DesignProcess}
@@ -56,7 +56,6 @@ pub record IsPlan (c : Circuit) (count : ℕ) (plan : Plan) : Type 0 where
   pub given : (s : ℕ) → s < length c.pool.signals → is_among (numbers_of plan.given) s ≡ is_held c s
   pub given_below : AllByRecursion (λ s. s < length c.pool.signals) (numbers_of plan.given)
   pub clocked : (k : ℕ) (p : DesignProcess) (d : DomainId) → slice_get c.processes k ≡ Some p → p.domain ≡ Some d → HasClocked c count plan.clocked k p
-  pub few : length plan.tasks < 2 ^ 32
   pub tasks : (j : ℕ) (t : Task) → slice_get plan.tasks j ≡ Some t → IsCombTask c count t
   pub covered : (k : ℕ) (p : DesignProcess) (s : ℕ) → slice_get c.processes k ≡ Some p → p.domain ≡ None → is_among (driven c.pool p.body) s ≡ true → IsCovered plan.tasks k s
   pub apart : (i j : ℕ) (a b : Task) (s : ℕ) → slice_get plan.tasks i ≡ Some a → slice_get plan.tasks j ≡ Some b → i ≢ j → is_among (numbers_of a.outs) s ≡ true → is_among (numbers_of b.outs) s ≡ false

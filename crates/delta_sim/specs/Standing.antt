@@ -1,13 +1,13 @@
 -- What a simulator stands for: the events that a design has had.
-use Rattle.std.specs.Prelude.{◌≡◌, ℕ, List, [], map, length, ℤ, fold}
+use Rattle.std.specs.Prelude.{◌≡◌, ℕ, false, List, [], map, length, ℤ, fold}
 use Rattle.design_ir.specs.declared.event.Event.{Event}
 use Rattle.design_ir.specs.declared.signal.Sig.{Sig}
-use Rattle.design_ir.specs.Circuits.{Circuit, State}
+use Rattle.design_ir.specs.Circuits.{Circuit, State, at}
 use Rattle.design_ir.specs.Histories.{Reaches, Deltas}
 use Rattle.design_ir.specs.Settled.{Settled}
 use Rattle.design_ir.specs.Steps.{clock_low}
 use Rattle.design_ir.proofs.NumbersFit.{FitsSignals}
-use Rattle.comb_graph.specs.Orders.{IsLongest}
+use Rattle.comb_graph.specs.Orders.{is_comb, IsLongest}
 use Rattle.delta_sim.specs.declared.settle.Counts.{Counts}
 use Rattle.delta_sim.specs.declared.plan.Plan.{Plan}
 use Rattle.delta_sim.specs.Plans.{IsPlan}
@@ -51,14 +51,15 @@ pub record IsSimOf (c : Circuit) (s : Simulated) : Type 0 where
   pub then : s.then ≡ nobody (length s.plan.tasks)
   pub woken : s.woken ≡ nobody (length c.processes)
 
--- a simulator of this design before any event, not yet settled
+-- a simulator of this design before any event, not yet settled: it is known what the state gives, and what nothing drives
 pub record IsFresh (c : Circuit) (s : Simulated) : Type 0 where
   pub held : s.held ≡ fold clock_low (map (λ (x : Sig). x.init) c.pool.signals) c.domains
-  pub env : s.env ≡ s.held
+  pub env : AreNumbersOf c s.env
+  pub same : (i : ℕ) → is_comb c i ≡ false → at s.env i ≡ at s.held i
   pub longest : IsLongest c s.longest
   pub plan : IsPlan c (length s.numbers) s.plan
   pub numbers : AreFitting c.pool s.numbers
-  pub next : s.next ≡ s.held
+  pub next : AreNumbersOf c s.next
   pub waits : s.waits ≡ nobody (length s.plan.tasks)
   pub then : s.then ≡ nobody (length s.plan.tasks)
   pub woken : s.woken ≡ nobody (length c.processes)

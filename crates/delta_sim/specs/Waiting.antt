@@ -1,5 +1,5 @@
 -- Numbers that wait, each once.
-use Rattle.std.specs.Prelude.{◌≡◌, ℕ, ◌<◌, Bool, false, List, length, slice_index_or}
+use Rattle.std.specs.Prelude.{◌≡◌, ℕ, ◌<◌, ◌++◌, Bool, false, List, length, slice_index_or}
 use Rattle.std.specs.List.{AllByRecursion, count_by}
 use Rattle.design_ir.specs.Circuits.{is_among}
 
@@ -13,3 +13,8 @@ pub record IsWaiting (w : Waiting) : Type 0 where
   pub listed : (n : ℕ) → slice_index_or w.marks n false ≡ is_among w.list n
   pub below : AllByRecursion (λ n. n < length w.marks) w.list
   pub count : length w.list ≡ count_by (λ b. b) w.marks
+
+-- the list goes on from where the other ends
+pub record IsFront (xs ys : List ℕ) : Type 0 where
+  pub more : List ℕ
+  pub is : ys ≡ xs ++ more

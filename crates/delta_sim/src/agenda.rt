@@ -2,7 +2,7 @@
 ghost use Rattle.std.specs.Prelude.{◌≡◌, ◌<◌, [], false, true, length, ℕ, slice_set, slice_index, slice_index_or, replicate, IfOk};
 ghost use Rattle.std.specs.List.{AllByRecursion};
 ghost use Rattle.design_ir.specs.Circuits.{is_among};
-ghost use Rattle.delta_sim.specs.Waiting.{IsWaiting};
+ghost use Rattle.delta_sim.specs.Waiting.{IsWaiting, IsFront};
 
 use amh_host::NoMemory;
 use std::alloc::Global;
@@ -12,7 +12,7 @@ use std::marker::Model;
 #[derive(Drop)]
 pub struct Agenda {
     marks: Vec<bool>,
-    list: Vec<u32>,
+    list: Vec<usize>,
     len: usize,
 }
 
@@ -50,22 +50,23 @@ impl Agenda {
     }
 
     /// One of those that wait.
-    pub fn get(&self, i: usize) -> u32
+    pub fn get(&self, i: usize) -> usize
         requires { i < length self.now.list }
         ensures { result ≡ slice_index self.now.list i }
     {
         self.list[i]
     }
 
-    /// Lets a number wait.
-    pub fn mark(&mut self, n: u32)
+    /// Lets a number wait, behind those that do.
+    pub fn mark(&mut self, n: usize)
         requires { n < length self.old.marks }
-        ensures { self.new.marks ≡ slice_set self.old.marks n true }
+        ensures marks { self.new.marks ≡ slice_set self.old.marks n true }
+        ensures list { IsFront self.old.list self.new.list }
     {
-        if self.marks[n as usize] {
+        if self.marks[n] {
             return;
         }
-        self.marks[n as usize] = true;
+        self.marks[n] = true;
         self.list[self.len] = n;
         self.len += 1;
     }
@@ -80,12 +81,12 @@ impl Agenda {
 }
 
 // Takes the marks of these numbers away.
-fn unmark(list: &[u32], marks: &mut Vec<bool>)
+fn unmark(list: &[usize], marks: &mut Vec<bool>)
     requires { AllByRecursion (λ n. n < length marks.old.items) list.now }
     ensures count { length marks.new.items ≡ length marks.old.items }
     ensures gone { (n : ℕ) → slice_index_or marks.new.items n false ≡ true → (is_among list.now n ≡ false) × (slice_index_or marks.old.items n false ≡ true) }
 {
     for n in list {
-        marks[*n as usize] = false;
+        marks[*n] = false;
     }
 }

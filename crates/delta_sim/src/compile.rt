@@ -1,15 +1,22 @@
-// What is worked out of one process.
-ghost use Rattle.std.specs.Prelude.{◌≡◌, ◌<◌, ◌^◌, ℕ, [], true, length, slice_get, Some, ◌++◌, ◌∷◌, ◌||◌, if◌then◌else◌, IfOk, OnOk};
-ghost use Rattle.std.specs.List.{range_with_len};
+// What is worked out of some statements of a process.
+ghost use Rattle.std.specs.Prelude.{◌≡◌, ◌<◌, ◌^◌, ◌||◌, ◌++◌, ℕ, [], false, true, length, replicate, slice_get, Some, IfOk, OnOk};
+ghost use Rattle.std.specs.List.{AllByRecursion};
+ghost use Rattle.std.specs.List.Sorted.{IsNonDecreasing};
 ghost use Rattle.design_ir.specs.declared.expr.Expr.TheVariants as expr;
+ghost use Rattle.design_ir.specs.declared.ids.ExprId.{ExprId};
 ghost use Rattle.design_ir.specs.declared.ids.SigId.{SigId};
 ghost use Rattle.design_ir.specs.Circuits.{is_among};
+ghost use Rattle.design_ir.specs.Trees.{statements};
 ghost use Rattle.delta_sim.specs.Compiled.{IsCompiled, HoldsSignal, own_signal};
 ghost use Rattle.delta_sim.specs.Driven.{AreTargets, numbers_of};
-ghost use Rattle.delta_sim.specs.Marks.{is_marked, listed_of};
+ghost use Rattle.delta_sim.specs.Marks.{is_marked};
+ghost use Rattle.delta_sim.specs.Settling.{nobody};
+ghost use Rattle.delta_sim.specs.Tasks.{places_of};
+ghost use Rattle.delta_sim.specs.Waiting.{IsWaiting};
 
-use crate::driven::driven;
-use crate::roots::mark_body;
+use crate::agenda::Agenda;
+use crate::driven::driven_picked;
+use crate::roots::mark_picked;
 use crate::spread::spread;
 use crate::targets::SigIds;
 use crate::task::Task;
@@ -24,87 +31,117 @@ pub struct Compiled {
     pub reads: SigIds,
 }
 
-/// The task of all statements of process k.
+/// Room for marks of expressions, none of which is marked between two tasks: targets, and what is read.
+#[derive(Drop)]
+pub struct Marks {
+    pub aims: Agenda,
+    pub values: Agenda,
+}
+
+/// The task of the statements of process k at these places. It costs what they read, and no walk through all expressions.
 pub fn compile(
     alloc: Global,
     design: &Design,
     targets: &[SigIds],
     k: u32,
     p: &DesignProcess,
+    places: &[usize],
+    marks: &mut Marks,
 ) -> Result<Compiled, NoMemory>
     requires targets { AreTargets design.now.pool (length design.now.pool.exprs) targets.now }
     requires there { slice_get design.now.processes k ≡ Some p.now }
-    ensures { IfOk result (IsCompiled design.now k p.now) }
+    requires inside { AllByRecursion (λ i. i < length (statements p.now.body)) places.now }
+    requires aims { marks.old.aims ≡ nobody (length design.now.pool.exprs) }
+    requires values { marks.old.values ≡ nobody (length design.now.pool.exprs) }
+    ensures compiled { IfOk result (IsCompiled design.now k p.now places.now) }
+    ensures aims { OnOk result (marks.new.aims ≡ nobody (length design.now.pool.exprs)) }
+    ensures values { OnOk result (marks.new.values ≡ nobody (length design.now.pool.exprs)) }
 {
+    let _ = design.count();
     let _ = design.processes();
-    let mut aims = vec![in alloc; false; design.count() as usize]?;
-    let mut values = vec![in alloc; false; design.count() as usize]?;
-    mark_body(&p.body, &mut aims, &mut values);
-    spread(design, &mut aims, &mut values);
+    mark_picked(&p.body, places, &mut marks.aims, &mut marks.values);
+    spread(design, &mut marks.aims, &mut marks.values);
+    let statements = copied(alloc, places)?;
+    let outs = driven_picked(alloc, targets, &p.body, places)?;
+    let exprs = program(alloc, &marks.aims, &marks.values)?;
+    let reads = signals_read(alloc, design, &marks.values)?;
+    marks.aims.clear();
+    marks.values.clear();
     let task = Task {
         process: k,
-        statements: places(alloc, p.body.len())?,
-        outs: driven(alloc, targets, &p.body)?,
-        exprs: program(alloc, aims.as_slice(), values.as_slice())?,
+        statements,
+        outs,
+        exprs,
     };
-    let reads = signals_read(alloc, design, values.as_slice())?;
     Ok(Compiled { task, reads })
 }
 
-// So many places.
-fn places(alloc: Global, count: usize) -> Result<Items<usize>, NoMemory>
-    ensures { IfOk result (λ all. all ≡ range_with_len 0 count) }
-{
-    let mut all = Items::new(alloc);
-    for i in 0..count {
-        all.push(i)?;
-    }
-    Ok(all)
-}
-
-// The marked expressions, in order.
-fn program(alloc: Global, aims: &[bool], values: &[bool]) -> Result<Ids, NoMemory>
-    requires same { length aims.now ≡ length values.now }
-    requires few { length aims.now < 2 ^ 32 }
-    ensures { IfOk result (λ list. list ≡ listed_of aims.now values.now) }
+// The same places.
+fn copied(alloc: Global, places: &[usize]) -> Result<Items<usize>, NoMemory>
+    ensures { IfOk result (λ list. list ≡ places.now) }
 {
     let mut list = Items::new(alloc);
-    for k in 0..aims.len() {
-        add_marked(k as u32, aims[k], values[k], &mut list)?;
+    for i in places {
+        list.push(*i)?;
     }
     Ok(list)
 }
 
-// Adds an expression where it is marked.
-fn add_marked(k: u32, is_aim: bool, is_value: bool, list: &mut Ids) -> Result<(), NoMemory>
-    ensures { OnOk result (list.new ≡ list.old ++ (if is_aim || is_value then record { 0 = k } ∷ [] else [])) }
+// The marked expressions, in order.
+fn program(alloc: Global, aims: &Agenda, values: &Agenda) -> Result<Ids, NoMemory>
+    requires aims { length aims.now.marks < 2 ^ 32 }
+    requires values { length values.now.marks < 2 ^ 32 }
+    ensures order { IfOk result (λ list. IsNonDecreasing (places_of list)) }
+    ensures all { IfOk result (λ list. (j : ℕ) → is_among (places_of list) j ≡ (is_marked aims.now.marks j || is_marked values.now.marks j)) }
 {
-    if is_aim || is_value {
-        return list.push(ExprId(k));
+    let mut all = Vec::new(alloc);
+    add_marked(aims, &mut all)?;
+    add_marked(values, &mut all)?;
+    all.sort_unstable();
+    ids(alloc, all.as_slice())
+}
+
+// Adds what is marked.
+fn add_marked(marks: &Agenda, all: &mut Vec<usize>) -> Result<(), NoMemory>
+    ensures all { OnOk result (all.new.items ≡ all.old.items ++ marks.now.list) }
+    ensures rules { IsWaiting marks.now }
+{
+    for i in 0..marks.len() {
+        all.push(marks.get(i))?;
     }
     Ok(())
 }
 
-// The signals of the marked expressions.
-fn signals_read(alloc: Global, design: &Design, values: &[bool]) -> Result<SigIds, NoMemory>
-    requires { length values.now ≡ length design.now.pool.exprs }
-    ensures all { IfOk result (λ list. (k : ℕ) (s : SigId) → slice_get design.now.pool.exprs k ≡ Some (expr.Sig s) → is_marked values.now k ≡ true → is_among (numbers_of list) s.0 ≡ true) }
-    ensures only { IfOk result (λ list. (s : ℕ) → is_among (numbers_of list) s ≡ true → HoldsSignal design.now.pool values.now s) }
+// Expressions by their numbers.
+fn ids(alloc: Global, numbers: &[usize]) -> Result<Ids, NoMemory>
+    requires { AllByRecursion (λ k. k < 2 ^ 32) numbers.now }
+    ensures { IfOk result (λ list. places_of list ≡ numbers.now) }
 {
     let mut list = Items::new(alloc);
-    for k in 0..design.count() {
-        add_signal(design.at(ExprId(k)), values[k as usize], &mut list)?;
+    for k in numbers {
+        list.push(ExprId(*k as u32))?;
     }
     Ok(list)
 }
 
-// Adds the signal that a marked expression is.
-fn add_signal(e: &Expr, is_marked: bool, list: &mut SigIds) -> Result<(), NoMemory>
-    ensures { OnOk result (list.new ≡ list.old ++ (if is_marked then own_signal e.now else [])) }
+// The signals of the marked expressions.
+fn signals_read(alloc: Global, design: &Design, values: &Agenda) -> Result<SigIds, NoMemory>
+    requires { length values.now.marks ≡ length design.now.pool.exprs }
+    ensures all { IfOk result (λ list. (k : ℕ) (s : SigId) → slice_get design.now.pool.exprs k ≡ Some (expr.Sig s) → is_marked values.now.marks k ≡ true → is_among (numbers_of list) s.0 ≡ true) }
+    ensures only { IfOk result (λ list. (s : ℕ) → is_among (numbers_of list) s ≡ true → HoldsSignal design.now.pool values.now.marks s) }
 {
-    if !is_marked {
-        return Ok(());
+    let _ = design.count();
+    let mut list = Items::new(alloc);
+    for i in 0..values.len() {
+        add_signal(design.at(ExprId(values.get(i) as u32)), &mut list)?;
     }
+    Ok(list)
+}
+
+// Adds the signal that an expression is.
+fn add_signal(e: &Expr, list: &mut SigIds) -> Result<(), NoMemory>
+    ensures { OnOk result (list.new ≡ list.old ++ own_signal e.now) }
+{
     match e {
         Expr::Sig(s) => list.push(*s),
         _ => Ok(()),

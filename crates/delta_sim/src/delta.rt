@@ -82,7 +82,7 @@ fn run_all(
     let _ = design.count();
     let _ = design.processes();
     for i in 0..waits.len() {
-        let task = plan.tasks.get(waits.get(i) as usize);
+        let task = plan.tasks.get(waits.get(i));
         run(design, task, env, nums, next);
     }
 }
@@ -108,7 +108,7 @@ fn take_all(
     ensures woken { Wakes plan.now.processes env.old.items env.new.items woken.old.marks woken.new.marks }
 {
     for i in 0..waits.len() {
-        let task = plan.tasks.get(waits.get(i) as usize);
+        let task = plan.tasks.get(waits.get(i));
         take(plan, task.outs.as_slice(), next, env, then, woken);
     }
 }

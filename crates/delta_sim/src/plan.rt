@@ -2,7 +2,7 @@
 
 use crate::targets::SigIds;
 use crate::task::Task;
-use amh_host::{Items, Numbers};
+use amh_host::Items;
 
 /// Which signals a state gives; for each process, by its number, the task that carries it out where it is clocked; the
 /// tasks of the combinational ones; and for each signal the tasks and the processes that read it.
@@ -11,6 +11,6 @@ pub struct Plan {
     pub given: SigIds,
     pub clocked: Items<Task>,
     pub tasks: Items<Task>,
-    pub readers: Items<Numbers>,
-    pub processes: Items<Numbers>,
+    pub readers: Items<Items<usize>>,
+    pub processes: Items<Items<usize>>,
 }

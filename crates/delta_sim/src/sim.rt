@@ -9,6 +9,7 @@ ghost use Rattle.delta_sim.specs.Standing.{IsFresh, IsSimOf, Settles, Stands};
 
 use crate::agenda::Agenda;
 use crate::event::hold;
+use crate::first::run_in_order;
 use crate::plan::Plan;
 use crate::settle::{Counts, settle};
 use crate::tables::plan_of;
@@ -46,7 +47,8 @@ impl Model for Sim {
 }
 
 impl Sim {
-    /// The design before any event, settled.
+    /// The design before any event, settled. Each task runs once in the order of the ranks first, so that a long chain is
+    /// not gone along signal by signal.
     pub fn start(alloc: Global, design: &Design, ranks: &Ranks) -> Result<Sim, NoMemory>
         requires flat { design.now.memories ≡ [] }
         requires ranked { IsRanking design.now ranks.now }
@@ -69,6 +71,15 @@ impl Sim {
             then: Agenda::new(alloc, tasks)?,
             woken: Agenda::new(alloc, design.processes().len())?,
         };
+        run_in_order(
+            alloc,
+            design,
+            ranks.order().as_slice(),
+            &sim.plan,
+            &mut sim.env,
+            &mut sim.numbers,
+            &mut sim.next,
+        )?;
         first_settled::<Brand>(&mut sim, design, Blank::new(1));
         Ok(sim)
     }
@@ -175,13 +186,12 @@ fn first_settled<L: Ledger>(sim: &mut Sim, design: &Design, blank: Blank)
 
 // Lets all of so many wait.
 fn wake_all(count: usize, waits: &mut Agenda)
-    requires few { count < 2 ^ 32 }
     requires bound { length waits.old.marks ≡ count }
     ensures count { length waits.new.marks ≡ count }
     ensures all { (k : ℕ) → k < count → slice_index_or waits.new.marks k false ≡ true }
 {
     for k in 0..count {
-        waits.mark(k as u32);
+        waits.mark(k);
     }
 }
 

@@ -3,65 +3,79 @@ ghost use Rattle.std.specs.Prelude.{◌≡◌, ◌<◌, ℕ, Bool, true, length,
 ghost use Rattle.design_ir.specs.Named.{named, AllBelow};
 ghost use Rattle.design_ir.specs.Targets.{is_target};
 ghost use Rattle.delta_sim.specs.Given.{marked};
-ghost use Rattle.delta_sim.specs.Marks.{aimed_names, placing_names, is_marked, aims_after, placed_after, named_after, AreSpread, ReadOnly, Stays};
+ghost use Rattle.delta_sim.specs.Marks.{aimed_names, placing_names, is_marked, AreSpread, AimsSpread, ValuesSpread, ReadOnly, StandsOnly, Stays};
 ghost use Rattle.delta_sim.specs.Tasks.{places_of};
+ghost use Rattle.delta_sim.specs.Waiting.{IsFront};
 
+use crate::agenda::Agenda;
 use design_ir::{Design, Expr, ExprId, Exprs};
 
 /// Marks all that marked expressions are made of: of what is read all that it names, of a target the targets in it and,
 /// among what is read, the offsets and indices that place it.
-pub fn spread(design: &Design, aims: &mut Vec<bool>, values: &mut Vec<bool>)
-    requires aims { length aims.old.items ≡ length design.now.pool.exprs }
-    requires values { length values.old.items ≡ length design.now.pool.exprs }
-    requires targets { (j : ℕ) → is_marked aims.old.items j ≡ true → is_target design.now.pool j ≡ true }
-    ensures aims { length aims.new.items ≡ length design.now.pool.exprs }
-    ensures values { length values.new.items ≡ length design.now.pool.exprs }
-    ensures aims_stay { Stays aims.old.items aims.new.items }
-    ensures values_stay { Stays values.old.items values.new.items }
-    ensures spread { AreSpread design.now.pool 0 aims.new.items values.new.items }
-    ensures targets { (j : ℕ) → is_marked aims.new.items j ≡ true → is_target design.now.pool j ≡ true }
-    ensures only { (r : ℕ → Bool) → ReadOnly design.now.pool aims.old.items values.old.items r → ReadOnly design.now.pool aims.new.items values.new.items r }
+pub fn spread(design: &Design, aims: &mut Agenda, values: &mut Agenda)
+    requires aims { length aims.old.marks ≡ length design.now.pool.exprs }
+    requires values { length values.old.marks ≡ length design.now.pool.exprs }
+    requires targets { (j : ℕ) → is_marked aims.old.marks j ≡ true → is_target design.now.pool j ≡ true }
+    ensures aims { length aims.new.marks ≡ length design.now.pool.exprs }
+    ensures values { length values.new.marks ≡ length design.now.pool.exprs }
+    ensures aims_stay { Stays aims.old.marks aims.new.marks }
+    ensures values_stay { Stays values.old.marks values.new.marks }
+    ensures spread { AreSpread design.now.pool aims.new.marks values.new.marks }
+    ensures targets { (j : ℕ) → is_marked aims.new.marks j ≡ true → is_target design.now.pool j ≡ true }
+    ensures only { (r : ℕ → Bool) → ReadOnly design.now.pool aims.old.marks values.old.marks r → ReadOnly design.now.pool aims.new.marks values.new.marks r }
 {
-    let mut k = design.count();
-    while k > 0 {
-        k -= 1;
-        spread_aims(design, ExprId(k), aims, values);
-        spread_values(design, ExprId(k), values);
-    }
+    spread_all_aims(design, aims, values);
+    spread_all_values(design, values);
 }
 
-// Marks what a target is made of, where expression k is a marked one.
-fn spread_aims(design: &Design, k: ExprId, aims: &mut Vec<bool>, values: &mut Vec<bool>)
-    requires there { k.0 < length design.now.pool.exprs }
-    requires aims { length aims.old.items ≡ length design.now.pool.exprs }
-    requires values { length values.old.items ≡ length design.now.pool.exprs }
-    ensures aims { aims.new.items ≡ aims_after design.now.pool k.0 aims.old.items }
-    ensures values { values.new.items ≡ placed_after design.now.pool k.0 aims.old.items values.old.items }
+// Marks what targets are made of, one behind another, as long as there are more.
+fn spread_all_aims(design: &Design, aims: &mut Agenda, values: &mut Agenda)
+    requires aims { length aims.old.marks ≡ length design.now.pool.exprs }
+    requires values { length values.old.marks ≡ length design.now.pool.exprs }
+    requires targets { (j : ℕ) → is_marked aims.old.marks j ≡ true → is_target design.now.pool j ≡ true }
+    ensures aims { length aims.new.marks ≡ length design.now.pool.exprs }
+    ensures values { length values.new.marks ≡ length design.now.pool.exprs }
+    ensures aims_stay { Stays aims.old.marks aims.new.marks }
+    ensures values_stay { Stays values.old.marks values.new.marks }
+    ensures spread { AimsSpread design.now.pool aims.new.marks values.new.marks }
+    ensures targets { (j : ℕ) → is_marked aims.new.marks j ≡ true → is_target design.now.pool j ≡ true }
+    ensures only { (r : ℕ → Bool) → ReadOnly design.now.pool aims.old.marks values.old.marks r → ReadOnly design.now.pool aims.new.marks values.new.marks r }
 {
     let _ = design.count();
-    if aims[k.0 as usize] {
+    let mut i = 0;
+    while i < aims.len() {
+        let k = ExprId(aims.get(i) as u32);
         mark_aimed(design.at(k), aims, values);
+        i += 1;
     }
 }
 
-// Marks what expression k names, where it is marked.
-fn spread_values(design: &Design, k: ExprId, values: &mut Vec<bool>)
-    requires there { k.0 < length design.now.pool.exprs }
-    requires values { length values.old.items ≡ length design.now.pool.exprs }
-    ensures { values.new.items ≡ named_after design.now.pool k.0 values.old.items }
+// Marks what is named, one behind another, as long as there is more.
+fn spread_all_values(design: &Design, values: &mut Agenda)
+    requires values { length values.old.marks ≡ length design.now.pool.exprs }
+    ensures values { length values.new.marks ≡ length design.now.pool.exprs }
+    ensures stay { Stays values.old.marks values.new.marks }
+    ensures spread { ValuesSpread design.now.pool values.new.marks }
+    ensures only { (r : ℕ → Bool) → StandsOnly design.now.pool values.old.marks r → StandsOnly design.now.pool values.new.marks r }
 {
     let _ = design.count();
-    if values[k.0 as usize] {
+    let mut i = 0;
+    while i < values.len() {
+        let k = ExprId(values.get(i) as u32);
         mark_named(design.at(k), values);
+        i += 1;
     }
 }
 
 // Marks what a target is made of.
-fn mark_aimed(e: &Expr, aims: &mut Vec<bool>, values: &mut Vec<bool>)
-    requires aims { AllBelow (length aims.old.items) (named e.now) }
-    requires values { AllBelow (length values.old.items) (named e.now) }
-    ensures aims { aims.new.items ≡ marked (places_of (aimed_names e.now)) aims.old.items }
-    ensures values { values.new.items ≡ marked (places_of (placing_names e.now)) values.old.items }
+#[tactic(auto, using(crate::proofs::Fronts::front_same, crate::proofs::Fronts::front_both))]
+fn mark_aimed(e: &Expr, aims: &mut Agenda, values: &mut Agenda)
+    requires aims { AllBelow (length aims.old.marks) (named e.now) }
+    requires values { AllBelow (length values.old.marks) (named e.now) }
+    ensures aims { aims.new.marks ≡ marked (places_of (aimed_names e.now)) aims.old.marks }
+    ensures values { values.new.marks ≡ marked (places_of (placing_names e.now)) values.old.marks }
+    ensures aims_list { IsFront aims.old.list aims.new.list }
+    ensures values_list { IsFront values.old.list values.new.list }
 {
     match e {
         Expr::Slice { a, .. } => mark(*a, aims),
@@ -80,9 +94,11 @@ fn mark_aimed(e: &Expr, aims: &mut Vec<bool>, values: &mut Vec<bool>)
 }
 
 // Marks what an expression names.
-fn mark_named(e: &Expr, marks: &mut Vec<bool>)
-    requires { AllBelow (length marks.old.items) (named e.now) }
-    ensures { marks.new.items ≡ marked (places_of (named e.now)) marks.old.items }
+#[tactic(auto, using(crate::proofs::Fronts::front_same, crate::proofs::Fronts::front_both))]
+fn mark_named(e: &Expr, marks: &mut Agenda)
+    requires { AllBelow (length marks.old.marks) (named e.now) }
+    ensures marks { marks.new.marks ≡ marked (places_of (named e.now)) marks.old.marks }
+    ensures list { IsFront marks.old.list marks.new.list }
 {
     match e {
         Expr::Const { .. } => {}
@@ -114,9 +130,10 @@ fn mark_named(e: &Expr, marks: &mut Vec<bool>)
 }
 
 /// Marks these expressions.
-pub fn mark_all(items: &[ExprId], marks: &mut Vec<bool>)
-    requires { AllBelow (length marks.old.items) items.now }
-    ensures { marks.new.items ≡ marked (places_of items.now) marks.old.items }
+pub fn mark_all(items: &[ExprId], marks: &mut Agenda)
+    requires { AllBelow (length marks.old.marks) items.now }
+    ensures marks { marks.new.marks ≡ marked (places_of items.now) marks.old.marks }
+    ensures list { IsFront marks.old.list marks.new.list }
 {
     for e in items {
         mark(*e, marks);
@@ -124,9 +141,10 @@ pub fn mark_all(items: &[ExprId], marks: &mut Vec<bool>)
 }
 
 /// Marks an expression.
-pub fn mark(e: ExprId, marks: &mut Vec<bool>)
-    requires { e.0 < length marks.old.items }
-    ensures { marks.new.items ≡ slice_set marks.old.items e.0 true }
+pub fn mark(e: ExprId, marks: &mut Agenda)
+    requires { e.0 < length marks.old.marks }
+    ensures marks { marks.new.marks ≡ slice_set marks.old.marks e.0 true }
+    ensures list { IsFront marks.old.list marks.new.list }
 {
-    marks[e.0 as usize] = true;
+    marks.mark(e.0 as usize);
 }

@@ -39,8 +39,8 @@ pub fn put_task(
     }
 }
 
-// One of these statements.
-fn statement(all: &[Stmt], i: usize) -> &Stmt
+/// One of these statements.
+pub fn statement(all: &[Stmt], i: usize) -> &Stmt
     requires { i < length all.now }
     ensures { result.now ≡ slice_index_or all.now i result.now }
 {

@@ -1,19 +1,23 @@
 // What is worked out of a design once.
-ghost use Rattle.std.specs.Prelude.{◌≡◌, ◌+◌, ◌<◌, ◌^◌, ℕ, [], ◌∷◌, ◌++◌, length, replicate, slice_get, IfOk, OnOk};
+ghost use Rattle.std.specs.Prelude.{◌≡◌, ◌+◌, ◌<◌, ◌^◌, ℕ, List, [], ◌∷◌, ◌++◌, true, None, Some, is_some, length, replicate, slice_get, IfOk, OnOk};
+ghost use Rattle.std.specs.List.{range_with_len};
 ghost use Rattle.design_ir.specs.Circuits.{is_among};
-ghost use Rattle.delta_sim.specs.Compiled.{IsCompiled};
 ghost use Rattle.delta_sim.specs.Driven.{AreTargets, numbers_of};
+ghost use Rattle.delta_sim.specs.Groups.{AreOthers, IsApart};
 ghost use Rattle.delta_sim.specs.Marks.{is_marked};
 ghost use Rattle.delta_sim.specs.Plans.{IsPlan};
-ghost use Rattle.delta_sim.specs.Tables.{AreTables, IsAdded};
+ghost use Rattle.delta_sim.specs.Tables.{AreNoMarks, ArePartial, AreTables, IsAdded, IsRoom};
 
-use crate::compile::{Compiled, compile};
+use crate::agenda::Agenda;
+use crate::compile::{Marks, compile};
+use crate::driven::driven_each;
 use crate::given::given_signals;
+use crate::group::groups;
 use crate::plan::Plan;
 use crate::targets::{SigIds, all_targets};
 use crate::task::Task;
-use amh_host::{Items, NoMemory, Numbers};
-use design_ir::{Design, Exprs, SigId};
+use amh_host::{Items, NoMemory};
+use design_ir::{Design, DesignProcess, Exprs, SigId};
 use std::alloc::Global;
 
 /// The plan of a design.
@@ -49,24 +53,34 @@ fn all_tables(alloc: Global, design: &Design, targets: &[SigIds]) -> Result<Tabl
     Ok(tables)
 }
 
-/// What grows from process to process.
+/// What grows from process to process, and the room in which it is worked out: marks of expressions, and for each signal
+/// a statement that drives it.
 #[derive(Drop)]
 pub struct Tables {
     clocked: Items<Task>,
     tasks: Items<Task>,
-    readers: Vec<Numbers>,
-    processes: Vec<Numbers>,
+    readers: Vec<Items<usize>>,
+    processes: Vec<Items<usize>>,
+    marks: Marks,
+    noted: Vec<usize>,
 }
 
 impl Tables {
     fn new(alloc: Global, design: &Design) -> Result<Tables, NoMemory>
-        ensures { IfOk result (λ t. AreTables design.now 0 t.clocked t.tasks t.readers.items t.processes.items) }
+        ensures tables { IfOk result (λ t. AreTables design.now 0 t.clocked t.tasks t.readers.items t.processes.items) }
+        ensures room { IfOk result (λ t. IsRoom design.now t.marks t.noted.items) }
     {
+        let count = design.count() as usize;
         Ok(Tables {
             clocked: Items::new(alloc),
             tasks: Items::new(alloc),
             readers: no_readers(alloc, design.signals())?,
             processes: no_readers(alloc, design.signals())?,
+            marks: Marks {
+                aims: Agenda::new(alloc, count)?,
+                values: Agenda::new(alloc, count)?,
+            },
+            noted: vec![in alloc; 0; design.signals() as usize]?,
         })
     }
 
@@ -81,33 +95,122 @@ impl Tables {
         requires flat { design.now.memories ≡ [] }
         requires there { k < length design.now.processes }
         requires targets { AreTargets design.now.pool (length design.now.pool.exprs) targets.now }
+        requires room { IsRoom design.now self.old.marks self.old.noted.items }
         requires earlier { AreTables design.now k self.old.clocked self.old.tasks self.old.readers.items self.old.processes.items }
-        ensures { OnOk result (AreTables design.now (k + 1) self.new.clocked self.new.tasks self.new.readers.items self.new.processes.items) }
+        ensures tables { OnOk result (AreTables design.now (k + 1) self.new.clocked self.new.tasks self.new.readers.items self.new.processes.items) }
+        ensures room { OnOk result (IsRoom design.now self.new.marks self.new.noted.items) }
     {
-        let _ = design.count();
         let p = design.processes().get(k);
-        let compiled = compile(alloc, design, targets, k as u32, p)?;
         if p.domain.is_some() {
-            return self.clocked.push(compiled.task);
+            self.add_clocked(alloc, design, targets, k, p)
+        } else {
+            self.add_comb(alloc, design, targets, k, p)
         }
-        self.add_comb(alloc, k as u32, compiled)
     }
 
-    // Adds a combinational process.
-    fn add_comb(&mut self, alloc: Global, k: u32, compiled: Compiled) -> Result<(), NoMemory>
-        requires { length self.old.tasks < 2 ^ 32 }
-        ensures clocked { OnOk result (length self.new.clocked ≡ length self.old.clocked + 1) }
-        ensures kept { OnOk result ((i : ℕ) → i < length self.old.clocked → slice_get self.new.clocked i ≡ slice_get self.old.clocked i) }
-        ensures tasks { OnOk result (self.new.tasks ≡ self.old.tasks ++ compiled.task ∷ []) }
-        ensures readers { OnOk result (IsAdded (numbers_of compiled.reads) (length self.old.tasks) self.old.readers.items self.new.readers.items) }
-        ensures processes { OnOk result (IsAdded (numbers_of compiled.reads) k self.old.processes.items self.new.processes.items) }
+    // Adds a clocked process, which is one task.
+    fn add_clocked(
+        &mut self,
+        alloc: Global,
+        design: &Design,
+        targets: &[SigIds],
+        k: usize,
+        p: &DesignProcess,
+    ) -> Result<(), NoMemory>
+        requires flat { design.now.memories ≡ [] }
+        requires there { slice_get design.now.processes k ≡ Some p.now }
+        requires clocked { is_some p.now.domain ≡ true }
+        requires targets { AreTargets design.now.pool (length design.now.pool.exprs) targets.now }
+        requires room { IsRoom design.now self.old.marks self.old.noted.items }
+        requires earlier { AreTables design.now k self.old.clocked self.old.tasks self.old.readers.items self.old.processes.items }
+        ensures tables { OnOk result (AreTables design.now (k + 1) self.new.clocked self.new.tasks self.new.readers.items self.new.processes.items) }
+        ensures room { OnOk result (IsRoom design.now self.new.marks self.new.noted.items) }
     {
+        let _ = design.count();
+        let _ = design.processes();
+        let all = places(alloc, p.body.len())?;
+        let compiled = compile(
+            alloc,
+            design,
+            targets,
+            k as u32,
+            p,
+            all.as_slice(),
+            &mut self.marks,
+        )?;
+        self.clocked.push(compiled.task)
+    }
+
+    // Adds a combinational process, which is a task for each group of its statements.
+    fn add_comb(
+        &mut self,
+        alloc: Global,
+        design: &Design,
+        targets: &[SigIds],
+        k: usize,
+        p: &DesignProcess,
+    ) -> Result<(), NoMemory>
+        requires flat { design.now.memories ≡ [] }
+        requires there { slice_get design.now.processes k ≡ Some p.now }
+        requires comb { p.now.domain ≡ None }
+        requires targets { AreTargets design.now.pool (length design.now.pool.exprs) targets.now }
+        requires room { IsRoom design.now self.old.marks self.old.noted.items }
+        requires earlier { AreTables design.now k self.old.clocked self.old.tasks self.old.readers.items self.old.processes.items }
+        ensures tables { OnOk result (AreTables design.now (k + 1) self.new.clocked self.new.tasks self.new.readers.items self.new.processes.items) }
+        ensures room { OnOk result (IsRoom design.now self.new.marks self.new.noted.items) }
+    {
+        let _ = design.count();
+        let _ = design.processes();
+        let drives = driven_each(alloc, targets, &p.body)?;
+        let groups = groups(alloc, drives.as_slice(), &mut self.noted)?;
+        for group in groups.as_slice() {
+            self.add_group(alloc, design, targets, k, p, group.as_slice())?;
+        }
+        self.clocked.push(no_task(alloc))
+    }
+
+    // Adds the task of a group of statements, if there are any.
+    fn add_group(
+        &mut self,
+        alloc: Global,
+        design: &Design,
+        targets: &[SigIds],
+        k: usize,
+        p: &DesignProcess,
+        group: &[usize],
+    ) -> Result<(), NoMemory>
+        requires flat { design.now.memories ≡ [] }
+        requires there { slice_get design.now.processes k ≡ Some p.now }
+        requires comb { p.now.domain ≡ None }
+        requires targets { AreTargets design.now.pool (length design.now.pool.exprs) targets.now }
+        requires apart { IsApart design.now.pool p.now.body group.now }
+        requires marks { AreNoMarks design.now self.old.marks }
+        ensures clocked { self.new.clocked ≡ self.old.clocked }
+        ensures noted { self.new.noted ≡ self.old.noted }
+        ensures marks { OnOk result (AreNoMarks design.now self.new.marks) }
+        ensures tables { OnOk result ((gone : List ℕ) → ArePartial design.now k p.now gone self.old.tasks self.old.readers.items self.old.processes.items → AreOthers gone group.now → ArePartial design.now k p.now (gone ++ group.now) self.new.tasks self.new.readers.items self.new.processes.items) }
+    {
+        let _ = design.processes();
+        if group.len() == 0 {
+            return Ok(());
+        }
+        let compiled = compile(alloc, design, targets, k as u32, p, group, &mut self.marks)?;
         let reads = compiled.reads.as_slice();
-        add_reader(reads, self.tasks.len() as u32, &mut self.readers)?;
+        add_reader(reads, self.tasks.len(), &mut self.readers)?;
         add_reader(reads, k, &mut self.processes)?;
-        self.clocked.push(no_task(alloc))?;
         self.tasks.push(compiled.task)
     }
+}
+
+// So many places.
+fn places(alloc: Global, count: usize) -> Result<Items<usize>, NoMemory>
+    ensures { IfOk result (λ all. all ≡ range_with_len 0 count) }
+{
+    let mut all = Items::new(alloc);
+    for i in 0..count {
+        all.push(i)?;
+    }
+    Ok(all)
 }
 
 // What stands for a combinational process among the clocked ones.
@@ -121,7 +224,7 @@ fn no_task(alloc: Global) -> Task {
 }
 
 // For each of so many signals no reader.
-fn no_readers(alloc: Global, signals: u32) -> Result<Vec<Numbers>, NoMemory>
+fn no_readers(alloc: Global, signals: u32) -> Result<Vec<Items<usize>>, NoMemory>
     ensures { IfOk result (λ lists. lists.items ≡ replicate signals []) }
 {
     let mut lists = Vec::new(alloc);
@@ -132,7 +235,7 @@ fn no_readers(alloc: Global, signals: u32) -> Result<Vec<Numbers>, NoMemory>
 }
 
 // Adds a reader of these signals.
-fn add_reader(reads: &[SigId], n: u32, lists: &mut Vec<Numbers>) -> Result<(), NoMemory>
+fn add_reader(reads: &[SigId], n: usize, lists: &mut Vec<Items<usize>>) -> Result<(), NoMemory>
     ensures { OnOk result (IsAdded (numbers_of reads.now) n lists.old.items lists.new.items) }
 {
     for s in reads {
@@ -142,7 +245,7 @@ fn add_reader(reads: &[SigId], n: u32, lists: &mut Vec<Numbers>) -> Result<(), N
 }
 
 // Adds a reader of one signal.
-fn add_one(s: usize, n: u32, lists: &mut Vec<Numbers>) -> Result<(), NoMemory>
+fn add_one(s: usize, n: usize, lists: &mut Vec<Items<usize>>) -> Result<(), NoMemory>
     ensures { OnOk result (IsAdded (s ∷ []) n lists.old.items lists.new.items) }
 {
     if s < lists.len() {
@@ -166,7 +269,7 @@ fn listed(alloc: Global, marks: &[bool]) -> Result<SigIds, NoMemory>
 }
 
 // The same lists.
-fn all_items(alloc: Global, lists: Vec<Numbers>) -> Result<Items<Numbers>, NoMemory>
+fn all_items(alloc: Global, lists: Vec<Items<usize>>) -> Result<Items<Items<usize>>, NoMemory>
     ensures { IfOk result (λ all. all ≡ lists.items) }
 {
     let mut all = Items::new(alloc);

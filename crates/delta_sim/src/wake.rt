@@ -81,7 +81,7 @@ fn take_one(
 }
 
 // Lets all these wait.
-fn mark_all(list: &[u32], waits: &mut Agenda)
+fn mark_all(list: &[usize], waits: &mut Agenda)
     requires { AllByRecursion (λ k. k < length waits.old.marks) list.now }
     ensures { waits.new.marks ≡ marked list.now waits.old.marks }
 {

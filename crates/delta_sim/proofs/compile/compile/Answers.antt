@@ -1,54 +1,77 @@
-use Rattle.std.proofs.Common.{◌≡◌, ◌∙◌, ap, sym, subst, refl, false}
-use Rattle.std.specs.List.{range_with_len}
-use Rattle.std.specs.Prelude.{replicate}
+use Rattle.std.proofs.Common.{◌∙◌, sym, ap, subst, refl, false, length}
 use Rattle.design_ir.specs.Guards.{block_exprs}
 use Rattle.delta_sim.specs.Given.{marked}
 use Rattle.delta_sim.specs.Reading.{AreBelow}
-use Rattle.delta_sim.specs.Tasks.{places_of, block_targets, block_values}
-use Rattle.delta_sim.proofs.CompiledTasks.{expressions, first_aims, first_length, compiled}
+use Rattle.delta_sim.specs.Settling.{nobody}
+use Rattle.delta_sim.specs.Tasks.{picked, places_of, block_targets, block_values}
+use Rattle.delta_sim.specs.Waiting.{Waiting}
+use Rattle.delta_sim.proofs.CompiledTasks.{there, first_aims, first_length, compiled}
+use Rattle.delta_sim.proofs.Waits.{replicate_length}
 use Rattle.delta_sim.proofs.compile.compile.Goals as goal
+
+pub mark_picked-requires-clause-aims : goal.mark_picked-requires-clause-aims
+mark_picked-requires-clause-aims c =
+    let d = c.args.design.now in
+    let p = c.args.p.now in
+    let is = c.args.places.now in
+    subst (λ n. AreBelow n (block_exprs (picked p.body is))) (sym (ap (λ (w : Waiting). length w.marks) c.requires.aims ∙ replicate_length false (length d.pool.exprs)))
+    (there d c.count.ensures.rules c.processes.ensures.rules c.args.k p c.requires.there is)
+
+pub mark_picked-requires-clause-values : goal.mark_picked-requires-clause-values
+mark_picked-requires-clause-values c =
+    let d = c.args.design.now in
+    let p = c.args.p.now in
+    let is = c.args.places.now in
+    subst (λ n. AreBelow n (block_exprs (picked p.body is))) (sym (ap (λ (w : Waiting). length w.marks) c.requires.values ∙ replicate_length false (length d.pool.exprs)))
+    (there d c.count.ensures.rules c.processes.ensures.rules c.args.k p c.requires.there is)
 
 pub spread-requires-clause-aims : goal.spread-requires-clause-aims
 spread-requires-clause-aims c =
     let d = c.args.design.now in
     let p = c.args.p.now in
-    first_length d c.count.ensures.rules c.processes.ensures.rules c.args.k p c.requires.there c.count.result (places_of (block_targets p.body)) c.mark_body.new.aims.items c.count.ensures.value
-    (c.mark_body.ensures.aims ∙ ap (marked (places_of (block_targets p.body))) (c.in_ok-aims.ensures.items_if_clones_equal (λ y h. h)))
+    let is = c.args.places.now in
+    let ss = places_of (block_targets (picked p.body is)) in
+    first_length d c.count.ensures.rules c.processes.ensures.rules c.args.k p c.requires.there is ss c.mark_picked.new.aims.marks (c.mark_picked.ensures.aims ∙ ap (λ (w : Waiting). marked ss w.marks) c.requires.aims)
 
 pub spread-requires-clause-values : goal.spread-requires-clause-values
 spread-requires-clause-values c =
     let d = c.args.design.now in
     let p = c.args.p.now in
-    first_length d c.count.ensures.rules c.processes.ensures.rules c.args.k p c.requires.there c.count-2.result (places_of (block_values p.body)) c.mark_body.new.values.items c.count-2.ensures.value
-    (c.mark_body.ensures.values ∙ ap (marked (places_of (block_values p.body))) (c.in_ok-values.ensures.items_if_clones_equal (λ y h. h)))
+    let is = c.args.places.now in
+    let ss = places_of (block_values (picked p.body is)) in
+    first_length d c.count.ensures.rules c.processes.ensures.rules c.args.k p c.requires.there is ss c.mark_picked.new.values.marks (c.mark_picked.ensures.values ∙ ap (λ (w : Waiting). marked ss w.marks) c.requires.values)
 
 pub spread-requires-clause-targets : goal.spread-requires-clause-targets
 spread-requires-clause-targets c =
     let d = c.args.design.now in
     let p = c.args.p.now in
-    first_aims d c.count.ensures.rules c.processes.ensures.rules c.args.k p c.requires.there c.count.result c.mark_body.new.aims.items
-    (c.mark_body.ensures.aims ∙ ap (marked (places_of (block_targets p.body))) (c.in_ok-aims.ensures.items_if_clones_equal (λ y h. h)))
+    let is = c.args.places.now in
+    let ss = places_of (block_targets (picked p.body is)) in
+    first_aims d c.count.ensures.rules c.processes.ensures.rules c.args.k p c.requires.there is (length d.pool.exprs) c.mark_picked.new.aims.marks (c.mark_picked.ensures.aims ∙ ap (λ (w : Waiting). marked ss w.marks) c.requires.aims)
 
-pub driven-requires : goal.driven-requires
-driven-requires c =
-    let d = c.args.design.now in
-    let there = expressions d c.count.ensures.rules c.processes.ensures.rules c.args.k c.args.p.now c.requires.there in
-    subst (λ n. AreBelow n (block_exprs c.args.p.now.body)) (sym c.requires.targets.count) there
-
-pub returns : goal.returns
-returns c =
+pub driven_picked-requires-clause-there : goal.driven_picked-requires-clause-there
+driven_picked-requires-clause-there c =
     let d = c.args.design.now in
     let p = c.args.p.now in
-    let n = c.count.result in
-    let other : c.count-2.result ≡ n = c.count-2.ensures.value ∙ sym c.count.ensures.value in
-    let ea = c.mark_body.ensures.aims ∙ ap (marked (places_of (block_targets p.body))) (c.in_ok-aims.ensures.items_if_clones_equal (λ y h. h)) in
-    let ev = c.mark_body.ensures.values ∙ ap (marked (places_of (block_values p.body))) (c.in_ok-values.ensures.items_if_clones_equal (λ y h. h) ∙ ap (λ m. replicate m false) other) in
-    let aims = c.spread.new.aims.items in
-    let values = c.spread.new.values.items in
-    let exprs = rw (c.as_slice.ensures.value, c.as_slice-2.ensures.value) at c.in_ok-program.ensures in
-    let all = rw c.as_slice-3.ensures.value at c.in_ok-reads.ensures.all in
-    let only = rw c.as_slice-3.ensures.value at c.in_ok-reads.ensures.only in
-    compiled d c.count.ensures.rules c.processes.ensures.rules c.args.k p c.requires.there n c.count.ensures.value c.mark_body.new.aims.items c.mark_body.new.values.items aims values ea ev
+    let is = c.args.places.now in
+    subst (λ n. AreBelow n (block_exprs (picked p.body is))) (sym c.requires.targets.count) (there d c.count.ensures.rules c.processes.ensures.rules c.args.k p c.requires.there is)
+
+pub returns-clause-compiled : goal.returns-clause-compiled
+returns-clause-compiled c =
+    let d = c.args.design.now in
+    let p = c.args.p.now in
+    let is = c.args.places.now in
+    let ts = places_of (block_targets (picked p.body is)) in
+    let vs = places_of (block_values (picked p.body is)) in
+    let ea = c.mark_picked.ensures.aims ∙ ap (λ (w : Waiting). marked ts w.marks) c.requires.aims in
+    let ev = c.mark_picked.ensures.values ∙ ap (λ (w : Waiting). marked vs w.marks) c.requires.values in
+    compiled d c.count.ensures.rules c.processes.ensures.rules c.args.k p c.requires.there is c.mark_picked.new.aims.marks c.mark_picked.new.values.marks c.spread.new.aims.marks c.spread.new.values.marks ea ev
     c.spread.ensures.aims c.spread.ensures.values c.spread.ensures.aims_stay c.spread.ensures.values_stay c.spread.ensures.spread c.spread.ensures.targets c.spread.ensures.only
-    _ c.args.targets.now c.requires.targets refl (c.in_ok-places.ensures ∙ ap (range_with_len 0) c.len.ensures) c.in_ok-driven.ensures exprs
-    c.in_ok-reads.reads all only
+    (record { task = record { process = c.args.k; statements = c.in_ok-statements.statements; outs = c.in_ok-outs.outs; exprs = c.in_ok-exprs.exprs }; reads = c.in_ok-reads.reads })
+    c.args.targets.now c.requires.targets refl c.in_ok-statements.ensures c.in_ok-outs.ensures c.in_ok-exprs.ensures.order c.in_ok-exprs.ensures.all c.in_ok-reads.ensures.all c.in_ok-reads.ensures.only
+
+pub returns-clause-aims : goal.returns-clause-aims
+returns-clause-aims c = c.clear.ensures ∙ ap nobody c.spread.ensures.aims
+
+pub returns-clause-values : goal.returns-clause-values
+returns-clause-values c = c.clear-2.ensures ∙ ap nobody c.spread.ensures.values

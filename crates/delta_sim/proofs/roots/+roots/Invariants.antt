@@ -18,20 +18,20 @@ decreases-mark_stmt l = statement_size (statement_of l.s.now)
 
 abbrev pub invariant-mark_arms-loop-arm : goal.invariant-mark_arms-loop-arm
 invariant-mark_arms-loop-arm l = record {
-  same_aims : length l.aims.items ≡ length l.initial.aims.items;
-  same_values : length l.values.items ≡ length l.initial.values.items;
-  there : AreBelow (length l.initial.aims.items) (choices_exprs (choices_of (drop l.arm-index l.arm-items)));
-  there_too : AreBelow (length l.initial.values.items) (choices_exprs (choices_of (drop l.arm-index l.arm-items)));
-  aims : marked (places_of (choices_targets (choices_of (drop l.arm-index l.arm-items)))) l.aims.items ≡ marked (places_of (choices_targets l.arms)) l.initial.aims.items;
-  values : marked (places_of (choices_values (choices_of (drop l.arm-index l.arm-items)))) l.values.items ≡ marked (places_of (choices_values l.arms)) l.initial.values.items;
+  same_aims : length l.aims.marks ≡ length l.initial.aims.marks;
+  same_values : length l.values.marks ≡ length l.initial.values.marks;
+  there : AreBelow (length l.initial.aims.marks) (choices_exprs (choices_of (drop l.arm-index l.arm-items)));
+  there_too : AreBelow (length l.initial.values.marks) (choices_exprs (choices_of (drop l.arm-index l.arm-items)));
+  aims : marked (places_of (choices_targets (choices_of (drop l.arm-index l.arm-items)))) l.aims.marks ≡ marked (places_of (choices_targets l.arms)) l.initial.aims.marks;
+  values : marked (places_of (choices_values (choices_of (drop l.arm-index l.arm-items)))) l.values.marks ≡ marked (places_of (choices_values l.arms)) l.initial.values.marks;
 }
 
 abbrev pub invariant-mark_body-loop-s : goal.invariant-mark_body-loop-s
 invariant-mark_body-loop-s l = record {
-  same_aims : length l.aims.items ≡ length l.initial.aims.items;
-  same_values : length l.values.items ≡ length l.initial.values.items;
-  there : AreBelow (length l.initial.aims.items) (block_exprs (block_of (drop l.s-index l.s-items)));
-  there_too : AreBelow (length l.initial.values.items) (block_exprs (block_of (drop l.s-index l.s-items)));
-  aims : marked (places_of (block_targets (block_of (drop l.s-index l.s-items)))) l.aims.items ≡ marked (places_of (block_targets l.body)) l.initial.aims.items;
-  values : marked (places_of (block_values (block_of (drop l.s-index l.s-items)))) l.values.items ≡ marked (places_of (block_values l.body)) l.initial.values.items;
+  same_aims : length l.aims.marks ≡ length l.initial.aims.marks;
+  same_values : length l.values.marks ≡ length l.initial.values.marks;
+  there : AreBelow (length l.initial.aims.marks) (block_exprs (block_of (drop l.s-index l.s-items)));
+  there_too : AreBelow (length l.initial.values.marks) (block_exprs (block_of (drop l.s-index l.s-items)));
+  aims : marked (places_of (block_targets (block_of (drop l.s-index l.s-items)))) l.aims.marks ≡ marked (places_of (block_targets l.body)) l.initial.aims.marks;
+  values : marked (places_of (block_values (block_of (drop l.s-index l.s-items)))) l.values.marks ≡ marked (places_of (block_values l.body)) l.initial.values.marks;
 }

@@ -19,25 +19,25 @@ pub settle-requires-clause-signals : goal.settle-requires-clause-signals
 settle-requires-clause-signals g c =
     let d = c.args.design.now in
     let fresh = subst (IsFresh d) (sym c.sim.view_is) c.requires.fresh in
-    ap length fresh.env ∙ (numbers d c.requires.flat c.count.ensures.rules c.processes.ensures.rules c.sim.inside.held.items fresh.held).count
+    fresh.env.count
 
 pub settle-requires-clause-fits : goal.settle-requires-clause-fits
 settle-requires-clause-fits g c =
     let d = c.args.design.now in
     let fresh = subst (IsFresh d) (sym c.sim.view_is) c.requires.fresh in
-    subst (FitsSignals d.pool) (sym fresh.env) (numbers d c.requires.flat c.count.ensures.rules c.processes.ensures.rules c.sim.inside.held.items fresh.held).fits
+    fresh.env.fits
 
 pub settle-requires-clause-next : goal.settle-requires-clause-next
 settle-requires-clause-next g c =
     let d = c.args.design.now in
     let fresh = subst (IsFresh d) (sym c.sim.view_is) c.requires.fresh in
-    ap length (c.deref_mut.ensures.value ∙ fresh.next) ∙ (numbers d c.requires.flat c.count.ensures.rules c.processes.ensures.rules c.sim.inside.held.items fresh.held).count
+    ap length c.deref_mut.ensures.value ∙ fresh.next.count
 
 pub settle-requires-clause-next_fits : goal.settle-requires-clause-next_fits
 settle-requires-clause-next_fits g c =
     let d = c.args.design.now in
     let fresh = subst (IsFresh d) (sym c.sim.view_is) c.requires.fresh in
-    subst (FitsSignals d.pool) (sym (c.deref_mut.ensures.value ∙ fresh.next)) (numbers d c.requires.flat c.count.ensures.rules c.processes.ensures.rules c.sim.inside.held.items fresh.held).fits
+    subst (FitsSignals d.pool) (sym c.deref_mut.ensures.value) fresh.next.fits
 
 pub settle-requires-clause-rests : goal.settle-requires-clause-rests
 settle-requires-clause-rests g c =
@@ -45,18 +45,16 @@ settle-requires-clause-rests g c =
     let i = c.sim.inside in
     let fresh = subst (IsFresh d) (sym c.sim.view_is) c.requires.fresh in
     let all = subst (λ n. (k : ℕ) → k < n → slice_index_or c.wake_all.new.waits.marks k false ≡ true) c.len.ensures c.wake_all.ensures.all in
-    let rests = first_rests d c.requires.flat c.count.ensures.rules c.processes.ensures.rules i.held.items fresh.held (length i.numbers.items) i.plan c.wake_all.new.waits.marks fresh.plan all in
-    subst (λ xs. Rests d (state_of xs) i.plan.tasks c.wake_all.new.waits.marks i.env.items) (sym c.as_slice.ensures.value)
-    (subst (λ xs. Rests d (state_of i.held.items) i.plan.tasks c.wake_all.new.waits.marks xs) (sym fresh.env) rests)
+    let rests = first_rests d c.requires.flat c.count.ensures.rules c.processes.ensures.rules i.held.items fresh.held i.env.items fresh.env fresh.same (length i.numbers.items) i.plan c.wake_all.new.waits.marks fresh.plan all in
+    subst (λ xs. Rests d (state_of xs) i.plan.tasks c.wake_all.new.waits.marks i.env.items) (sym c.as_slice.ensures.value) rests
 
 pub settle-requires-clause-ends : goal.settle-requires-clause-ends
 settle-requires-clause-ends g c =
     let d = c.args.design.now in
     let i = c.sim.inside in
     let fresh = subst (IsFresh d) (sym c.sim.view_is) c.requires.fresh in
-    let ends = first_ends d c.requires.flat c.count.ensures.rules c.processes.ensures.rules i.held.items fresh.held i.longest fresh.longest in
-    subst (λ xs. EndsIn d (state_of xs) i.env.items (i.longest + 2)) (sym c.as_slice.ensures.value)
-    (subst (λ xs. EndsIn d (state_of i.held.items) xs (i.longest + 2)) (sym fresh.env) ends)
+    let ends = first_ends d c.requires.flat c.count.ensures.rules c.processes.ensures.rules i.held.items fresh.held i.env.items fresh.env fresh.same i.longest fresh.longest in
+    subst (λ xs. EndsIn d (state_of xs) i.env.items (i.longest + 2)) (sym c.as_slice.ensures.value) ends
 
 pub returns-clause-of_design : goal.returns-clause-of_design
 returns-clause-of_design g c =
@@ -64,7 +62,7 @@ returns-clause-of_design g c =
     let i = c.sim.inside in
     let fresh = subst (IsFresh d) (sym c.sim.view_is) c.requires.fresh in
     let held = numbers d c.requires.flat c.count.ensures.rules c.processes.ensures.rules i.held.items fresh.held in
-    let next_long = c.settle.ensures.next ∙ sym (ap length (c.deref_mut.ensures.value ∙ fresh.next) ∙ held.count) ∙ c.deref_mut.ensures.len in
+    let next_long = c.settle.ensures.next ∙ sym (ap length c.deref_mut.ensures.value ∙ fresh.next.count) ∙ c.deref_mut.ensures.len in
     record {
       held = held;
       env = record { count = c.settle.ensures.signals; fits = c.settle.ensures.fits };
