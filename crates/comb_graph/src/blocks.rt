@@ -12,11 +12,11 @@ ghost use Rattle.comb_graph.specs.Rules.{AddsBlock, AddsStatement, AddsArms};
 ghost use Rattle.comb_graph.specs.Seen.{HasAims};
 
 use crate::aims::AimTable;
-use digraph::Graph;
 use crate::places::{Nodes, whole};
 use crate::rules::add_assignment;
 use amh_host::NoMemory;
 use design_ir::{Arms, Design, ExprId, Stmt, Stmts};
+use digraph::Graph;
 use std::alloc::Global;
 
 // Adds the node of an arm's condition and of those for which the guard's node stands.

@@ -13,11 +13,11 @@ ghost use Rattle.comb_graph.specs.Places.{HasPlaces, HasBits, HasNode, AreBits, 
 
 use crate::aims::{AimTable, all_aims};
 use crate::blocks::add_block;
-use digraph::Graph;
 use crate::places::{Nodes, bit_targets, index_targets};
 use crate::reads::add_memories;
 use amh_host::{Items, NoMemory};
 use design_ir::{Design, DesignProcess, ExprId, Exprs};
+use digraph::Graph;
 use std::alloc::Global;
 
 // The numbers from one up to another.

@@ -7,10 +7,10 @@ ghost use Rattle.design_ir.specs.Values.{signal_form};
 ghost use Rattle.comb_graph.specs.Places.{HasPlaces};
 ghost use Rattle.comb_graph.specs.Rules.{Adds, word_rules, read_rules, memory_rules};
 
-use digraph::Graph;
 use crate::places::{Nodes, whole};
 use amh_host::NoMemory;
 use design_ir::{Design, ExprId, MemRead, Memory, SigId};
+use digraph::Graph;
 
 // How many bits a signal has.
 fn width(design: &Design, s: SigId) -> u8

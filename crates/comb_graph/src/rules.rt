@@ -10,10 +10,10 @@ ghost use Rattle.comb_graph.specs.Seen.{HasAims};
 
 use crate::aimed::{Aimed, fixed_place};
 use crate::aims::AimTable;
-use digraph::Graph;
 use crate::places::{Nodes, indices, one, push_extended, two, whole};
 use amh_host::NoMemory;
 use design_ir::{Design, ExprId, Exprs};
+use digraph::Graph;
 use std::alloc::Global;
 
 // Where the node of a bit that is written leads.
