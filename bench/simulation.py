@@ -36,10 +36,10 @@ def chain(count):
 
 
 CASES = [
-    ("registers 10", registers, 10, 200000),
-    ("registers 100", registers, 100, 20000),
-    ("registers 1000", registers, 1000, 2000),
-    ("chain 4000", chain, 4000, 400),
+    ("10 registers", registers, 10, 200000),
+    ("100 registers", registers, 100, 20000),
+    ("1000 registers", registers, 1000, 2000),
+    ("chain of 4000", chain, 4000, 100),
 ]
 
 
