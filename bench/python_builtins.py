@@ -162,7 +162,8 @@ def called(run, builtin, args, keywords, place):
     if name == "init base":
         return run.init_base(builtin.this, args, keywords, place)
     if name == "init nothing":
-        return run.at(place, lambda: wants(not args and not keywords))
+        given = len(args) + (1 if builtin.bound else 0)
+        return run.at(place, lambda: wants(given == 1 and not keywords))
     run.at(place, lambda: wants(not keywords))
     args = ([builtin.this] if builtin.bound else []) + args
     if name == "len" and len(args) == 1 and isinstance(args[0], Thing):

@@ -445,7 +445,7 @@ pub enum DefFrame {
     /// What a class body leaves.
     ClassBody {
         stmt: Stmt,
-        base: Val,
+        base: Option<Val>,
         keywords: NamedVals,
         outer: Here,
     },

@@ -87,7 +87,7 @@ default_as fns frozen r x y budget f s n vs us v e1 e2 h =
     value_as fns frozen r x y budget f (def.Default s n vs) v e1 (subst V e2 h)
 
 -- the body of a class
-pub class_goes : (fns : Functions) (frozen : Made) (r : Result Now Halt) (x y : Going) (budget room : ℕ) (f : DefFrame) (s : Stmt) (base : Val) (kw : List NamedVal) (outer : Here) (got : Got) → f ≡ def.ClassBody s base kw outer → GoesUnder outer.room fns frozen r x y budget (λ k. class_left k (step_of s) base kw outer got) → GoesUnder (def_room room f) fns frozen r x y budget (λ k. def_goes k f got)
+pub class_goes : (fns : Functions) (frozen : Made) (r : Result Now Halt) (x y : Going) (budget room : ℕ) (f : DefFrame) (s : Stmt) (base : Option Val) (kw : List NamedVal) (outer : Here) (got : Got) → f ≡ def.ClassBody s base kw outer → GoesUnder outer.room fns frozen r x y budget (λ k. class_left k (step_of s) base kw outer got) → GoesUnder (def_room room f) fns frozen r x y budget (λ k. def_goes k f got)
 class_goes fns frozen r x y budget room f s base kw outer got e h =
     let F : DefFrame → Type 0 = λ z. GoesUnder (def_room room z) fns frozen r x y budget (λ k. def_goes k z got) in
     subst F (sym e) h

@@ -49,6 +49,7 @@ mod vals;
 pub use bindings::{Bindings, OwnNames};
 pub use func::{Code, Func, Scope};
 pub use heap::{Frozen, Heap};
+pub use members::is_key;
 pub use objects::Inherited;
 pub use op::{Builtin, PyOp};
 pub use scopes::LookUp;

@@ -10,9 +10,11 @@ returns-then-walk-eq0-clause-moves c = rw c.stopped.ensures (walk_out c.args.fun
 pub returns-in-Some-clause-moves : goal.returns-in-Some-clause-moves
 returns-in-Some-clause-moves c =
     let ne : (c.args.walk.now.turns ≡ 0 → ⊥) = λ e. omega arith in
-    walk_turns c.args.functions.now c.args.frozen.now c.element_turn.result c.args.going.now c.element_turn.new.going c.args.budget (comp_seen c.args.parts.now) c.args.walk.now c.args.outer c.args.done c.in-Some.v ne c.in-Some.ensures c.element_turn.ensures.moves
+    let q : c.row_size.result ≡ c.args.walk.now.size = omega arith in
+    walk_turns c.args.functions.now c.args.frozen.now c.element_turn.result c.args.going.now c.element_turn.new.going c.args.budget c.row_size.result (comp_seen c.args.parts.now) c.args.walk.now c.args.outer c.args.done c.in-Some.v ne c.row_size.ensures q c.in-Some.ensures c.element_turn.ensures.moves
 
 pub returns-in-None-clause-moves : goal.returns-in-None-clause-moves
 returns-in-None-clause-moves c =
     let ne : (c.args.walk.now.turns ≡ 0 → ⊥) = λ e. omega arith in
-    walk_over c.args.functions.now c.args.frozen.now c.walk_ends.result c.args.going.now c.walk_ends.new.going c.args.budget (comp_seen c.args.parts.now) c.args.walk.now c.args.outer c.args.done ne c.in-None.ensures c.walk_ends.ensures.moves
+    let q : c.row_size.result ≡ c.args.walk.now.size = omega arith in
+    walk_over c.args.functions.now c.args.frozen.now c.walk_ends.result c.args.going.now c.walk_ends.new.going c.args.budget c.row_size.result (comp_seen c.args.parts.now) c.args.walk.now c.args.outer c.args.done ne c.row_size.ensures q c.in-None.ensures c.walk_ends.ensures.moves
