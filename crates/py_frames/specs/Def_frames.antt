@@ -1,6 +1,6 @@
 -- How the frames of definitions go on.
 -- Internal: no rule of the language.
-use Rattle.std.specs.Prelude.{ℕ, zero, suc, List, [], ◌∷◌, ◌++◌}
+use Rattle.std.specs.Prelude.{ℕ, zero, suc, List, [], ◌∷◌, ◌++◌, Option}
 use Rattle.amh_host.specs.declared.place.Place.{Place}
 use Rattle.py_tree.specs.Programs.{step_of}
 use Rattle.py_tree.specs.Tree.{Call, Arguments, no_argument}

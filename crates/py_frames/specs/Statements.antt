@@ -1,6 +1,6 @@
 -- What statements mean, and what a call of a function does.
 -- Source: Python reference 7, Simple statements, and 8, Compound statements; units and requests: own rules (docs/RULES.md).
-use Rattle.std.specs.Prelude.{ℕ, zero, suc, ◌+◌, ◌==◌, ◌&&◌, ◌||◌, not, Bool, true, false, List, [], ◌∷◌, ◌++◌, map, length, Option, Some, None, Result, Ok, Err, codes}
+use Rattle.std.specs.Prelude.{ℕ, zero, suc, ◌+◌, ◌&&◌, ◌||◌, not, Bool, true, false, List, [], ◌∷◌, ◌++◌, map, Option, Some, None, Result, Ok, Err, codes}
 use Rattle.amh_host.specs.declared.place.Place.{Place}
 use Rattle.py_tree.specs.Tree.{Tree, Name, Trailed, Trees, none, some, Perhaps, absent, present, Trailers, no_trailer, trailer, Trailer, Attribute, Call, CallOf, Index, Slice}
 use Rattle.py_tree.specs.Steps.{Step, Pass, Break, Continue, Return, Assert, Raise, ImportAll, Import, Assign, Annotate, Augment, Evaluate, If, While, For, With, Def, Class, Steps, last, next, Branches, no_branch, branch, Otherwise, nothing_else, otherwise, Body, Fun, Import_name, Parameter, Named, Star, Bases, no_bases, bases}
@@ -18,7 +18,7 @@ use Rattle.py_values.specs.declared.func.Code.TheVariants as code
 use Rattle.py_values.specs.declared.func.Scope.{Scope}
 use Rattle.py_values.specs.declared.objects.Inherited.{Inherited}
 use Rattle.py_values.specs.declared.objects.Inherited.TheVariants as inherited
-use Rattle.py_values.specs.Heaps.{Made, Seen, seen, row_at, func_at}
+use Rattle.py_values.specs.Heaps.{Made, Seen, seen, func_at}
 use Rattle.py_values.specs.Bindings.{Binding}
 use Rattle.py_values.specs.Names.{new_func, new_scope, scope_at, scope_bound}
 use Rattle.py_values.specs.Objects.{inherited as inherits, new_class}
