@@ -112,7 +112,7 @@ over_found fns frozen r x z budget c d v e h = comp_found fns frozen r x z budge
 -- ---- the walk
 
 -- a turn with what stands at its place
-on_turn : ℕ → Known → Val → (i size : ℕ) → Comp → ScopeId → List Val → Option Val → Doing
+abbrev on_turn : ℕ → Known → Val → (i size : ℕ) → Comp → ScopeId → List Val → Option Val → Doing
 on_turn n k over i size d outer done o =
     on_element o (back_in outer (all_made k d.element d.place done)) (λ y. spend d.place (comp_turn k d y done (λ more. elements_made n k over (i + 1) size d.place (comp_turn k d) more (λ vs. back_in outer (all_made k d.element d.place vs)))))
 
@@ -207,7 +207,7 @@ where_tests fns frozen r x z budget c d w outer done t e q h =
     comp_found fns frozen r x z budget c d (λ k a. where_made k a w outer done) e
     (meant_same fns frozen r x z budget (λ k a s. after (value_of k Plain t a s) (λ got. on_value got (λ v. tested_by k d w outer done (condition_of d.source) v) a)) (λ k. where_made k d w outer done) (λ k. rw q refl) (subst B e h))
 
-made_by : (k : Known) (d : Comp) (el : Element) (w : Walk) (outer : ScopeId) (done : List Val) → element_made k el done (walks_on k d w outer) ≡ (λ a s. after (value_of k Plain (first_of el) a s) (λ got. on_value got (made_came k d el w outer done) a))
+made_by : (k : Known) (d : Comp) (el : Element) (w : Walk) (outer : ScopeId) (done : List Val) → element_made k d.place el done (walks_on k d w outer) ≡ (λ a s. after (value_of k Plain (first_of el) a s) (λ got. on_value got (made_came k d el w outer done) a))
 made_by k d (one t) w outer done = refl
 made_by k d (two a b) w outer done = refl
 
@@ -267,9 +267,9 @@ one_done fns frozen r x z budget d w outer done more e h =
 pub pair_done : (fns : Functions) (frozen : Made) (r : Result Now Halt) (x z : Going) (budget : ℕ) (c : Comprehended) (d : Comp) (w : Walk) (outer : ScopeId) (done : List Val) (key v : Val) → comp_of c ≡ Some d → GoesOn fns frozen r x z budget (λ k. pair_came k d w outer done key v) → GoesOn fns frozen r x z budget (λ k. with_comp (comp_of c) (λ a. pair_came k a w outer done key v))
 pair_done fns frozen r x z budget c d w outer done key v e h = comp_found fns frozen r x z budget c d (λ k a. pair_came k a w outer done key v) e h
 
-pub key_takes : (fns : Functions) (frozen : Made) (r : Result Now Halt) (x z : Going) (budget : ℕ) (d : Comp) (w : Walk) (outer : ScopeId) (done more : List Val) (key v : Val) → is_key key ≡ true → more ≡ done ++ key ∷ v ∷ [] → GoesOn fns frozen r x z budget (λ k. walks_on k d w outer more) → GoesOn fns frozen r x z budget (λ k. pair_came k d w outer done key v)
-key_takes fns frozen r x z budget d w outer done more key v e q h =
-    meant_same fns frozen r x z budget (λ k. walks_on k d w outer (done ++ key ∷ v ∷ [])) (λ k. pair_came k d w outer done key v) (λ k. rw e refl) (one_done fns frozen r x z budget d w outer (done ++ key ∷ v ∷ []) more q h)
+pub key_takes : (fns : Functions) (frozen : Made) (r : Result Now Halt) (x z : Going) (budget : ℕ) (d : Comp) (w : Walk) (outer : ScopeId) (done : List Val) (key v : Val) → is_key key ≡ true → GoesOn fns frozen r x z budget (λ k. walks_on k d w outer (done ++ key ∷ v ∷ [])) → GoesOn fns frozen r x z budget (λ k. pair_came k d w outer done key v)
+key_takes fns frozen r x z budget d w outer done key v e h =
+    meant_same fns frozen r x z budget (λ k. walks_on k d w outer (done ++ key ∷ v ∷ [])) (λ k. pair_came k d w outer done key v) (λ k. rw e refl) h
 
 pub key_refused : (fns : Functions) (frozen : Made) (x : Going) (budget : ℕ) (d : Comp) (w : Walk) (outer : ScopeId) (done : List Val) (key v : Val) (p : Place) → d.place ≡ p → is_key key ≡ false → GoesOn fns frozen (Err (Stopped (record { cause = cause.Raised; place = p }))) x x budget (λ k. pair_came k d w outer done key v)
 key_refused fns frozen x budget d w outer done key v p q e =

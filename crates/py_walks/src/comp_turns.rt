@@ -12,7 +12,7 @@ ghost use Rattle.py_frames.specs.Frames.{GoesOn};
 use crate::comprehensions::{element_at, element_begun, element_bound, enter_scope};
 use crate::loops::row_size;
 use crate::target_turns::assign_under;
-use crate::walk_parts::{CompItem, CompParts, behind, comp_of, is_row};
+use crate::walk_parts::{CompItem, CompParts, behind, comp_of, is_row, may_be_key};
 use py_frames::block::leaves;
 use py_frames::expr_values::{new_dict, truth};
 use py_frames::frame::{Comprehended, Frame, Now, Walk, WalkFrame};
@@ -22,7 +22,7 @@ use py_frames::leaf::{PartAt, place_of};
 use py_frames::request::Cause;
 use py_frames::state::{Got, Halt};
 use py_tree::Expr;
-use py_values::{Frozen, ScopeId, Val, Vals, is_key};
+use py_values::{Frozen, ScopeId, Val, Vals};
 
 /// What a comprehension goes over has come.
 #[tactic(auto, using(crate::proofs::CompLaws::row_rules))]
@@ -423,7 +423,7 @@ pub fn one_pair_more(
     comp: Comprehended,
     parts: &CompParts,
     walk: Walk,
-    mut done: Vals,
+    done: Vals,
     outer: ScopeId,
     key: Val,
     v: Val,
@@ -435,10 +435,35 @@ pub fn one_pair_more(
     ensures left { OnOk result (going.new.state.used < budget) }
     ensures grows { going.old.state.used ≤ going.new.state.used }
 {
-    let may_be = is_key(key);
-    if !may_be {
-        return Err(stopped(Cause::Raised, parts.place));
+    let may_be = may_be_key(&key);
+    if may_be {
+        return pair_pushed(
+            going, functions, frozen, comp, parts, walk, done, outer, key, v, budget,
+        );
     }
+    Err(stopped(Cause::Raised, parts.place))
+}
+
+#[tactic(auto, using(crate::proofs::CompLaws::more_rules))]
+pub fn pair_pushed(
+    going: &mut Going,
+    functions: &Functions,
+    frozen: &Frozen,
+    comp: Comprehended,
+    parts: &CompParts,
+    walk: Walk,
+    mut done: Vals,
+    outer: ScopeId,
+    key: Val,
+    v: Val,
+    budget: u64,
+) -> Result<Now, Halt>
+    requires lives { going.old.state.used < budget }
+    requires kind { comp_of comp ≡ Some (comp_seen parts.now) }
+    ensures moves { GoesOn functions.now frozen.now result going.old going.new budget (λ k. walks_on k (comp_seen parts.now) walk outer (done ++ key ∷ v ∷ [])) }
+    ensures left { OnOk result (going.new.state.used < budget) }
+    ensures grows { going.old.state.used ≤ going.new.state.used }
+{
     match done.push_pair(key, v) {
         Ok(()) => walks_on(
             going, functions, frozen, comp, parts, &walk, outer, done, budget,
