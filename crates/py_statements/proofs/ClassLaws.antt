@@ -39,7 +39,7 @@ use Rattle.py_frames.specs.Parts.{arguments_from, place_of}
 use Rattle.py_frames.specs.Values.{as_row, class_word}
 use Rattle.py_frames.specs.Expressions.{value_of, arguments_then, on_elements, seen_from, once_named}
 use Rattle.py_frames.specs.Binding.{refused}
-use Rattle.py_frames.specs.Statements.{known, run_all, base_of, over_thing, are_keywords, class_begun, class_body, class_within, class_ended, class_here}
+use Rattle.py_frames.specs.Statements.{known, run_all, base_of, over_thing, are_keywords, class_begun, class_within, class_ended, class_here}
 use Rattle.py_frames.specs.Stmt_begun.{run_after}
 use Rattle.py_frames.specs.Call_frames.{argument_came, elements_came}
 use Rattle.py_frames.specs.Def_frames.{class_arguments, class_place, class_given, class_left}

@@ -154,10 +154,7 @@ fn list_changed(
     let mut left = Budget {
         left: budget - going.state.used,
     };
-    let given = going
-        .state
-        .heap
-        .builtin(frozen, b, &vals, &mut left);
+    let given = going.state.heap.builtin(frozen, b, &vals, &mut left);
     going.state.used = used_after(going.state.used, budget, left.left);
     told(instead(*x, given), place)
 }
