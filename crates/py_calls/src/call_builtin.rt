@@ -7,8 +7,8 @@ ghost use Rattle.py_frames.specs.Frames.{GoesOn};
 
 use crate::call_gone::gone_over;
 use crate::call_kind::{
-    CallKind, call_request, init_request, is_one, kind_of, no_arguments, no_keywords, one_thing, super_of,
-    with_this,
+    CallKind, call_request, init_request, is_one, kind_of, no_arguments, no_keywords, one_thing,
+    super_of, with_this,
 };
 use amh_host::Place;
 use py_frames::attribute_store::ask_about;
