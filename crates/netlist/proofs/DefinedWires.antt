@@ -63,7 +63,7 @@ none_is : (o : Option Column) → is_none o ≡ true → o ≡ None
 none_is None e = refl
 none_is (Some x) e = absurd (false≢true e)
 
-module _ (c : Circuit) (rules : IsPool c.pool) (design : IsDesign c) (flat : c.memories ≡ []) (plain : ArePlain c) (module_rules : IsModule (module_of c)) (kept : Kept) (inputs : Inputs)
+module _ (c : Circuit) (rules : IsPool c.pool) (design : IsDesign c) (plain : ArePlain c) (module_rules : IsModule (module_of c)) (kept : Kept) (inputs : Inputs)
     (env held : List ℤ) (fit : FitsSignals c.pool env) (count : length held ≡ length c.pool.signals)
     (signals : (s : ℕ) → Carries (wire_bit (module_of c) kept inputs) (signal_value c s) (at env s))
     (exprs : (e : ExprId) → e.0 < length c.pool.exprs → Carries (wire_bit (module_of c) kept inputs) (expr_value c e.0) (num c.pool env e.0))
@@ -127,7 +127,7 @@ module _ (c : Circuit) (rules : IsPool c.pool) (design : IsDesign c) (flat : c.m
   choice_defined s p d None clock there e obeys = tt
   choice_defined s p d (Some r) clock there e obeys =
       let x : (y : Sig) × (slice_get c.pool.signals s ≡ Some y) = element c.pool.signals s there in
-      (choice_some c design flat s p d clock env wires rules plain fit shows signals x.0 x.1 r held (same s p d clock there) count e obeys, tt)
+      (choice_some c design s p d clock env wires rules plain fit shows signals x.0 x.1 r held (same s p d clock there) count e obeys, tt)
 
   driving_defined : (s : ℕ) (d : Driving) → driving c s ≡ d → s < length c.pool.signals → ObeysComb wires (driving_drawing c s d) → AreDefined wires (driving_drawing c s d).wires
   driving_defined s ByEvents e there obeys = tt

@@ -32,6 +32,16 @@ pub mod BitWrites
 pub mod PutSources
 pub mod Origins
 pub mod OneDriver
+pub mod ReadOnce
+mod SanityMemories
+mod PortAddresses
+mod WritePorts
+mod ReadPorts
+mod PartsDrawn
+mod ReadData
+mod PartsFit
+mod PortEdges
+mod MemoryWrites
 pub mod Driven
 pub mod SourcedSpecs
 pub mod Starts

@@ -55,7 +55,7 @@ pub record IsHidden (w : RtlWire) : Type 0 where
   pub fits : WireFits w
   pub inner : w.port ≡ Inner
 
-hidden_bare : (w : RtlWire) → IsBare w → IsHidden w
+pub hidden_bare : (w : RtlWire) → IsBare w → IsHidden w
 hidden_bare w b = record { fits = record { wide = b.some; init = subst (λ (o : Option (List Bool)). IfSome o (λ (bits : List Bool). length bits ≡ w.width)) (sym b.init) tt }; inner = b.inner }
 
 hidden_signal : (c : Circuit) (s : ℕ) → AllByRecursion IsHidden (signal_wires c s)

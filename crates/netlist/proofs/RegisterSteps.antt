@@ -10,7 +10,6 @@ use Rattle.shape_rules.specs.Operators.{is_zero}
 use Rattle.design_ir.specs.declared.ids.DomainId.{DomainId}
 use Rattle.design_ir.specs.declared.signal.Sig.{Sig}
 use Rattle.design_ir.specs.declared.domain.Domain.{Domain}
-use Rattle.design_ir.specs.declared.memory.Memory.{Memory}
 use Rattle.design_ir.specs.declared.process.DesignProcess.{DesignProcess}
 use Rattle.design_ir.specs.declared.event.Event.TheVariants.{Edge}
 use Rattle.design_ir.specs.PoolRules.{IsPool}
@@ -42,7 +41,8 @@ use Rattle.netlist.proofs.Bitwise.{mux_cell_bits}
 use Rattle.netlist.proofs.BitWrites.{some_signal}
 use Rattle.netlist.proofs.SignalBits.{bit_at-signal}
 use Rattle.netlist.proofs.OneDriver.{IsOnly, IsFolded, find_only, fold_only}
-use Rattle.netlist.proofs.Driven.{driven_by, distinct_processes, by_comb, by_clock}
+use Rattle.netlist.proofs.Driven.{driven_by, distinct_processes, process_unread, by_comb, by_clock}
+use Rattle.netlist.proofs.ReadOnce.{clocked_reads-other}
 use Rattle.netlist.proofs.ResetLaws.{length-reset_all, reset_all-other, reset_all-less, reset_all-full, IsResetOf, is_reset-of, reset_of-some, reset_of-none}
 use Rattle.netlist.proofs.SettledWires.{Shows, reads_next, signal_drawing-some}
 use Rattle.netlist.specs.Plain.{ArePlain}
@@ -124,9 +124,9 @@ no_clock c s h none d x e same =
 
 -- ---- a register at an edge
 
-module _ (c : Circuit) (design : IsDesign c) (flat : c.memories ≡ []) (s : ℕ) (p : DesignProcess) (d : DomainId) (clock : driving c s ≡ ByClock p d) where
+module _ (c : Circuit) (design : IsDesign c) (s : ℕ) (p : DesignProcess) (d : DomainId) (clock : driving c s ≡ ByClock p d) where
   only : IsOnly (driven_by c) s c.processes p
-  only = find_only (driven_by c) s c.processes p (distinct_processes c flat design) (is_clocked c p d s clock).found
+  only = find_only (driven_by c) s c.processes p (distinct_processes c design) (is_clocked c p d s clock).found
 
   -- ---- the choice that a reset makes
 
@@ -168,7 +168,7 @@ module _ (c : Circuit) (design : IsDesign c) (flat : c.memories ≡ []) (s : ℕ
     by_process : at (step c st env (Edge listed)).held s ≡ at (clocked_at c env listed p folded.then (Some d)) s
     by_process =
         toggles-other c env listed s listed (clocked_reads c env listed c.memories st.rows (fold (clocked c env listed) st.held c.processes)) (no_clock c s design.domains (is_clocked c p d s clock).no_input)
-        ∙ ap (λ (ms : List Memory). at (clocked_reads c env listed ms st.rows (fold (clocked c env listed) st.held c.processes)) s) flat
+        ∙ clocked_reads-other c env listed s c.memories st.rows (fold (clocked c env listed) st.held c.processes) (process_unread c design s p only)
         ∙ folded.result
         ∙ ap (λ o. at (clocked_at c env listed p folded.then o) s) (is_clocked c p d s clock).domain
 

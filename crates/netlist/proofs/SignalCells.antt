@@ -78,7 +78,7 @@ source_fits m v k sign h =
 
 -- ---- registers
 
-register_fits : (m : RtlModule) (id : List ℕ) (width : ℕ) (clock after now : List SigPart) → SpecIs m clock 1 → SpecIs m after width → SpecIs m now width → CellFits m (register_cell id width clock after now)
+pub register_fits : (m : RtlModule) (id : List ℕ) (width : ℕ) (clock after now : List SigPart) → SpecIs m clock 1 → SpecIs m after width → SpecIs m now width → CellFits m (register_cell id width clock after now)
 register_fits m id width clock after now p q r = record {
   parameters = refl;
   values = All-from_recursion (λ (p : RtlParameter). ValueFits p.value) (register_cell id width clock after now).parameters (tt, (tt, tt));
@@ -136,7 +136,7 @@ module _ (c : Circuit) (pool : IsPool c.pool) (h : IsDesign c) where
   bit_is : (s : SigId) → IsSignalOf c (unsigned 1) s → SpecIs (module_of c) (whole (signal_value c s.0)) 1
   bit_is s g = subst (λ (f : Form). SpecIs (module_of c) (whole (signal_value c s.0)) f.width) g.shape (whole_is (module_of c) (signal_value c s.0) (signal_held c s.0 g.there))
 
-  clock_is : (d : DomainId) → d.0 < length c.domains → SpecIs (module_of c) (clock_of c d) 1
+  pub clock_is : (d : DomainId) → d.0 < length c.domains → SpecIs (module_of c) (clock_of c d) 1
   clock_is d p =
       let x = element c.domains d.0 p in
       let domain : IsClockDomain c x.0 = AllByRecursion-among (IsClockDomain c) c.domains x.0 h.domains (Among-slice_get c.domains d.0 x.0 x.1) in

@@ -17,6 +17,8 @@ pub mod Drives
 pub mod Corresponds
 pub mod FirstValues
 pub mod PortGuards
+pub mod MemoryDrawings
+pub mod PortLaws
 pub mod Plain
 pub mod Beyond
 pub mod Histories

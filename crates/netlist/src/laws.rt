@@ -1,6 +1,9 @@
 // The laws of the lowering. The functions do nothing: their clauses are the laws.
 ghost use Rattle.netlist.specs.PortGuards.{GuardsAreMade};
+ghost use Rattle.netlist.specs.PortLaws.{WritePortsAreMade, CombReadsAreMade, ClockedReadsAreMade, FlagsAreMade, WordsAreShown};
 ghost use Rattle.netlist.specs.Laws.{OperatorsAreMade, ExpressionsAreMade, ModulesKeepTheRules, ModulesCorrespond, ModulesHaveTheHistory};
+
+use memory_cells::{ends_carry_the_port, guards_follow, guards_show_the_word, reads_follow};
 
 /// Where the wires of its operands carry two integers, the cells of an operator give its wire the operator's integer:
 /// for each of the operators, and all shapes that it takes.
@@ -31,3 +34,19 @@ pub fn modules_have_the_history()
 pub fn guards_are_made()
     ensures { GuardsAreMade }
 {}
+
+/// Where the wires of expressions carry their numbers and the wires obey the drawing of a memory's port, its cell carries what
+/// the port of the design does: it writes the enabled bits of rows within the depth; it gives the row at once, and 0 past the
+/// depth; or it reads at the clock, beside a flag that keeps whether the last address was one of a row.
+pub fn memory_ports_are_made()
+    ensures writes { WritePortsAreMade }
+    ensures comb_reads { CombReadsAreMade }
+    ensures clocked_reads { ClockedReadsAreMade }
+    ensures flags { FlagsAreMade }
+    ensures words { WordsAreShown }
+{
+    ends_carry_the_port();
+    reads_follow();
+    guards_follow();
+    guards_show_the_word();
+}

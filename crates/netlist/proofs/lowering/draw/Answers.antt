@@ -24,4 +24,4 @@ returns-clause-columns c =
 pub returns-clause-begins : goal.returns-clause-begins
 returns-clause-begins c =
     IfOk-weaker c.module_from.result _ _
-    (λ m e. subst (HasFirstValues c.args.design.now) (sym (e ∙ c.in_ok-drawing.ensures.drawn)) (module_begins c.args.design.now c.requires.flat c.count.ensures.rules c.processes.ensures.rules)) c.module_from.ensures
+    (λ m e. subst (HasFirstValues c.args.design.now) (sym (e ∙ c.in_ok-drawing.ensures.drawn)) (module_begins c.args.design.now c.count.ensures.rules c.processes.ensures.rules)) c.module_from.ensures
