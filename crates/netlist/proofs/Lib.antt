@@ -33,15 +33,15 @@ pub mod PutSources
 pub mod Origins
 pub mod OneDriver
 pub mod ReadOnce
-mod SanityMemories
+pub mod SanityMemories
 mod PortAddresses
 mod WritePorts
 mod ReadPorts
-mod PartsDrawn
-mod ReadData
-mod PartsFit
-mod PortEdges
-mod MemoryWrites
+pub mod PartsDrawn
+pub mod ReadData
+pub mod PartsFit
+pub mod PortEdges
+pub mod MemoryWrites
 pub mod Driven
 pub mod SourcedSpecs
 pub mod Starts

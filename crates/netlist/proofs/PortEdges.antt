@@ -2,7 +2,7 @@
 use Rattle.std.specs.Prelude.{◌≡◌, refl, ℕ, ◌<◌, nat_lt, Bool, true, false, cond, List, [], length, slice_get, ℤ, Option, Some, None, IsSome, option_map, unwrap_or, position}
 use Rattle.std.specs.List.{position_or_len}
 use Rattle.std.proofs.Common.{sym, ◌∙◌, ap, arith}
-use Rattle.std.proofs.lemmas.Bool.{ltb-true, or_left}
+use Rattle.std.proofs.lemmas.Bool.{false≢true, ltb-true, or_left}
 use Rattle.lists.specs.Texts.{text_eq}
 use Rattle.design_ir.specs.declared.ids.DomainId.{DomainId}
 use Rattle.design_ir.specs.declared.domain.Domain.{Domain}
@@ -31,7 +31,7 @@ position_there p xs k e = by (nat_lt (position_or_len p xs) (length xs)) refl e
     by false h e = cc
 
 some_number : (o : Option ℕ) → IsSome o → (k : ℕ) × (o ≡ Some k)
-some_number None h = absurd h
+some_number None h = absurd (false≢true h)
 some_number (Some k) h = (k, refl)
 
 module _ (c : Circuit) (design : IsDesign c) (env : List ℤ) (fit : FitsSignals c.pool env) (st : State) (listed : List DomainId) (ordered : Ascending 0 listed) (count : length st.held ≡ length c.pool.signals)

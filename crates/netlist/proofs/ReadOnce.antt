@@ -48,7 +48,7 @@ module _ (s : ℕ) (kind : MemRead → Bool) where
 -- ---- no port gives what a process drives
 
 module _ (s : ℕ) where
-  none_behind : (xs : List ℕ) (ys zs : List (List ℕ)) → is_among xs s ≡ true → AllByRecursion (λ y. share xs y ≡ false) (ys ++ zs) → list_any (has_it s) zs ≡ false
+  pub none_behind : (xs : List ℕ) (ys zs : List (List ℕ)) → is_among xs s ≡ true → AllByRecursion (λ y. share xs y ≡ false) (ys ++ zs) → list_any (has_it s) zs ≡ false
   none_behind xs [] [] here h = refl
   none_behind xs [] (z ∷ zs) here h = or_from (is_among z s) (list_any (has_it s) zs) (not_shared s xs z h.0 here) (none_behind xs [] zs here h.1)
   none_behind xs (y ∷ ys) zs here h = none_behind xs ys zs here h.1
