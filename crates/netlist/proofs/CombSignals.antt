@@ -1,5 +1,5 @@
 -- Signals of a design: held by a state, combinational, or driven by nothing.
-use Rattle.std.specs.Prelude.{◌≡◌, refl, ℕ, ◌<◌, ◌≤◌, ◌==◌, ◌&&◌, ◌||◌, ◌⊎◌, Bool, true, false, List, [], map, slice_get, ℤ, Option, Some, None, is_some, is_none}
+use Rattle.std.specs.Prelude.{◌≡◌, refl, ℕ, ◌<◌, ◌≤◌, ◌==◌, ◌&&◌, ◌||◌, ◌⊎◌, Bool, true, false, cond, List, [], map, slice_get, ℤ, Option, Some, None, is_some, is_none}
 use Rattle.std.specs.List.{list_any, find}
 use Rattle.std.proofs.Common.{sym, ◌∙◌, ap, subst, arith, inl, inr}
 use Rattle.std.proofs.lemmas.Bool.{false≢true, or_parts}
@@ -22,13 +22,13 @@ use Rattle.rtlil_text.specs.History.{Wires}
 use Rattle.netlist.specs.Carried.{ObeysCell}
 use Rattle.netlist.specs.CombDrawings.{ObeysComb}
 use Rattle.netlist.specs.Spelled.{spec_of}
-use Rattle.netlist.specs.Module.{wire_id, signal_value, drives, ByNothing, init_bits, at_last, bits_at_last, link_to, signal_drawing}
+use Rattle.netlist.specs.Module.{wire_id, signal_value, drives, ByRead, ByNothing, init_bits, at_last, bits_at_last, link_to, signal_drawing}
 use Rattle.netlist.proofs.Reading.{HasBits, Reads}
 use Rattle.netlist.proofs.Widths.{linked_bits, has_equal}
 use Rattle.netlist.proofs.BitWrites.{some_signal}
 use Rattle.netlist.proofs.Linked.{linked_bit}
 use Rattle.netlist.proofs.OneDriver.{AreNone, IsOnly, find_only, find_none, none_test}
-use Rattle.netlist.proofs.Driven.{driven_by, distinct_processes, no_input, comb_unheld, is_register-only, is_comb-only, driving-found, driving-comb}
+use Rattle.netlist.proofs.Driven.{driven_by, distinct_processes, no_input, comb_unheld, is_register-only, is_comb-only, free_unread, driving-found, driving-comb}
 use Rattle.netlist.proofs.SourcedSpecs.{init_bits_are, reads_constants, bit_at-sources}
 use Rattle.netlist.proofs.SettledNumbers.{settled_none}
 use Rattle.netlist.proofs.SettledWires.{signal_drawing-some}
@@ -97,7 +97,7 @@ module _ (c : Circuit) (design : IsDesign c) (s : ℕ) where
         let none = free_none unheld free in
         let x : (y : Sig) × (slice_get c.pool.signals s ≡ Some y) = element c.pool.signals s (some_signal c.pool.signals s some) in
         let right : List SigPart = spec_of (map Constant (init_bits c s)) in
-        let drawn : ObeysComb wires (link_to c s right) = subst (ObeysComb wires) (signal_drawing-some c s ByNothing some (driving-found c s (or_parts (is_input c s) (is_register c s) unheld).0 None none)) obeys in
+        let drawn : ObeysComb wires (link_to c s right) = subst (ObeysComb wires) (signal_drawing-some c s ByNothing some (driving-found c s (or_parts (is_input c s) (is_register c s) unheld).0 None none ∙ ap (λ b. cond b ByRead ByNothing) (free_unread c design s unheld free))) obeys in
         let reads : Reads wires right w x.0.init = subst (λ bits. Reads wires (spec_of (map Constant bits)) w x.0.init) (sym (init_bits_are c s x.0 x.1)) (reads_constants wires w x.0.init) in
         has_equal wires (wire_id c s) w x.0.init (at env s) (sym (settled_none c env design st settled s x.0 x.1 unheld free))
         (linked_bits wires (signal_value c s) right w x.0.init reads (omega arith) (record { cells = All-nil (ObeysCell wires); links = drawn.links }))

@@ -28,7 +28,7 @@ use Rattle.netlist.specs.Operators.{Value, Drawing, nothing, inner_wire}
 use Rattle.netlist.specs.Expressions.{part_count, drawn}
 use Rattle.netlist.specs.Plain.{ArePlain}
 use Rattle.netlist.specs.Histories.{AllDefined}
-use Rattle.netlist.specs.Module.{column_of, signal_value, expr_value, first_value, Driving, ByEvents, ByComb, ByClock, ByNothing, driving, reset_of, register_drawing, driving_drawing, signal_drawing, column_wire, column_wires, signal_wires, expr_wires, drawn_from, drawings, all_drawings, module_of}
+use Rattle.netlist.specs.Module.{column_of, signal_value, expr_value, first_value, Driving, ByEvents, ByComb, ByClock, ByRead, ByNothing, driving, reset_of, register_drawing, driving_drawing, signal_drawing, column_wire, column_wires, signal_wires, expr_wires, drawn_from, drawings, all_drawings, module_of}
 use Rattle.netlist.proofs.Reading.{has_carried}
 use Rattle.netlist.proofs.ColumnSignals.{column_at, column_signals, columns_distinct}
 use Rattle.netlist.proofs.ManyDrawn.{drawing_wires}
@@ -133,6 +133,7 @@ module _ (c : Circuit) (rules : IsPool c.pool) (design : IsDesign c) (plain : Ar
   driving_defined s ByEvents e there obeys = tt
   driving_defined s (ByComb p) e there obeys = tt
   driving_defined s (ByClock p d) e there obeys = choice_defined s p d (reset_of c s d) e there refl obeys
+  driving_defined s ByRead e there obeys = tt
   driving_defined s ByNothing e there obeys = tt
 
   steps_defined : (s : ℕ) → s < length c.pool.signals → AreDefined wires (signal_drawing c s).wires

@@ -1,8 +1,8 @@
 -- What drives each signal of a design, and whether a state holds it.
-use Rattle.std.specs.Prelude.{◌≡◌, refl, ℕ, ◌==◌, ◌&&◌, ◌||◌, Bool, true, false, IsTrue, cond, List, [], ◌∷◌, ◌++◌, map, Option, Some, None, is_some, is_none}
+use Rattle.std.specs.Prelude.{◌≡◌, refl, ℕ, ◌==◌, ◌&&◌, ◌||◌, Bool, true, false, not, IsTrue, cond, List, [], ◌∷◌, ◌++◌, map, Option, Some, None, is_some, is_none}
 use Rattle.std.specs.List.{AllByRecursion, IsDistinct, list_any, find, flat_map}
 use Rattle.std.proofs.Common.{sym, ◌∙◌, ap, subst, ⊎_elim, append-nil}
-use Rattle.std.proofs.lemmas.Bool.{false≢true, and_parts, or_parts, or_from, or_cases, eqb-true}
+use Rattle.std.proofs.lemmas.Bool.{false≢true, and_parts, and_right, or_parts, or_from, or_cases, eqb-true}
 use Rattle.std.proofs.lemmas.List.Folds.{list_any-append}
 use Rattle.design_ir.specs.declared.ids.DomainId.{DomainId}
 use Rattle.design_ir.specs.declared.process.DesignProcess.{DesignProcess}
@@ -12,7 +12,7 @@ use Rattle.design_ir.specs.declared.port.Port.{Port}
 use Rattle.design_ir.specs.Guards.{driven}
 use Rattle.design_ir.specs.Circuits.{Circuit, is_among, is_input, is_register, is_held}
 use Rattle.design_ir.specs.Designs.{share, drivers, IsDesign}
-use Rattle.netlist.specs.Module.{ByEvents, ByComb, ByClock, drives, driving_by, driving}
+use Rattle.netlist.specs.Module.{Driving, ByEvents, ByComb, ByClock, ByRead, ByNothing, is_there, is_read, drives, undriven, driving_by, driving}
 use Rattle.comb_graph.specs.Orders.{is_comb}
 use Rattle.flat_design.proofs.DrivenOnce.{processes_distinct}
 use Rattle.netlist.proofs.OneDriver.{AreNone, IsOnly, clocks_it, find_only, find_none, only_holds, none_clock, only_clock, none_test, only_test}
@@ -87,21 +87,21 @@ module _ (c : Circuit) (s : ℕ) (design : IsDesign c) (input : is_input c s ≡
 
 -- ---- what drives it
 
-pub by_comb : (p : DesignProcess) → p.domain ≡ None → driving_by (Some p) ≡ ByComb p
-by_comb p e = rw e refl
+pub by_comb : (other : Driving) (p : DesignProcess) → p.domain ≡ None → driving_by other (Some p) ≡ ByComb p
+by_comb other p e = rw e refl
 
-pub by_clock : (p : DesignProcess) (d : DomainId) → p.domain ≡ Some d → driving_by (Some p) ≡ ByClock p d
-by_clock p d e = rw e refl
+pub by_clock : (other : Driving) (p : DesignProcess) (d : DomainId) → p.domain ≡ Some d → driving_by other (Some p) ≡ ByClock p d
+by_clock other p d e = rw e refl
 
 module _ (c : Circuit) (s : ℕ) (no_input : is_input c s ≡ false) where
-  pub driving-found : (o : Option DesignProcess) → find (drives c s) c.processes ≡ o → driving c s ≡ driving_by o
-  driving-found o e = ap (λ t. cond t ByEvents (driving_by (find (drives c s) c.processes))) no_input ∙ ap driving_by e
+  pub driving-found : (o : Option DesignProcess) → find (drives c s) c.processes ≡ o → driving c s ≡ driving_by (undriven c s) o
+  driving-found o e = ap (λ t. cond t ByEvents (driving_by (undriven c s) (find (drives c s) c.processes))) no_input ∙ ap (driving_by (undriven c s)) e
 
   pub driving-comb : (p : DesignProcess) → find (drives c s) c.processes ≡ Some p → p.domain ≡ None → driving c s ≡ ByComb p
-  driving-comb p e d = driving-found (Some p) e ∙ by_comb p d
+  driving-comb p e d = driving-found (Some p) e ∙ by_comb (undriven c s) p d
 
   pub driving-clock : (p : DesignProcess) (d : DomainId) → find (drives c s) c.processes ≡ Some p → p.domain ≡ Some d → driving c s ≡ ByClock p d
-  driving-clock p d e h = driving-found (Some p) e ∙ by_clock p d h
+  driving-clock p d e h = driving-found (Some p) e ∙ by_clock (undriven c s) p d h
 
 -- ---- what a state holds no round computes
 
@@ -151,3 +151,59 @@ module _ (c : Circuit) (design : IsDesign c) (s : ℕ) where
       by : (t : Bool) → is_comb c s ≡ t → t ≡ false
       by false e = refl
       by true e = absurd (false≢true (sym (comb_unheld e) ∙ held))
+
+-- ---- what a port gives
+
+module _ (s : ℕ) where
+  abbrev pub gives_it : MemRead → Bool
+  gives_it r = r.word.0 == s
+
+  abbrev stored_gives : Memory → Bool
+  stored_gives m = is_there m && list_any gives_it m.reads
+
+  of_kinds : (d x : Bool) → (d && x) ≡ false → (not d && x) ≡ false → x ≡ false
+  of_kinds true x e f = e
+  of_kinds false x e f = f
+
+  some_not : {A : Type 0} (o : Option A) → is_some o ≡ not (is_none o)
+  some_not None = refl
+  some_not (Some x) = refl
+
+  port_kinds : (rs : List MemRead) → list_any (λ (r : MemRead). is_none r.domain && gives_it r) rs ≡ false → list_any (λ (r : MemRead). is_some r.domain && gives_it r) rs ≡ false → list_any gives_it rs ≡ false
+  port_kinds [] e f = refl
+  port_kinds (r ∷ rs) e f =
+      let here = or_parts (is_none r.domain && gives_it r) (list_any (λ (q : MemRead). is_none q.domain && gives_it q) rs) e in
+      let there = or_parts (is_some r.domain && gives_it r) (list_any (λ (q : MemRead). is_some q.domain && gives_it q) rs) f in
+      or_from (gives_it r) (list_any gives_it rs) (of_kinds (is_none r.domain) (gives_it r) here.0 (ap (λ b. b && gives_it r) (sym (some_not r.domain)) ∙ there.0)) (port_kinds rs here.1 there.1)
+
+  -- what no port of either kind gives, no port gives
+  pub kinds_none : (ms : List Memory) → list_any (λ (m : Memory). list_any (λ (r : MemRead). is_none r.domain && gives_it r) m.reads) ms ≡ false
+      → list_any (λ (m : Memory). list_any (λ (r : MemRead). is_some r.domain && gives_it r) m.reads) ms ≡ false → list_any stored_gives ms ≡ false
+  kinds_none [] e f = refl
+  kinds_none (m ∷ ms) e f =
+      let here = or_parts (list_any (λ (r : MemRead). is_none r.domain && gives_it r) m.reads) (list_any (λ (x : Memory). list_any (λ (r : MemRead). is_none r.domain && gives_it r) x.reads) ms) e in
+      let there = or_parts (list_any (λ (r : MemRead). is_some r.domain && gives_it r) m.reads) (list_any (λ (x : Memory). list_any (λ (r : MemRead). is_some r.domain && gives_it r) x.reads) ms) f in
+      or_from (stored_gives m) (list_any stored_gives ms) (and_right (is_there m) (list_any gives_it m.reads) (port_kinds m.reads here.0 there.0)) (kinds_none ms here.1 there.1)
+
+module _ (c : Circuit) (design : IsDesign c) (s : ℕ) where
+  unread_no : AreUnread s c.memories → is_read c s ≡ false
+  unread_no e = kinds_none s c.memories (kind_none s (λ (r : MemRead). is_none r.domain) c.memories e) (kind_none s (λ (r : MemRead). is_some r.domain) c.memories e)
+
+  -- neither events nor statements drive it
+  pub read_driving : is_read c s ≡ true → driving c s ≡ ByRead
+  read_driving read = driving-found c s (input (is_input c s) refl) (find (drives c s) c.processes) refl ∙ ap (driving_by (undriven c s)) (none (find (drives c s) c.processes) refl) ∙ ap (λ b. cond b ByRead ByNothing) read
+    where
+      input : (t : Bool) → is_input c s ≡ t → t ≡ false
+      input false e = refl
+      input true e = absurd (false≢true (sym (unread_no (input_unread c s design e)) ∙ read))
+
+      none : (o : Option DesignProcess) → find (drives c s) c.processes ≡ o → o ≡ None
+      none None e = refl
+      none (Some p) e = absurd (false≢true (sym (unread_no (process_unread c design s p (find_only (driven_by c) s c.processes p (distinct_processes c design) e))) ∙ read))
+
+  -- what is neither held nor combinational is given by no port
+  pub free_unread : is_held c s ≡ false → is_comb c s ≡ false → is_read c s ≡ false
+  free_unread unheld free =
+      kinds_none s c.memories
+      (or_parts (list_any (λ (q : DesignProcess). is_none q.domain && is_among (driven_by c q) s) c.processes) (list_any (λ (m : Memory). list_any (λ (r : MemRead). is_none r.domain && (r.word.0 == s)) m.reads) c.memories) free).1
+      (or_parts (list_any (clocks_it (driven_by c) s) c.processes) (list_any (λ (m : Memory). list_any (λ (r : MemRead). is_some r.domain && (r.word.0 == s)) m.reads) c.memories) (or_parts (is_input c s) (is_register c s) unheld).1).1

@@ -24,7 +24,7 @@ use Rattle.rtlil_text.specs.Inits.{is_register_kind, registered_bits, register_b
 use Rattle.netlist.specs.Ids.{signal_id, value_id}
 use Rattle.netlist.specs.Operators.{Drawing, nothing, inner_wire}
 use Rattle.netlist.specs.Expressions.{part_count, part_total, drawn}
-use Rattle.netlist.specs.Module.{public_id, column_of, signal_value, expr_value, Driving, ByEvents, ByComb, ByClock, ByNothing, is_clocked, driving, init_bits, first_value, column_wires, signal_wires, expr_wires, drawn_from, drawings, reset_of, register_drawing, driving_drawing, signal_drawing, all_drawings, module_of}
+use Rattle.netlist.specs.Module.{public_id, column_of, signal_value, expr_value, Driving, ByEvents, ByComb, ByClock, ByRead, ByNothing, is_clocked, driving, init_bits, first_value, column_wires, signal_wires, expr_wires, drawn_from, drawings, reset_of, register_drawing, driving_drawing, signal_drawing, all_drawings, module_of}
 use Rattle.netlist.proofs.Places.{spec_bits-wire_part}
 use Rattle.netlist.proofs.Permuted.{IsPermutation-flat_map, flat_map-nested}
 use Rattle.netlist.proofs.Drives.{block, value_bits, IsBare}
@@ -67,6 +67,7 @@ module _ (c : Circuit) (s : ℕ) where
   driving_registers ByEvents = refl
   driving_registers (ByComb p) = refl
   driving_registers (ByClock p d) = one_register p d (reset_of c s d)
+  driving_registers ByRead = refl
   driving_registers ByNothing = refl
 
   signal_registers : drawn_registers (signal_drawing c s) ≡ kept_bits c s

@@ -2,6 +2,7 @@
 use Rattle.std.specs.Prelude.{◌≡◌, ℕ, suc, ◌&&◌, Bool, true, false, cond, if◌then◌else◌, List, [], ◌∷◌, ◌++◌, map, take, length, Option, Some, None, is_some, IsPermutation}
 use Rattle.std.specs.List.{find}
 use Rattle.std.proofs.Common.{refl, sym, ap, ◌∙◌, subst}
+use Rattle.std.proofs.lemmas.Bool.{cond_both}
 use Rattle.design_ir.specs.declared.ids.DomainId.{DomainId}
 use Rattle.design_ir.specs.declared.port.Column.{Column}
 use Rattle.design_ir.specs.declared.expr.Expr.{Expr}
@@ -16,7 +17,7 @@ use Rattle.rtlil_text.specs.Sources.{Source}
 use Rattle.rtlil_text.specs.Inits.{register_bits, first_bits}
 use Rattle.flat_design.specs.Flat.{IsFlat, AreFlatProcesses}
 use Rattle.flat_design.proofs.FlatPairs.{with_exprs, with_parts, design_is, flat_is, any_flat}
-use Rattle.netlist.specs.Module.{ByEvents, is_clocked, drives, driving_at, driving_by, driving, init_bits, first_value, column_wires, module_of}
+use Rattle.netlist.specs.Module.{Driving, ByEvents, ByRead, ByNothing, is_read, is_clocked, drives, driving_at, undriven, driving_by, driving, init_bits, first_value, column_wires, module_of}
 use Rattle.netlist.specs.FirstValues.{is_stated, begins_with, HasFirstValues}
 use Rattle.netlist.proofs.OneDriver.{find_none, find_only, none_clock, only_clock}
 use Rattle.netlist.proofs.Driven.{driven_by, distinct_processes, input_none, driving-found}
@@ -31,7 +32,7 @@ clocked_at p (Some d) = refl
 
 module _ (c : Circuit) (design : IsDesign c) (s : ℕ) where
   by_found : is_input c s ≡ false → (o : Option DesignProcess) → find (drives c s) c.processes ≡ o → is_clocked (driving c s) ≡ is_stated c s
-  by_found out None e = ap is_clocked (driving-found c s out None e) ∙ sym (none_clock (driven_by c) s c.processes (find_none (driven_by c) s c.processes e))
+  by_found out None e = ap is_clocked (driving-found c s out None e) ∙ cond_both (is_read c s) ByRead ByNothing (λ (d : Driving). is_clocked d ≡ false) (λ _. refl) (λ _. refl) ∙ sym (none_clock (driven_by c) s c.processes (find_none (driven_by c) s c.processes e))
   by_found out (Some p) e =
       ap is_clocked (driving-found c s out (Some p) e) ∙ clocked_at p p.domain
       ∙ sym (only_clock (driven_by c) s c.processes p (find_only (driven_by c) s c.processes p (distinct_processes c design) e))
@@ -40,7 +41,7 @@ module _ (c : Circuit) (design : IsDesign c) (s : ℕ) where
   clocked_is = by (is_input c s) refl
     where
       by : (b : Bool) → is_input c s ≡ b → is_clocked (driving c s) ≡ is_stated c s
-      by true e = ap (λ t. is_clocked (cond t ByEvents (driving_by (find (drives c s) c.processes)))) e ∙ sym (none_clock (driven_by c) s c.processes (input_none c s design e))
+      by true e = ap (λ t. is_clocked (cond t ByEvents (driving_by (undriven c s) (find (drives c s) c.processes)))) e ∙ sym (none_clock (driven_by c) s c.processes (input_none c s design e))
       by false e = by_found e (find (drives c s) c.processes) refl
 
   first_is : first_value c s ≡ begins_with c s

@@ -37,7 +37,11 @@ pub mod SanityMemories
 mod PortAddresses
 mod WritePorts
 mod ReadPorts
+pub mod HiddenWires
 pub mod PartsDrawn
+pub mod ReadWires
+pub mod OthersDrawn
+pub mod MemoryNames
 pub mod ReadData
 pub mod PartsFit
 pub mod PortEdges

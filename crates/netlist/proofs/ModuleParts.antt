@@ -9,11 +9,12 @@ use Rattle.rtlil_text.specs.declared.cell.RtlCell.{RtlCell}
 use Rattle.rtlil_text.specs.declared.module.RtlLink.{RtlLink}
 use Rattle.rtlil_text.specs.Sources.{Net, spec_bits}
 use Rattle.rtlil_text.specs.Drivers.{ByCell, ByLink, output_bits, driver}
-use Rattle.rtlil_text.proofs.Among.{Among, Contains-among, Among-right, Among-map, Among-flat_map}
+use Rattle.rtlil_text.proofs.Among.{Among, Contains-among, Among-left, Among-right, Among-map, Among-flat_map}
 use Rattle.rtlil_text.proofs.Driven.{driver-cell, driver-link}
 use Rattle.netlist.specs.Operators.{Drawing}
 use Rattle.netlist.specs.Expressions.{part_total}
-use Rattle.netlist.specs.Module.{drawings, signal_drawing, all_drawings, module_of}
+use Rattle.netlist.specs.Module.{drawings, signal_drawing, other_drawings, all_drawings, module_of}
+use Rattle.netlist.specs.MemoryDrawings.{memory_drawings}
 use Rattle.netlist.proofs.ModuleHeld.{Among-range}
 use Rattle.netlist.proofs.ModuleRules.{module_rules}
 
@@ -23,7 +24,8 @@ module _ (c : Circuit) where
   pub signal_among : (s : ℕ) → s < length c.pool.signals → Among (all_drawings c) (signal_drawing c s)
   signal_among s p =
       let R = range_with_len 0 (length c.pool.signals) in
-      Among-right (drawings c) (map (signal_drawing c) R) (signal_drawing c s) (Among-map (signal_drawing c) R s (Among-range 0 (length c.pool.signals) s (omega arith) (omega arith)))
+      Among-right (drawings c) (other_drawings c) (signal_drawing c s)
+      (Among-left (map (signal_drawing c) R) (memory_drawings c) (signal_drawing c s) (Among-map (signal_drawing c) R s (Among-range 0 (length c.pool.signals) s (omega arith) (omega arith))))
 
   -- ---- their cells and links
 

@@ -31,16 +31,16 @@ use Rattle.netlist.specs.Cells.{binary_cell, mux_cell}
 use Rattle.netlist.specs.Operands.{wire_part, const_spec, at_width, const_operand}
 use Rattle.netlist.specs.Operators.{Value, Drawing, nothing, inner_wire, whole, one_bit, one_cell, as_form}
 use Rattle.netlist.specs.Expressions.{and_also}
-use Rattle.netlist.specs.Module.{signal_value, register_cell}
+use Rattle.netlist.specs.Module.{signal_value, register_cell, is_there}
 use Rattle.netlist.specs.PortGuards.{is_exact, guard_drawing}
-use Rattle.netlist.specs.MemoryDrawings.{Placed, Part, FirstRows, Writes, Reads, names_rows, port_address, port_clock, address_guard, is_row, zeros_unless, enable_spec, write_enable, writing, write_behind, read_enable, reading, flag_wire, guarded_read, read_behind, is_there, placed, memories_of, write_parts, parts_of, part_drawing, all_parts, drawn_parts, memory_drawings}
+use Rattle.netlist.specs.MemoryDrawings.{Placed, Part, FirstRows, Writes, Reads, names_rows, port_address, port_clock, address_guard, is_row, zeros_unless, enable_spec, write_enable, writing, write_behind, read_enable, reading, flag_wire, guarded_read, read_behind, placed, memories_of, write_parts, parts_of, part_drawing, all_parts, drawn_parts, memory_drawings}
 use Rattle.netlist.proofs.Places.{spec_bits-wire_part}
 use Rattle.netlist.proofs.Permuted.{IsPermutation-same, IsPermutation-inner_two}
 use Rattle.netlist.proofs.Fresh.{AllByRecursion-weaker, IsFresh, IsFresh-append, IsFresh-permutation, IsFresh-wider}
 use Rattle.netlist.proofs.Drives.{block, value_bits, drawing_ids, drawn_bits, own_bits, owed_bits, left_bits, IsBare, IsBare-inner_wire, IsDrawn, IsDrawn-nothing, fresh_none, fresh_places, zero_more, output_bits-binary, output_bits-mux, drawing_ids-and_also, drawn_bits-and_also}
 use Rattle.netlist.proofs.ManyDrawn.{drawing_wires}
 use Rattle.netlist.proofs.DrawnCells.{fresh_from, last_first, all_of, IsDrawn-inner}
-use Rattle.netlist.proofs.ModuleWires.{IsHidden, hidden_bare}
+use Rattle.netlist.proofs.HiddenWires.{IsHidden, hidden_bare}
 
 -- what each register keeps
 abbrev pub kept_in : Drawing → List Source

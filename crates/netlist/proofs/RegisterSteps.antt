@@ -34,7 +34,7 @@ use Rattle.netlist.specs.Operators.{whole}
 use Rattle.netlist.specs.Carried.{Carries}
 use Rattle.netlist.specs.CombDrawings.{ObeysUnkept, ObeysComb}
 use Rattle.netlist.specs.Spelled.{spec_of}
-use Rattle.netlist.specs.Module.{signal_value, drives, driving_by, driving, ByEvents, ByComb, ByClock, ByNothing, init_bits, bits_at_last, reset_of, clock_of, register_cell, register_drawing, signal_drawing}
+use Rattle.netlist.specs.Module.{signal_value, is_read, drives, undriven, driving_by, driving, Driving, ByEvents, ByComb, ByClock, ByRead, ByNothing, init_bits, bits_at_last, reset_of, clock_of, register_cell, register_drawing, signal_drawing}
 use Rattle.netlist.proofs.Reading.{HasBits, Reads, reads_low}
 use Rattle.netlist.proofs.Widths.{has_equal}
 use Rattle.netlist.proofs.Bitwise.{mux_cell_bits}
@@ -59,10 +59,10 @@ end_bits-register_cell id width clock next now = refl
 -- ---- a register's process and domain
 
 module _ (c : Circuit) (p : DesignProcess) (d : DomainId) where
-  found_domain : (q : DesignProcess) (x : Option DomainId) → q.domain ≡ x → driving_by (Some q) ≡ ByClock p d → (q ≡ p) × (p.domain ≡ Some d)
-  found_domain q None e h = let other : ByComb q ≡ ByClock p d = sym (by_comb q e) ∙ h in cc
-  found_domain q (Some y) e h =
-      let both : ByClock q y ≡ ByClock p d = sym (by_clock q y e) ∙ h in
+  found_domain : (u : Driving) (q : DesignProcess) (x : Option DomainId) → q.domain ≡ x → driving_by u (Some q) ≡ ByClock p d → (q ≡ p) × (p.domain ≡ Some d)
+  found_domain u q None e h = let other : ByComb q ≡ ByClock p d = sym (by_comb u q e) ∙ h in cc
+  found_domain u q (Some y) e h =
+      let both : ByClock q y ≡ ByClock p d = sym (by_clock u q y e) ∙ h in
       let same : q ≡ p = cc in
       let number : y ≡ d = cc in
       (same, ap (λ (z : DesignProcess). z.domain) (sym same) ∙ e ∙ ap (λ z. Some z) number)
@@ -72,11 +72,15 @@ module _ (c : Circuit) (p : DesignProcess) (d : DomainId) where
     pub found : find (drives c s) c.processes ≡ Some p
     pub domain : p.domain ≡ Some d
 
-  by_parts : (s : ℕ) (t : Bool) (o : Option DesignProcess) → is_input c s ≡ t → find (drives c s) c.processes ≡ o → cond t ByEvents (driving_by o) ≡ ByClock p d → IsClocked s
+  unclocked : (b : Bool) → cond b ByRead ByNothing ≡ ByClock p d → ⊥
+  unclocked true e = let other : ByRead ≡ ByClock p d = e in cc
+  unclocked false e = let other : ByNothing ≡ ByClock p d = e in cc
+
+  by_parts : (s : ℕ) (t : Bool) (o : Option DesignProcess) → is_input c s ≡ t → find (drives c s) c.processes ≡ o → cond t ByEvents (driving_by (undriven c s) o) ≡ ByClock p d → IsClocked s
   by_parts s true o i f h = let other : ByEvents ≡ ByClock p d = h in cc
-  by_parts s false None i f h = let other : ByNothing ≡ ByClock p d = h in cc
+  by_parts s false None i f h = absurd (unclocked (is_read c s) h)
   by_parts s false (Some q) i f h =
-      let r = found_domain q q.domain refl h in
+      let r = found_domain (undriven c s) q q.domain refl h in
       record { no_input = i; found = f ∙ ap (λ x. Some x) r.0; domain = r.1 }
 
   pub is_clocked : (s : ℕ) → driving c s ≡ ByClock p d → IsClocked s

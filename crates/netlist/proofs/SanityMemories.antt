@@ -7,7 +7,8 @@ use Rattle.design_ir.specs.Values.{form}
 use Rattle.design_ir.specs.Circuits.{Circuit}
 use Rattle.design_ir.proofs.SanityParts.{signal, e, s, input, output}
 use Rattle.new_names.specs.Fresh.{numbered_name}
-use Rattle.netlist.specs.MemoryDrawings.{Placed, is_read, row_width, names_rows, memories_of, memory_drawings}
+use Rattle.netlist.specs.Module.{is_read}
+use Rattle.netlist.specs.MemoryDrawings.{Placed, row_width, names_rows, memories_of, memory_drawings}
 
 -- clk, the address, word and enable of the write port, the address and the enable of the read ports, and their words
 

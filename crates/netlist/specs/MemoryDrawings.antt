@@ -1,7 +1,7 @@
 -- The drawings of a design's memories: first rows, write ports and read ports, with guards around the cells.
 -- Source: Yosys manual, Cell library: memories; guards, and memories without rows or bits: this project's own rule (docs/RULES.md).
-use Rattle.std.specs.Prelude.{ℕ, suc, ◌+◌, ◌*◌, ◌^◌, ◌==◌, ◌&&◌, nat_lt, nat_le, max, Bool, false, if◌then◌else◌, List, [], ◌∷◌, ◌++◌, map, length, pos, Option, Some, None, option_map, unwrap_or, codes}
-use Rattle.std.specs.List.{find, filter, flat_map, list_any, range_with_len}
+use Rattle.std.specs.Prelude.{ℕ, suc, ◌+◌, ◌*◌, ◌^◌, nat_le, max, Bool, false, if◌then◌else◌, List, [], ◌∷◌, ◌++◌, map, length, pos, Option, Some, None, option_map, unwrap_or, codes}
+use Rattle.std.specs.List.{find, filter, flat_map, range_with_len}
 use Rattle.design_ir.specs.declared.ids.ExprId.{ExprId}
 use Rattle.design_ir.specs.declared.memory.MemWrite.{MemWrite}
 use Rattle.design_ir.specs.declared.memory.MemRead.{MemRead}
@@ -25,17 +25,9 @@ use Rattle.netlist.specs.Operands.{wire_part, const_spec}
 use Rattle.netlist.specs.Operators.{Value, Drawing, inner_wire, one_bit, one_cell, whole}
 use Rattle.netlist.specs.Expressions.{and_also}
 use Rattle.netlist.specs.PortGuards.{is_exact, address_value, row_spec, address_spec, guard_drawing}
-use Rattle.netlist.specs.Module.{public_id, signal_value, expr_value, clock_of, register_cell}
+use Rattle.netlist.specs.SignalDrawings.{public_id, signal_value, expr_value, clock_of, register_cell, is_there}
 
 -- ---- memories of the module
-
--- a memory with rows and bits is one of the module; each read of any other is 0
-abbrev pub is_there : Memory → Bool
-is_there m = nat_lt 0 m.depth && nat_lt 0 m.shape.width
-
--- a port of a memory of the module gives the signal
-abbrev pub is_read : Circuit → ℕ → Bool
-is_read c s = list_any (λ (m : Memory). is_there m && list_any (λ (r : MemRead). r.word.0 == s) m.reads) c.memories
 
 -- the least width whose numbers name so many rows
 abbrev pub row_width : ℕ → ℕ

@@ -28,7 +28,7 @@ use Rattle.netlist.specs.Cells.{mux_cell}
 use Rattle.netlist.specs.Operands.{wire_part}
 use Rattle.netlist.specs.Operators.{one_bit, whole}
 use Rattle.netlist.specs.Carried.{Carries, ObeysCell, Obeys}
-use Rattle.netlist.specs.Module.{wire_id, signal_value, expr_value}
+use Rattle.netlist.specs.SignalDrawings.{wire_id, signal_value, expr_value}
 use Rattle.netlist.specs.MemoryDrawings.{names_rows, address_guard, is_row, zeros_unless, enable_spec, write_enable, writing, read_enable, reading}
 
 -- before an event: numbers of their shapes, on the wires of all expressions
