@@ -28,7 +28,9 @@ use Rattle.netlist.specs.Operators.{Value, Drawing, nothing, inner_wire}
 use Rattle.netlist.specs.Expressions.{part_count, drawn}
 use Rattle.netlist.specs.Plain.{ArePlain}
 use Rattle.netlist.specs.Histories.{AllDefined}
-use Rattle.netlist.specs.Module.{column_of, signal_value, expr_value, first_value, Driving, ByEvents, ByComb, ByClock, ByRead, ByNothing, driving, reset_of, register_drawing, driving_drawing, signal_drawing, column_wire, column_wires, signal_wires, expr_wires, drawn_from, drawings, all_drawings, module_of}
+use Rattle.netlist.specs.Module.{column_of, signal_value, expr_value, first_value, Driving, ByEvents, ByComb, ByClock, ByRead, ByNothing, driving, reset_of, register_drawing, driving_drawing, signal_drawing, column_wire, column_wires, signal_wires, expr_wires, drawn_from, drawings, other_drawings, all_drawings, module_of}
+use Rattle.netlist.specs.MemoryDrawings.{memory_drawings}
+use Rattle.netlist.proofs.PartsDrawn.{no_drawings}
 use Rattle.netlist.proofs.Reading.{has_carried}
 use Rattle.netlist.proofs.ColumnSignals.{column_at, column_signals, columns_distinct}
 use Rattle.netlist.proofs.ManyDrawn.{drawing_wires}
@@ -63,7 +65,7 @@ none_is : (o : Option Column) → is_none o ≡ true → o ≡ None
 none_is None e = refl
 none_is (Some x) e = absurd (false≢true e)
 
-module _ (c : Circuit) (rules : IsPool c.pool) (design : IsDesign c) (plain : ArePlain c) (module_rules : IsModule (module_of c)) (kept : Kept) (inputs : Inputs)
+module _ (c : Circuit) (rules : IsPool c.pool) (design : IsDesign c) (flat : c.memories ≡ []) (plain : ArePlain c) (module_rules : IsModule (module_of c)) (kept : Kept) (inputs : Inputs)
     (env held : List ℤ) (fit : FitsSignals c.pool env) (count : length held ≡ length c.pool.signals)
     (signals : (s : ℕ) → Carries (wire_bit (module_of c) kept inputs) (signal_value c s) (at env s))
     (exprs : (e : ExprId) → e.0 < length c.pool.exprs → Carries (wire_bit (module_of c) kept inputs) (expr_value c e.0) (num c.pool env e.0))
@@ -153,7 +155,9 @@ module _ (c : Circuit) (rules : IsPool c.pool) (design : IsDesign c) (plain : Ar
   drawing_defined : (d : Drawing) → Among (all_drawings c) d → AreDefined wires d.wires
   drawing_defined d a =
       let steps : List Drawing = map (signal_drawing c) (range_with_len 0 (length c.pool.signals)) in
-      ⊎_elim (λ e. parts_defined 0 0 c.pool.exprs (omega arith) (λ x b. Among-left (drawings c) steps x b) d e) (λ s. all_steps_defined 0 (length c.pool.signals) (omega arith) d s) (Among-append (drawings c) steps d a)
+      ⊎_elim (λ e. parts_defined 0 0 c.pool.exprs (omega arith) (λ x b. Among-left (drawings c) (other_drawings c) x b) d e)
+      (λ other. ⊎_elim (λ s. all_steps_defined 0 (length c.pool.signals) (omega arith) d s) (λ m. absurd (subst (λ ds. Among ds d) (no_drawings c flat) m)) (Among-append steps (memory_drawings c) d other))
+      (Among-append (drawings c) (other_drawings c) d a)
 
   others_defined : All HasBits (other_wires c)
   unfolding other_wires

@@ -46,6 +46,7 @@ pub mod ReadData
 pub mod PartsFit
 pub mod PortEdges
 pub mod MemoryWrites
+pub mod MemoriesFit
 pub mod Driven
 pub mod SourcedSpecs
 pub mod Starts

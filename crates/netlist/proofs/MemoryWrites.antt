@@ -1,10 +1,14 @@
 -- The write cells and the cells of first rows that the drawings of memories have: of each memory its own, in order.
 use Rattle.std.specs.Prelude.{◌≡◌, ℕ, zero, suc, ◌+◌, ◌*◌, ◌&&◌, Bool, true, false, cond, if◌then◌else◌, List, [], ◌∷◌, ◌++◌, map, length, Option, Some, None}
-use Rattle.std.specs.List.{filter, flat_map}
-use Rattle.std.proofs.Common.{refl, sym, ap, ◌∙◌, arith, append-nil}
+use Rattle.std.specs.List.{AllByRecursion, IsDistinct, filter, flat_map}
+use Rattle.std.proofs.Common.{refl, sym, ap, ◌∙◌, arith, subst, append-nil, append_assoc, ⊎_elim}
+use Rattle.std.proofs.lemmas.Map.Keys.{IsDistinct-head, IsDistinct-tail}
 use Rattle.std.proofs.lemmas.Bool.{cond_both}
 use Rattle.std.proofs.lemmas.List.Elements.{filter-append}
 use Rattle.lists.specs.Texts.{text_eq}
+use Rattle.lists.proofs.TextLaws.{text_eq_same}
+use Rattle.new_names.proofs.NameLaws.{text_eq_flipped}
+use Rattle.rtlil_text.proofs.Among.{Among}
 use Rattle.design_ir.specs.declared.ids.ExprId.{ExprId}
 use Rattle.design_ir.specs.declared.memory.MemWrite.{MemWrite}
 use Rattle.design_ir.specs.declared.memory.MemRead.{MemRead}
@@ -79,3 +83,138 @@ module _ (c : Circuit) (id : List ℕ) (x : Placed) (n : ℕ) where
       read_none : (d : Option (List ℕ)) → filter (writes_it id) (if names_rows c m r.addr then one_cell (reading c p m n r d (whole (signal_value c r.word.0))) else guarded_read c p m n r d).cells ≡ (if text_eq p.id id then own_writes c x n (Reads r) else [])
       read_none None = cond_both (names_rows c m r.addr) (one_cell (reading c p m n r None (whole (signal_value c r.word.0)))) (guarded_read c p m n r None) (λ (d : Drawing). filter (writes_it id) d.cells ≡ []) (λ t. refl) (λ t. refl) ∙ none (text_eq p.id id)
       read_none (Some d) = cond_both (names_rows c m r.addr) (one_cell (reading c p m n r (Some d) (whole (signal_value c r.word.0)))) (guarded_read c p m n r (Some d)) (λ (d : Drawing). filter (writes_it id) d.cells ≡ []) (λ t. refl) (λ t. refl) ∙ none (text_eq p.id id)
+
+  one_init : (cell : RtlCell) → is_init cell.kind ≡ true → memory_id cell ≡ p.id → filter (begins_it id) (cell ∷ []) ≡ (if text_eq p.id id then cell ∷ [] else [])
+  one_init cell kind own = λ i. if kind i && text_eq (own i) id then cell ∷ [] else []
+
+  no_inits : (b : Bool) → [] ≡ (if b then [] else [])
+  no_inits true = refl
+  no_inits false = refl
+
+  part_inits : (q : Part) → filter (begins_it id) (part_drawing c x n q).cells ≡ (if text_eq p.id id then own_inits c x n q else [])
+  part_inits FirstRows = one_init (init_cell p (step_id n) m.rows) refl refl
+  part_inits (Writes k w) =
+      let cell : RtlCell = writing c p m k n w (write_enable c m n w) in
+      guarded_cells (begins_it id) (address_guard c m n w.addr).cells (write_behind c p m k n w).cells (guard_inits w.addr)
+      ∙ cond_both (names_rows c m w.addr) (one_cell cell) _ (λ (d : Drawing). filter (begins_it id) d.cells ≡ []) (λ t. refl) (λ t. refl) ∙ no_inits (text_eq p.id id)
+  part_inits (Reads r) =
+      guarded_cells (begins_it id) (address_guard c m n r.addr).cells (read_behind c p m n r).cells (guard_inits r.addr) ∙ read_none r.domain ∙ no_inits (text_eq p.id id)
+    where
+      read_none : (d : Option (List ℕ)) → filter (begins_it id) (if names_rows c m r.addr then one_cell (reading c p m n r d (whole (signal_value c r.word.0))) else guarded_read c p m n r d).cells ≡ []
+      read_none None = cond_both (names_rows c m r.addr) (one_cell (reading c p m n r None (whole (signal_value c r.word.0)))) (guarded_read c p m n r None) (λ (d : Drawing). filter (begins_it id) d.cells ≡ []) (λ t. refl) (λ t. refl)
+      read_none (Some d) = cond_both (names_rows c m r.addr) (one_cell (reading c p m n r (Some d) (whole (signal_value c r.word.0)))) (guarded_read c p m n r (Some d)) (λ (d : Drawing). filter (begins_it id) d.cells ≡ []) (λ t. refl) (λ t. refl)
+
+-- ---- all parts
+
+-- what the parts of the memory with an id have of such cells, where the first of these parts has number n
+abbrev pub owned : (own : Placed → ℕ → Part → List RtlCell) (id : List ℕ) → ℕ → List (Placed × Part) → List RtlCell
+owned own id n [] = []
+owned own id n ((x, q) ∷ more) = (if text_eq x.plan.id id then own x n q else []) ++ owned own id (n + 11) more
+
+module _ (c : Circuit) (id : List ℕ) where
+  pub parts_writes : (n : ℕ) (xs : List (Placed × Part)) → flat_map (λ (d : Drawing). filter (writes_it id) d.cells) (drawn_parts c n xs) ≡ owned (own_writes c) id n xs
+  parts_writes n [] = refl
+  parts_writes n ((x, q) ∷ xs) = λ i. part_writes c id x n q i ++ parts_writes (n + 11) xs i
+
+  pub parts_inits : (n : ℕ) (xs : List (Placed × Part)) → flat_map (λ (d : Drawing). filter (begins_it id) d.cells) (drawn_parts c n xs) ≡ owned (own_inits c) id n xs
+  parts_inits n [] = refl
+  parts_inits n ((x, q) ∷ xs) = λ i. part_inits c id x n q i ++ parts_inits (n + 11) xs i
+
+-- ---- of one memory after another
+
+module _ (own : Placed → ℕ → Part → List RtlCell) (id : List ℕ) where
+  owned-append : (n : ℕ) (xs ys : List (Placed × Part)) → owned own id n (xs ++ ys) ≡ owned own id n xs ++ owned own id (n + 11 * length xs) ys
+  owned-append n [] ys = ap (λ k. owned own id k ys) (let e : n ≡ n + 11 * 0 = omega arith in e)
+  owned-append n ((x, q) ∷ xs) ys =
+      ap (λ zs. (if text_eq x.plan.id id then own x n q else []) ++ zs) (owned-append (n + 11) xs ys)
+      ∙ sym (append_assoc (if text_eq x.plan.id id then own x n q else []) (owned own id (n + 11) xs) (owned own id ((n + 11) + 11 * length xs) ys))
+      ∙ ap (λ k. ((if text_eq x.plan.id id then own x n q else []) ++ owned own id (n + 11) xs) ++ owned own id k ys) (let e : (n + 11) + 11 * length xs ≡ n + 11 * suc (length xs) = omega arith in e)
+
+  -- the parts of other memories have none
+  other_none : (n : ℕ) (x : Placed) (qs : List Part) → text_eq x.plan.id id ≡ false → owned own id n (map (λ q. (x, q)) qs) ≡ []
+  other_none n x [] e = refl
+  other_none n x (q ∷ qs) e = λ i. (if e i then own x n q else []) ++ other_none (n + 11) x qs e i
+
+  -- its own parts one after another
+  abbrev pub own_parts : Placed → ℕ → List Part → List RtlCell
+  own_parts x n [] = []
+  own_parts x n (q ∷ qs) = own x n q ++ own_parts x (n + 11) qs
+
+  own_all : (n : ℕ) (x : Placed) (qs : List Part) → text_eq x.plan.id id ≡ true → owned own id n (map (λ q. (x, q)) qs) ≡ own_parts x n qs
+  own_all n x [] e = refl
+  own_all n x (q ∷ qs) e = λ i. (if e i then own x n q else []) ++ own_all (n + 11) x qs e i
+
+  none_of : (n : ℕ) (xs : List Placed) → AllByRecursion (λ (x : Placed). text_eq x.plan.id id ≡ false) xs → owned own id n (all_parts xs) ≡ []
+  none_of n [] h = refl
+  none_of n (x ∷ xs) h =
+      owned-append n (map (λ q. (x, q)) (parts_of x.memory)) (all_parts xs)
+      ∙ (λ i. other_none n x (parts_of x.memory) h.0 i ++ none_of (n + 11 * length (map (λ q. (x, q)) (parts_of x.memory))) xs h.1 i)
+
+-- where no two have one id, the memory with this id has its own, from some number on
+pub record IsOwned (own : Placed → ℕ → Part → List RtlCell) (x : Placed) (cells : List RtlCell) : Type 0 where
+  pub first : ℕ
+  pub same : cells ≡ own_parts own x.plan.id x first (parts_of x.memory)
+
+abbrev pub placed_ids : List Placed → List (List ℕ)
+placed_ids xs = map (λ (x : Placed). x.plan.id) xs
+
+all_apart : (x : Placed) (xs : List Placed) → AllByRecursion (λ i. text_eq x.plan.id i ≡ false) (placed_ids xs) → AllByRecursion (λ (y : Placed). text_eq y.plan.id x.plan.id ≡ false) xs
+all_apart x [] h = tt
+all_apart x (y ∷ xs) h = (text_eq_flipped y.plan.id x.plan.id ∙ h.0, all_apart x xs h.1)
+
+apart_at : (x : Placed) (y : Placed) (xs : List Placed) → AllByRecursion (λ i. text_eq x.plan.id i ≡ false) (placed_ids xs) → Among xs y → text_eq x.plan.id y.plan.id ≡ false
+apart_at x y [] h a = absurd a
+apart_at x y (z ∷ xs) h a = ⊎_elim (λ (e : z ≡ y). ap (λ (w : Placed). text_eq x.plan.id w.plan.id) (sym e) ∙ h.0) (λ (more : Among xs y). apart_at x y xs h.1 more) a
+
+pub owned_by : (own : Placed → ℕ → Part → List RtlCell) (n : ℕ) (xs : List Placed) (y : Placed) → IsDistinct text_eq (placed_ids xs) → Among xs y → IsOwned own y (owned own y.plan.id n (all_parts xs))
+owned_by own n [] y d a = absurd a
+owned_by own n (x ∷ xs) y d a =
+    let next : ℕ = n + 11 * length (map (λ q. (x, q)) (parts_of x.memory)) in
+    let heads = IsDistinct-head text_eq x.plan.id (placed_ids xs) d in
+    ⊎_elim
+    (λ (here : x ≡ y).
+    subst (λ (z : Placed). IsOwned own z (owned own z.plan.id n (all_parts (x ∷ xs)))) here
+    (record {
+      first = n;
+      same =
+          owned-append own x.plan.id n (map (λ q. (x, q)) (parts_of x.memory)) (all_parts xs)
+          ∙ (λ i. own_all own x.plan.id n x (parts_of x.memory) (text_eq_same x.plan.id) i ++ none_of own x.plan.id next xs (all_apart x xs heads) i)
+          ∙ append-nil (own_parts own x.plan.id x n (parts_of x.memory));
+    }))
+    (λ (later : Among xs y).
+    let r = owned_by own next xs y (IsDistinct-tail text_eq x.plan.id (placed_ids xs) d) later in
+    record {
+      first = r.first;
+      same =
+          owned-append own y.plan.id n (map (λ q. (x, q)) (parts_of x.memory)) (all_parts xs)
+          ∙ ap (λ zs. zs ++ owned own y.plan.id next (all_parts xs)) (other_none own y.plan.id n x (parts_of x.memory) (apart_at x y xs heads later))
+          ∙ r.same;
+    })
+    a
+
+-- ---- in order
+
+-- what stands at the ends of the cells of these ports, numbered from n on
+abbrev pub ports_from : Circuit → Memory → ℕ → List MemWrite → List WritePort
+ports_from c m n [] = []
+ports_from c m n (w ∷ ws) =
+    record { id = step_id (n + 6); clock = port_clock c w.domain; enable = write_enable c m n w; address = guarded_address c m n w.addr; word = whole (expr_value c w.word.0) } ∷ ports_from c m (n + 11) ws
+
+pub length-ports_from : (c : Circuit) (m : Memory) (n : ℕ) (ws : List MemWrite) → length (ports_from c m n ws) ≡ length ws
+length-ports_from c m n [] = refl
+length-ports_from c m n (w ∷ ws) = ap suc (length-ports_from c m (n + 11) ws)
+
+module _ (c : Circuit) (x : Placed) where
+  reads_none : (id : List ℕ) (n : ℕ) (rs : List MemRead) → own_parts (own_writes c) id x n (map Reads rs) ≡ []
+  reads_none id n [] = refl
+  reads_none id n (r ∷ rs) = reads_none id (n + 11) rs
+
+  pub ports_are : (id : List ℕ) (k n : ℕ) (ws : List MemWrite) (rs : List MemRead) → own_parts (own_writes c) id x n (write_parts k ws ++ map Reads rs) ≡ write_cells x.plan k (ports_from c x.memory n ws)
+  ports_are id k n [] rs = reads_none id n rs
+  ports_are id k n (w ∷ ws) rs = ap (λ cells. writing c x.plan x.memory k n w (write_enable c x.memory n w) ∷ cells) (ports_are id (suc k) (n + 11) ws rs)
+
+  pub inits_none : (id : List ℕ) (k n : ℕ) (ws : List MemWrite) (rs : List MemRead) → own_parts (own_inits c) id x n (write_parts k ws ++ map Reads rs) ≡ []
+  inits_none id k n [] [] = refl
+  inits_none id k n [] (r ∷ rs) = inits_none id k (n + 11) [] rs
+  inits_none id k n (w ∷ ws) rs = inits_none id (suc k) (n + 11) ws rs
+

@@ -27,7 +27,7 @@ use Rattle.netlist.specs.Module.{module_of}
 use Rattle.netlist.specs.Laws.{ModulesHaveTheHistory}
 use Rattle.netlist.proofs.ColumnSignals.{columns_distinct}
 use Rattle.netlist.proofs.ModuleHeld.{All-among}
-use Rattle.netlist.proofs.ModuleRules.{module_rules}
+use Rattle.netlist.proofs.ModuleRules.{module_rules, no_part}
 use Rattle.netlist.proofs.RegisterCells.{clocked_held}
 use Rattle.netlist.proofs.SettledNumbers.{settled_held}
 use Rattle.netlist.proofs.SignalWires.{named_by}
@@ -58,7 +58,7 @@ module _ (c : Circuit) (order : List Bit) (rules : IsPool c.pool) (bytes : AllBy
 
     defined_now : AllDefined (module_of c) (wire_bit (module_of c) kept (inputs_at c ins))
     defined_now =
-        wires_defined c rules design plain.plain module_so kept (inputs_at c ins) once.env st.held once.fits h.held.long
+        wires_defined c rules design plain.flat plain.plain module_so kept (inputs_at c ins) once.env st.held once.fits h.held.long
         (signals_carry c order rules bytes design plain module_so is_order st once.env once.settled once.fits kept ins h.agree h.keeps)
         (exprs_carry c order rules bytes design plain module_so is_order st once.env once.settled once.fits kept ins h.agree h.keeps)
         (λ s p d clock there. sym (settled_held c once.env design st once.settled s there (clocked_held c design rules plain.plain s p d clock)))
@@ -131,4 +131,4 @@ module _ (c : Circuit) (order : List Bit) (rules : IsPool c.pool) (bytes : AllBy
       record { envs = r.envs; is_history = record { settles = r.settles_so; only = r.only }; columns = r.columns; defined = r.defined }
 
 pub modules_have_the_history : ModulesHaveTheHistory
-modules_have_the_history c order rules bytes design plain few is_order = same_history c order rules bytes design plain (module_rules c rules design few) is_order
+modules_have_the_history c order rules bytes design plain few is_order = same_history c order rules bytes design plain (module_rules c rules design (no_part c plain.flat) few) is_order

@@ -2,7 +2,7 @@
 -- their registers drive alone.
 use Rattle.std.specs.Prelude.{◌≡◌, ◌≤◌, ◌<◌, ◌^◌, ◌+◌, ◌*◌, ◌&&◌, ℕ, zero, suc, nat_lt, Bool, true, false, cond, if◌then◌else◌, List, [], ◌∷◌, ◌++◌, map, length, pos, Option, Some, None, IsPermutation}
 use Rattle.std.specs.List.{AllByRecursion, filter, flat_map}
-use Rattle.std.proofs.Common.{refl, sym, ap, ◌∙◌, arith, subst, append-nil}
+use Rattle.std.proofs.Common.{refl, sym, ap, ◌∙◌, arith, subst, append-nil, inl, inr, ⊎_elim}
 use Rattle.std.proofs.lemmas.Bool.{eqb-false, ltb-true, and_parts}
 use Rattle.std.proofs.lemmas.List.{map-append}
 use Rattle.std.proofs.lemmas.List.Concat.{flat_map-append}
@@ -23,8 +23,9 @@ use Rattle.rtlil_text.specs.Sources.{Source}
 use Rattle.rtlil_text.specs.Drivers.{output_bits}
 use Rattle.rtlil_text.specs.Inits.{registered_bits, begun_bits}
 use Rattle.rtlil_text.specs.Rules.{WireFits}
-use Rattle.rtlil_text.proofs.Among.{AllByRecursion-append}
+use Rattle.rtlil_text.proofs.Among.{Among, Among-append, AllByRecursion-append}
 use Rattle.memory_cells.specs.declared.plan.Plan.{Plan}
+use Rattle.memory_cells.specs.Plans.{planned}
 use Rattle.new_names.specs.Fresh.{given_names}
 use Rattle.netlist.specs.Ids.{step_id}
 use Rattle.netlist.specs.Cells.{binary_cell, mux_cell}
@@ -33,7 +34,7 @@ use Rattle.netlist.specs.Operators.{Value, Drawing, nothing, inner_wire, whole, 
 use Rattle.netlist.specs.Expressions.{and_also}
 use Rattle.netlist.specs.Module.{signal_value, register_cell, is_there}
 use Rattle.netlist.specs.PortGuards.{is_exact, guard_drawing}
-use Rattle.netlist.specs.MemoryDrawings.{Placed, Part, FirstRows, Writes, Reads, names_rows, port_address, port_clock, address_guard, is_row, zeros_unless, enable_spec, write_enable, writing, write_behind, read_enable, reading, flag_wire, guarded_read, read_behind, placed, memories_of, write_parts, parts_of, part_drawing, all_parts, drawn_parts, memory_drawings}
+use Rattle.netlist.specs.MemoryDrawings.{Placed, Part, FirstRows, Writes, Reads, names_rows, port_address, port_clock, address_guard, is_row, zeros_unless, enable_spec, write_enable, writing, write_behind, read_enable, reading, flag_wire, guarded_read, read_behind, placed, memories_of, write_parts, parts_of, part_drawing, all_parts, drawn_parts, memory_drawings, memory_lines}
 use Rattle.netlist.proofs.Places.{spec_bits-wire_part}
 use Rattle.netlist.proofs.Permuted.{IsPermutation-same, IsPermutation-inner_two}
 use Rattle.netlist.proofs.Fresh.{AllByRecursion-weaker, IsFresh, IsFresh-append, IsFresh-permutation, IsFresh-wider}
@@ -260,7 +261,7 @@ parts_drawn c n ((x, q) ∷ xs) h =
 -- ---- the parts of a design's memories
 
 module _ (c : Circuit) where
-  abbrev IsStored : Memory → Type 0
+  abbrev pub IsStored : Memory → Type 0
   IsStored m = IsMemory c m × (is_there m ≡ true)
 
   stored : (ms : List Memory) → AllByRecursion (IsMemory c) ms → AllByRecursion IsStored (filter is_there ms)
@@ -301,13 +302,64 @@ module _ (c : Circuit) where
   each_are (x ∷ xs) h =
       AllByRecursion-append (λ (y : Placed × Part). IsPartOf c y.0 y.1) (map (λ q. (x, q)) (parts_of x.memory)) (all_parts xs) (parts_are x h.0) (each_are xs h.1)
 
-  pub design_parts : IsDesign c → ArePartsOf c (all_parts (memories_of c))
+  -- each is a memory of the design, with rows and bits
+  pub memories_stored : IsDesign c → AllByRecursion (λ (x : Placed). IsStored x.memory) (memories_of c)
   unfolding memories_of
-  design_parts design =
+  memories_stored design =
       let ms : List Memory = filter is_there c.memories in
-      each_are (memories_of c) (all_placed IsStored (given_names (map (λ (x : Column). x.name) c.columns) (map (λ (m : Memory). m.name) ms)) ms (stored c.memories design.memories))
+      all_placed IsStored (given_names (map (λ (x : Column). x.name) c.columns) (map (λ (m : Memory). m.name) ms)) ms (stored c.memories design.memories)
+
+  pub design_parts : IsDesign c → ArePartsOf c (all_parts (memories_of c))
+  design_parts design = each_are (memories_of c) (memories_stored design)
 
   -- so they have all this together
   pub memories_drawn : IsDesign c → AreParts (3 * length c.pool.signals) (3 * length c.pool.signals + 11 * length (all_parts (memories_of c))) (all_given c (all_parts (memories_of c))) (memory_drawings c)
   unfolding memory_drawings
   memories_drawn design = parts_drawn c (3 * length c.pool.signals) (all_parts (memories_of c)) (design_parts design)
+
+-- without memories there are none
+pub no_drawings : (c : Circuit) → c.memories ≡ [] → memory_drawings c ≡ []
+unfolding memory_drawings memories_of
+no_drawings c flat =
+    let names : List (List ℕ) = map (λ (x : Column). x.name) c.columns in
+    ap (λ (ms : List Memory). drawn_parts c (3 * length c.pool.signals) (all_parts (placed (given_names names (map (λ (m : Memory). m.name) (filter is_there ms))) (filter is_there ms)))) flat
+
+pub no_parts : (c : Circuit) → c.memories ≡ [] → all_parts (memories_of c) ≡ []
+unfolding memories_of
+no_parts c flat =
+    let names : List (List ℕ) = map (λ (x : Column). x.name) c.columns in
+    ap (λ (ms : List Memory). all_parts (placed (given_names names (map (λ (m : Memory). m.name) (filter is_there ms))) (filter is_there ms))) flat
+
+pub no_lines : (c : Circuit) → c.memories ≡ [] → memory_lines c ≡ []
+unfolding memories_of
+no_lines c flat =
+    let names : List (List ℕ) = map (λ (x : Column). x.name) c.columns in
+    ap (λ (ms : List Memory). map (λ (x : Placed). planned x.plan) (placed (given_names names (map (λ (m : Memory). m.name) (filter is_there ms))) (filter is_there ms))) flat
+
+-- ---- a drawing among them
+
+pub record IsPartAt (c : Circuit) (xs : List (Placed × Part)) (d : Drawing) : Type 0 where
+  pub number : ℕ
+  pub placed : Placed
+  pub part : Part
+  pub among : Among xs (placed, part)
+  pub same : part_drawing c placed number part ≡ d
+
+pub part_at : (c : Circuit) (n : ℕ) (xs : List (Placed × Part)) (d : Drawing) → Among (drawn_parts c n xs) d → IsPartAt c xs d
+part_at c n [] d a = absurd a
+part_at c n ((x, q) ∷ xs) d a = ⊎_elim
+    (λ (here : part_drawing c x n q ≡ d). record { number = n; placed = x; part = q; among = inl refl; same = here })
+    (λ (later : Among (drawn_parts c (n + 11) xs) d). let r = part_at c (n + 11) xs d later in record { number = r.number; placed = r.placed; part = r.part; among = inr r.among; same = r.same })
+    a
+
+-- its memory is one of the module
+pub placed_among : (xs : List Placed) (x : Placed) (q : Part) → Among (all_parts xs) (x, q) → Among xs x
+placed_among [] x q a = absurd a
+placed_among (y ∷ xs) x q a = ⊎_elim
+    (λ (here : Among (map (λ p. (y, p)) (parts_of y.memory)) (x, q)). inl (own (parts_of y.memory) here))
+    (λ (later : Among (all_parts xs) (x, q)). inr (placed_among xs x q later))
+    (Among-append (map (λ p. (y, p)) (parts_of y.memory)) (all_parts xs) (x, q) a)
+  where
+    own : (qs : List Part) → Among (map (λ p. (y, p)) qs) (x, q) → y ≡ x
+    own [] a = absurd a
+    own (p ∷ qs) a = ⊎_elim (λ e. ap (λ (z : Placed × Part). z.0) e) (λ more. own qs more) a

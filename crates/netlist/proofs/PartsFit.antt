@@ -323,3 +323,36 @@ module _ (laws : CellLaws) (m : RtlModule) (c : Circuit) (has : HasParts m c) (p
                 (All-cons (CellFits m) mux [] (zeros_fit (step_id (n + 6)) (wire_part id 0 v) (one_bit flag) (whole (signal_value c r.word.0)) raw flag_is out_word) (All-nil (CellFits m)))));
             links = All-nil (LinkFits m);
           }
+
+  -- what is behind a read port's guard, by its domain
+  behind_fits : (r : MemRead) (port : IsReadPort c y r) (address : p.address ≡ max 1 (form c.pool r.addr.0).width) (front : All (Contains m.wires) (address_guard c y n r.addr).wires)
+      → ((d : List ℕ) (spec : List SigPart) → r.domain ≡ Some d → SeesThrough m p r (reading c p y n r (Some d) spec))
+      → (d : Option (List ℕ)) (e : Option ExprId) → r.domain ≡ d → r.enable ≡ e → IsClocking c d e → (b : Bool)
+      → All (Contains m.wires) (if b then one_cell (reading c p y n r d (whole (signal_value c r.word.0))) else guarded_read c p y n r d).wires
+      → DrawingFits m (if b then one_cell (reading c p y n r d (whole (signal_value c r.word.0))) else guarded_read c p y n r d)
+  behind_fits r port address front through None None domain enable clocking true back =
+      one_fits m (reading c p y n r None (whole (signal_value c r.word.0))) (comb_fits r port address front (whole (signal_value c r.word.0)) (out_word r port address front))
+  behind_fits r port address front through None None domain enable clocking false back = comb_guarded r port address front back
+  behind_fits r port address front through None (Some e) domain enable clocking b back = absurd clocking
+  behind_fits r port address front through (Some d) None domain enable clocking b back = absurd clocking
+  behind_fits r port address front through (Some d) (Some e) domain enable clocking true back =
+      one_fits m (reading c p y n r (Some d) (whole (signal_value c r.word.0)))
+      (clocked_fits r port address front d e clocking enable (λ spec. through d spec domain) (whole (signal_value c r.word.0)) (out_word r port address front))
+  behind_fits r port address front through (Some d) (Some e) domain enable clocking false back = clocked_guarded r port address front d e clocking enable (λ spec. through d spec domain) back
+
+  read_fits : (r : MemRead) → IsReadPort c y r → p.address ≡ max 1 (form c.pool r.addr.0).width → ((d : List ℕ) (spec : List SigPart) → r.domain ≡ Some d → SeesThrough m p r (reading c p y n r (Some d) spec))
+      → All (Contains m.wires) (read_drawing c p y n r).wires → DrawingFits m (read_drawing c p y n r)
+  read_fits r port address through held =
+      let front = held_first m (address_guard c y n r.addr).wires (read_behind c p y n r).wires held in
+      let back = held_second m (address_guard c y n r.addr).wires (read_behind c p y n r).wires held in
+      both_fit m (address_guard c y n r.addr) (read_behind c p y n r) (address_fits r.addr port.addr address front) (behind_fits r port address front through r.domain r.enable refl refl port.clocking (names_rows c y r.addr) back)
+
+-- a part of a memory keeps the rules
+pub part_fits : CellLaws → (m : RtlModule) (c : Circuit) → HasParts m c → (x : Placed) → HasPlan m x.plan → (n : ℕ) (q : Part) → 1 ≤ x.memory.depth → 1 ≤ x.memory.shape.width → IsPortOf c x.memory q
+    → x.plan.width ≡ x.memory.shape.width → length x.memory.rows ≡ x.plan.depth → ((e : ExprId) → IsAddress c x.memory e → x.plan.address ≡ max 1 (form c.pool e.0).width)
+    → ((r : MemRead) (d : List ℕ) (spec : List SigPart) → r.domain ≡ Some d → IsReadPort c x.memory r → SeesThrough m x.plan r (reading c x.plan x.memory n r (Some d) spec))
+    → All (Contains m.wires) (part_drawing c x n q).wires → DrawingFits m (part_drawing c x n q)
+part_fits laws m c has x plan n FirstRows some wide port same rows address through held = one_fits m (init_cell x.plan (step_id n) x.memory.rows) (laws.inits m x.plan (step_id n) x.memory.rows plan rows)
+part_fits laws m c has x plan n (Writes k w) some wide port same rows address through held = write_fits laws m c has x.plan plan x.memory some wide same n k w port (address w.addr port.addr) held
+part_fits laws m c has x plan n (Reads r) some wide port same rows address through held =
+    read_fits laws m c has x.plan plan x.memory some wide same n r port (address r.addr port.addr) (λ d spec domain. through r d spec domain port) held

@@ -23,14 +23,14 @@ use Rattle.netlist.specs.MemoryDrawings.{port_clock}
 use Rattle.netlist.proofs.RegisterSteps.{all_at}
 use Rattle.netlist.proofs.ClockEdges.{rises_edge}
 
-position_there : {X : Type 0} (p : X → Bool) (xs : List X) (k : ℕ) → position p xs ≡ Some k → k < length xs
+pub position_there : {X : Type 0} (p : X → Bool) (xs : List X) (k : ℕ) → position p xs ≡ Some k → k < length xs
 position_there p xs k e = by (nat_lt (position_or_len p xs) (length xs)) refl e
   where
     by : (t : Bool) → nat_lt (position_or_len p xs) (length xs) ≡ t → cond t (Some (position_or_len p xs)) None ≡ Some k → k < length xs
     by true h e = let same : position_or_len p xs ≡ k = cc in omega (arith, ltb-true (position_or_len p xs) (length xs) h, same)
     by false h e = cc
 
-some_number : (o : Option ℕ) → IsSome o → (k : ℕ) × (o ≡ Some k)
+pub some_number : (o : Option ℕ) → IsSome o → (k : ℕ) × (o ≡ Some k)
 some_number None h = absurd (false≢true h)
 some_number (Some k) h = (k, refl)
 
