@@ -1,13 +1,13 @@
-pub mod Disjoint
-pub mod Enables
-pub mod WrittenRows
-pub mod ReadRows
-pub mod FirstRows
-pub mod Guards
-pub mod Rules
-pub mod Loops
+mod Disjoint
+mod Enables
+mod WrittenRows
+mod ReadRows
+mod FirstRows
+mod Guards
+mod Rules
+mod Loops
 pub mod Masks
 pub mod Spike
-pub mod Spreads
-pub mod CarriedEnds
+mod Spreads
+mod CarriedEnds
 pub mod ClockedSpike

@@ -33,7 +33,6 @@ use Rattle.memory_cells.specs.declared.plan.Plan.{Plan}
 use Rattle.memory_cells.specs.Plans.{planned}
 use Rattle.memory_cells.specs.Cells.{WritePort, write_cells}
 use Rattle.memory_cells.specs.Fits.{HasPlan}
-use Rattle.memory_cells.proofs.Rules.{memories_fit}
 use Rattle.netlist.specs.Operators.{Drawing, nothing}
 use Rattle.netlist.specs.Expressions.{part_count, drawn}
 use Rattle.netlist.specs.Module.{public_id, signal_value, expr_value, Driving, ByEvents, ByComb, ByClock, ByRead, ByNothing, driving, reset_of, register_drawing, driving_drawing, signal_drawing, drawn_from, drawings, other_drawings, all_drawings, module_of, is_there}
@@ -41,7 +40,7 @@ use Rattle.netlist.specs.MemoryDrawings.{Placed, Part, row_width, plan_of, place
 use Rattle.netlist.proofs.LogicCells.{is_logic_kind, IsLogic, drawn_logic}
 use Rattle.netlist.proofs.MemoryNames.{column_names, memory_names, memory_ids, names_distinct, names_public}
 use Rattle.netlist.proofs.MemoryWrites.{writes_it, begins_it, own_writes, own_inits, owned, placed_ids, IsOwned, owned_by, parts_writes, parts_inits, ports_from, ports_are, inits_none, length-ports_from}
-use Rattle.netlist.proofs.PartsFit.{SeesThrough}
+use Rattle.netlist.proofs.PartsFit.{CellLaws, SeesThrough}
 use Rattle.netlist.proofs.ReadWires.{length-given}
 
 -- ---- cells that are of no memory
@@ -221,10 +220,10 @@ module _ (c : Circuit) (pool : IsPool c.pool) (design : IsDesign c) (few : lengt
       writes = write_count;
     }
 
-    pub memory_fits : 1 ≤ x.memory.depth → 1 ≤ x.memory.shape.width → MemoryFits (module_of c) (planned x.plan)
-    memory_fits some wide =
+    pub memory_fits : CellLaws → 1 ≤ x.memory.depth → 1 ≤ x.memory.shape.width → MemoryFits (module_of c) (planned x.plan)
+    memory_fits laws some wide =
         let ports = ports_from c x.memory has_writes.first x.memory.writes in
-        memories_fit (module_of c) x.plan ports (subst (λ (p : Plan). 1 ≤ p.width) (sym is.plan) wide) (subst (λ (p : Plan). 1 ≤ p.depth) (sym is.plan) some)
+        laws.memories (module_of c) x.plan ports (subst (λ (p : Plan). 1 ≤ p.width) (sym is.plan) wide) (subst (λ (p : Plan). 1 ≤ p.depth) (sym is.plan) some)
         (length-ports_from c x.memory has_writes.first x.memory.writes ∙ sym (ap (λ (p : Plan). p.writes) is.plan)) one_init has_writes.cells
 
     pub sees_through : (n0 : ℕ) (r : MemRead) (d : List ℕ) (spec : List SigPart) → r.domain ≡ Some d → IsReadPort c x.memory r → SeesThrough (module_of c) x.plan r (reading c x.plan x.memory n0 r (Some d) spec)

@@ -27,6 +27,7 @@ use Rattle.netlist.specs.Module.{module_of}
 use Rattle.netlist.specs.Laws.{ModulesHaveTheHistory}
 use Rattle.netlist.proofs.ColumnSignals.{columns_distinct}
 use Rattle.netlist.proofs.ModuleHeld.{All-among}
+use Rattle.netlist.proofs.PartsFit.{CellLaws}
 use Rattle.netlist.proofs.ModuleRules.{module_rules, no_part}
 use Rattle.netlist.proofs.RegisterCells.{clocked_held}
 use Rattle.netlist.proofs.SettledNumbers.{settled_held}
@@ -130,5 +131,5 @@ module _ (c : Circuit) (order : List Bit) (rules : IsPool c.pool) (bytes : AllBy
       let r = runs events (first_state c) (rtl.first_state (module_of c)) (first_inputs c) legal there_first in
       record { envs = r.envs; is_history = record { settles = r.settles_so; only = r.only }; columns = r.columns; defined = r.defined }
 
-pub modules_have_the_history : ModulesHaveTheHistory
-modules_have_the_history c order rules bytes design plain few is_order = same_history c order rules bytes design plain (module_rules c rules design (no_part c plain.flat) few) is_order
+pub modules_have_the_history : CellLaws → ModulesHaveTheHistory
+modules_have_the_history laws c order rules bytes design plain few is_order = same_history c order rules bytes design plain (module_rules c rules design laws (no_part c plain.flat) few) is_order

@@ -16,6 +16,7 @@ use Rattle.netlist.specs.Expressions.{part_total}
 use Rattle.netlist.specs.Module.{drawings, signal_drawing, other_drawings, all_drawings, module_of}
 use Rattle.netlist.specs.MemoryDrawings.{memories_of, all_parts, memory_drawings}
 use Rattle.netlist.proofs.ModuleHeld.{Among-range}
+use Rattle.netlist.proofs.PartsFit.{CellLaws}
 use Rattle.netlist.proofs.ModuleRules.{module_rules}
 
 module _ (c : Circuit) where
@@ -37,9 +38,9 @@ module _ (c : Circuit) where
   unfolding module_of
   link_held d l a b = Contains-among (flat_map (λ (d : Drawing). d.links) (all_drawings c)) l (Among-flat_map (λ (d : Drawing). d.links) (all_drawings c) d l a b)
 
-  module _ (pool : IsPool c.pool) (h : IsDesign c) (few : part_total c.pool.exprs < 10 ^ 63) (few_parts : length (all_parts (memories_of c)) < 10 ^ 18) where
+  module _ (pool : IsPool c.pool) (h : IsDesign c) (few : part_total c.pool.exprs < 10 ^ 63) (laws : CellLaws) (few_parts : length (all_parts (memories_of c)) < 10 ^ 18) where
     pub driven_by_cell : (d : Drawing) (x : RtlCell) (k : ℕ) (id : List ℕ) (i : ℕ) → Among (all_drawings c) d → Among d.cells x → slice_get (output_bits x) k ≡ Some (Net id i) → driver (module_of c) id i ≡ ByCell x k
-    driven_by_cell d x k id i a b e = driver-cell (module_of c) x k id i (module_rules c pool h few_parts few) (cell_held d x a b) e
+    driven_by_cell d x k id i a b e = driver-cell (module_of c) x k id i (module_rules c pool h laws few_parts few) (cell_held d x a b) e
 
     pub driven_by_link : (d : Drawing) (l : RtlLink) (k : ℕ) (id : List ℕ) (i : ℕ) → Among (all_drawings c) d → Among d.links l → slice_get (spec_bits l.left) k ≡ Some (Net id i) → driver (module_of c) id i ≡ ByLink l k
-    driven_by_link d l k id i a b e = driver-link (module_of c) l k id i (module_rules c pool h few_parts few) (link_held d l a b) e
+    driven_by_link d l k id i a b e = driver-link (module_of c) l k id i (module_rules c pool h laws few_parts few) (link_held d l a b) e

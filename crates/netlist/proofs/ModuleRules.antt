@@ -16,7 +16,6 @@ use Rattle.rtlil_text.specs.Rules.{CellFits, LinkFits, IsModule}
 use Rattle.rtlil_text.proofs.Among.{Among, Among-append, AllByRecursion-among}
 use Rattle.memory_cells.specs.declared.plan.Plan.{Plan}
 use Rattle.memory_cells.specs.Plans.{planned}
-use Rattle.memory_cells.proofs.Rules.{inits_fit, writes_fit, comb_reads_fit, clocked_reads_fit}
 use Rattle.netlist.specs.Operators.{Drawing}
 use Rattle.netlist.specs.Expressions.{part_total}
 use Rattle.netlist.specs.Fits.{DrawingFits}
@@ -51,9 +50,6 @@ module _ (c : Circuit) (pool : IsPool c.pool) (h : IsDesign c) where
 
   -- ---- the drawings of memories
 
-  laws : CellLaws
-  laws = record { inits = inits_fit; writes = writes_fit; comb_reads = comb_reads_fit; clocked_reads = clocked_reads_fit }
-
   clock_of_port : (name : List ℕ) → IsSome (domain_named c name) → SpecIs (module_of c) (port_clock c name) 1
   clock_of_port name there =
       let k = some_number (domain_named c name) there in
@@ -64,7 +60,7 @@ module _ (c : Circuit) (pool : IsPool c.pool) (h : IsDesign c) where
   parts_there : HasParts (module_of c) c
   parts_there = record { exprs = λ k lt. expr_held c k lt; signals = λ s lt. signal_held c s lt; clocks = clock_of_port }
 
-  module _ (few : length (all_parts (memories_of c)) < 10 ^ 18) where
+  module _ (laws : CellLaws) (few : length (all_parts (memories_of c)) < 10 ^ 18) where
     memory_part : (d : Drawing) → Among (memory_drawings c) d → All (Contains (module_of c).wires) d.wires → DrawingFits (module_of c) d
     unfolding memory_drawings
     memory_part d a held =
@@ -88,7 +84,7 @@ module _ (c : Circuit) (pool : IsPool c.pool) (h : IsDesign c) where
         let stored = AllByRecursion-among (λ (y : Placed). IsStored c y.memory) (memories_of c) x (memories_stored c h) here in
         let tests = and_parts (nat_lt 0 x.memory.depth) (nat_lt 0 x.memory.shape.width) stored.1 in
         All-cons (MemoryFits (module_of c)) (planned x.plan) (map (λ (y : Placed). planned y.plan) xs)
-        (memory_fits c pool h few x here is (omega (arith, ltb-true 0 x.memory.depth tests.0)) (omega (arith, ltb-true 0 x.memory.shape.width tests.1))) (lines_fit xs (λ y a. among y (inr a)))
+        (memory_fits c pool h few x here is laws (omega (arith, ltb-true 0 x.memory.depth tests.0)) (omega (arith, ltb-true 0 x.memory.shape.width tests.1))) (lines_fit xs (λ y a. among y (inr a)))
 
     drawing_fits : (d : Drawing) → Among (all_drawings c) d → DrawingFits (module_of c) d
     drawing_fits d a =

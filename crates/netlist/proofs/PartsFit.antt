@@ -26,7 +26,7 @@ use Rattle.rtlil_text.specs.MemoryRules.{HaveOneClock}
 use Rattle.rtlil_text.specs.Rules.{PartFits, SpecFits, WireFits, CellFits, LinkFits}
 use Rattle.memory_cells.specs.declared.plan.Plan.{Plan}
 use Rattle.memory_cells.specs.Cells.{init_cell, spread_spec}
-use Rattle.memory_cells.specs.Fits.{HasPlan, IsSpecOf, InitsFit, WritesFit, CombReadsFit, ClockedReadsFit}
+use Rattle.memory_cells.specs.Fits.{HasPlan, IsSpecOf, InitsFit, WritesFit, CombReadsFit, ClockedReadsFit, MemoriesFit}
 use Rattle.netlist.specs.Ids.{value_id, step_id}
 use Rattle.netlist.specs.Cells.{binary_cell, mux_cell}
 use Rattle.netlist.specs.Operands.{wire_part, const_spec, at_width, const_operand}
@@ -172,6 +172,7 @@ pub record CellLaws : Type 0 where
   pub writes : WritesFit
   pub comb_reads : CombReadsFit
   pub clocked_reads : ClockedReadsFit
+  pub memories : MemoriesFit
 
 -- a read is transparent for write cells of its own clock alone
 abbrev pub SeesThrough : RtlModule → Plan → MemRead → RtlCell → Type 0

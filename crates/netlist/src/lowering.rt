@@ -24,6 +24,7 @@ use amh_host::{Items, NoMemory};
 use cell_split::split_tangled;
 use comb_graph::Ranks;
 use design_ir::{Design, Expr, ExprId, Exprs};
+use memory_cells::cells_keep_the_rules;
 use flat_design::{flat_has_the_history, flat_keeps_orders, flatten};
 use rtlil_text::{RtlModule, RtlWire};
 use std::alloc::Global;
@@ -97,6 +98,7 @@ pub(crate) fn draw(alloc: Global, design: &Design) -> Result<RtlModule, NoMemory
     ensures columns { IfOk result (Corresponds design.now) }
     ensures begins { IfOk result (HasFirstValues design.now) }
 {
+    cells_keep_the_rules();
     let _ = design.count();
     let _ = design.processes();
     let drawing = drawing_of(alloc, design)?;

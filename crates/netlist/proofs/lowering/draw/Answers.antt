@@ -14,7 +14,7 @@ returns-clause-module c = IfOk-weaker c.module_from.result _ _ (λ m e. (e ∙ c
 pub returns-clause-sound : goal.returns-clause-sound
 returns-clause-sound c =
     IfOk-weaker c.module_from.result _ _
-    (λ m e. subst IsModule (sym (e ∙ c.in_ok-drawing.ensures.drawn)) (module_rules c.args.design.now c.count.ensures.rules c.processes.ensures.rules (no_part c.args.design.now c.requires.flat) c.in_ok-drawing.ensures.few)) c.module_from.ensures
+    (λ m e. subst IsModule (sym (e ∙ c.in_ok-drawing.ensures.drawn)) (module_rules c.args.design.now c.count.ensures.rules c.processes.ensures.rules (record { inits = c.cells_keep_the_rules.ensures.inits; writes = c.cells_keep_the_rules.ensures.writes; comb_reads = c.cells_keep_the_rules.ensures.comb_reads; clocked_reads = c.cells_keep_the_rules.ensures.clocked_reads; memories = c.cells_keep_the_rules.ensures.memories }) (no_part c.args.design.now c.requires.flat) c.in_ok-drawing.ensures.few)) c.module_from.ensures
 
 pub returns-clause-columns : goal.returns-clause-columns
 returns-clause-columns c =
