@@ -1,2 +1,2 @@
-mod NameLaws
-mod GivenNames
+pub mod NameLaws
+pub mod GivenNames
