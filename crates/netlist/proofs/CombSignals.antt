@@ -10,7 +10,7 @@ use Rattle.design_ir.specs.declared.memory.MemRead.{MemRead}
 use Rattle.design_ir.specs.declared.memory.Memory.{Memory}
 use Rattle.design_ir.specs.declared.process.DesignProcess.{DesignProcess}
 use Rattle.design_ir.specs.Values.{signal_form}
-use Rattle.design_ir.specs.Circuits.{Circuit, State, at, is_among, is_input, is_register, is_held}
+use Rattle.design_ir.specs.Circuits.{Circuit, State, at, is_input, is_register, is_held}
 use Rattle.design_ir.specs.Designs.{IsDesign}
 use Rattle.design_ir.specs.Settled.{Settled}
 use Rattle.design_ir.proofs.NumbersFit.{element}

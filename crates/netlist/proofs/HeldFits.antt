@@ -1,5 +1,5 @@
 -- What a design holds stays of its shapes, one number for each signal: at first, and after each legal event.
-use Rattle.std.specs.Prelude.{◌≡◌, refl, ℕ, List, [], ◌∷◌, map, length, slice_get, ℤ, pos, fold}
+use Rattle.std.specs.Prelude.{◌≡◌, refl, List, [], ◌∷◌, map, length, slice_get, ℤ, pos, fold}
 use Rattle.std.proofs.Common.{◌∙◌}
 use Rattle.std.proofs.lemmas.List.{length-map, length-set}
 use Rattle.design_ir.specs.declared.ids.DomainId.{DomainId}

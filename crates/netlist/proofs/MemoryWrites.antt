@@ -10,20 +10,17 @@ use Rattle.lists.proofs.TextLaws.{text_eq_same}
 use Rattle.new_names.proofs.NameLaws.{text_eq_flipped}
 use Rattle.rtlil_text.proofs.Among.{Among}
 use Rattle.design_ir.specs.declared.ids.ExprId.{ExprId}
-use Rattle.design_ir.specs.declared.memory.MemWrite.{MemWrite}
-use Rattle.design_ir.specs.declared.memory.MemRead.{MemRead}
 use Rattle.design_ir.specs.declared.memory.Memory.{Memory}
 use Rattle.design_ir.specs.Circuits.{Circuit}
 use Rattle.rtlil_text.specs.declared.cell.RtlCell.{RtlCell}
 use Rattle.rtlil_text.specs.Sources.{memory_id}
 use Rattle.rtlil_text.specs.Memories.{is_write, is_init}
 use Rattle.memory_cells.specs.declared.plan.Plan.{Plan}
-use Rattle.memory_cells.specs.Cells.{WritePort, init_cell, write_cells}
+use Rattle.memory_cells.specs.Cells.{init_cell}
 use Rattle.netlist.specs.Ids.{step_id}
 use Rattle.netlist.specs.Operators.{Drawing, nothing, one_cell, whole}
-use Rattle.netlist.specs.Module.{signal_value, expr_value}
-use Rattle.netlist.specs.PortGuards.{is_exact}
-use Rattle.netlist.specs.MemoryDrawings.{Placed, Part, FirstRows, Writes, Reads, names_rows, port_clock, address_guard, guarded_address, write_enable, writing, write_behind, guarded_read, reading, read_behind, write_parts, parts_of, part_drawing, all_parts, drawn_parts}
+use Rattle.netlist.specs.Module.{signal_value}
+use Rattle.netlist.specs.MemoryDrawings.{Placed, Part, FirstRows, Writes, Reads, names_rows, address_guard, write_enable, writing, write_behind, guarded_read, reading, read_behind, part_drawing}
 
 -- the cells of a memory that write, and those that give it its first rows
 abbrev pub writes_it : List ℕ → RtlCell → Bool

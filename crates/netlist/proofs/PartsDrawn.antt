@@ -1,22 +1,19 @@
 -- The drawings of a memory's parts: ids of their own, inner wires, one driver for each bit that they owe, and first values for what
 -- their registers drive alone.
-use Rattle.std.specs.Prelude.{◌≡◌, ◌≤◌, ◌<◌, ◌^◌, ◌+◌, ◌*◌, ◌&&◌, ℕ, zero, suc, nat_lt, Bool, true, false, cond, if◌then◌else◌, List, [], ◌∷◌, ◌++◌, map, length, pos, Option, Some, None, IsPermutation}
+use Rattle.std.specs.Prelude.{◌≡◌, ◌≤◌, ◌^◌, ◌+◌, ◌*◌, ℕ, zero, suc, nat_lt, Bool, true, false, if◌then◌else◌, List, [], ◌∷◌, ◌++◌, map, length, pos, Option, Some, None, IsPermutation}
 use Rattle.std.specs.List.{AllByRecursion, filter, flat_map}
 use Rattle.std.proofs.Common.{refl, sym, ap, ◌∙◌, arith, subst, append-nil, inl, inr, ⊎_elim}
 use Rattle.std.proofs.lemmas.Bool.{eqb-false, ltb-true, and_parts}
 use Rattle.std.proofs.lemmas.List.{map-append}
 use Rattle.std.proofs.lemmas.List.Concat.{flat_map-append}
 use Rattle.std.proofs.lemmas.List.Sorted.{IsPermutation-refl, IsPermutation-trans, IsPermutation-append}
-use Rattle.shape_rules.specs.Forms.{Form, unsigned}
 use Rattle.shape_rules.specs.declared.cell.CellKind.TheVariants as kind
 use Rattle.design_ir.specs.declared.memory.MemWrite.{MemWrite}
 use Rattle.design_ir.specs.declared.memory.MemRead.{MemRead}
 use Rattle.design_ir.specs.declared.memory.Memory.{Memory}
 use Rattle.design_ir.specs.declared.port.Column.{Column}
-use Rattle.design_ir.specs.Values.{form, signal_form}
 use Rattle.design_ir.specs.Circuits.{Circuit}
 use Rattle.design_ir.specs.Designs.{IsDesign, IsMemory, IsWritePort, IsReadPort}
-use Rattle.rtlil_text.specs.declared.sig.SigPart.{SigPart}
 use Rattle.rtlil_text.specs.declared.cell.RtlCell.{RtlCell}
 use Rattle.rtlil_text.specs.declared.module.RtlWire.{RtlWire}
 use Rattle.rtlil_text.specs.Sources.{Source}
@@ -37,8 +34,8 @@ use Rattle.netlist.specs.PortGuards.{is_exact, guard_drawing}
 use Rattle.netlist.specs.MemoryDrawings.{Placed, Part, FirstRows, Writes, Reads, names_rows, port_address, port_clock, address_guard, is_row, zeros_unless, enable_spec, write_enable, writing, write_behind, read_enable, reading, flag_wire, guarded_read, read_behind, placed, memories_of, write_parts, parts_of, part_drawing, all_parts, drawn_parts, memory_drawings, memory_lines}
 use Rattle.netlist.proofs.Places.{spec_bits-wire_part}
 use Rattle.netlist.proofs.Permuted.{IsPermutation-same, IsPermutation-inner_two}
-use Rattle.netlist.proofs.Fresh.{AllByRecursion-weaker, IsFresh, IsFresh-append, IsFresh-permutation, IsFresh-wider}
-use Rattle.netlist.proofs.Drives.{block, value_bits, drawing_ids, drawn_bits, own_bits, owed_bits, left_bits, IsBare, IsBare-inner_wire, IsDrawn, IsDrawn-nothing, fresh_none, fresh_places, zero_more, output_bits-binary, output_bits-mux, drawing_ids-and_also, drawn_bits-and_also}
+use Rattle.netlist.proofs.Fresh.{IsFresh, IsFresh-append, IsFresh-permutation, IsFresh-wider}
+use Rattle.netlist.proofs.Drives.{block, value_bits, drawing_ids, drawn_bits, own_bits, owed_bits, IsBare-inner_wire, fresh_none, fresh_places, zero_more, output_bits-binary, output_bits-mux, drawing_ids-and_also, drawn_bits-and_also}
 use Rattle.netlist.proofs.ManyDrawn.{drawing_wires}
 use Rattle.netlist.proofs.DrawnCells.{fresh_from, last_first, all_of, IsDrawn-inner}
 use Rattle.netlist.proofs.HiddenWires.{IsHidden, hidden_bare}
@@ -291,11 +288,12 @@ module _ (c : Circuit) where
       let m : Memory = x.memory in
       let tests = and_parts (nat_lt 0 m.depth) (nat_lt 0 m.shape.width) h.1 in
       let some : 1 ≤ m.depth = omega (arith, ltb-true 0 m.depth tests.0) in
-      let wide : 1 ≤ m.shape.width = omega (arith, ltb-true 0 m.shape.width tests.1) in
-      (record { some = some; wide = wide; port = tt },
-      subst (ArePartsOf c) (sym (map-append (λ q. (x, q)) (write_parts 0 m.writes) (map Reads m.reads)))
-      (AllByRecursion-append (λ (y : Placed × Part). IsPartOf c y.0 y.1) (map (λ q. (x, q)) (write_parts 0 m.writes)) (map (λ q. (x, q)) (map Reads m.reads))
-      (writes_are x some wide 0 m.writes h.0.writes) (reads_are x some wide m.reads h.0.reads)))
+      let wide : 1 ≤ m.shape.width = omega (arith, ltb-true 0 m.shape.width tests.1) in (
+        record { some = some; wide = wide; port = tt },
+        subst (ArePartsOf c) (sym (map-append (λ q. (x, q)) (write_parts 0 m.writes) (map Reads m.reads)))
+            (AllByRecursion-append (λ (y : Placed × Part). IsPartOf c y.0 y.1) (map (λ q. (x, q)) (write_parts 0 m.writes)) (map (λ q. (x, q)) (map Reads m.reads))
+            (writes_are x some wide 0 m.writes h.0.writes) (reads_are x some wide m.reads h.0.reads)),
+      )
 
   each_are : (xs : List Placed) → AllByRecursion (λ (x : Placed). IsStored x.memory) xs → ArePartsOf c (all_parts xs)
   each_are [] h = tt

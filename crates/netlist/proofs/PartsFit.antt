@@ -1,9 +1,9 @@
 -- The drawings of a memory's parts keep the rules of a module that has the memory, its cells, and the wires that they name.
-use Rattle.std.specs.Prelude.{◌≡◌, ◌≤◌, ◌<◌, ◌^◌, ◌+◌, ◌*◌, ◌==◌, ℕ, zero, suc, nat_lt, Bool, true, false, cond, if◌then◌else◌, max, List, [], ◌∷◌, ◌++◌, length, replicate, slice_get, pos, Option, Some, None, IsSome, MatchOption, All, Contains, ⊤}
-use Rattle.std.specs.List.{AllByRecursion, list_any}
+use Rattle.std.specs.Prelude.{◌≡◌, ◌≤◌, ◌<◌, ◌^◌, ◌+◌, ◌*◌, ◌==◌, ℕ, zero, suc, Bool, true, false, if◌then◌else◌, max, List, [], ◌∷◌, ◌++◌, length, replicate, slice_get, pos, Some, None, IsSome, MatchOption, All, Contains}
+use Rattle.std.specs.List.{list_any}
 use Rattle.std.proofs.Common.{refl, sym, ap, ◌∙◌, arith, subst}
 use Rattle.std.proofs.lemmas.Bool.{eqb-false, false≢true}
-use Rattle.std.proofs.lemmas.List.Elements.{All-nil, All-cons, All-append, All-replicate, All-from_recursion, All-head, All-tail}
+use Rattle.std.proofs.lemmas.List.Elements.{All-nil, All-cons, All-append, All-replicate, All-head, All-tail}
 use Rattle.std.proofs.Math.Nat.{mul-suc}
 use Rattle.shape_rules.specs.Forms.{Form, unsigned}
 use Rattle.shape_rules.specs.declared.cell.CellKind.TheVariants as kind
@@ -11,7 +11,7 @@ use Rattle.design_ir.specs.declared.ids.ExprId.{ExprId}
 use Rattle.design_ir.specs.declared.memory.MemWrite.{MemWrite}
 use Rattle.design_ir.specs.declared.memory.MemRead.{MemRead}
 use Rattle.design_ir.specs.declared.memory.Memory.{Memory}
-use Rattle.design_ir.specs.Values.{form, signal_form}
+use Rattle.design_ir.specs.Values.{form}
 use Rattle.design_ir.specs.Circuits.{Circuit, domain_named}
 use Rattle.design_ir.specs.Rows.{granules}
 use Rattle.design_ir.specs.Designs.{IsAddress, IsWritePort, IsReadPort, IsClocking}
@@ -23,7 +23,7 @@ use Rattle.rtlil_text.specs.declared.module.RtlModule.{RtlModule}
 use Rattle.rtlil_text.specs.Sources.{spec_bits}
 use Rattle.rtlil_text.specs.Memories.{writes_of}
 use Rattle.rtlil_text.specs.MemoryRules.{HaveOneClock}
-use Rattle.rtlil_text.specs.Rules.{PartFits, SpecFits, WireFits, CellFits, LinkFits}
+use Rattle.rtlil_text.specs.Rules.{PartFits, WireFits, CellFits, LinkFits}
 use Rattle.memory_cells.specs.declared.plan.Plan.{Plan}
 use Rattle.memory_cells.specs.Cells.{init_cell, spread_spec}
 use Rattle.memory_cells.specs.Fits.{HasPlan, IsSpecOf, InitsFit, WritesFit, CombReadsFit, ClockedReadsFit, MemoriesFit}
@@ -35,14 +35,13 @@ use Rattle.netlist.specs.Expressions.{and_also}
 use Rattle.netlist.specs.Fits.{HasWire, HasValue, DrawingFits}
 use Rattle.netlist.specs.Module.{signal_value, expr_value, register_cell}
 use Rattle.netlist.specs.PortGuards.{is_exact, guard_drawing, row_spec, address_spec}
-use Rattle.netlist.specs.MemoryDrawings.{Placed, Part, FirstRows, Writes, Reads, names_rows, port_address, port_clock, address_guard, is_row, guarded_address, zeros_unless, enable_spec, write_enable, writing, write_behind, write_drawing, read_enable, reading, flag_wire, guarded_read, read_behind, read_drawing, part_drawing}
+use Rattle.netlist.specs.MemoryDrawings.{names_rows, port_clock, address_guard, is_row, guarded_address, zeros_unless, enable_spec, writing, write_behind, write_drawing, read_enable, reading, flag_wire, guarded_read}
 use Rattle.netlist.proofs.Places.{length-spec_append}
 use Rattle.netlist.proofs.Reading.{spec_bits-replicate, length-replicate}
 use Rattle.netlist.proofs.FittingCells.{SpecIs, wire_is, whole_is, const_is, at_width_is, binary_fits, comparison_rules, mux_fits, inner_fits, inner_held}
 use Rattle.netlist.proofs.FittingDrawings.{nothing_fits, one_fits}
 use Rattle.netlist.proofs.SignalCells.{register_fits}
 use Rattle.netlist.proofs.PortAddresses.{granules_fill}
-use Rattle.netlist.proofs.PartsDrawn.{IsPortOf}
 
 -- ---- specs
 
@@ -147,16 +146,18 @@ module _ (m : RtlModule) (n depth : ℕ) (id : List ℕ) (w : ℕ) (some : 1 ≤
           let some : 1 ≤ w = wide_guard e in
           let same : w ≡ max 1 w = omega (arith, some) in
           let lt : RtlCell = binary_cell kind.Lt (step_id n) (as_form a a.form) (const_operand a.form (pos depth)) 1 (one_bit (step_id (n + 1))) in
-          let mux : RtlCell = mux_cell (step_id (n + 2)) w (const_spec w (pos 0)) (at_width id a.form w) (one_bit (step_id (n + 1))) (wire_part (step_id (n + 3)) 0 w) in
-          (subst (SpecIs m (wire_part (step_id (n + 3)) 0 w)) same out, record {
-            wires = All-cons WireFits test_wire (out_wire ∷ []) (inner_fits (step_id (n + 1)) 1 (omega arith)) (All-cons WireFits out_wire [] (inner_fits (step_id (n + 3)) w some) (All-nil WireFits));
-            cells =
-                All-cons (CellFits m) lt (mux ∷ [])
-                (binary_fits m kind.Lt (step_id n) (as_form a a.form) (const_operand a.form (pos depth)) 1 (one_bit (step_id (n + 1))) refl refl (no_sign w) (const_is m w (pos depth)) test
-                (comparison_rules m kind.Lt (step_id n) (as_form a a.form) (const_operand a.form (pos depth)) (one_bit (step_id (n + 1))) (no_sign w) (const_is m w (pos depth)) test refl))
-                (All-cons (CellFits m) mux [] (mux_fits m (step_id (n + 2)) w (const_spec w (pos 0)) (at_width id a.form w) (one_bit (step_id (n + 1))) (wire_part (step_id (n + 3)) 0 w) (const_is m w (pos 0)) (no_sign w) test out) (All-nil (CellFits m)));
-            links = All-nil (LinkFits m);
-          })
+          let mux : RtlCell = mux_cell (step_id (n + 2)) w (const_spec w (pos 0)) (at_width id a.form w) (one_bit (step_id (n + 1))) (wire_part (step_id (n + 3)) 0 w) in (
+            subst (SpecIs m (wire_part (step_id (n + 3)) 0 w)) same out,
+            record {
+              wires = All-cons WireFits test_wire (out_wire ∷ []) (inner_fits (step_id (n + 1)) 1 (omega arith)) (All-cons WireFits out_wire [] (inner_fits (step_id (n + 3)) w some) (All-nil WireFits));
+              cells =
+                  All-cons (CellFits m) lt (mux ∷ [])
+                  (binary_fits m kind.Lt (step_id n) (as_form a a.form) (const_operand a.form (pos depth)) 1 (one_bit (step_id (n + 1))) refl refl (no_sign w) (const_is m w (pos depth)) test
+                  (comparison_rules m kind.Lt (step_id n) (as_form a a.form) (const_operand a.form (pos depth)) (one_bit (step_id (n + 1))) (no_sign w) (const_is m w (pos depth)) test refl))
+                  (All-cons (CellFits m) mux [] (mux_fits m (step_id (n + 2)) w (const_spec w (pos 0)) (at_width id a.form w) (one_bit (step_id (n + 1))) (wire_part (step_id (n + 3)) 0 w) (const_is m w (pos 0)) (no_sign w) test out) (All-nil (CellFits m)));
+              links = All-nil (LinkFits m);
+            },
+          )
 
 -- ---- ports
 

@@ -1,11 +1,10 @@
 -- The address of a memory's port behind its guard.
-use Rattle.std.specs.Prelude.{◌≡◌, ◌≤◌, ◌<◌, ◌^◌, ◌*◌, ◌/◌, ◌==◌, ℕ, zero, suc, ◌+◌, nat_lt, nat_le, Bool, true, false, cond, if◌then◌else◌, max, List, length, map, slice_get, ℤ, pos, negsuc, unsigned_abs, Option, Some, None, unwrap_or}
+use Rattle.std.specs.Prelude.{◌≡◌, ◌≤◌, ◌<◌, ◌^◌, ◌*◌, ◌/◌, ◌==◌, ℕ, zero, suc, ◌+◌, nat_lt, nat_le, Bool, true, false, cond, if◌then◌else◌, max, List, slice_get, ℤ, pos, negsuc, unsigned_abs, Some, unwrap_or}
 use Rattle.std.specs.List.{find, range_with_len}
 use Rattle.std.proofs.Common.{refl, sym, ap, ◌∙◌, arith, subst, ⊎_elim}
 use Rattle.std.proofs.lemmas.Bool.{cases_lt, eqb-true, eqb-false, lt-ltb, leb-true, leb-false}
 use Rattle.std.proofs.Math.Nat.{mul-div_cancel, mul_comm}
 use Rattle.amh_bits.specs.Patterns.{IsOf, pattern}
-use Rattle.shape_rules.specs.Forms.{Form}
 use Rattle.design_ir.specs.declared.ids.ExprId.{ExprId}
 use Rattle.design_ir.specs.declared.memory.MemWrite.{MemWrite}
 use Rattle.design_ir.specs.declared.memory.Memory.{Memory}
@@ -22,7 +21,6 @@ use Rattle.rtlil_text.specs.History.{Wires}
 use Rattle.memory_cells.specs.Plans.{guarded}
 use Rattle.netlist.specs.Ids.{value_id, step_id}
 use Rattle.netlist.specs.Carried.{Carries, Obeys}
-use Rattle.netlist.specs.PortGuards.{is_exact}
 use Rattle.netlist.specs.Module.{expr_value}
 use Rattle.netlist.specs.MemoryDrawings.{row_width, names_rows, port_address, address_guard, is_row, guarded_address}
 use Rattle.netlist.proofs.PortGuards.{guards_made}

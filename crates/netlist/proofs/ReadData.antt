@@ -1,7 +1,7 @@
 -- What ports give: the data of a port without a clock in a settled environment, and that of a clocked port after an edge.
-use Rattle.std.specs.Prelude.{◌≡◌, ◌≢◌, refl, ℕ, ◌<◌, ◌==◌, ◌||◌, ◌⊎◌, Bool, true, false, cond, if◌then◌else◌, List, [], ◌∷◌, ◌++◌, map, length, slice_set, ℤ, pos, Option, None, is_none, fold}
+use Rattle.std.specs.Prelude.{◌≡◌, ◌≢◌, refl, ℕ, ◌<◌, ◌==◌, ◌||◌, ◌⊎◌, Bool, true, false, if◌then◌else◌, List, [], ◌∷◌, ◌++◌, map, length, slice_set, ℤ, pos, None, is_none, fold}
 use Rattle.std.specs.List.{AllByRecursion, IsDistinct, list_any}
-use Rattle.std.proofs.Common.{sym, ◌∙◌, ap, arith, subst, inl, inr, ⊎_elim}
+use Rattle.std.proofs.Common.{sym, ◌∙◌, ap, subst, ⊎_elim}
 use Rattle.std.proofs.lemmas.Bool.{cond_both, false≢true, or_left, or_right, or_parts, or_from, eqb-false, eq-eqb}
 use Rattle.std.proofs.lemmas.List.Folds.{list_any-append}
 use Rattle.std.proofs.lemmas.List.{length-set, get_or-set_same, get_or-set_other}
@@ -17,7 +17,7 @@ use Rattle.design_ir.specs.Settled.{comb_read, comb_reads}
 use Rattle.design_ir.specs.Steps.{reads_now, read_word, clocked_read, clocked_reads}
 use Rattle.rtlil_text.proofs.Among.{Among}
 use Rattle.comb_graph.proofs.ReadBits.{reads_other}
-use Rattle.netlist.proofs.ReadOnce.{word_of, words_of, has_it, AreUnread, kind_none, none_behind, distinct_right, clocked_reads-other}
+use Rattle.netlist.proofs.ReadOnce.{word_of, words_of, has_it, kind_none, none_behind, distinct_right, clocked_reads-other}
 
 -- this port of this memory stands beside these rows
 abbrev pub Located : List Memory → List (List ℤ) → Memory → List ℤ → MemRead → Type 0

@@ -1,5 +1,5 @@
 -- The data of read ports: each port has a signal of its own, which no process drives and no input is.
-use Rattle.std.specs.Prelude.{◌≡◌, ◌≢◌, refl, ℕ, ◌==◌, ◌&&◌, ◌||◌, Bool, true, false, List, [], ◌∷◌, ◌++◌, map, length, slice_set, ℤ, pos, is_some, fold}
+use Rattle.std.specs.Prelude.{◌≡◌, ◌≢◌, refl, ℕ, ◌==◌, ◌&&◌, ◌||◌, Bool, true, false, List, [], ◌∷◌, ◌++◌, map, length, slice_set, ℤ, pos, fold}
 use Rattle.std.specs.List.{AllByRecursion, IsDistinct, list_any, flat_map}
 use Rattle.std.proofs.Common.{sym, ◌∙◌, ap, subst}
 use Rattle.std.proofs.lemmas.Bool.{cond_both, false≢true, or_left, or_parts, or_from, and_parts, and_right, eqb-false}
@@ -85,6 +85,7 @@ module _ (s : ℕ) (one other : MemRead → Bool) (apart : (r : MemRead) → one
 
   behind : (r : MemRead) (rs : List MemRead) → IsDistinct share (map word_of (r ∷ rs)) → (r.word.0 == s) ≡ true → list_any (has_it s) (map word_of rs) ≡ false
   behind r rs d e = none_behind s (word_of r) [] (map word_of rs) (or_left (r.word.0 == s) false e) (IsDistinct-head share (word_of r) (map word_of rs) d)
+
   flat_kind : (rs : List MemRead) → IsDistinct share (map word_of rs) → list_any (gives one) rs ≡ true → list_any (gives other) rs ≡ false
   flat_kind [] d e = refl
   flat_kind (r ∷ rs) d e = by (flat_kind rs (IsDistinct-tail share (word_of r) (map word_of rs) d)) (gives one r) refl e

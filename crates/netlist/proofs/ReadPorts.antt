@@ -1,11 +1,10 @@
 -- The drawing of a read port: what it gives, and what its cell and its flag carry.
-use Rattle.std.specs.Prelude.{◌≡◌, ◌≤◌, ◌<◌, ◌^◌, ◌+◌, ◌&&◌, ℕ, zero, suc, nat_lt, not, Bool, true, false, cond, if◌then◌else◌, max, List, [], ◌∷◌, length, ℤ, pos, negsuc, Option, Some, None}
+use Rattle.std.specs.Prelude.{◌≡◌, ◌≤◌, ◌<◌, ◌^◌, ◌+◌, ◌&&◌, ℕ, zero, suc, nat_lt, not, Bool, true, false, cond, if◌then◌else◌, max, List, [], length, ℤ, pos, negsuc, Some, None}
 use Rattle.std.proofs.Common.{refl, sym, ap, ◌∙◌, arith, subst}
 use Rattle.std.proofs.Math.Nat.{mod-eq_of_lt}
 use Rattle.amh_bits.specs.Patterns.{IsOf}
 use Rattle.shape_rules.specs.Forms.{Form, unsigned}
 use Rattle.shape_rules.specs.Operators.{is_zero}
-use Rattle.shape_rules.specs.declared.cell.CellKind.TheVariants.{MemoryRead}
 use Rattle.design_ir.specs.declared.ids.ExprId.{ExprId}
 use Rattle.design_ir.specs.declared.memory.MemRead.{MemRead}
 use Rattle.design_ir.specs.declared.memory.Memory.{Memory}
@@ -14,14 +13,13 @@ use Rattle.design_ir.specs.Values.{form, num, signal_form}
 use Rattle.design_ir.specs.Circuits.{Circuit, at, option_test}
 use Rattle.design_ir.specs.Rows.{address, row_at}
 use Rattle.design_ir.specs.Designs.{IsReadPort, IsUsableOf}
-use Rattle.design_ir.specs.Steps.{port_rises, reads_now}
+use Rattle.design_ir.specs.Steps.{port_rises}
 use Rattle.design_ir.proofs.NumbersFit.{FitsSignals, num_fits}
 use Rattle.rtlil_text.specs.declared.sig.SigPart.{SigPart}
-use Rattle.rtlil_text.specs.declared.cell.RtlCell.{RtlCell}
 use Rattle.rtlil_text.specs.declared.module.RtlModule.{RtlModule}
 use Rattle.rtlil_text.specs.Sources.{spec_bits}
-use Rattle.rtlil_text.specs.Cells.{bit_at, bits_number, number_bits}
-use Rattle.rtlil_text.specs.Meaning.{State, memory_size, source_value, comb_bit}
+use Rattle.rtlil_text.specs.Cells.{bit_at, number_bits}
+use Rattle.rtlil_text.specs.Meaning.{State, memory_size, source_value}
 use Rattle.rtlil_text.specs.History.{Wires, wire_bit, acts}
 use Rattle.rtlil_text.proofs.CellLaws.{bits_number-number_bits}
 use Rattle.memory_cells.specs.declared.plan.Plan.{Plan}
@@ -176,7 +174,8 @@ clocked_reads_made carry t p m n r d e word h some port wide clocked rises obeys
 
 pub flags_made : FlagsAreMade
 flags_made t m n r d e flag h some port clocked obeys kept cell =
-    let none : Plan = record { id = []; address = 0; width = 0; depth = 0; writes = 0 } in
-    (cond (not (is_zero (num t.design.pool t.env e.0))) (nat_lt (address_at t r.addr) m.depth) flag,
-    flag_next t h.pool h.fits h.exprs none m some n r port d e clocked.domain clocked.enable clocked.usable obeys flag kept cell,
-    flag_is t h.pool h.fits h.exprs none m some n r port d e clocked.domain clocked.enable clocked.usable obeys flag kept (port_rises t.design t.env t.listed r.domain) refl)
+    let none : Plan = record { id = []; address = 0; width = 0; depth = 0; writes = 0 } in (
+      cond (not (is_zero (num t.design.pool t.env e.0))) (nat_lt (address_at t r.addr) m.depth) flag,
+      flag_next t h.pool h.fits h.exprs none m some n r port d e clocked.domain clocked.enable clocked.usable obeys flag kept cell,
+      flag_is t h.pool h.fits h.exprs none m some n r port d e clocked.domain clocked.enable clocked.usable obeys flag kept (port_rises t.design t.env t.listed r.domain) refl,
+    )

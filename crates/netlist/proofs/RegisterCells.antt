@@ -1,5 +1,5 @@
 -- A register's cell takes, bit by bit, what the design's step gives the register.
-use Rattle.std.specs.Prelude.{◌≡◌, refl, ℕ, ◌<◌, ◌≤◌, Bool, true, false, cond, List, [], length, slice_get, ℤ, Option, Some, is_some}
+use Rattle.std.specs.Prelude.{◌≡◌, refl, ℕ, ◌<◌, ◌≤◌, Bool, true, false, cond, List, length, slice_get, ℤ, Option, Some, is_some}
 use Rattle.std.proofs.Common.{sym, ◌∙◌, ap, subst}
 use Rattle.shape_rules.specs.declared.cell.CellKind.TheVariants.{Dff}
 use Rattle.design_ir.specs.declared.ids.DomainId.{DomainId}

@@ -11,7 +11,7 @@ use Rattle.design_ir.specs.Guards.{driven}
 use Rattle.design_ir.specs.Put.{put}
 use Rattle.design_ir.specs.Circuits.{Circuit, State, at, is_among, is_held}
 use Rattle.design_ir.specs.Designs.{IsDesign}
-use Rattle.design_ir.specs.Settled.{starts, comb_process, comb_reads, Settled}
+use Rattle.design_ir.specs.Settled.{starts, comb_process, Settled}
 use Rattle.design_ir.proofs.NumbersFit.{element}
 use Rattle.design_ir.proofs.PutLaws.{put_length, put_other}
 use Rattle.comb_graph.specs.Orders.{is_comb}

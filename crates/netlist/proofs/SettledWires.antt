@@ -1,40 +1,28 @@
 -- Wires that carry an environment in which every combinational equation holds.
-use Rattle.std.specs.Prelude.{◌≡◌, refl, ℕ, ◌<◌, ◌≤◌, Bool, true, false, cond, List, [], map, length, slice_get, ℤ, Option, Some, None, is_some}
-use Rattle.std.specs.List.{find}
-use Rattle.std.proofs.Common.{sym, ◌∙◌, ap, arith, subst}
-use Rattle.std.proofs.lemmas.Bool.{false≢true, or_parts, lt-ltb}
-use Rattle.std.proofs.lemmas.List.Elements.{All-nil}
+use Rattle.std.specs.Prelude.{◌≡◌, ℕ, ◌<◌, ◌≤◌, true, cond, List, length, ℤ}
+use Rattle.std.proofs.Common.{◌∙◌, ap, arith}
+use Rattle.std.proofs.lemmas.Bool.{lt-ltb}
 use Rattle.design_ir.specs.declared.ids.ExprId.{ExprId}
-use Rattle.design_ir.specs.declared.ids.DomainId.{DomainId}
-use Rattle.design_ir.specs.declared.signal.Sig.{Sig}
 use Rattle.design_ir.specs.declared.process.DesignProcess.{DesignProcess}
 use Rattle.design_ir.specs.PoolRules.{IsPool}
 use Rattle.design_ir.specs.Values.{form, num, signal_form}
 use Rattle.design_ir.specs.Put.{put}
-use Rattle.design_ir.specs.Circuits.{Circuit, State, at, is_input, is_register, is_held}
+use Rattle.design_ir.specs.Circuits.{Circuit, at}
 use Rattle.design_ir.specs.Designs.{IsUsable, IsDesign}
-use Rattle.design_ir.specs.Settled.{Settled}
-use Rattle.design_ir.proofs.NumbersFit.{element, FitsSignals, has_shape, num_fits}
-use Rattle.rtlil_text.specs.declared.sig.SigPart.{SigPart}
-use Rattle.rtlil_text.specs.Sources.{Constant}
+use Rattle.design_ir.proofs.NumbersFit.{FitsSignals, has_shape, num_fits}
 use Rattle.rtlil_text.specs.History.{Wires}
 use Rattle.netlist.specs.Operators.{nothing}
-use Rattle.netlist.specs.Carried.{Carries, ObeysCell}
-use Rattle.netlist.specs.CombDrawings.{ObeysComb}
+use Rattle.netlist.specs.Carried.{Carries}
 use Rattle.netlist.specs.Latest.{Latest, latest_of}
-use Rattle.netlist.specs.Spelled.{spec_of}
-use Rattle.netlist.specs.Module.{signal_value, expr_value, drives, driving, Driving, ByComb, ByNothing, init_bits, at_first, at_last, bits_at_last, link_to, driving_drawing, signal_drawing}
-use Rattle.netlist.proofs.Reading.{Reads, carries_bits}
+use Rattle.netlist.specs.Module.{signal_value, expr_value, driving, Driving, at_first, at_last, bits_at_last, driving_drawing, signal_drawing}
+use Rattle.netlist.proofs.Reading.{Reads}
 use Rattle.netlist.proofs.Drawn.{form_sign}
-use Rattle.netlist.proofs.Widths.{linked_bits}
-use Rattle.netlist.proofs.BitWrites.{some_signal}
 use Rattle.netlist.proofs.PutSources.{IsSourced, IsShown, put_sourced}
-use Rattle.netlist.proofs.OneDriver.{IsOnly, find_only, find_none}
-use Rattle.netlist.proofs.Driven.{driven_by, distinct_processes, is_register-only, driving-found, driving-comb}
-use Rattle.netlist.proofs.SourcedSpecs.{reads_sources, reads_constants, init_bits_are, first_sourced, held_sourced}
+use Rattle.netlist.proofs.OneDriver.{IsOnly}
+use Rattle.netlist.proofs.Driven.{driven_by}
+use Rattle.netlist.proofs.SourcedSpecs.{reads_sources, held_sourced}
 use Rattle.netlist.specs.Plain.{ArePlain}
 use Rattle.netlist.proofs.PlainProcesses.{process_plain, process_given}
-use Rattle.netlist.proofs.SettledNumbers.{settled_none, settled_by}
 
 -- ---- what expressions carry
 

@@ -1,7 +1,7 @@
 -- The drawing of a write port: its cell carries what the port does.
-use Rattle.std.specs.Prelude.{◌≡◌, ◌≤◌, ◌<◌, ◌+◌, ◌*◌, ◌==◌, ◌&&◌, ℕ, nat_lt, Bool, true, false, cond, max, List, [], ◌∷◌, length, slice_get, ℤ, pos, Some}
-use Rattle.std.proofs.Common.{refl, sym, ap, ◌∙◌, arith, subst}
-use Rattle.amh_bits.specs.Patterns.{pattern, nat_bit, int_bit}
+use Rattle.std.specs.Prelude.{◌≡◌, ◌≤◌, ◌<◌, ◌+◌, ◌==◌, ◌&&◌, ℕ, nat_lt, Bool, true, false, cond, max, List, length, ℤ, pos, Some}
+use Rattle.std.proofs.Common.{refl, sym, ap, ◌∙◌, arith}
+use Rattle.amh_bits.specs.Patterns.{pattern}
 use Rattle.amh_bits.proofs.BitsOf.{bit_pattern, nat_bit_zero}
 use Rattle.shape_rules.specs.Forms.{Form}
 use Rattle.design_ir.specs.declared.ids.ExprId.{ExprId}

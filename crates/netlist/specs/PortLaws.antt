@@ -1,9 +1,8 @@
 -- What is proved of the drawings of a memory's ports: where the wires of expressions carry their numbers, the cells carry what the
 -- ports of the design do.
 -- Internal: no rule of the language.
-use Rattle.std.specs.Prelude.{◌≡◌, ◌≤◌, ◌<◌, ◌+◌, ℕ, nat_lt, not, Bool, true, false, if◌then◌else◌, max, List, length, ℤ, pos, Some, None}
+use Rattle.std.specs.Prelude.{◌≡◌, ◌≤◌, ◌<◌, ◌+◌, ℕ, Bool, true, false, if◌then◌else◌, max, List, length, ℤ, Some, None}
 use Rattle.shape_rules.specs.Forms.{unsigned}
-use Rattle.shape_rules.specs.Operators.{is_zero}
 use Rattle.shape_rules.specs.declared.cell.CellKind.TheVariants.{MemoryRead}
 use Rattle.design_ir.specs.declared.ids.ExprId.{ExprId}
 use Rattle.design_ir.specs.declared.memory.MemWrite.{MemWrite}
@@ -21,7 +20,7 @@ use Rattle.rtlil_text.specs.Meaning.{State, memory_size, source_value, comb_bit}
 use Rattle.rtlil_text.specs.History.{Wires, wire_bit, acts}
 use Rattle.memory_cells.specs.declared.plan.Plan.{Plan}
 use Rattle.memory_cells.specs.Bits.{bit_of}
-use Rattle.memory_cells.specs.Carried.{HasRows, Moment, CarriesWrite, CarriesRead, address_at}
+use Rattle.memory_cells.specs.Carried.{HasRows, Moment, CarriesWrite, CarriesRead}
 use Rattle.memory_cells.specs.Laws.{IsBehindGuard, flag_after}
 use Rattle.netlist.specs.Ids.{step_id}
 use Rattle.netlist.specs.Cells.{mux_cell}
