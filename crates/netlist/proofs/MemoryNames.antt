@@ -47,7 +47,7 @@ range_has k (suc n) q low high = by (λ l. range_has (k + 1) n q l (omega (arith
 
 all_below : (n : ℕ) (xs : List ℕ) → AllByRecursion (λ x. x < n) xs → (q : ℕ) → list_any (nat_eq q) xs ≡ true → list_any (nat_eq q) (range_with_len 0 n) ≡ true
 all_below n [] h q e = absurd (false≢true e)
-all_below n (x ∷ xs) h q e = ⊎_elim (λ (here : nat_eq q x ≡ true). range_has 0 n q (omega arith) (subst (λ y. y < n) (sym (eqb-true q x here)) h.0)) (λ (more : list_any (nat_eq q) xs ≡ true). all_below n xs h.1 q more) (or_cases (nat_eq q x) (list_any (nat_eq q) xs) e)
+all_below n (x ∷ xs) h q e = ⊎_elim (λ (here : nat_eq q x ≡ true). range_has 0 n q (omega arith) (omega (arith, subst (λ y. y < n) (sym (eqb-true q x here)) h.0))) (λ (more : list_any (nat_eq q) xs ≡ true). all_below n xs h.1 q more) (or_cases (nat_eq q x) (list_any (nat_eq q) xs) e)
 
 signals_below : (n : ℕ) (xs : List Column) → AllByRecursion (λ (x : Column). x.sig.0 < n) xs → AllByRecursion (λ s. s < n) (column_signals xs)
 signals_below n [] h = tt
@@ -62,7 +62,9 @@ few_columns c design =
 -- each memory has a part at least
 few_placed : (xs : List Placed) → length xs ≤ length (all_parts xs)
 few_placed [] = omega arith
-few_placed (x ∷ xs) = omega (arith, few_placed xs, length-append (map (λ q. (x, q)) (parts_of x.memory)) (all_parts xs), length-map (parts_of x.memory) (λ q. (x, q)))
+few_placed (x ∷ xs) =
+    let pair : Part → Placed × Part = λ q. (x, q) in
+    omega (arith, few_placed xs, length-append (map pair (parts_of x.memory)) (all_parts xs), length-map (parts_of x.memory) pair)
 
 -- ---- the names
 

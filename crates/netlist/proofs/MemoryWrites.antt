@@ -1,4 +1,6 @@
 -- The write cells and the cells of first rows that the drawings of memories have: of each memory its own, in order.
+use Rattle.design_ir.specs.declared.memory.MemRead.{MemRead}
+use Rattle.design_ir.specs.declared.memory.MemWrite.{MemWrite}
 use Rattle.std.specs.Prelude.{◌≡◌, ℕ, zero, suc, ◌+◌, ◌*◌, ◌&&◌, Bool, true, false, cond, if◌then◌else◌, List, [], ◌∷◌, ◌++◌, map, length, Option, Some, None}
 use Rattle.std.specs.List.{AllByRecursion, IsDistinct, filter, flat_map}
 use Rattle.std.proofs.Common.{refl, sym, ap, ◌∙◌, arith, subst, append-nil, append_assoc, ⊎_elim}
@@ -16,11 +18,11 @@ use Rattle.rtlil_text.specs.declared.cell.RtlCell.{RtlCell}
 use Rattle.rtlil_text.specs.Sources.{memory_id}
 use Rattle.rtlil_text.specs.Memories.{is_write, is_init}
 use Rattle.memory_cells.specs.declared.plan.Plan.{Plan}
-use Rattle.memory_cells.specs.Cells.{init_cell}
+use Rattle.memory_cells.specs.Cells.{init_cell, WritePort, write_cells}
 use Rattle.netlist.specs.Ids.{step_id}
 use Rattle.netlist.specs.Operators.{Drawing, nothing, one_cell, whole}
-use Rattle.netlist.specs.Module.{signal_value}
-use Rattle.netlist.specs.MemoryDrawings.{Placed, Part, FirstRows, Writes, Reads, names_rows, address_guard, write_enable, writing, write_behind, guarded_read, reading, read_behind, part_drawing}
+use Rattle.netlist.specs.Module.{signal_value, expr_value}
+use Rattle.netlist.specs.MemoryDrawings.{Placed, Part, FirstRows, Writes, Reads, names_rows, address_guard, write_enable, writing, write_behind, guarded_read, reading, read_behind, part_drawing, drawn_parts, all_parts, parts_of, write_parts, port_clock, guarded_address}
 
 -- the cells of a memory that write, and those that give it its first rows
 abbrev pub writes_it : List ℕ → RtlCell → Bool
@@ -84,18 +86,18 @@ module _ (c : Circuit) (id : List ℕ) (x : Placed) (n : ℕ) where
   one_init : (cell : RtlCell) → is_init cell.kind ≡ true → memory_id cell ≡ p.id → filter (begins_it id) (cell ∷ []) ≡ (if text_eq p.id id then cell ∷ [] else [])
   one_init cell kind own = λ i. if kind i && text_eq (own i) id then cell ∷ [] else []
 
-  no_inits : (b : Bool) → [] ≡ (if b then [] else [])
-  no_inits true = refl
-  no_inits false = refl
+  no_inits : (b : Bool) (cells : List RtlCell) → cells ≡ [] → [] ≡ (if b then cells else [])
+  no_inits true cells e = sym e
+  no_inits false cells e = refl
 
   part_inits : (q : Part) → filter (begins_it id) (part_drawing c x n q).cells ≡ (if text_eq p.id id then own_inits c x n q else [])
   part_inits FirstRows = one_init (init_cell p (step_id n) m.rows) refl refl
   part_inits (Writes k w) =
       let cell : RtlCell = writing c p m k n w (write_enable c m n w) in
       guarded_cells (begins_it id) (address_guard c m n w.addr).cells (write_behind c p m k n w).cells (guard_inits w.addr)
-      ∙ cond_both (names_rows c m w.addr) (one_cell cell) _ (λ (d : Drawing). filter (begins_it id) d.cells ≡ []) (λ t. refl) (λ t. refl) ∙ no_inits (text_eq p.id id)
+      ∙ cond_both (names_rows c m w.addr) (one_cell cell) _ (λ (d : Drawing). filter (begins_it id) d.cells ≡ []) (λ t. refl) (λ t. refl) ∙ no_inits (text_eq p.id id) (own_inits c x n (Writes k w)) refl
   part_inits (Reads r) =
-      guarded_cells (begins_it id) (address_guard c m n r.addr).cells (read_behind c p m n r).cells (guard_inits r.addr) ∙ read_none r.domain ∙ no_inits (text_eq p.id id)
+      guarded_cells (begins_it id) (address_guard c m n r.addr).cells (read_behind c p m n r).cells (guard_inits r.addr) ∙ read_none r.domain ∙ no_inits (text_eq p.id id) (own_inits c x n (Reads r)) refl
     where
       read_none : (d : Option (List ℕ)) → filter (begins_it id) (if names_rows c m r.addr then one_cell (reading c p m n r d (whole (signal_value c r.word.0))) else guarded_read c p m n r d).cells ≡ []
       read_none None = cond_both (names_rows c m r.addr) (one_cell (reading c p m n r None (whole (signal_value c r.word.0)))) (guarded_read c p m n r None) (λ (d : Drawing). filter (begins_it id) d.cells ≡ []) (λ t. refl) (λ t. refl)
@@ -145,7 +147,7 @@ module _ (own : Placed → ℕ → Part → List RtlCell) (id : List ℕ) where
   none_of n [] h = refl
   none_of n (x ∷ xs) h =
       owned-append n (map (λ q. (x, q)) (parts_of x.memory)) (all_parts xs)
-      ∙ (λ i. other_none n x (parts_of x.memory) h.0 i ++ none_of (n + 11 * length (map (λ q. (x, q)) (parts_of x.memory))) xs h.1 i)
+      ∙ (λ i. other_none n x (parts_of x.memory) h.0 i ++ none_of (n + 11 * length {A = Placed × Part} (map (λ q. (x, q)) (parts_of x.memory))) xs h.1 i)
 
 -- where no two have one id, the memory with this id has its own, from some number on
 pub record IsOwned (own : Placed → ℕ → Part → List RtlCell) (x : Placed) (cells : List RtlCell) : Type 0 where
@@ -166,7 +168,7 @@ apart_at x y (z ∷ xs) h a = ⊎_elim (λ (e : z ≡ y). ap (λ (w : Placed). t
 pub owned_by : (own : Placed → ℕ → Part → List RtlCell) (n : ℕ) (xs : List Placed) (y : Placed) → IsDistinct text_eq (placed_ids xs) → Among xs y → IsOwned own y (owned own y.plan.id n (all_parts xs))
 owned_by own n [] y d a = absurd a
 owned_by own n (x ∷ xs) y d a =
-    let next : ℕ = n + 11 * length (map (λ q. (x, q)) (parts_of x.memory)) in
+    let next : ℕ = n + 11 * length {A = Placed × Part} (map (λ q. (x, q)) (parts_of x.memory)) in
     let heads = IsDistinct-head text_eq x.plan.id (placed_ids xs) d in
     ⊎_elim
     (λ (here : x ≡ y).

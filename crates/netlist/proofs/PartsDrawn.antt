@@ -340,7 +340,7 @@ pub record IsPartAt (c : Circuit) (xs : List (Placed × Part)) (d : Drawing) : T
   pub number : ℕ
   pub placed : Placed
   pub part : Part
-  pub among : Among xs (placed, part)
+  pub among : Among {A = Placed × Part} xs (placed, part)
   pub same : part_drawing c placed number part ≡ d
 
 pub part_at : (c : Circuit) (n : ℕ) (xs : List (Placed × Part)) (d : Drawing) → Among (drawn_parts c n xs) d → IsPartAt c xs d
@@ -351,13 +351,13 @@ part_at c n ((x, q) ∷ xs) d a = ⊎_elim
     a
 
 -- its memory is one of the module
-pub placed_among : (xs : List Placed) (x : Placed) (q : Part) → Among (all_parts xs) (x, q) → Among xs x
+pub placed_among : (xs : List Placed) (x : Placed) (q : Part) → Among {A = Placed × Part} (all_parts xs) (x, q) → Among xs x
 placed_among [] x q a = absurd a
 placed_among (y ∷ xs) x q a = ⊎_elim
-    (λ (here : Among (map (λ p. (y, p)) (parts_of y.memory)) (x, q)). inl (own (parts_of y.memory) here))
-    (λ (later : Among (all_parts xs) (x, q)). inr (placed_among xs x q later))
+    (λ (here : Among {A = Placed × Part} (map (λ p. (y, p)) (parts_of y.memory)) (x, q)). inl (own (parts_of y.memory) here))
+    (λ (later : Among {A = Placed × Part} (all_parts xs) (x, q)). inr (placed_among xs x q later))
     (Among-append (map (λ p. (y, p)) (parts_of y.memory)) (all_parts xs) (x, q) a)
   where
-    own : (qs : List Part) → Among (map (λ p. (y, p)) qs) (x, q) → y ≡ x
+    own : (qs : List Part) → Among {A = Placed × Part} (map (λ p. (y, p)) qs) (x, q) → y ≡ x
     own [] a = absurd a
     own (p ∷ qs) a = ⊎_elim (λ e. ap (λ (z : Placed × Part). z.0) e) (λ more. own qs more) a

@@ -1,5 +1,6 @@
 -- The drawings of a memory's parts keep the rules of a module that has the memory, its cells, and the wires that they name.
-use Rattle.std.specs.Prelude.{◌≡◌, ◌≤◌, ◌<◌, ◌^◌, ◌+◌, ◌*◌, ◌==◌, ℕ, zero, suc, Bool, true, false, if◌then◌else◌, max, List, [], ◌∷◌, ◌++◌, length, replicate, slice_get, pos, Some, None, IsSome, MatchOption, All, Contains}
+use Rattle.netlist.proofs.PartsDrawn.{IsPortOf}
+use Rattle.std.specs.Prelude.{◌≡◌, ◌≤◌, ◌<◌, ◌^◌, ◌+◌, ◌*◌, ◌==◌, ℕ, zero, suc, Bool, true, false, if◌then◌else◌, max, List, [], ◌∷◌, ◌++◌, length, replicate, slice_get, pos, Some, None, IsSome, MatchOption, All, Contains, Option}
 use Rattle.std.specs.List.{list_any}
 use Rattle.std.proofs.Common.{refl, sym, ap, ◌∙◌, arith, subst}
 use Rattle.std.proofs.lemmas.Bool.{eqb-false, false≢true}
@@ -35,7 +36,7 @@ use Rattle.netlist.specs.Expressions.{and_also}
 use Rattle.netlist.specs.Fits.{HasWire, HasValue, DrawingFits}
 use Rattle.netlist.specs.Module.{signal_value, expr_value, register_cell}
 use Rattle.netlist.specs.PortGuards.{is_exact, guard_drawing, row_spec, address_spec}
-use Rattle.netlist.specs.MemoryDrawings.{names_rows, port_clock, address_guard, is_row, guarded_address, zeros_unless, enable_spec, writing, write_behind, write_drawing, read_enable, reading, flag_wire, guarded_read}
+use Rattle.netlist.specs.MemoryDrawings.{names_rows, port_clock, address_guard, is_row, guarded_address, zeros_unless, enable_spec, writing, write_behind, write_drawing, read_enable, reading, flag_wire, guarded_read, read_drawing, Placed, Part, FirstRows, Writes, Reads, part_drawing, read_behind}
 use Rattle.netlist.proofs.Places.{length-spec_append}
 use Rattle.netlist.proofs.Reading.{spec_bits-replicate, length-replicate}
 use Rattle.netlist.proofs.FittingCells.{SpecIs, wire_is, whole_is, const_is, at_width_is, binary_fits, comparison_rules, mux_fits, inner_fits, inner_held}

@@ -37,7 +37,7 @@ stored_reads c = all_reads (filter is_there c.memories)
 abbrev pub port_bits : Circuit → MemRead → List Source
 port_bits c r = value_bits (signal_value c r.word.0)
 
-length-given : (names more : List (List ℕ)) → length (given_names names more) ≡ length more
+pub length-given : (names more : List (List ℕ)) → length (given_names names more) ≡ length more
 length-given names [] = refl
 length-given names (name ∷ more) = ap suc (length-given (names ++ fresh_name names name ∷ []) more)
 
