@@ -1,7 +1,7 @@
 -- What drives each signal of a design, and whether a state holds it.
-use Rattle.std.specs.Prelude.{◌≡◌, refl, ℕ, ◌==◌, ◌&&◌, ◌||◌, Bool, true, false, not, IsTrue, cond, List, [], ◌∷◌, ◌++◌, map, Option, Some, None, is_some, is_none}
-use Rattle.std.specs.List.{AllByRecursion, IsDistinct, list_any, find, flat_map}
-use Rattle.std.proofs.Common.{sym, ◌∙◌, ap, subst, ⊎_elim, append-nil}
+use Rattle.std.specs.Prelude.{◌≡◌, refl, ℕ, ◌==◌, ◌&&◌, ◌||◌, Bool, true, false, not, IsTrue, cond, List, [], ◌∷◌, map, Option, Some, None, is_some, is_none}
+use Rattle.std.specs.List.{AllByRecursion, IsDistinct, list_any, find}
+use Rattle.std.proofs.Common.{sym, ◌∙◌, ap, subst, ⊎_elim}
 use Rattle.std.proofs.lemmas.Bool.{false≢true, and_parts, and_right, or_parts, or_from, or_cases, eqb-true}
 use Rattle.std.proofs.lemmas.List.Folds.{list_any-append}
 use Rattle.design_ir.specs.declared.ids.DomainId.{DomainId}

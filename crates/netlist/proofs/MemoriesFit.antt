@@ -1,7 +1,7 @@
 -- The memories of a design's module, with their cells and wires, keep the rules of the text.
-use Rattle.std.specs.Prelude.{◌≡◌, ◌≤◌, ◌<◌, ◌+◌, ◌*◌, ◌^◌, ◌==◌, ◌&&◌, ℕ, zero, suc, nat_lt, Bool, true, false, max, List, [], ◌∷◌, ◌++◌, map, length, slice_get, if◌then◌else◌, Option, Some, None, MatchOption, IsSomeAnd, All, Contains}
+use Rattle.std.specs.Prelude.{◌≡◌, ◌≤◌, ◌<◌, ◌+◌, ◌*◌, ◌^◌, ◌==◌, ◌&&◌, ℕ, zero, suc, nat_lt, Bool, true, false, List, [], ◌∷◌, ◌++◌, map, length, slice_get, if◌then◌else◌, Option, Some, None, MatchOption, IsSomeAnd, Contains}
 use Rattle.std.specs.List.{AllByRecursion, IsDistinct, filter, flat_map, list_any, range_with_len}
-use Rattle.std.proofs.Common.{refl, sym, ap, ◌∙◌, arith, subst, append-nil, inl, inr, ⊎_elim}
+use Rattle.std.proofs.Common.{refl, sym, ap, ◌∙◌, arith, subst, ⊎_elim}
 use Rattle.std.proofs.lemmas.Bool.{cond_both, false≢true, or_cases, eqb-true}
 use Rattle.std.proofs.lemmas.List.Concat.{flat_map-append}
 use Rattle.std.proofs.lemmas.List.Elements.{filter-append}
@@ -10,7 +10,6 @@ use Rattle.lists.specs.Names.{IsPublicName}
 use Rattle.lists.specs.Texts.{text_eq}
 use Rattle.shape_rules.specs.declared.cell.CellKind.{CellKind}
 use Rattle.shape_rules.specs.declared.cell.CellKind.TheVariants.{MemoryWrite, MemoryInit}
-use Rattle.design_ir.specs.declared.ids.ExprId.{ExprId}
 use Rattle.design_ir.specs.declared.expr.Expr.{Expr}
 use Rattle.design_ir.specs.declared.memory.MemWrite.{MemWrite}
 use Rattle.design_ir.specs.declared.memory.MemRead.{MemRead}
@@ -18,9 +17,9 @@ use Rattle.design_ir.specs.declared.memory.Memory.{Memory}
 use Rattle.design_ir.specs.declared.process.DesignProcess.{DesignProcess}
 use Rattle.design_ir.specs.declared.ids.DomainId.{DomainId}
 use Rattle.design_ir.specs.PoolRules.{IsPool}
-use Rattle.design_ir.specs.Values.{form, signal_form}
-use Rattle.design_ir.specs.Circuits.{Circuit, domain_named}
-use Rattle.design_ir.specs.Designs.{IsDesign, IsMemory, IsReadPort, IsTransparent}
+use Rattle.design_ir.specs.Values.{signal_form}
+use Rattle.design_ir.specs.Circuits.{Circuit}
+use Rattle.design_ir.specs.Designs.{IsDesign, IsReadPort, IsTransparent}
 use Rattle.rtlil_text.specs.declared.sig.SigPart.{SigPart}
 use Rattle.rtlil_text.specs.declared.cell.RtlCell.{RtlCell}
 use Rattle.rtlil_text.specs.declared.module.RtlMemory.{RtlMemory}
@@ -36,12 +35,11 @@ use Rattle.memory_cells.specs.Fits.{HasPlan}
 use Rattle.netlist.specs.Operators.{Drawing, nothing}
 use Rattle.netlist.specs.Expressions.{part_count, drawn}
 use Rattle.netlist.specs.Module.{public_id, signal_value, expr_value, Driving, ByEvents, ByComb, ByClock, ByRead, ByNothing, driving, reset_of, register_drawing, driving_drawing, signal_drawing, drawn_from, drawings, other_drawings, all_drawings, module_of, is_there}
-use Rattle.netlist.specs.MemoryDrawings.{Placed, Part, row_width, plan_of, placed, memories_of, parts_of, all_parts, memory_drawings, memory_lines, reading, port_clock}
+use Rattle.netlist.specs.MemoryDrawings.{Placed, plan_of, placed, memories_of, all_parts, memory_drawings, memory_lines, reading, port_clock}
 use Rattle.netlist.proofs.LogicCells.{is_logic_kind, IsLogic, drawn_logic}
 use Rattle.netlist.proofs.MemoryNames.{column_names, memory_names, memory_ids, names_distinct, names_public}
-use Rattle.netlist.proofs.MemoryWrites.{writes_it, begins_it, own_writes, own_inits, owned, placed_ids, IsOwned, owned_by, parts_writes, parts_inits, ports_from, ports_are, inits_none, length-ports_from}
+use Rattle.netlist.proofs.MemoryWrites.{writes_it, begins_it, own_writes, own_inits, owned, placed_ids, owned_by, parts_writes, parts_inits, ports_from, ports_are, inits_none, length-ports_from}
 use Rattle.netlist.proofs.PartsFit.{CellLaws, SeesThrough}
-use Rattle.netlist.proofs.ReadWires.{length-given}
 
 -- ---- cells that are of no memory
 

@@ -1,9 +1,9 @@
 -- The names of a design's columns and of the memories of its module: no two are the same, and all are public.
 use Rattle.std.specs.Prelude.{◌≡◌, ◌<◌, ◌≤◌, ◌+◌, ◌^◌, ◌||◌, nat_eq, ℕ, zero, suc, Bool, true, false, List, [], ◌∷◌, ◌++◌, map, length}
-use Rattle.std.specs.List.{AllByRecursion, IsDistinct, filter, flat_map, list_any, range_with_len}
+use Rattle.std.specs.List.{AllByRecursion, IsDistinct, filter, list_any, range_with_len}
 use Rattle.std.specs.Cmp.{IsEquivalence}
 use Rattle.std.proofs.Common.{refl, sym, ap, ◌∙◌, arith, subst, ⊎_elim}
-use Rattle.std.proofs.lemmas.Bool.{cond_both, eqb-true, eq-eqb, or_cases, or_left, or_right, false≢true}
+use Rattle.std.proofs.lemmas.Bool.{cond_both, eqb-true, eq-eqb, or_cases, false≢true}
 use Rattle.std.proofs.lemmas.List.{length-append, length-map}
 use Rattle.std.proofs.lemmas.List.FromFn.{length-range_with_len}
 use Rattle.std.proofs.lemmas.Map.Made.{length-le_from_is_member}
@@ -17,7 +17,6 @@ use Rattle.design_ir.specs.Designs.{IsDesign, IsMemory}
 use Rattle.rtlil_text.specs.declared.module.RtlMemory.{RtlMemory}
 use Rattle.memory_cells.specs.Plans.{planned}
 use Rattle.new_names.specs.Fresh.{fresh_name, given_names}
-use Rattle.new_names.specs.Laws.{FreshIsPublic}
 use Rattle.new_names.proofs.GivenNames.{fresh_is_public, given_are_distinct}
 use Rattle.netlist.specs.Module.{public_id, is_there}
 use Rattle.netlist.specs.MemoryDrawings.{Placed, Part, placed, memories_of, parts_of, all_parts, memory_lines}

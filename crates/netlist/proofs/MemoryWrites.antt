@@ -1,7 +1,7 @@
 -- The write cells and the cells of first rows that the drawings of memories have: of each memory its own, in order.
 use Rattle.design_ir.specs.declared.memory.MemRead.{MemRead}
 use Rattle.design_ir.specs.declared.memory.MemWrite.{MemWrite}
-use Rattle.std.specs.Prelude.{◌≡◌, ℕ, zero, suc, ◌+◌, ◌*◌, ◌&&◌, Bool, true, false, cond, if◌then◌else◌, List, [], ◌∷◌, ◌++◌, map, length, Option, Some, None}
+use Rattle.std.specs.Prelude.{◌≡◌, ℕ, suc, ◌+◌, ◌*◌, ◌&&◌, Bool, true, false, if◌then◌else◌, List, [], ◌∷◌, ◌++◌, map, length, Option, Some, None}
 use Rattle.std.specs.List.{AllByRecursion, IsDistinct, filter, flat_map}
 use Rattle.std.proofs.Common.{refl, sym, ap, ◌∙◌, arith, subst, append-nil, append_assoc, ⊎_elim}
 use Rattle.std.proofs.lemmas.Map.Keys.{IsDistinct-head, IsDistinct-tail}
@@ -216,4 +216,3 @@ module _ (c : Circuit) (x : Placed) where
   inits_none id k n [] [] = refl
   inits_none id k n [] (r ∷ rs) = inits_none id k (n + 11) [] rs
   inits_none id k n (w ∷ ws) rs = inits_none id (suc k) (n + 11) ws rs
-

@@ -1,5 +1,5 @@
 -- Each bit of each wire that is no input has exactly one driver in the module of a design.
-use Rattle.std.specs.Prelude.{◌≡◌, nat_lt, ℕ, false, List, [], ◌∷◌, ◌++◌, map, length, IsPermutation, slice_get}
+use Rattle.std.specs.Prelude.{◌≡◌, nat_lt, ℕ, false, List, [], ◌∷◌, ◌++◌, length, IsPermutation, slice_get}
 use Rattle.std.specs.List.{flat_map, range_with_len}
 use Rattle.std.proofs.Common.{sym, ap, ◌∙◌, arith, subst, append-nil}
 use Rattle.std.proofs.lemmas.Bool.{cond_both, ltb-false}

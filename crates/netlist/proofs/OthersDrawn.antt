@@ -1,7 +1,7 @@
 -- The drawings of signals and of memories together: ids of their own, inner wires, and one driver for each bit that no event gives.
-use Rattle.std.specs.Prelude.{◌≡◌, ◌≤◌, ◌+◌, ◌*◌, ℕ, List, [], ◌∷◌, ◌++◌, map, length, IsPermutation}
+use Rattle.std.specs.Prelude.{◌≡◌, ◌+◌, ◌*◌, ℕ, List, ◌++◌, map, length, IsPermutation}
 use Rattle.std.specs.List.{AllByRecursion, flat_map, range_with_len}
-use Rattle.std.proofs.Common.{sym, ap, ◌∙◌, arith, subst}
+use Rattle.std.proofs.Common.{sym, arith, subst}
 use Rattle.std.proofs.lemmas.List.Concat.{flat_map-append}
 use Rattle.std.proofs.lemmas.List.Sorted.{IsPermutation-sym, IsPermutation-trans, IsPermutation-append, IsPermutation-append_left, IsPermutation-append_right}
 use Rattle.design_ir.specs.Circuits.{Circuit}
@@ -9,7 +9,6 @@ use Rattle.design_ir.specs.Designs.{IsDesign}
 use Rattle.rtlil_text.specs.Sources.{Source}
 use Rattle.rtlil_text.proofs.Among.{AllByRecursion-append}
 use Rattle.netlist.specs.Ids.{step_id}
-use Rattle.netlist.specs.Operators.{Drawing}
 use Rattle.netlist.specs.Module.{driving, signal_drawing, other_drawings}
 use Rattle.netlist.specs.MemoryDrawings.{memories_of, all_parts, memory_drawings}
 use Rattle.netlist.proofs.Permuted.{IsPermutation-inner_two, IsPermutation-flat_map}

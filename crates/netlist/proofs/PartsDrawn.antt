@@ -19,7 +19,6 @@ use Rattle.rtlil_text.specs.declared.module.RtlWire.{RtlWire}
 use Rattle.rtlil_text.specs.Sources.{Source}
 use Rattle.rtlil_text.specs.Drivers.{output_bits}
 use Rattle.rtlil_text.specs.Inits.{registered_bits, begun_bits}
-use Rattle.rtlil_text.specs.Rules.{WireFits}
 use Rattle.rtlil_text.proofs.Among.{Among, Among-append, AllByRecursion-append}
 use Rattle.memory_cells.specs.declared.plan.Plan.{Plan}
 use Rattle.memory_cells.specs.Plans.{planned}
@@ -37,7 +36,7 @@ use Rattle.netlist.proofs.Permuted.{IsPermutation-same, IsPermutation-inner_two}
 use Rattle.netlist.proofs.Fresh.{IsFresh, IsFresh-append, IsFresh-permutation, IsFresh-wider}
 use Rattle.netlist.proofs.Drives.{block, value_bits, drawing_ids, drawn_bits, own_bits, owed_bits, IsBare-inner_wire, fresh_none, fresh_places, zero_more, output_bits-binary, output_bits-mux, drawing_ids-and_also, drawn_bits-and_also}
 use Rattle.netlist.proofs.ManyDrawn.{drawing_wires}
-use Rattle.netlist.proofs.DrawnCells.{fresh_from, last_first, all_of, IsDrawn-inner}
+use Rattle.netlist.proofs.DrawnCells.{fresh_from, last_first, all_of}
 use Rattle.netlist.proofs.HiddenWires.{IsHidden, hidden_bare}
 
 -- what each register keeps

@@ -1,12 +1,12 @@
 -- The signals that ports of the module's memories give are those that neither events nor statements drive: each of them once.
-use Rattle.std.specs.Prelude.{◌≡◌, ◌≢◌, ℕ, zero, suc, ◌<◌, ◌==◌, ◌||◌, ◌&&◌, nat_eq, Bool, true, false, cond, if◌then◌else◌, List, [], ◌∷◌, ◌++◌, map, length, Option, Some, None, IsPermutation}
+use Rattle.std.specs.Prelude.{◌≡◌, ℕ, suc, ◌<◌, ◌==◌, ◌||◌, ◌&&◌, nat_eq, Bool, true, false, cond, if◌then◌else◌, List, [], ◌∷◌, ◌++◌, map, length, Option, Some, None, IsPermutation}
 use Rattle.std.specs.List.{AllByRecursion, IsDistinct, filter, find, flat_map, list_any, range_with_len}
 use Rattle.std.proofs.Common.{refl, sym, ap, ◌∙◌, subst}
 use Rattle.std.proofs.lemmas.Bool.{cond_both, or_parts, eqb-true, eqb-false, ne_eqb}
 use Rattle.std.proofs.lemmas.List.{map-append, length-map}
 use Rattle.std.proofs.lemmas.List.Concat.{flat_map-append}
 use Rattle.std.proofs.lemmas.List.Folds.{list_any-append}
-use Rattle.std.proofs.lemmas.List.Sorted.{IsPermutation-refl, IsPermutation-sym}
+use Rattle.std.proofs.lemmas.List.Sorted.{IsPermutation-sym}
 use Rattle.std.proofs.lemmas.Map.Keys.{IsDistinct-head, IsDistinct-tail}
 use Rattle.design_ir.specs.declared.memory.MemWrite.{MemWrite}
 use Rattle.design_ir.specs.declared.memory.MemRead.{MemRead}
@@ -20,7 +20,7 @@ use Rattle.rtlil_text.specs.Sources.{Source}
 use Rattle.rtlil_text.proofs.Among.{AllByRecursion-append}
 use Rattle.new_names.specs.Fresh.{given_names, fresh_name}
 use Rattle.netlist.specs.Module.{signal_value, ByEvents, ByRead, ByNothing, drives, driving_at, driving_by, driving, is_there, is_read}
-use Rattle.netlist.specs.MemoryDrawings.{Placed, Part, FirstRows, Writes, Reads, placed, memories_of, write_parts, parts_of, all_parts}
+use Rattle.netlist.specs.MemoryDrawings.{Placed, Part, Reads, placed, memories_of, write_parts, parts_of, all_parts}
 use Rattle.netlist.proofs.Drives.{value_bits}
 use Rattle.netlist.proofs.ColumnSignals.{column_at, column_signals, of_column, gathered}
 use Rattle.netlist.proofs.SignalsDrawn.{read_bits}

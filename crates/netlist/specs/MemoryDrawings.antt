@@ -1,6 +1,6 @@
 -- The drawings of a design's memories: first rows, write ports and read ports, with guards around the cells.
 -- Source: Yosys manual, Cell library: memories; guards, and memories without rows or bits: this project's own rule (docs/RULES.md).
-use Rattle.std.specs.Prelude.{ℕ, suc, ◌+◌, ◌*◌, ◌^◌, nat_le, max, Bool, false, if◌then◌else◌, List, [], ◌∷◌, ◌++◌, map, length, pos, Option, Some, None, option_map, unwrap_or, codes}
+use Rattle.std.specs.Prelude.{ℕ, suc, ◌+◌, ◌*◌, ◌^◌, nat_le, max, Bool, false, if◌then◌else◌, List, [], ◌∷◌, ◌++◌, map, length, pos, Option, Some, None, option_map, unwrap_or}
 use Rattle.std.specs.List.{find, filter, flat_map, range_with_len}
 use Rattle.design_ir.specs.declared.ids.ExprId.{ExprId}
 use Rattle.design_ir.specs.declared.memory.MemWrite.{MemWrite}

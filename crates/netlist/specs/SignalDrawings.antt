@@ -1,5 +1,5 @@
 -- What drives each signal of a design, and the wires of signals and expressions.
-use Rattle.std.specs.Prelude.{ℕ, suc, ◌+◌, ◌*◌, ◌==◌, ◌&&◌, nat_lt, Bool, true, false, if◌then◌else◌, List, [], ◌∷◌, ◌++◌, map, length, slice_get, Option, Some, None, option_map, unwrap_or, is_none, option_and_then, codes}
+use Rattle.std.specs.Prelude.{ℕ, suc, ◌+◌, ◌*◌, ◌==◌, ◌&&◌, nat_lt, Bool, true, false, if◌then◌else◌, List, [], ◌∷◌, map, slice_get, Option, Some, None, option_map, unwrap_or, is_none, option_and_then, codes}
 use Rattle.std.specs.List.{find, list_any, range_with_len}
 use Rattle.amh_bits.specs.Patterns.{pattern}
 use Rattle.shape_rules.specs.declared.cell.CellKind.TheVariants as kind

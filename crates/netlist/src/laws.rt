@@ -3,7 +3,9 @@ ghost use Rattle.netlist.specs.PortGuards.{GuardsAreMade};
 ghost use Rattle.netlist.specs.PortLaws.{WritePortsAreMade, CombReadsAreMade, ClockedReadsAreMade, FlagsAreMade, WordsAreShown};
 ghost use Rattle.netlist.specs.Laws.{OperatorsAreMade, ExpressionsAreMade, ModulesKeepTheRules, ModulesCorrespond, ModulesHaveTheHistory};
 
-use memory_cells::{cells_keep_the_rules, ends_carry_the_port, guards_follow, guards_show_the_word, reads_follow};
+use memory_cells::{
+    cells_keep_the_rules, ends_carry_the_port, guards_follow, guards_show_the_word, reads_follow,
+};
 
 /// Where the wires of its operands carry two integers, the cells of an operator give its wire the operator's integer:
 /// for each of the operators, and all shapes that it takes.

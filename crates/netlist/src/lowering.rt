@@ -24,8 +24,8 @@ use amh_host::{Items, NoMemory};
 use cell_split::split_tangled;
 use comb_graph::Ranks;
 use design_ir::{Design, Expr, ExprId, Exprs};
-use memory_cells::cells_keep_the_rules;
 use flat_design::{flat_has_the_history, flat_keeps_orders, flatten};
+use memory_cells::cells_keep_the_rules;
 use rtlil_text::{RtlModule, RtlWire};
 use std::alloc::Global;
 
