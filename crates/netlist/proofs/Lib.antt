@@ -89,6 +89,7 @@ pub mod PartsDefined
 pub mod NeededInside
 pub mod FixedAims
 pub mod ModuleObeys
+pub mod PartsObey
 pub mod CombSignals
 pub mod OrderedBits
 pub mod SignalWires
