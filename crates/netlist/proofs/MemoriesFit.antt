@@ -1,7 +1,7 @@
 -- The memories of a design's module, with their cells and wires, keep the rules of the text.
 use Rattle.std.specs.Prelude.{◌≡◌, ◌≤◌, ◌<◌, ◌+◌, ◌*◌, ◌^◌, ◌==◌, ◌&&◌, ℕ, zero, suc, nat_lt, Bool, true, false, List, [], ◌∷◌, ◌++◌, map, length, slice_get, if◌then◌else◌, Option, Some, None, MatchOption, IsSomeAnd, Contains}
 use Rattle.std.specs.List.{AllByRecursion, IsDistinct, filter, flat_map, list_any, range_with_len}
-use Rattle.std.proofs.Common.{refl, sym, ap, ◌∙◌, arith, subst, ⊎_elim}
+use Rattle.std.proofs.Common.{refl, sym, ap, ◌∙◌, arith, subst, inr, ⊎_elim}
 use Rattle.std.proofs.lemmas.Bool.{cond_both, false≢true, or_cases, eqb-true}
 use Rattle.std.proofs.lemmas.List.Concat.{flat_map-append}
 use Rattle.std.proofs.lemmas.List.Elements.{filter-append}
@@ -35,7 +35,7 @@ use Rattle.memory_cells.specs.Fits.{HasPlan}
 use Rattle.netlist.specs.Operators.{Drawing, nothing}
 use Rattle.netlist.specs.Expressions.{part_count, drawn}
 use Rattle.netlist.specs.Module.{public_id, signal_value, expr_value, Driving, ByEvents, ByComb, ByClock, ByRead, ByNothing, driving, reset_of, register_drawing, driving_drawing, signal_drawing, drawn_from, drawings, other_drawings, all_drawings, module_of, is_there}
-use Rattle.netlist.specs.MemoryDrawings.{Placed, plan_of, placed, memories_of, all_parts, memory_drawings, memory_lines, reading, port_clock}
+use Rattle.netlist.specs.MemoryDrawings.{Placed, Reads, plan_of, placed, memories_of, write_parts, all_parts, drawn_parts, memory_drawings, memory_lines, reading, port_clock}
 use Rattle.netlist.proofs.LogicCells.{is_logic_kind, IsLogic, drawn_logic}
 use Rattle.netlist.proofs.MemoryNames.{column_names, memory_names, memory_ids, names_distinct, names_public}
 use Rattle.netlist.proofs.MemoryWrites.{writes_it, begins_it, own_writes, own_inits, owned, placed_ids, owned_by, parts_writes, parts_inits, ports_from, ports_are, inits_none, length-ports_from}
@@ -183,19 +183,21 @@ module _ (c : Circuit) (pool : IsPool c.pool) (design : IsDesign c) (few : lengt
   plans_are = all_plans (memory_names c) (filter is_there c.memories) (names_public c pool design few)
 
   module _ (x : Placed) (among : Among (memories_of c) x) (is : IsPlaced x) where
-    -- its write cells are those of its ports, from some number on
+    -- its write cells are those of its ports, from some number on, and its ports are drawn there
     pub record HasWrites : Type 0 where
       pub first : ℕ
       pub cells : writes_of (module_of c) x.plan.id ≡ write_cells x.plan 0 (ports_from c x.memory first x.memory.writes)
+      pub drawn : (d : Drawing) → Among (drawn_parts c first (map (λ q. (x, q)) (write_parts 0 x.memory.writes ++ map Reads x.memory.reads))) d → Among (memory_drawings c) d
 
     pub has_writes : HasWrites
+    unfolding memory_drawings
     has_writes =
-        let r = owned_by (own_writes c) (3 * length c.pool.signals) (memories_of c) x ids_apart among in
-        record { first = r.first + 11; cells = module_writes c x.plan.id ∙ r.same ∙ ports_are c x x.plan.id 0 (r.first + 11) x.memory.writes x.memory.reads }
+        let r = owned_by c (own_writes c) (3 * length c.pool.signals) (memories_of c) x ids_apart among in
+        record { first = r.first + 11; cells = module_writes c x.plan.id ∙ r.same ∙ ports_are c x x.plan.id 0 (r.first + 11) x.memory.writes x.memory.reads; drawn = λ d a. r.there d (inr a) }
 
     one_init : length (inits_of (module_of c) x.plan.id) ≡ 1
     one_init =
-        let r = owned_by (own_inits c) (3 * length c.pool.signals) (memories_of c) x ids_apart among in
+        let r = owned_by c (own_inits c) (3 * length c.pool.signals) (memories_of c) x ids_apart among in
         ap length (module_inits c x.plan.id ∙ r.same) ∙ ap (λ cells. suc (length cells)) (inits_none c x x.plan.id 0 (r.first + 11) x.memory.writes x.memory.reads)
 
     write_count : length (writes_of (module_of c) x.plan.id) ≡ x.plan.writes

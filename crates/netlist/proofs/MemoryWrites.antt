@@ -10,7 +10,7 @@ use Rattle.std.proofs.lemmas.List.Elements.{filter-append}
 use Rattle.lists.specs.Texts.{text_eq}
 use Rattle.lists.proofs.TextLaws.{text_eq_same}
 use Rattle.new_names.proofs.NameLaws.{text_eq_flipped}
-use Rattle.rtlil_text.proofs.Among.{Among}
+use Rattle.rtlil_text.proofs.Among.{Among, Among-left, Among-right}
 use Rattle.design_ir.specs.declared.ids.ExprId.{ExprId}
 use Rattle.design_ir.specs.declared.memory.Memory.{Memory}
 use Rattle.design_ir.specs.Circuits.{Circuit}
@@ -149,10 +149,18 @@ module _ (own : Placed → ℕ → Part → List RtlCell) (id : List ℕ) where
       owned-append n (map (λ q. (x, q)) (parts_of x.memory)) (all_parts xs)
       ∙ (λ i. other_none n x (parts_of x.memory) h.0 i ++ none_of (n + 11 * length {A = Placed × Part} (map (λ q. (x, q)) (parts_of x.memory))) xs h.1 i)
 
--- where no two have one id, the memory with this id has its own, from some number on
-pub record IsOwned (own : Placed → ℕ → Part → List RtlCell) (x : Placed) (cells : List RtlCell) : Type 0 where
+-- the drawings of some parts, and of more behind them
+pub drawn_parts-append : (c : Circuit) (n : ℕ) (xs ys : List (Placed × Part)) → drawn_parts c n (xs ++ ys) ≡ drawn_parts c n xs ++ drawn_parts c (n + 11 * length xs) ys
+drawn_parts-append c n [] ys = ap (λ k. drawn_parts c k ys) (let e : n ≡ n + 11 * 0 = omega arith in e)
+drawn_parts-append c n ((x, q) ∷ xs) ys =
+    ap (λ ds. part_drawing c x n q ∷ ds)
+    (drawn_parts-append c (n + 11) xs ys ∙ ap (λ k. drawn_parts c (n + 11) xs ++ drawn_parts c k ys) (let e : (n + 11) + 11 * length xs ≡ n + 11 * suc (length xs) = omega arith in e))
+
+-- where no two have one id, the memory with this id has its own, from some number on; there its parts are drawn
+pub record IsOwned (c : Circuit) (own : Placed → ℕ → Part → List RtlCell) (x : Placed) (drawn : List Drawing) (cells : List RtlCell) : Type 0 where
   pub first : ℕ
   pub same : cells ≡ own_parts own x.plan.id x first (parts_of x.memory)
+  pub there : (d : Drawing) → Among (drawn_parts c first (map (λ q. (x, q)) (parts_of x.memory))) d → Among drawn d
 
 abbrev pub placed_ids : List Placed → List (List ℕ)
 placed_ids xs = map (λ (x : Placed). x.plan.id) xs
@@ -165,29 +173,33 @@ apart_at : (x : Placed) (y : Placed) (xs : List Placed) → AllByRecursion (λ i
 apart_at x y [] h a = absurd a
 apart_at x y (z ∷ xs) h a = ⊎_elim (λ (e : z ≡ y). ap (λ (w : Placed). text_eq x.plan.id w.plan.id) (sym e) ∙ h.0) (λ (more : Among xs y). apart_at x y xs h.1 more) a
 
-pub owned_by : (own : Placed → ℕ → Part → List RtlCell) (n : ℕ) (xs : List Placed) (y : Placed) → IsDistinct text_eq (placed_ids xs) → Among xs y → IsOwned own y (owned own y.plan.id n (all_parts xs))
-owned_by own n [] y d a = absurd a
-owned_by own n (x ∷ xs) y d a =
+pub owned_by : (c : Circuit) (own : Placed → ℕ → Part → List RtlCell) (n : ℕ) (xs : List Placed) (y : Placed) → IsDistinct text_eq (placed_ids xs) → Among xs y → IsOwned c own y (drawn_parts c n (all_parts xs)) (owned own y.plan.id n (all_parts xs))
+owned_by c own n [] y d a = absurd a
+owned_by c own n (x ∷ xs) y d a =
+    let mine : List (Placed × Part) = map (λ q. (x, q)) (parts_of x.memory) in
     let next : ℕ = n + 11 * length {A = Placed × Part} (map (λ q. (x, q)) (parts_of x.memory)) in
+    let apart : drawn_parts c n (all_parts (x ∷ xs)) ≡ drawn_parts c n mine ++ drawn_parts c next (all_parts xs) = drawn_parts-append c n mine (all_parts xs) in
     let heads = IsDistinct-head text_eq x.plan.id (placed_ids xs) d in
     ⊎_elim
     (λ (here : x ≡ y).
-    subst (λ (z : Placed). IsOwned own z (owned own z.plan.id n (all_parts (x ∷ xs)))) here
+    subst (λ (z : Placed). IsOwned c own z (drawn_parts c n (all_parts (x ∷ xs))) (owned own z.plan.id n (all_parts (x ∷ xs)))) here
     (record {
       first = n;
       same =
           owned-append own x.plan.id n (map (λ q. (x, q)) (parts_of x.memory)) (all_parts xs)
           ∙ (λ i. own_all own x.plan.id n x (parts_of x.memory) (text_eq_same x.plan.id) i ++ none_of own x.plan.id next xs (all_apart x xs heads) i)
           ∙ append-nil (own_parts own x.plan.id x n (parts_of x.memory));
+      there = λ e b. subst (λ ds. Among ds e) (sym apart) (Among-left (drawn_parts c n mine) (drawn_parts c next (all_parts xs)) e b);
     }))
     (λ (later : Among xs y).
-    let r = owned_by own next xs y (IsDistinct-tail text_eq x.plan.id (placed_ids xs) d) later in
+    let r = owned_by c own next xs y (IsDistinct-tail text_eq x.plan.id (placed_ids xs) d) later in
     record {
       first = r.first;
       same =
           owned-append own y.plan.id n (map (λ q. (x, q)) (parts_of x.memory)) (all_parts xs)
           ∙ ap (λ zs. zs ++ owned own y.plan.id next (all_parts xs)) (other_none own y.plan.id n x (parts_of x.memory) (apart_at x y xs heads later))
           ∙ r.same;
+      there = λ e b. subst (λ ds. Among ds e) (sym apart) (Among-right (drawn_parts c n mine) (drawn_parts c next (all_parts xs)) e (r.there e b));
     })
     a
 
