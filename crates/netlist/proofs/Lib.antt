@@ -90,6 +90,7 @@ pub mod NeededInside
 pub mod FixedAims
 pub mod ModuleObeys
 pub mod PartsObey
+pub mod PortStands
 pub mod CombSignals
 pub mod OrderedBits
 pub mod SignalWires

@@ -173,7 +173,7 @@ module _ (c : Circuit) (p : Plan) (y : Memory) (n0 : ℕ) (r : MemRead) (d : Lis
 -- ---- the memories of the module
 
 module _ (c : Circuit) (pool : IsPool c.pool) (design : IsDesign c) (few : length (all_parts (memories_of c)) < 10 ^ 18) where
-  ids_apart : IsDistinct text_eq (placed_ids (memories_of c))
+  pub ids_apart : IsDistinct text_eq (placed_ids (memories_of c))
   ids_apart =
       let names = memory_names c in
       subst (IsDistinct text_eq) (sym (memory_ids c) ∙ ids_of (memories_of c)) (public_apart names (distinct_behind (column_names c) names (names_distinct c pool design few)))
@@ -208,7 +208,7 @@ module _ (c : Circuit) (pool : IsPool c.pool) (design : IsDesign c) (few : lengt
         cells_long k [] = refl
         cells_long k (w ∷ ws) = ap suc (cells_long (suc k) ws)
 
-    lines_are : (module_of c).memories ≡ memory_lines c
+    pub lines_are : (module_of c).memories ≡ memory_lines c
     unfolding module_of
     lines_are = refl
 

@@ -169,7 +169,7 @@ all_apart : (x : Placed) (xs : List Placed) → AllByRecursion (λ i. text_eq x.
 all_apart x [] h = tt
 all_apart x (y ∷ xs) h = (text_eq_flipped y.plan.id x.plan.id ∙ h.0, all_apart x xs h.1)
 
-apart_at : (x : Placed) (y : Placed) (xs : List Placed) → AllByRecursion (λ i. text_eq x.plan.id i ≡ false) (placed_ids xs) → Among xs y → text_eq x.plan.id y.plan.id ≡ false
+pub apart_at : (x : Placed) (y : Placed) (xs : List Placed) → AllByRecursion (λ i. text_eq x.plan.id i ≡ false) (placed_ids xs) → Among xs y → text_eq x.plan.id y.plan.id ≡ false
 apart_at x y [] h a = absurd a
 apart_at x y (z ∷ xs) h a = ⊎_elim (λ (e : z ≡ y). ap (λ (w : Placed). text_eq x.plan.id w.plan.id) (sym e) ∙ h.0) (λ (more : Among xs y). apart_at x y xs h.1 more) a
 
