@@ -38,7 +38,7 @@ design = record {
   };
   processes = [];
   memories = memory ∷ [];
-  domains = record { name = codes "sync"; clk = record { 0 = 0 }; rst = None } ∷ [];
+  domains = record { name = codes "sync"; clk = record { 0 = 0 }; rst = None; falling = false; async_reset = false } ∷ [];
   ports = input 0 ∷ input 1 ∷ input 2 ∷ input 3 ∷ input 4 ∷ input 5 ∷ output 6 ∷ output 7 ∷ [];
   columns =
       column (codes "clk") 0 ∷ column (codes "a") 1 ∷ column (codes "w") 2 ∷ column (codes "n") 3 ∷ column (codes "r") 4 ∷ column (codes "m") 5 ∷ column (codes "d") 6 ∷ column (codes "q") 7 ∷ [];
