@@ -102,6 +102,7 @@ pub mod SettledModule
 pub mod DefinedWires
 pub mod ModuleSteps
 pub mod ModuleHistories
+pub mod KeptRows
 pub mod LatestFits
 pub mod SanityStatements
 pub mod LowerParts

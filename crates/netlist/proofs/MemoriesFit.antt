@@ -30,8 +30,9 @@ use Rattle.rtlil_text.specs.MemoryRules.{HaveOneClock, MemoryFits}
 use Rattle.rtlil_text.proofs.Among.{Among, Among-map, Contains-among}
 use Rattle.memory_cells.specs.declared.plan.Plan.{Plan}
 use Rattle.memory_cells.specs.Plans.{planned}
-use Rattle.memory_cells.specs.Cells.{WritePort, write_cells}
+use Rattle.memory_cells.specs.Cells.{WritePort, init_cell, write_cells}
 use Rattle.memory_cells.specs.Fits.{HasPlan}
+use Rattle.netlist.specs.Ids.{step_id}
 use Rattle.netlist.specs.Operators.{Drawing, nothing}
 use Rattle.netlist.specs.Expressions.{part_count, drawn}
 use Rattle.netlist.specs.Module.{public_id, signal_value, expr_value, Driving, ByEvents, ByComb, ByClock, ByRead, ByNothing, driving, reset_of, register_drawing, driving_drawing, signal_drawing, drawn_from, drawings, other_drawings, all_drawings, module_of, is_there}
@@ -195,10 +196,14 @@ module _ (c : Circuit) (pool : IsPool c.pool) (design : IsDesign c) (few : lengt
         let r = owned_by c (own_writes c) (3 * length c.pool.signals) (memories_of c) x ids_apart among in
         record { first = r.first + 11; cells = module_writes c x.plan.id ∙ r.same ∙ ports_are c x x.plan.id 0 (r.first + 11) x.memory.writes x.memory.reads; drawn = λ d a. r.there d (inr a) }
 
-    one_init : length (inits_of (module_of c) x.plan.id) ≡ 1
-    one_init =
+    -- one cell has its first rows
+    pub own_init : (n : ℕ) × (inits_of (module_of c) x.plan.id ≡ init_cell x.plan (step_id n) x.memory.rows ∷ [])
+    own_init =
         let r = owned_by c (own_inits c) (3 * length c.pool.signals) (memories_of c) x ids_apart among in
-        ap length (module_inits c x.plan.id ∙ r.same) ∙ ap (λ cells. suc (length cells)) (inits_none c x x.plan.id 0 (r.first + 11) x.memory.writes x.memory.reads)
+        (r.first, module_inits c x.plan.id ∙ r.same ∙ ap (λ cells. init_cell x.plan (step_id r.first) x.memory.rows ∷ cells) (inits_none c x x.plan.id 0 (r.first + 11) x.memory.writes x.memory.reads))
+
+    one_init : length (inits_of (module_of c) x.plan.id) ≡ 1
+    one_init = ap length own_init.1
 
     write_count : length (writes_of (module_of c) x.plan.id) ≡ x.plan.writes
     write_count =
