@@ -103,6 +103,7 @@ pub mod DefinedWires
 pub mod ModuleSteps
 pub mod ModuleHistories
 pub mod KeptRows
+pub mod KeptReads
 pub mod LatestFits
 pub mod SanityStatements
 pub mod LowerParts
