@@ -91,10 +91,10 @@ module _ (c : Circuit) (rules : IsModule (module_of c)) (p : Plan) (m : Memory) 
       let e : Drawing = read_drawing c p m n r in
       Among-right (drawings c) (other_drawings c) e (Among-right (map (signal_drawing c) (range_with_len 0 (length c.pool.signals))) (memory_drawings c) e a)
 
-  behind_is : (b : Bool) → names_rows c m r.addr ≡ b → read_behind c p m n r ≡ (if b then one_cell (reading c p m n r (Some d) word_spec) else guarded_read c p m n r (Some d))
+  pub behind_is : (b : Bool) → names_rows c m r.addr ≡ b → read_behind c p m n r ≡ (if b then one_cell (reading c p m n r (Some d) word_spec) else guarded_read c p m n r (Some d))
   behind_is b e i = if e i then one_cell (reading c p m n r (clocked i) word_spec) else guarded_read c p m n r (clocked i)
 
-  held_cell : (x : RtlCell) → Among (read_behind c p m n r).cells x → Contains (module_of c).cells x
+  pub held_cell : (x : RtlCell) → Among (read_behind c p m n r).cells x → Contains (module_of c).cells x
   held_cell x b = cell_held c (read_drawing c p m n r) x drawn (Among-right (address_guard c m n r.addr).cells (read_behind c p m n r).cells x b)
 
   -- the wire of its data
@@ -117,6 +117,11 @@ module _ (c : Circuit) (rules : IsModule (module_of c)) (p : Plan) (m : Memory) 
 
     pub flag_driver : driver (module_of c) (step_id (n + 8)) 0 ≡ ByCell flag_cell 0
     flag_driver = driver-cell (module_of c) flag_cell 0 (step_id (n + 8)) 0 rules (held_cell flag_cell (subst (λ (x : Drawing). Among x.cells flag_cell) (sym (behind_is false e)) (inr (inl refl)))) refl
+
+    pub wire_keeps-flag : (kept : Kept) (inputs : Inputs) → rtl.wire_bit (module_of c) kept inputs (step_id (n + 8)) 0 ≡ kept.registers (step_id (n + 8)) 0
+    wire_keeps-flag kept inputs =
+        wire_bit-driven (module_of c) kept inputs (step_id (n + 8)) 0
+        ∙ ap (driven_bit (module_of c) kept inputs (source_value (rtl.wire_bit (module_of c) kept inputs)) (step_id (n + 8)) 0) flag_driver
 
     flag_among : Among (module_of c).wires (flag_wire n)
     flag_among =
@@ -145,8 +150,7 @@ module _ (c : Circuit) (rules : IsModule (module_of c)) (p : Plan) (m : Memory) 
         by true e = kept_at (wire_id c r.word.0) i word_spec (word_driver e wide i l) ∙ h.exact e i l
         by false e =
             let k = h.guarded e in
-            let flagged : wires (step_id (n + 8)) 0 ≡ Some k.flag =
-            wire_bit-driven (module_of c) kept inputs (step_id (n + 8)) 0 ∙ ap (driven_bit (module_of c) kept inputs (source_value wires) (step_id (n + 8)) 0) (flag_driver e) ∙ k.flagged in
+            let flagged : wires (step_id (n + 8)) 0 ≡ Some k.flag = wire_keeps-flag e kept inputs ∙ k.flagged in
             let mux : RtlCell = zeros_unless (step_id (n + 6)) m.shape.width raw_spec (one_bit (step_id (n + 8))) word_spec in
             let held_mux : Contains (module_of c).cells mux = held_cell mux (subst (λ (x : Drawing). Among x.cells mux) (sym (behind_is false e)) (inr (inr (inr (inl refl))))) in
             shown wires c m n r wide (at held r.word.0) k.flag k.raw flagged (λ j b. kept_at (step_id (n + 5)) j raw_spec (raw_driver e j b) ∙ k.stored j b) k.behind (obeys_logic (module_of c) rules kept inputs mux held_mux refl) i l

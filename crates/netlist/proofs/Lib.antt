@@ -104,6 +104,7 @@ pub mod ModuleSteps
 pub mod ModuleHistories
 pub mod KeptRows
 pub mod KeptReads
+pub mod KeptReadSteps
 pub mod LatestFits
 pub mod SanityStatements
 pub mod LowerParts
