@@ -105,6 +105,7 @@ pub mod ModuleHistories
 pub mod KeptRows
 pub mod KeptReads
 pub mod KeptReadSteps
+pub mod ReadMoves
 pub mod LatestFits
 pub mod SanityStatements
 pub mod LowerParts

@@ -61,7 +61,7 @@ any_among (x ∷ rs) r a = ⊎_elim
     (λ (later : Among rs r). or_right (is_among (word_of x) r.word.0) (list_any (has_it r.word.0) (map word_of rs)) (any_among rs r later))
     a
 
-located_has : (ms : List Memory) (all : List (List ℤ)) (m : Memory) (rows : List ℤ) (r : MemRead) → Located ms all m rows r → list_any (has_it r.word.0) (words_of ms) ≡ true
+pub located_has : (ms : List Memory) (all : List (List ℤ)) (m : Memory) (rows : List ℤ) (r : MemRead) → Located ms all m rows r → list_any (has_it r.word.0) (words_of ms) ≡ true
 located_has [] all m rows r l = absurd l
 located_has (x ∷ ms) [] m rows r l = absurd l
 located_has (x ∷ ms) (own ∷ more) m rows r l =

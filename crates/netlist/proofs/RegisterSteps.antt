@@ -111,7 +111,7 @@ module _ (c : Circuit) (env : List ℤ) (listed : List DomainId) (s : ℕ) where
   toggle_at-other cur None h = refl
   toggle_at-other cur (Some x) h = get_or-set_other cur x.clk.0 s (pos 1 -ℤ at cur x.clk.0) (pos 0) (h x refl)
 
-  toggles-other : (ds : List DomainId) (cur : List ℤ) → ((d : DomainId) (x : Domain) → slice_get c.domains d.0 ≡ Some x → s ≢ x.clk.0) → at (fold (toggle c.domains) cur ds) s ≡ at cur s
+  pub toggles-other : (ds : List DomainId) (cur : List ℤ) → ((d : DomainId) (x : Domain) → slice_get c.domains d.0 ≡ Some x → s ≢ x.clk.0) → at (fold (toggle c.domains) cur ds) s ≡ at cur s
   toggles-other [] cur h = refl
   toggles-other (d ∷ ds) cur h = toggles-other ds (toggle c.domains cur d) h ∙ toggle_at-other cur (slice_get c.domains d.0) (λ x e. h d x e)
 
@@ -121,7 +121,7 @@ all_at P (y ∷ xs) zero x h e = let same : y ≡ x = cc in subst P same h.0
 all_at P (y ∷ xs) (suc k) x h e = all_at P xs k x h.1 e
 
 -- a signal that is no input is no clock
-no_clock : (c : Circuit) (s : ℕ) → AllByRecursion (IsClockDomain c) c.domains → is_input c s ≡ false → (d : DomainId) (x : Domain) → slice_get c.domains d.0 ≡ Some x → s ≢ x.clk.0
+pub no_clock : (c : Circuit) (s : ℕ) → AllByRecursion (IsClockDomain c) c.domains → is_input c s ≡ false → (d : DomainId) (x : Domain) → slice_get c.domains d.0 ≡ Some x → s ≢ x.clk.0
 no_clock c s h none d x e same =
     let input : is_input c x.clk.0 ≡ true = (all_at (IsClockDomain c) c.domains d.0 x h e).clock_input in
     false≢true (sym none ∙ ap (is_input c) same ∙ input)
