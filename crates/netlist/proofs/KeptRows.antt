@@ -1,11 +1,12 @@
 -- The rows of a design's memories in the state of its module: at first, and after an event.
 use Rattle.std.specs.Prelude.{◌≡◌, ◌<◌, ◌^◌, Bool, true, false, cond, List, [], ◌∷◌, map, length, slice_set, ℤ, Some, fold}
 use Rattle.std.specs.List.{AllByRecursion, AllZip, filter}
-use Rattle.std.proofs.Common.{refl, sym, ap, ◌∙◌, arith, subst, inl, inr}
+use Rattle.std.proofs.Common.{refl, sym, ap, ◌∙◌, arith, subst, inl, inr, ⊎_elim}
 use Rattle.std.proofs.lemmas.Bool.{cond_both}
 use Rattle.std.proofs.lemmas.List.{length-set}
 use Rattle.design_ir.specs.declared.ids.DomainId.{DomainId}
 use Rattle.design_ir.specs.declared.memory.MemWrite.{MemWrite}
+use Rattle.design_ir.specs.declared.memory.MemRead.{MemRead}
 use Rattle.design_ir.specs.declared.memory.Memory.{Memory}
 use Rattle.design_ir.specs.PoolRules.{IsPool}
 use Rattle.design_ir.specs.Circuits.{Circuit}
@@ -23,6 +24,7 @@ use Rattle.netlist.specs.SignalDrawings.{is_there}
 use Rattle.netlist.specs.MemoryDrawings.{Placed, memories_of, all_parts}
 use Rattle.netlist.specs.Module.{module_of}
 use Rattle.netlist.proofs.ReadWires.{memories_are}
+use Rattle.netlist.proofs.ReadData.{Located}
 use Rattle.netlist.proofs.MemoriesFit.{IsPlaced, plans_are, own_init}
 
 -- the rows of the memories that are memories of the module
@@ -128,3 +130,40 @@ module _ (t : Moment) (follow : RowsFollow) (stand : (x : Placed) → Among (mem
 
   pub rows_kept : (all : List (List ℤ)) → KeepsRows t.design t.st all → KeepsRows t.design next (rows_after t.design t.env t.listed t.design.memories all)
   rows_kept all h = all_after t.design.memories all (memories_of t.design) (memories_are t.design) (λ x a. a) h
+
+-- ---- the rows of one memory
+
+-- a port of a memory of the module stands in the design beside rows that the state keeps
+pub record IsLocated (kept : Kept) (ms : List Memory) (all : List (List ℤ)) (x : Placed) (r : MemRead) : Type 0 where
+  pub rows : List ℤ
+  pub located : Located ms all x.memory rows r
+  pub has : HasItsRows kept x rows
+
+module _ (kept : Kept) (x : Placed) (r : MemRead) (port : Among x.memory.reads r) where
+  abbrev Locates : List Memory → List (List ℤ) → List Placed → Type 0
+  Locates ms all xs = AllZip (HasItsRows kept) xs (rows_there ms all) → Among xs x → IsLocated kept ms all x r
+
+  locate_turn : (m : Memory) (ms : List Memory) (rows : List ℤ) (all : List (List ℤ)) → ((xs : List Placed) → map (λ (y : Placed). y.memory) xs ≡ filter is_there ms → Locates ms all xs)
+      → (b : Bool) (ys : List Placed) → map (λ (y : Placed). y.memory) ys ≡ cond b (m ∷ filter is_there ms) (filter is_there ms)
+      → AllZip (HasItsRows kept) ys (cond b (rows ∷ rows_there ms all) (rows_there ms all)) → Among ys x → IsLocated kept (m ∷ ms) (rows ∷ all) x r
+  locate_turn m ms rows all more false ys e h a = let k = more ys e h a in record { rows = k.rows; located = inr k.located; has = k.has }
+  locate_turn m ms rows all more true [] e h a = absurd a
+  locate_turn m ms rows all more true (y ∷ ys) e h a =
+      let same : y.memory ≡ m = cc in
+      let rest : map (λ (z : Placed). z.memory) ys ≡ filter is_there ms = cc in
+      ⊎_elim
+      (λ (here : y ≡ x).
+      let own : m ≡ x.memory = sym same ∙ ap (λ (z : Placed). z.memory) here in
+      record { rows = rows; located = inl (own, refl, subst (λ (z : Memory). Among z.reads r) (sym own) port); has = subst (λ (z : Placed). HasItsRows kept z rows) here h.0 })
+      (λ (later : Among ys x). let k = more ys rest h.1 later in record { rows = k.rows; located = inr k.located; has = k.has })
+      a
+
+  locate : (ms : List Memory) (all : List (List ℤ)) (xs : List Placed) → map (λ (y : Placed). y.memory) xs ≡ filter is_there ms → Locates ms all xs
+  locate [] all [] e h a = absurd a
+  locate [] all (y ∷ xs) e h a = cc
+  locate (m ∷ ms) [] [] e h a = absurd a
+  locate (m ∷ ms) [] (y ∷ xs) e h a = absurd h
+  locate (m ∷ ms) (rows ∷ all) xs e h a = locate_turn m ms rows all (λ ys k. locate ms all ys k) (is_there m) xs e h a
+
+  pub port_located : (c : Circuit) (all : List (List ℤ)) → KeepsRows c kept all → Among (memories_of c) x → IsLocated kept c.memories all x r
+  port_located c all h a = locate c.memories all (memories_of c) (memories_are c) h a
