@@ -106,6 +106,7 @@ pub mod KeptRows
 pub mod KeptReads
 pub mod KeptReadSteps
 pub mod ReadMoves
+pub mod KeptMemories
 pub mod LatestFits
 pub mod SanityStatements
 pub mod LowerParts
