@@ -1,6 +1,6 @@
 -- What the state of a design's module keeps of the design's memories: their rows, and the data of clocked read ports.
 use Rattle.std.specs.Prelude.{◌≡◌, ◌<◌, ◌+◌, ◌*◌, ◌^◌, ℕ, suc, List, [], ◌∷◌, ◌++◌, map, length, ◌⊎◌, Some}
-use Rattle.std.proofs.Common.{ap, inl, inr, ⊎_elim}
+use Rattle.std.proofs.Common.{ap, subst, inl, inr, ⊎_elim}
 use Rattle.shape_rules.specs.Forms.{Form}
 use Rattle.design_ir.specs.declared.memory.MemWrite.{MemWrite}
 use Rattle.design_ir.specs.declared.memory.MemRead.{MemRead}
@@ -58,6 +58,20 @@ of_memory x r a = ⊎_elim
     (Among-append (write_parts 0 x.memory.writes) (map Reads x.memory.reads) (Reads r) later))
     a
 
+pair_own : (y x : Placed) (r : MemRead) (qs : List Part) → Among {A = Placed × Part} (map (λ p. (y, p)) qs) (x, Reads r) → (y ≡ x) × Among qs (Reads r)
+pair_own y x r [] a = absurd a
+pair_own y x r (p ∷ qs) a = ⊎_elim
+    (λ e. (ap (λ (z : Placed × Part). z.0) e, inl (ap (λ (z : Placed × Part). z.1) e)))
+    (λ later. let more = pair_own y x r qs later in (more.0, inr more.1)) a
+
+read_of : (xs : List Placed) (x : Placed) (r : MemRead) → Among {A = Placed × Part} (all_parts xs) (x, Reads r) → Among x.memory.reads r
+read_of [] x r a = absurd a
+read_of (y ∷ xs) x r a = ⊎_elim
+    (λ (here : Among {A = Placed × Part} (map (λ p. (y, p)) (parts_of y.memory)) (x, Reads r)).
+    let own = pair_own y x r (parts_of y.memory) here in of_memory x r (subst (λ (z : Placed). Among (parts_of z.memory) (Reads r)) own.0 own.1))
+    (λ (later : Among {A = Placed × Part} (all_parts xs) (x, Reads r)). read_of xs x r later)
+    (Among-append (map (λ p. (y, p)) (parts_of y.memory)) (all_parts xs) (x, Reads r) a)
+
 -- ---- all memories
 
 -- a read port of the module, whose ids are numbered from n on
@@ -74,8 +88,11 @@ module _ (c : Circuit) (pool : IsPool c.pool) (design : IsDesign c) (few : lengt
     unfolding memory_drawings
     read_among = numbered_drawn c (3 * length c.pool.signals) (all_parts (memories_of c)) n x (Reads r) here
 
-    part_among : Among {A = Placed × Part} (all_parts (memories_of c)) (x, Reads r)
+    pub part_among : Among {A = Placed × Part} (all_parts (memories_of c)) (x, Reads r)
     part_among = numbered_among (3 * length c.pool.signals) (all_parts (memories_of c)) n x (Reads r) here
+
+    pub own_read_among : Among x.memory.reads r
+    own_read_among = read_of (memories_of c) x r part_among
 
     pub read_placed : IsPlaced x
     read_placed = AllByRecursion-among IsPlaced (memories_of c) x (plans_are c pool design few) (placed_among (memories_of c) x (Reads r) part_among)

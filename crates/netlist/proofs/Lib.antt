@@ -107,6 +107,7 @@ pub mod KeptReads
 pub mod KeptReadSteps
 pub mod ReadMoves
 pub mod KeptMemories
+pub mod MovedMemories
 pub mod LatestFits
 pub mod SanityStatements
 pub mod LowerParts
