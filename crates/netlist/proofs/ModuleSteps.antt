@@ -120,7 +120,7 @@ module _ (c : Circuit) (design : IsDesign c) (module_rules : IsModule (module_of
 
 -- ---- registers after an event
 
-unmoved : (v : Option Bool) → is_edge 1 v v ≡ false
+pub unmoved : (v : Option Bool) → is_edge 1 v v ≡ false
 unmoved None = refl
 unmoved (Some true) = refl
 unmoved (Some false) = refl
@@ -130,6 +130,23 @@ any_at t [] k x e h = cc
 any_at t (y ∷ xs) zero x e h = let same : y ≡ x = cc in or_left (t y) (list_any t xs) (ap t same ∙ h)
 any_at t (y ∷ xs) (suc k) x e h = or_right (t y) (list_any t xs) (any_at t xs k x e h)
 
+-- the bit of a clock stays where an input takes a number
+module _ (c : Circuit) (design : IsDesign c) (module_rules : IsModule (module_of c)) (kept : Kept) (ins : List ℤ) (d : DomainId) (x : Domain) (is : slice_get c.domains d.0 ≡ Some x) (t : SigId) (n : ℤ) (legal : IsLegal c (Set t n)) where
+  pub clock_still : bit_at (source_value (wire_bit (module_of c) kept (inputs_at c (slice_set ins t.0 n)))) (spec_bits (clock_of c d)) 0 ≡ bit_at (source_value (wire_bit (module_of c) kept (inputs_at c ins))) (spec_bits (clock_of c d)) 0
+  clock_still =
+      let rule : IsClockDomain c x = all_at (IsClockDomain c) c.domains d.0 x design.domains is in
+      let clk : ℕ = x.clk.0 in
+      let w : ℕ = (signal_form c.pool.signals clk).width in
+      let wide : w ≡ 1 = ap (λ (f : Form). f.width) rule.clock.shape in
+      let apart : clk ≢ t.0 = λ q. false≢true (sym legal.1 ∙ any_at (λ (y : Domain). y.clk.0 == t.0) c.domains d.0 x is (eq-eqb clk t.0 q)) in
+      let spec : clock_of c d ≡ whole (signal_value c clk) = ap (λ o. unwrap_or (option_map (λ (y : Domain). whole (signal_value c y.clk.0)) o) []) is in
+      let bit = λ (xs : List ℤ). bit_at-whole (wire_bit (module_of c) kept (inputs_at c xs)) (signal_value c clk) 0 (omega (arith, wide)) ∙ input_wire_bit c design module_rules kept xs clk 0 rule.clock_input (omega (arith, wide)) in
+      ap (λ v. bit_at (source_value (wire_bit (module_of c) kept (inputs_at c (slice_set ins t.0 n)))) (spec_bits v) 0) spec
+      ∙ bit (slice_set ins t.0 n)
+      ∙ ap (λ z. slice_get (number_bits w (pattern w z)) 0) (get_or-set_other ins t.0 clk n (pos 0) apart)
+      ∙ sym (bit ins)
+      ∙ ap (λ v. bit_at (source_value (wire_bit (module_of c) kept (inputs_at c ins))) (spec_bits v) 0) (sym spec)
+
 module _ (c : Circuit) (rules : IsPool c.pool) (design : IsDesign c) (rising : AllRisingSync c) (plain : ArePlain c) (module_rules : IsModule (module_of c))
     (st : State) (env : List ℤ) (settled : Settled c st env) (fit : FitsSignals c.pool env) (kept : Kept) (ins : List ℤ) (count : length st.held ≡ length c.pool.signals) (agree : AgreeOnInputs c ins st.held) (keeps : Keeps c kept st.held)
     (signals : (s : ℕ) → Carries (wire_bit (module_of c) kept (inputs_at c ins)) (signal_value c s) (at env s)) (shows : Shows (wire_bit (module_of c) kept (inputs_at c ins)) c env) where
@@ -137,28 +154,13 @@ module _ (c : Circuit) (rules : IsPool c.pool) (design : IsDesign c) (rising : A
 
   module _ (s : ℕ) (p : DesignProcess) (d : DomainId) (clock : driving c s ≡ ByClock p d) (i : ℕ) (l : i < (signal_form c.pool.signals s).width) where
     module _ (t : SigId) (n : ℤ) (legal : IsLegal c (Set t n)) where
-      clock_still : bit_at (source_value (wire_bit (module_of c) kept (inputs_at c (slice_set ins t.0 n)))) (spec_bits (clock_of c d)) 0 ≡ bit_at (source_value (wire_bit (module_of c) kept (inputs_at c ins))) (spec_bits (clock_of c d)) 0
-      clock_still =
-          let x : (y : Domain) × (slice_get c.domains d.0 ≡ Some y) = its_domain c design rules plain s p d clock in
-          let rule : IsClockDomain c x.0 = all_at (IsClockDomain c) c.domains d.0 x.0 design.domains x.1 in
-          let clk : ℕ = x.0.clk.0 in
-          let w : ℕ = (signal_form c.pool.signals clk).width in
-          let wide : w ≡ 1 = ap (λ (f : Form). f.width) rule.clock.shape in
-          let apart : clk ≢ t.0 = λ q. false≢true (sym legal.1 ∙ any_at (λ (y : Domain). y.clk.0 == t.0) c.domains d.0 x.0 x.1 (eq-eqb clk t.0 q)) in
-          let spec : clock_of c d ≡ whole (signal_value c clk) = ap (λ o. unwrap_or (option_map (λ (y : Domain). whole (signal_value c y.clk.0)) o) []) x.1 in
-          let bit = λ (xs : List ℤ). bit_at-whole (wire_bit (module_of c) kept (inputs_at c xs)) (signal_value c clk) 0 (omega (arith, wide)) ∙ input_wire_bit c design module_rules kept xs clk 0 rule.clock_input (omega (arith, wide)) in
-          ap (λ v. bit_at (source_value (wire_bit (module_of c) kept (inputs_at c (slice_set ins t.0 n)))) (spec_bits v) 0) spec
-          ∙ bit (slice_set ins t.0 n)
-          ∙ ap (λ z. slice_get (number_bits w (pattern w z)) 0) (get_or-set_other ins t.0 clk n (pos 0) apart)
-          ∙ sym (bit ins)
-          ∙ ap (λ v. bit_at (source_value (wire_bit (module_of c) kept (inputs_at c ins))) (spec_bits v) 0) (sym spec)
-
       set_keeps : next_bit (module_of c) kept (inputs_at c ins) (inputs_at c (slice_set ins t.0 n)) (register_at c s p d (step_id (3 * s))) i (kept.registers (wire_id c s) i) Dff ≡ Some (bit_of (at (slice_set st.held t.0 n) s) i)
       set_keeps =
           let D = bit_at (source_value (wire_bit (module_of c) kept (inputs_at c ins))) (spec_bits (next_spec c s p (reset_of c s d))) i in
           let old = bit_at (source_value (wire_bit (module_of c) kept (inputs_at c ins))) (spec_bits (clock_of c d)) 0 in
           let apart : s ≢ t.0 = λ q. false≢true (sym (is_clocked c p d s clock).no_input ∙ ap (is_input c) q ∙ legal.0) in
-          ap (λ v. cond (is_edge 1 old v) D (kept.registers (wire_id c s) i)) clock_still
+          let x : (y : Domain) × (slice_get c.domains d.0 ≡ Some y) = its_domain c design rules plain s p d clock in
+          ap (λ v. cond (is_edge 1 old v) D (kept.registers (wire_id c s) i)) (clock_still c design module_rules kept ins d x.0 x.1 t n legal)
           ∙ ap (λ b. cond b D (kept.registers (wire_id c s) i)) (unmoved old)
           ∙ keeps s p d clock i l
           ∙ ap (λ z. Some (bit_of z i)) (sym (get_or-set_other st.held t.0 s n (pos 0) apart))
