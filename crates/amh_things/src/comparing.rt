@@ -11,7 +11,7 @@ use crate::thing::Member;
 use crate::values::Values;
 use amh_bits::Int;
 use lists::NoMemory;
-use py_values::{Val, Vals};
+use py_values::{Number, Val, Vals};
 use std::alloc::Global;
 
 // The member that a value of the program is.
@@ -29,7 +29,7 @@ pub fn plain(values: &Values, v: &Val) -> Val
     ensures { result ≡ plain values.now v.now }
 {
     match member_meant(values, v) {
-        Some(m) => Val::Int(m.number),
+        Some(m) => Val::Int(Number::of(m.number)),
         None => *v,
     }
 }

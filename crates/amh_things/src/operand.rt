@@ -241,7 +241,7 @@ pub fn number_of(v: &Val) -> Option<Int>
 {
     match v {
         Val::Bool(b) => Some(bit_number(*b)),
-        Val::Int(n) => Some(*n),
+        Val::Int(n) => Some(n.int()),
         _ => None,
     }
 }

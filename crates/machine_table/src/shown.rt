@@ -1,8 +1,7 @@
 // Values, as text.
 
-use amh_bits::Int;
 use py_machine::Machine;
-use py_values::{Frozen, ObjId, Val};
+use py_values::{Frozen, Number, ObjId, Val};
 use std::alloc::Global;
 use table_text::Stop;
 
@@ -73,7 +72,7 @@ impl<'a> Shown<'a> {
             Val::None => self.word("None"),
             Val::Bool(true) => self.word("True"),
             Val::Bool(false) => self.word("False"),
-            Val::Int(n) => self.word(format!(in self.alloc; "{n}")?.as_str()),
+            Val::Int(n) => self.word(format!(in self.alloc; "{}", n.int())?.as_str()),
             Val::Time(t) => self.word(format!(in self.alloc; "{t}fs")?.as_str()),
             Val::Hw(h) => self.word(format!(in self.alloc; "#{}", h.0)?.as_str()),
             Val::Str(s) => self.quoted(self.machine.text(self.frozen, s)),
@@ -154,7 +153,7 @@ impl<'a> Shown<'a> {
         self.leaf(*first)?;
         self.word(", ")?;
         self.leaf(*end)?;
-        if *step != Val::Int(Int::of_u128(1)) {
+        if *step != Val::Int(Number::of_u128(1)) {
             self.word(", ")?;
             self.leaf(*step)?;
         }

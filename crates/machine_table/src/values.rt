@@ -1,7 +1,7 @@
 // Values of answers.
 
 use crate::requests::{Requests, value_at, value_named};
-use py_values::{FuncId, Hw, Val};
+use py_values::{FuncId, Hw, Number, Val};
 use table_text::{Stop, count, integer};
 
 // The builtins without a name of their own: they stand behind the others among the first functions of each heap.
@@ -28,7 +28,7 @@ pub fn value_of(requests: &Requests, word: &str) -> Result<Val, Stop> {
     if let Some((r, name)) = word.split_once(':') {
         return value_named(requests, count(r)?, name);
     }
-    Ok(Val::Int(integer(word)?))
+    Ok(Val::Int(Number::of(integer(word)?)))
 }
 
 fn thing(number: &str) -> Result<Val, Stop> {

@@ -6,7 +6,6 @@ ghost use Rattle.py_calls.specs.Going_over.{start_of};
 ghost use Rattle.py_frames.specs.Frames.{GoesOn};
 
 use crate::call_enter::first_of;
-use amh_bits::Int;
 use amh_host::{NoMemory, Place};
 use py_frames::binds::refused;
 use py_frames::call_leaf::{give, raise};
@@ -15,7 +14,7 @@ use py_frames::functions::Functions;
 use py_frames::going::Going;
 use py_frames::operators::{built, has_thing, is_thing, operated};
 use py_frames::state::Halt;
-use py_values::{Builtin, Frozen, PyOp, Val, Vals, ValueStop};
+use py_values::{Builtin, Frozen, Number, PyOp, Val, Vals, ValueStop};
 
 // What `sum` goes over, where there are things among that or it begins with one.
 fn adds_things(going: &Going, frozen: &Frozen, args: &[Val]) -> Result<bool, NoMemory>
@@ -39,7 +38,7 @@ fn start_of(args: &[Val]) -> Val
 {
     match args {
         [_, start] => *start,
-        _ => Val::Int(Int::of_u128(0)),
+        _ => Val::Int(Number::of_u128(0)),
     }
 }
 

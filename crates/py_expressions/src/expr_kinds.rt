@@ -1,7 +1,7 @@
 // Values and displays, where they begin: a literal or a name is a value, and a display begins its first item.
 ghost use Rattle.std.specs.Prelude.{◌≡◌, ◌<◌, ◌≤◌, OnOk, map};
 ghost use Rattle.py_tree.specs.Seen.{tree, pair_tree, each_of};
-ghost use Rattle.py_tree.specs.Tree.{Name as Read_name, Number, Decimal_time, Quotient, Str, Format, Constant_value, Tuple, Display, Dict, ListOf, DictOf, trees, pairs};
+ghost use Rattle.py_tree.specs.Tree.{Name as Read_name, Number as Read_number, Decimal_time, Quotient, Str, Format, Constant_value, Tuple, Display, Dict, ListOf, DictOf, trees, pairs};
 ghost use Rattle.py_frames.specs.declared.frame.Purpose.TheVariants.{Plain};
 ghost use Rattle.py_frames.specs.Begun.{value_after};
 ghost use Rattle.py_frames.specs.Frames.{GoesOn};
@@ -9,7 +9,6 @@ ghost use Rattle.py_frames.specs.Frames.{GoesOn};
 use crate::expr_format::pieces_shown;
 use crate::expr_items::{next_item, next_pair};
 use crate::times::{decimal_time, divided_time};
-use amh_bits::Int;
 use py_frames::expr_names::read_name;
 use py_frames::expr_values::new_literal;
 use py_frames::frame::{Comprehended, Now};
@@ -19,7 +18,7 @@ use py_frames::leaf::constant_val;
 use py_frames::request::Cause;
 use py_frames::state::{Got, Halt};
 use py_tree::{Amount, Comprehension, Constant, Decimal, Expr, Name, Pair, Pieces};
-use py_values::{Frozen, Val, Vals};
+use py_values::{Frozen, Number, Val, Vals};
 use py_walks::comprehensions::begun_comprehension;
 
 // The value of a name.
@@ -49,11 +48,11 @@ pub fn begun_number(
     n: u128,
     _budget: u64,
 ) -> Result<Now, Halt>
-    requires { tree e.now ≡ Number e.now.place n }
+    requires { tree e.now ≡ Read_number e.now.place n }
     ensures moves { GoesOn _functions.now _frozen.now result going.old going.new _budget (λ k. value_after k Plain (tree e.now)) }
     ensures used { going.new.state.used ≡ going.old.state.used }
 {
-    Ok(Now::Came(Got::Value(Val::Int(Int::of_u128(n)))))
+    Ok(Now::Came(Got::Value(Val::Int(Number::of_u128(n)))))
 }
 
 // A constant.

@@ -22,3 +22,4 @@ pub mod Indices
 pub mod Lists
 pub mod Builtins
 pub mod Keys
+pub mod Limbs

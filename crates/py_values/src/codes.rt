@@ -21,7 +21,7 @@ pub(crate) fn code_of(k: Val) -> Option<Code>
 {
     match k {
         Val::Bool(b) => Some(number_code(bit_number(b))),
-        Val::Int(n) => Some(number_code(n)),
+        Val::Int(n) => Some(number_code(n.int())),
         Val::Hw(thing) => Some(Code::Thing(thing.0)),
         _ => None,
     }

@@ -5,6 +5,7 @@ ghost use Rattle.py_values.specs.Runs.{Answers};
 ghost use Rattle.py_values.specs.Elements.{keys_in, elements, element, counts_to, sized};
 
 use crate::heap::{Frozen, Heap};
+use crate::number::Number;
 use crate::range::span_of;
 use crate::spans::{span_counts, span_element, span_listed, span_sized};
 use crate::val::{Val, ValueStop};
@@ -78,7 +79,7 @@ impl Heap {
             Val::List(o) | Val::Tuple(o) => value_at(self.row(frozen, o), i),
             Val::Dict(o) => key_at(self.row(frozen, o), i),
             Val::Range(o) => match span_element(&span_of(self.row(frozen, o)), i as u128) {
-                Some(n) => Some(Val::Int(n)),
+                Some(n) => Some(Val::Int(Number::of(n))),
                 None => None,
             },
             _ => None,

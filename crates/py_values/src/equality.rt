@@ -39,7 +39,7 @@ fn beside_number(m: Int, b: Val) -> Pair
 {
     match b {
         Val::Bool(y) => Pair::Numbers(m, bit_number(y)),
-        Val::Int(n) => Pair::Numbers(m, n),
+        Val::Int(n) => Pair::Numbers(m, n.int()),
         Val::Time(_) | Val::Dict(_) | Val::Range(_) | Val::Hw(_) => Pair::Refused,
         _ => Pair::Known(false),
     }
@@ -127,7 +127,7 @@ pub(crate) fn pair_of(a: Val, b: Val) -> Pair
     match a {
         Val::None => beside_none(b),
         Val::Bool(x) => beside_number(bit_number(x), b),
-        Val::Int(m) => beside_number(m, b),
+        Val::Int(m) => beside_number(m.int(), b),
         Val::Str(x) => beside_text(x, b),
         Val::List(x) => beside_list(x, b),
         Val::Tuple(x) => beside_tuple(x, b),

@@ -14,6 +14,7 @@ use crate::change::index_place;
 use crate::fresh::Fresh;
 use crate::heap::{Frozen, Heap};
 use crate::members::is_key;
+use crate::number::Number;
 use crate::numbers::number_of;
 use crate::range::span_of;
 use crate::spans::span_item;
@@ -80,7 +81,7 @@ fn number_at(row: &[Val], n: Option<Int>) -> Option<Val>
 {
     match n {
         Some(n) => match span_item(&span_of(row), n) {
-            Some(m) => Some(Val::Int(m)),
+            Some(m) => Some(Val::Int(Number::of(m))),
             None => None,
         },
         None => None,

@@ -3,6 +3,7 @@ ghost use Rattle.std.specs.Prelude.{◌≡◌, ◌↔◌, ◌<ℤ◌, IsTrue, in
 ghost use Rattle.py_values.specs.Numbers.{bit_number, number_of, is_zero, quotient, remainder, calculated, turned, with_bits, with_bit, on_numbers, on_number};
 ghost use Rattle.py_values.specs.Widened.{widened};
 
+use crate::number::Number;
 use crate::op::PyOp;
 use crate::powers::{powered, shifted_down, shifted_up};
 use crate::val::{NumberStop, Val};
@@ -21,7 +22,7 @@ pub(crate) fn number_of(v: Val) -> Option<Int>
 {
     match v {
         Val::Bool(b) => Some(bit_number(b)),
-        Val::Int(n) => Some(n),
+        Val::Int(n) => Some(n.int()),
         _ => None,
     }
 }
@@ -31,7 +32,7 @@ pub(crate) fn widened(n: Result<Int, TooWide>) -> Result<Val, NumberStop>
     ensures { result ≡ widened n }
 {
     match n {
-        Ok(n) => Ok(Val::Int(n)),
+        Ok(n) => Ok(Val::Int(Number::of(n))),
         Err(_) => Err(NumberStop::Width),
     }
 }
@@ -65,7 +66,7 @@ fn remainder(a: Int, b: Int) -> Result<Val, NumberStop>
     if is_zero(b) {
         Err(NumberStop::Raised)
     } else {
-        Ok(Val::Int(a.floor_rem(b)))
+        Ok(Val::Int(Number::of(a.floor_rem(b))))
     }
 }
 
@@ -99,7 +100,7 @@ fn turned(op: PyOp, a: Int) -> Result<Val, NumberStop>
 {
     match op {
         PyOp::Neg => widened(Int::of_u128(0).sub(a)),
-        PyOp::Pos => Ok(Val::Int(a)),
+        PyOp::Pos => Ok(Val::Int(Number::of(a))),
         PyOp::Invert => widened(a.not()),
         _ => Err(NumberStop::Raised),
     }
@@ -123,7 +124,7 @@ fn with_bit(op: PyOp, x: bool, b: Val) -> Result<Val, NumberStop>
 {
     match b {
         Val::Bool(y) => with_bits(op, x, y),
-        Val::Int(n) => calculated(op, bit_number(x), n),
+        Val::Int(n) => calculated(op, bit_number(x), n.int()),
         _ => Err(NumberStop::Raised),
     }
 }
@@ -135,7 +136,7 @@ pub(crate) fn on_numbers(op: PyOp, a: Val, b: Val) -> Result<Val, NumberStop>
     match a {
         Val::Bool(x) => with_bit(op, x, b),
         Val::Int(m) => match number_of(b) {
-            Some(n) => calculated(op, m, n),
+            Some(n) => calculated(op, m.int(), n),
             None => Err(NumberStop::Raised),
         },
         _ => Err(NumberStop::Raised),

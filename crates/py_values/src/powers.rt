@@ -2,6 +2,7 @@
 ghost use Rattle.std.specs.Prelude.{◌≡◌};
 ghost use Rattle.py_values.specs.Numbers.{powered, shifted_up, shifted_down};
 
+use crate::number::Number;
 use crate::numbers::widened;
 use crate::val::{NumberStop, Val};
 use amh_bits::Int;
@@ -14,7 +15,7 @@ pub(crate) fn shifted_up(a: Int, b: Int) -> Result<Val, NumberStop>
         return Err(NumberStop::Raised);
     }
     if a.size == 0 {
-        return Ok(Val::Int(a));
+        return Ok(Val::Int(Number::of(a)));
     }
     if b.size >= 128 {
         return Err(NumberStop::Width);
@@ -31,9 +32,9 @@ pub(crate) fn shifted_down(a: Int, b: Int) -> Result<Val, NumberStop>
     }
     if b.size >= 128 {
         let _size = a.size;
-        return Ok(Val::Int(a.shr(128)));
+        return Ok(Val::Int(Number::of(a.shr(128))));
     }
-    Ok(Val::Int(a.shr(b.size as u32)))
+    Ok(Val::Int(Number::of(a.shr(b.size as u32))))
 }
 
 /// The first integer to the power of the second.
@@ -50,10 +51,10 @@ pub(crate) fn powered(a: Int, b: Int) -> Result<Val, NumberStop>
     if negative && size > 1 << 127 {
         return Err(NumberStop::Width);
     }
-    Ok(Val::Int(Int {
+    Ok(Val::Int(Number::of(Int {
         negative: negative && size > 0,
         size,
-    }))
+    })))
 }
 
 ghost use Rattle.std.specs.Prelude.{SomeIff, ◌^◌, ◌<◌};

@@ -7,6 +7,7 @@ ghost use Rattle.py_values.specs.Runs.{Answers, paired};
 ghost use Rattle.py_values.specs.Scalars.{only, int_of, text_made, str_of, shown_text, bool_of, magnitude_of, nothing_printed, bit_length, log_of, ceil_log2, width_of, bits_for, is_number, worth, is_before, extreme, extreme_of, least_of, greatest_of, summed, sum_from, sum_of, only_number};
 
 use crate::heap::{Frozen, Heap};
+use crate::number::Number;
 use crate::numbers::{is_less, number_of, on_numbers};
 use crate::op::PyOp;
 use crate::val::{NumberStop, StrId, Val, ValueStop};
@@ -77,9 +78,10 @@ fn log_of(n: Int) -> Option<Val>
         return None;
     }
     if n.size == 0 {
-        return Some(Val::Int(Int::of_u128(0)));
+        return Some(Val::Int(Number::of_u128(0)));
     }
-    Some(Val::Int(Int::of_u128(bit_length(n.size - 1) as u128)))
+    let bits = bit_length(n.size - 1);
+    Some(Val::Int(Number::of_u128(bits as u128)))
 }
 
 // The least width that has the number.
@@ -99,7 +101,7 @@ impl Heap {
         ensures { Answers (paired result self.new) (int_of (seen _frozen.now self.old) args.now) }
     {
         match only_number(args) {
-            Some(n) => Ok(Val::Int(n)),
+            Some(n) => Ok(Val::Int(Number::of(n))),
             None => Err(ValueStop::Raised),
         }
     }
@@ -123,7 +125,7 @@ impl Heap {
         ensures { Answers (paired result self.new) (magnitude_of (seen _frozen.now self.old) args.now) }
     {
         match only_number(args) {
-            Some(n) => Ok(Val::Int(magnitude(n))),
+            Some(n) => Ok(Val::Int(Number::of(magnitude(n)))),
             None => Err(ValueStop::Raised),
         }
     }
@@ -157,7 +159,7 @@ impl Heap {
         ensures { Answers (paired result self.new) (bits_for (seen _frozen.now self.old) args.now) }
     {
         match only_number(args) {
-            Some(n) => Ok(Val::Int(Int::of_u128(width_of(n) as u128))),
+            Some(n) => Ok(Val::Int(Number::of_u128(width_of(n) as u128))),
             None => Err(ValueStop::Raised),
         }
     }
@@ -177,7 +179,7 @@ impl Heap {
         ensures { Answers (paired result self.new) (text_made (seen frozen.now self.old) (Some v)) }
     {
         match v {
-            Val::Int(n) => match int_text(self.alloc, n) {
+            Val::Int(n) => match int_text(self.alloc, n.int()) {
                 Ok(text) => self.new_text(frozen, text.as_str()),
                 Err(_) => Err(ValueStop::NoMemory),
             },
@@ -195,7 +197,7 @@ impl Heap {
         ensures { Answers result (Ok (shown_text (seen frozen.now self.now) v)) }
     {
         match v {
-            Val::Int(n) => self.digits(n),
+            Val::Int(n) => self.digits(n.int()),
             Val::Str(x) => match self.text_again(frozen, x) {
                 Ok(text) => Ok(Some(text)),
                 Err(_) => Err(ValueStop::NoMemory),
@@ -370,7 +372,7 @@ impl Heap {
         ensures { Answers (paired result self.new) (sum_of (seen frozen.now self.old) args.now) }
     {
         match args {
-            [v] => self.sum_from(frozen, *v, &Val::Int(Int::of_u128(0))),
+            [v] => self.sum_from(frozen, *v, &Val::Int(Number::of_u128(0))),
             [v, start] => self.sum_from(frozen, *v, start),
             _ => Err(ValueStop::Raised),
         }

@@ -7,6 +7,7 @@ ghost use Rattle.py_values.specs.Sequences.{span_between, span_given, span_row, 
 
 use crate::fresh::{Fresh, char_count};
 use crate::heap::{Frozen, Heap, next_number};
+use crate::number::Number;
 use crate::numbers::{is_zero, number_of};
 use crate::range::{Span, span_of};
 use crate::row::Row;
@@ -51,7 +52,10 @@ fn span_row(alloc: Global, r: Span) -> Result<Vals, ValueStop>
     ensures { Answers result (Ok (span_row r)) }
 {
     let mut row = Vals::new(alloc);
-    match row.extend(&[Val::Int(r.start), Val::Int(r.stop), Val::Int(r.step)]) {
+    let start = Val::Int(Number::of(r.start));
+    let stop = Val::Int(Number::of(r.stop));
+    let step = Val::Int(Number::of(r.step));
+    match row.extend(&[start, stop, step]) {
         Ok(()) => Ok(row),
         Err(_) => Err(ValueStop::NoMemory),
     }
@@ -61,7 +65,7 @@ fn span_row(alloc: Global, r: Span) -> Result<Vals, ValueStop>
 fn told(n: u128) -> Result<Fresh, ValueStop>
     ensures { Answers result (measured (Some n)) }
 {
-    Ok(Fresh::Val(Val::Int(Int::of_u128(n))))
+    Ok(Fresh::Val(Val::Int(Number::of_u128(n))))
 }
 
 impl Heap {

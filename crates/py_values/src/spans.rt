@@ -7,6 +7,7 @@ ghost use Rattle.py_values.specs.Runs.{Answers};
 ghost use Rattle.py_values.specs.Spans.{way, span_count, stepped, span_element, numbers_from, span_item, Hops};
 ghost use Rattle.py_values.specs.Elements.{span_listed, span_sized};
 
+use crate::number::Number;
 use crate::range::{Span, comes_before};
 use crate::val::{Val, ValueStop};
 use crate::vals::Vals;
@@ -160,7 +161,7 @@ fn numbers(alloc: Global, r: &Span, count: u128) -> Result<Vals, ValueStop>
 {
     let mut all = Vals::new(alloc);
     for i in 0..count {
-        let Ok(()) = all.push(Val::Int(span_number(r, i))) else {
+        let Ok(()) = all.push(Val::Int(Number::of(span_number(r, i)))) else {
             return Err(ValueStop::NoMemory);
         };
     }

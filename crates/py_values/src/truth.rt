@@ -28,7 +28,7 @@ impl Heap {
         match v {
             Val::None => Some(false),
             Val::Bool(b) => Some(b),
-            Val::Int(n) => Some(!is_zero(n)),
+            Val::Int(n) => Some(!is_zero(n.int())),
             Val::Str(x) => Some(is_some_text(self.text(frozen, x))),
             Val::List(o) | Val::Tuple(o) | Val::Dict(o) => Some(is_some_row(self.row(frozen, o))),
             Val::Range(o) => Some(!is_empty_range(span_of(self.row(frozen, o)))),

@@ -10,6 +10,7 @@ ghost use Rattle.py_values.specs.Sequences.{tuples_onto, tuple_list, all_kept, n
 
 use crate::fresh::Fresh;
 use crate::heap::{Frozen, Heap};
+use crate::number::Number;
 use crate::numbers::number_of;
 use crate::spans::note_kept;
 use crate::val::{Val, ValueStop};
@@ -84,7 +85,8 @@ fn numbered_back(alloc: Global, n: Int, xs: &[Val]) -> Result<Vec<Vals>, ValueSt
     let mut rows = Vec::new(alloc);
     for i in 0..xs.len() {
         let k = xs.len() - 1 - i;
-        let Ok(row) = pair_row(alloc, Val::Int(number_behind(n, k)), xs[k]) else {
+        let number = Number::of(number_behind(n, k));
+        let Ok(row) = pair_row(alloc, Val::Int(number), xs[k]) else {
             return Err(ValueStop::NoMemory);
         };
         let Ok(()) = rows.push(row) else {

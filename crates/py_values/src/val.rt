@@ -1,6 +1,6 @@
 // Values, and why one is not given.
 
-use amh_bits::Int;
+use crate::number::Number;
 
 /// A thing of the Amaranth store, by its number there.
 #[derive(Clone, Copy, Debug, PartialEq, Eq, Drop)]
@@ -30,7 +30,7 @@ pub enum Val {
     /// A boolean, which is the number 0 or 1.
     Bool(bool),
     /// An integer.
-    Int(Int),
+    Int(Number),
     /// A string.
     Str(StrId),
     /// A time in femtoseconds.

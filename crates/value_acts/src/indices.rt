@@ -23,7 +23,7 @@ use amh_things::values::Values;
 use design_ir::{Expr, ExprId, Exprs, Ids};
 use lists::NoMemory;
 use py_frames::request::Answer;
-use py_values::{Hw, Val, Vals};
+use py_values::{Hw, Number, Val, Vals};
 use shape_rules::Shape;
 use std::alloc::Global;
 
@@ -42,7 +42,7 @@ pub fn measured<P: Exprs>(
         [Val::Hw(hw)] => match values.bare(*hw) {
             Some(e) => {
                 let width = pool.shape(e).width;
-                Ok(value_given(alloc, Val::Int(Int::of_u128(width as u128))))
+                Ok(value_given(alloc, Val::Int(Number::of_u128(width as u128))))
             }
             None => Err(raised()),
         },

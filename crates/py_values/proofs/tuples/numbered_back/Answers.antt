@@ -1,3 +1,4 @@
+use Rattle.std.proofs.Common.{◌∙◌}
 use Rattle.py_values.proofs.TupleLaws.{numbered_start, numbered_turn}
 use Rattle.py_values.proofs.tuples.numbered_back.Goals as goal
 
@@ -6,4 +7,4 @@ loop-i-init c = numbered_start c.args.n c.args.xs.now c.new-rows.result.items c.
 
 pub loop-i-preserved : goal.loop-i-preserved
 loop-i-preserved c =
-    numbered_turn c.args.n c.number_behind.result c.args.xs.now c.loop-i.i c.index-xs-k.result c.in-Ok.row c.loop-i.rows.items c.push.new.self.items c.loop-i-test.true c.number_behind.ensures c.index-xs-k.is c.in-Ok.ensures c.in-Ok-push.ensures.items c.loop-i.invariant
+    numbered_turn c.args.n c.of-number.result c.args.xs.now c.loop-i.i c.index-xs-k.result c.in-Ok.row c.loop-i.rows.items c.push.new.self.items c.loop-i-test.true (c.of-number.ensures ∙ c.number_behind.ensures) c.index-xs-k.is c.in-Ok.ensures c.in-Ok-push.ensures.items c.loop-i.invariant
