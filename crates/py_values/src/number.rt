@@ -4,6 +4,60 @@ ghost use Rattle.std.specs.Prelude.{◌≡◌, pos};
 use amh_bits::Int;
 use std::marker::Model;
 
+/// An integer from -2^127 to 2^128 - 1, as a value holds it.
+#[derive(Clone, Copy, Debug, PartialEq, Eq)]
+pub struct Number {
+    negative: bool,
+    size: Size,
+}
+
+impl Model for Number {
+    ghost use Rattle.std.specs.Prelude.{ℤ, unsigned_abs};
+    ghost use Rattle.amh_bits.specs.Integers.{with_sign, sign_of, IsSignAndSize, inverse_is};
+
+    ghost Value = { ℤ };
+
+    ghost view = { λ a. with_sign a.negative a.size };
+
+    ghost invariant = { λ a. IsSignAndSize a.negative a.size };
+
+    ghost inverse = { λ z. record { negative = sign_of z; size = unsigned_abs z } };
+
+    ghost inverse_ok = { λ a h. let e = inverse_is a.negative a.size h in Prim.rw (e.0, e.1) };
+}
+
+impl Number {
+    /// The integer as a value holds it.
+    pub fn of(n: Int) -> Number
+        ensures { result ≡ n }
+    {
+        Number {
+            negative: n.negative,
+            size: Size::of(n.size),
+        }
+    }
+
+    /// The integer n.
+    pub fn of_u128(n: u128) -> Number
+        ensures { result ≡ pos n }
+    {
+        Number {
+            negative: false,
+            size: Size::of(n),
+        }
+    }
+
+    /// The integer, to calculate with.
+    pub fn int(self) -> Int
+        ensures { result ≡ self }
+    {
+        Int {
+            negative: self.negative,
+            size: self.size.number(),
+        }
+    }
+}
+
 // The size of a number in four parts of 32 bits, the lowest first. A `u128` would align what holds it to 16 bytes.
 #[derive(Clone, Copy, Debug, PartialEq, Eq)]
 struct Size {
@@ -60,58 +114,4 @@ fn joined(low: u32, high: u32) -> u64
     ensures { result ≡ joined low high }
 {
     low as u64 + ((high as u64) << 32)
-}
-
-/// An integer from -2^127 to 2^128 - 1, as a value holds it.
-#[derive(Clone, Copy, Debug, PartialEq, Eq)]
-pub struct Number {
-    negative: bool,
-    size: Size,
-}
-
-impl Model for Number {
-    ghost use Rattle.std.specs.Prelude.{ℤ, unsigned_abs};
-    ghost use Rattle.amh_bits.specs.Integers.{with_sign, sign_of, IsSignAndSize, inverse_is};
-
-    ghost Value = { ℤ };
-
-    ghost view = { λ a. with_sign a.negative a.size };
-
-    ghost invariant = { λ a. IsSignAndSize a.negative a.size };
-
-    ghost inverse = { λ z. record { negative = sign_of z; size = unsigned_abs z } };
-
-    ghost inverse_ok = { λ a h. let e = inverse_is a.negative a.size h in Prim.rw (e.0, e.1) };
-}
-
-impl Number {
-    /// The integer as a value holds it.
-    pub fn of(n: Int) -> Number
-        ensures { result ≡ n }
-    {
-        Number {
-            negative: n.negative,
-            size: Size::of(n.size),
-        }
-    }
-
-    /// The integer n.
-    pub fn of_u128(n: u128) -> Number
-        ensures { result ≡ pos n }
-    {
-        Number {
-            negative: false,
-            size: Size::of(n),
-        }
-    }
-
-    /// The integer, to calculate with.
-    pub fn int(self) -> Int
-        ensures { result ≡ self }
-    {
-        Int {
-            negative: self.negative,
-            size: self.size.number(),
-        }
-    }
 }

@@ -1,10 +1,10 @@
-use Rattle.std.proofs.Common.{Ok, ap}
+use Rattle.std.proofs.Common.{Ok, ap, ◌∙◌}
 use Rattle.py_values.proofs.ElementLaws.{values_turn, values_end, values_start}
 use Rattle.py_values.proofs.spans.numbers.Goals as goal
 
 pub loop-i-preserved : goal.loop-i-preserved
 loop-i-preserved c =
-    values_turn c.loop-i.all c.push.new.self _ c.args.count c.loop-i.i c.args.r.now c.span_number.result c.loop-i-test.true c.span_number.ensures c.in-Ok.ensures.ok c.loop-i.invariant
+    values_turn c.loop-i.all c.push.new.self _ c.args.count c.loop-i.i c.args.r.now c.of.result c.loop-i-test.true (c.of.ensures ∙ c.span_number.ensures) c.in-Ok.ensures.ok c.loop-i.invariant
 
 pub loop-i-init : goal.loop-i-init
 loop-i-init c = values_start c.new-all.result c.args.count c.args.r.now c.new-all.ensures
