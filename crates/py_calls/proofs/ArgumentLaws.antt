@@ -21,7 +21,7 @@ use Rattle.py_frames.specs.declared.frame.Frame.TheVariants as frame
 use Rattle.py_frames.specs.declared.frame.CallFrame.TheVariants as call
 use Rattle.py_frames.specs.declared.functions.Functions.{Functions}
 use Rattle.py_frames.specs.declared.going.Going.{Going}
-use Rattle.py_frames.specs.Doing.{Doing, Known, after, on_value, stop}
+use Rattle.py_frames.specs.Doing.{Doing, Known, after, on_value, ◌>>=◌, stop}
 use Rattle.py_frames.specs.declared.request.Cause.TheVariants as cause
 use Rattle.py_frames.specs.Statements.{known}
 use Rattle.py_frames.specs.Functions.{named_val, is_given}
@@ -96,6 +96,10 @@ arguments_same fns frozen r x y budget p vs us keywords names n m gs f u e1 e2 e
     same_goes fns frozen r x y budget (λ z k. arguments_then k p z keywords (arguments_from (suc n) gs) (λ vals named. call_for k u f vals named p)) us vs e1
     (same_goes fns frozen r x y budget (λ z k. arguments_then k p us z (arguments_from (suc n) gs) (λ vals named. call_for k u f vals named p)) names keywords e2
     (same_goes fns frozen r x y budget (λ z k. arguments_then k p us names (arguments_from z gs) (λ vals named. call_for k u f vals named p)) m (suc n) q h))
+
+-- an argument in order is evaluated, and then those behind it
+pub positional_next : (fns : Functions) (frozen : Made) (r : Result Now Halt) (x y : Going) (budget : ℕ) (p : Place) (vs : List Val) (keywords : List NamedVal) (n : ℕ) (gs : Arguments) (f : Val) (u : Purpose) (t : Tree) → Some (Positional t) ≡ first_argument (arguments_from n gs) → GoesOn fns frozen r x y budget (λ k. value_of k Plain t >>= (λ v. arguments_then k p (vs ++ v ∷ []) keywords (arguments_from (suc n) gs) (λ us names. call_for k u f us names p))) → GoesOn fns frozen r x y budget (λ k. arguments_then k p vs keywords (arguments_from n gs) (λ us names. call_for k u f us names p))
+positional_next fns frozen r x y budget p vs keywords n gs f u t e1 h = same_goes fns frozen r x y budget (λ z k. arguments_then k p vs keywords z (λ us names. call_for k u f us names p)) (argument (Positional t) (arguments_from (suc n) gs)) (arguments_from n gs) (arguments-next n gs (Positional t) e1) h
 
 pub came_end : (fns : Functions) (frozen : Made) (r : Result Now Halt) (x y : Going) (budget : ℕ) (p : Place) (vs : List Val) (keywords : List NamedVal) (n : ℕ) (gs : Arguments) (v f : Val) (u : Purpose) → None ≡ first_argument (arguments_from n gs) → GoesOn fns frozen r x y budget (λ k. call_for k u f vs keywords p) → GoesOn fns frozen r x y budget (λ k. argument_came k p vs keywords (arguments_from n gs) v (λ us names. call_for k u f us names p))
 came_end fns frozen r x y budget p vs keywords n gs v f u e1 h = same_goes fns frozen r x y budget (λ z k. argument_came k p vs keywords z v (λ us names. call_for k u f us names p)) no_argument (arguments_from n gs) (arguments-end (arguments_from n gs) e1) h

@@ -11,3 +11,4 @@ pub mod EnterLaws
 pub mod CallOfLaws
 pub mod SuperLaws
 pub mod SumLaws
+pub mod TrailEnds

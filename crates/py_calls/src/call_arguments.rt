@@ -17,18 +17,19 @@ use py_frames::attribute_store::as_row;
 use py_frames::call_leaf::raise;
 use py_frames::frame::{CallFrame, Frame, Now, Purpose};
 use py_frames::functions::Functions;
-use py_frames::going::{Going, told, wait_for};
+use py_frames::going::{Going, spend, told, wait_for};
 use py_frames::keyword::is_given;
 use py_frames::leaf::following;
+use py_frames::leaf_value::leaf_value;
 use py_frames::request::NamedVals;
 use py_frames::state::Halt;
 use py_frames::trail_leaf::{place_at, share_purpose};
 use py_tree::{Argument, Expr, Name, Trailer};
 use py_values::{Frozen, Val, Vals};
 
-/// On with the argument of this number.
+// On with the argument of this number, for which a frame waits.
 #[tactic(auto, using(crate::proofs::ArgumentLaws::arguments_end, py_frames::proofs::BeginLaws::no_memory))]
-pub fn arguments(
+fn arguments_waited(
     going: &mut Going,
     functions: &Functions,
     frozen: &Frozen,
@@ -76,6 +77,113 @@ pub fn arguments(
         frame,
         budget,
     )
+}
+
+// The value of an argument in order was there at once: on with those behind it.
+#[tactic(auto, using(py_frames::proofs::BeginLaws::no_memory))]
+fn positional_given(
+    going: &mut Going,
+    functions: &Functions,
+    frozen: &Frozen,
+    node: &Expr,
+    trailer: u64,
+    at: u64,
+    callee: Val,
+    vals: Vals,
+    keywords: NamedVals,
+    purpose: &Purpose,
+    v: Val,
+    budget: u64,
+) -> Result<Now, Halt>
+    requires room { going.old.state.used < budget }
+    requires table { IsTable functions.now }
+    ensures moves { GoesOn functions.now frozen.now result going.old going.new budget (λ k. arguments_then k (place_of (tree node.now)) (vals ++ v ∷ []) keywords (arguments_from (suc at) (call_arguments (trailers_from trailer (trailers_of (tree node.now))))) (λ us names. call_for k purpose.now callee us names (place_of (tree node.now)))) }
+    ensures left { OnOk result (going.new.state.used < budget) }
+    ensures grows { going.old.state.used ≤ going.new.state.used }
+{
+    let Ok(next) = following(at) else {
+        return Err(Halt::NoMemory);
+    };
+    let mut vals = vals;
+    match vals.push(v) {
+        Ok(()) => arguments_waited(
+            going, functions, frozen, node, trailer, next, callee, vals, keywords, purpose, budget,
+        ),
+        Err(_) => Err(Halt::NoMemory),
+    }
+}
+
+// An argument in order begins; where it is there at once, no frame waits for it.
+#[tactic(auto, using(py_frames::proofs::BeginLaws::no_memory))]
+fn positional_begun(
+    going: &mut Going,
+    functions: &Functions,
+    frozen: &Frozen,
+    node: &Expr,
+    trailer: u64,
+    at: u64,
+    callee: Val,
+    vals: Vals,
+    keywords: NamedVals,
+    purpose: &Purpose,
+    part: &Expr,
+    budget: u64,
+) -> Result<Now, Halt>
+    requires room { going.old.state.used < budget }
+    requires table { IsTable functions.now }
+    requires here { Some (Positional (tree part.now)) ≡ first_argument (arguments_from at (call_arguments (trailers_from trailer (trailers_of (tree node.now))))) }
+    ensures moves { GoesOn functions.now frozen.now result going.old going.new budget (λ k. arguments_then k (place_of (tree node.now)) vals keywords (arguments_from at (call_arguments (trailers_from trailer (trailers_of (tree node.now))))) (λ us names. call_for k purpose.now callee us names (place_of (tree node.now)))) }
+    ensures left { OnOk result (going.new.state.used < budget) }
+    ensures grows { going.old.state.used ≤ going.new.state.used }
+{
+    let Some(v) = leaf_value(going, frozen, part) else {
+        return arguments_waited(
+            going, functions, frozen, node, trailer, at, callee, vals, keywords, purpose, budget,
+        );
+    };
+    match spend(going, 1, place_at(part), budget) {
+        Err(halt) => Err(halt),
+        Ok(()) => positional_given(
+            going, functions, frozen, node, trailer, at, callee, vals, keywords, purpose, v, budget,
+        ),
+    }
+}
+
+/// On with the argument of this number.
+#[tactic(auto, using(py_frames::proofs::BeginLaws::no_memory))]
+pub fn arguments(
+    going: &mut Going,
+    functions: &Functions,
+    frozen: &Frozen,
+    node: &Expr,
+    trailer: u64,
+    at: u64,
+    callee: Val,
+    vals: Vals,
+    keywords: NamedVals,
+    purpose: &Purpose,
+    budget: u64,
+) -> Result<Now, Halt>
+    requires room { going.old.state.used < budget }
+    requires table { IsTable functions.now }
+    ensures moves { GoesOn functions.now frozen.now result going.old going.new budget (λ k. arguments_then k (place_of (tree node.now)) vals keywords (arguments_from at (call_arguments (trailers_from trailer (trailers_of (tree node.now))))) (λ us names. call_for k purpose.now callee us names (place_of (tree node.now)))) }
+    ensures left { OnOk result (going.new.state.used < budget) }
+    ensures grows { going.old.state.used ≤ going.new.state.used }
+{
+    let Some(argument) = argument_at(node, trailer, at) else {
+        return arguments_waited(
+            going, functions, frozen, node, trailer, at, callee, vals, keywords, purpose, budget,
+        );
+    };
+    match argument {
+        Argument::Positional(part) => positional_begun(
+            going, functions, frozen, node, trailer, at, callee, vals, keywords, purpose, part,
+            budget,
+        ),
+        _ => arguments_waited(
+            going, functions, frozen, node, trailer, at, callee, vals, keywords, purpose, budget,
+        ),
+    }
 }
 
 // An argument in order has come.

@@ -25,6 +25,7 @@ use crate::trail::goes_along;
 use crate::trail_slice::part_came;
 use amh_host::Place;
 use py_frames::attribute_store::indexed;
+use py_frames::boxed::Boxed;
 use py_frames::call_leaf::{about, give, raise, vals_of};
 use py_frames::frame::{CallFrame, Frame, Now, Purpose};
 use py_frames::functions::Functions;
@@ -325,7 +326,10 @@ fn answering(
     ensures used { going.new.state.used ≡ going.old.state.used }
 {
     let at = callee_place(going, frozen, place, &callee);
-    match about(going.alloc, Act::Returned, &[v], at) {
+    let Ok(request) = about(going.alloc, Act::Returned, &[v], at) else {
+        return Err(Halt::NoMemory);
+    };
+    match Boxed::new(going.alloc, request) {
         Ok(request) => Ok(Now::Waits {
             request,
             act,

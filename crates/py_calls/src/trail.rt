@@ -1,14 +1,18 @@
 // What trails a primary, one after the other.
-ghost use Rattle.std.specs.Prelude.{◌≡◌, ◌<◌, ◌≤◌, [], OnOk, Some};
+ghost use Rattle.std.specs.Prelude.{◌≡◌, ◌+◌, ◌<◌, ◌≤◌, [], OnOk, Some};
 ghost use Rattle.py_tree.specs.Seen.{tree, trailer_of};
+ghost use Rattle.py_frames.specs.declared.frame.Along.TheVariants as along_to;
+ghost use Rattle.py_frames.specs.declared.frame.CallFrame.TheVariants as call;
+ghost use Rattle.py_frames.specs.declared.frame.Frame.TheVariants as frame;
+ghost use Rattle.py_frames.specs.declared.frame.Purpose.TheVariants.{Plain};
 ghost use Rattle.py_frames.specs.Parts.{place_of, trailers_from};
-ghost use Rattle.py_frames.specs.Expressions.{trailed, trailed_one};
+ghost use Rattle.py_frames.specs.Expressions.{value_of, trailed, trailed_one};
 ghost use Rattle.py_frames.specs.Trailing.{first_trailer, index_given};
 ghost use Rattle.py_frames.specs.Call_frames.{trailers_of, goes_along};
 ghost use Rattle.py_frames.specs.Tables.{IsTable};
 ghost use Rattle.py_tree.specs.Tree.{Trailed, Await};
 ghost use Rattle.py_frames.specs.Begun.{value_after};
-ghost use Rattle.py_frames.specs.Frames.{GoesOn};
+ghost use Rattle.py_frames.specs.Frames.{GoesOn, within};
 
 use crate::attribute::attribute;
 use crate::call_arguments::arguments_begun;
@@ -17,17 +21,20 @@ use crate::trail_augment::augmented_along;
 use crate::trail_slice::slice_begun;
 use crate::trail_store::{reach_along, store_along};
 use amh_host::Place;
+use py_frames::attribute_store::indexed;
 use py_frames::call_leaf::give;
 use py_frames::frame::{Along, CallFrame, Frame, Now, Purpose};
 use py_frames::functions::Functions;
-use py_frames::going::{Going, wait_for};
+use py_frames::going::{Going, spend, wait_for};
 use py_frames::leaf::following;
+use py_frames::leaf_value::leaf_value;
 use py_frames::state::Halt;
 use py_frames::trail_leaf::{ends_in_call, place_at, purpose_before, share_purpose, trailer_at};
 use py_tree::{Expr, Trailer};
 use py_values::{Frozen, Val};
 
-// An index begins.
+// An index begins; where it is there at once, no frame waits for it.
+#[tactic(auto, using(py_frames::proofs::BeginLaws::no_memory))]
 fn index_begun(
     going: &mut Going,
     functions: &Functions,
@@ -37,11 +44,19 @@ fn index_begun(
     place: Place,
     budget: u64,
 ) -> Result<Now, Halt>
+    requires { going.old.state.used < budget }
     ensures moves { GoesOn functions.now frozen.now result going.old going.new budget (λ k. index_given k (tree part.now) v place) }
-    ensures used { going.new.state.used ≡ going.old.state.used }
+    ensures left { OnOk result (going.new.state.used < budget) }
+    ensures grows { going.old.state.used ≤ going.new.state.used }
 {
-    let frame = Frame::Call(CallFrame::Indexed { over: v, place });
-    wait_for(going, functions, frozen, part, frame, budget)
+    let Some(index) = leaf_value(going, frozen, part) else {
+        let frame = Frame::Call(CallFrame::Indexed { over: v, place });
+        return wait_for(going, functions, frozen, part, frame, budget);
+    };
+    match spend(going, 1, place_at(part), budget) {
+        Err(halt) => Err(halt),
+        Ok(()) => indexed(going, functions, frozen, v, index, place, budget),
+    }
 }
 
 // One of what trails, behind a value.
@@ -79,6 +94,47 @@ pub fn trailed_one(
     }
 }
 
+// What trails at a number, where more trails behind it: a frame waits for its value.
+#[tactic(auto, using(py_frames::proofs::BeginLaws::no_memory))]
+fn trailed_before(
+    going: &mut Going,
+    functions: &Functions,
+    frozen: &Frozen,
+    node: &Expr,
+    at: u64,
+    next: u64,
+    trailer: &Trailer,
+    purpose: Purpose,
+    v: Val,
+    budget: u64,
+) -> Result<Now, Halt>
+    requires room { going.old.state.used < budget }
+    requires table { IsTable functions.now }
+    requires here { Some (trailer_of trailer.now) ≡ first_trailer (trailers_from at (trailers_of (tree node.now))) }
+    requires behind { next ≡ at + 1 }
+    ensures moves { GoesOn functions.now frozen.now result going.old going.new budget (λ k. trailed k purpose (place_of (tree node.now)) (trailers_from at (trailers_of (tree node.now))) v) }
+    ensures left { OnOk result (going.new.state.used < budget) }
+    ensures grows { going.old.state.used ≤ going.new.state.used }
+{
+    let Ok(part) = purpose_before(node, next, &purpose) else {
+        return Err(Halt::NoMemory);
+    };
+    let Ok(more) = node.share() else {
+        return Err(Halt::NoMemory);
+    };
+    let along = Along::Value(purpose);
+    match going.frames.push(Frame::Call(CallFrame::Trail {
+        node: more,
+        at: next,
+        along,
+    })) {
+        Ok(()) => trailed_one(
+            going, functions, frozen, node, at, trailer, &part, v, budget,
+        ),
+        Err(_) => Err(Halt::NoMemory),
+    }
+}
+
 /// On along what trails, to the value of the expression.
 #[tactic(auto, using(py_frames::proofs::TrailLaws::trail_end, py_frames::proofs::BeginLaws::no_memory))]
 pub fn trail(
@@ -103,22 +159,13 @@ pub fn trail(
     let Ok(next) = following(at) else {
         return Err(Halt::NoMemory);
     };
-    let Ok(part) = purpose_before(node, next, &purpose) else {
-        return Err(Halt::NoMemory);
-    };
-    let Ok(more) = node.share() else {
-        return Err(Halt::NoMemory);
-    };
-    let along = Along::Value(purpose);
-    match going.frames.push(Frame::Call(CallFrame::Trail {
-        node: more,
-        at: next,
-        along,
-    })) {
-        Ok(()) => trailed_one(
-            going, functions, frozen, node, at, trailer, &part, v, budget,
+    match trailer_at(node, next) {
+        None => trailed_one(
+            going, functions, frozen, node, at, trailer, &purpose, v, budget,
         ),
-        Err(_) => Err(Halt::NoMemory),
+        Some(_) => trailed_before(
+            going, functions, frozen, node, at, next, trailer, purpose, v, budget,
+        ),
     }
 }
 
@@ -150,6 +197,34 @@ pub fn goes_along(
     }
 }
 
+// The primary begins that is trailed; where it is there at once, no frame waits for it.
+#[tactic(auto, using(py_frames::proofs::BeginLaws::no_memory))]
+fn primary_begun(
+    going: &mut Going,
+    functions: &Functions,
+    frozen: &Frozen,
+    node: Expr,
+    first: &Expr,
+    purpose: Purpose,
+    budget: u64,
+) -> Result<Now, Halt>
+    requires room { going.old.state.used < budget }
+    requires table { IsTable functions.now }
+    ensures moves { GoesOn functions.now frozen.now result going.old going.new budget (within (frame.Call (call.Trail node 0 (along_to.Value purpose))) (λ k. value_of k Plain (tree first.now))) }
+    ensures left { OnOk result (going.new.state.used < budget) }
+    ensures grows { going.old.state.used ≤ going.new.state.used }
+{
+    let Some(v) = leaf_value(going, frozen, first) else {
+        let along = Along::Value(purpose);
+        let frame = Frame::Call(CallFrame::Trail { node, at: 0, along });
+        return wait_for(going, functions, frozen, first, frame, budget);
+    };
+    match spend(going, 1, place_at(first), budget) {
+        Err(halt) => Err(halt),
+        Ok(()) => trail(going, functions, frozen, &node, 0, purpose, v, budget),
+    }
+}
+
 /// The first part of what trails begins.
 #[tactic(auto, using(py_frames::proofs::TrailLaws::trailed_begins, py_frames::proofs::BeginLaws::turn_rules))]
 pub fn begun_trailed(
@@ -161,9 +236,12 @@ pub fn begun_trailed(
     purpose: &Purpose,
     budget: u64,
 ) -> Result<Now, Halt>
-    requires { tree e.now ≡ Trailed e.now.place (tree first.now) (trailers_of (tree e.now)) }
+    requires room { going.old.state.used < budget }
+    requires table { IsTable functions.now }
+    requires kind { tree e.now ≡ Trailed e.now.place (tree first.now) (trailers_of (tree e.now)) }
     ensures moves { GoesOn functions.now frozen.now result going.old going.new budget (λ k. value_after k purpose.now (tree e.now)) }
-    ensures used { going.new.state.used ≡ going.old.state.used }
+    ensures left { OnOk result (going.new.state.used < budget) }
+    ensures grows { going.old.state.used ≤ going.new.state.used }
 {
     let Ok(node) = e.share() else {
         return Err(Halt::NoMemory);
@@ -171,9 +249,7 @@ pub fn begun_trailed(
     let Ok(purpose) = share_purpose(purpose) else {
         return Err(Halt::NoMemory);
     };
-    let along = Along::Value(purpose);
-    let frame = Frame::Call(CallFrame::Trail { node, at: 0, along });
-    wait_for(going, functions, frozen, first, frame, budget)
+    primary_begun(going, functions, frozen, node, first, purpose, budget)
 }
 
 /// What is awaited begins: a call, for its `await`.

@@ -10,19 +10,20 @@ ghost use Rattle.py_frames.specs.Frames.{GoesOn};
 
 use crate::trail::trailed_one;
 use amh_host::Place;
-use py_frames::attribute_store::store_attribute;
+use py_frames::attribute_store::{store_attribute, store_index};
 use py_frames::call_leaf::raise;
 use py_frames::frame::{Along, CallFrame, Frame, Now, Purpose, StmtFrame, WalkFrame};
 use py_frames::functions::Functions;
-use py_frames::going::{Going, wait_for};
+use py_frames::going::{Going, spend, wait_for};
 use py_frames::leaf::following;
+use py_frames::leaf_value::leaf_value;
 use py_frames::state::{Got, Halt};
 use py_frames::stmt_plain::comes;
 use py_frames::trail_leaf::{place_at, trailer_at};
 use py_tree::{Expr, Trailer};
 use py_values::{Frozen, Val};
 
-// A value is stored under an index, which begins.
+// A value is stored under an index, which begins; where it is there at once, no frame waits for it.
 #[tactic(auto, using(py_frames::proofs::BeginLaws::turn_rules))]
 fn item_stored(
     going: &mut Going,
@@ -34,11 +35,19 @@ fn item_stored(
     place: Place,
     budget: u64,
 ) -> Result<Now, Halt>
+    requires { going.old.state.used < budget }
     ensures moves { GoesOn functions.now frozen.now result going.old going.new budget (λ k. item_stored k (tree part.now) over val place) }
-    ensures used { going.new.state.used ≡ going.old.state.used }
+    ensures left { OnOk result (going.new.state.used < budget) }
+    ensures grows { going.old.state.used ≤ going.new.state.used }
 {
-    let frame = Frame::Walk(WalkFrame::StoredAt { over, val, place });
-    wait_for(going, functions, frozen, part, frame, budget)
+    let Some(index) = leaf_value(going, frozen, part) else {
+        let frame = Frame::Walk(WalkFrame::StoredAt { over, val, place });
+        return wait_for(going, functions, frozen, part, frame, budget);
+    };
+    match spend(going, 1, place_at(part), budget) {
+        Err(halt) => Err(halt),
+        Ok(()) => store_index(going, functions, frozen, over, index, val, place, budget),
+    }
 }
 
 // A value is stored in the last of what trails.
@@ -52,8 +61,10 @@ fn store_last(
     place: Place,
     budget: u64,
 ) -> Result<Now, Halt>
+    requires { going.old.state.used < budget }
     ensures moves { GoesOn functions.now frozen.now result going.old going.new budget (λ k. store_last k place (trailer_of trailer.now) over val) }
-    ensures used { going.new.state.used ≡ going.old.state.used }
+    ensures left { OnOk result (going.new.state.used < budget) }
+    ensures grows { going.old.state.used ≤ going.new.state.used }
 {
     match trailer {
         Trailer::Attribute(name) => store_attribute(

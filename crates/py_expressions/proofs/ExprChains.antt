@@ -164,13 +164,6 @@ join_goes fns frozen r x y budget n m v q node o t c e i ep f g h =
 
 -- ---- frames that are pushed first
 
-pub link_pushed : (fns : Functions) (frozen : Made) (r : Result Now Halt) (x y : Going) (budget : ℕ) (g : Going) (n m : ℕ) (v : Val) (p : Place) (node : Expr) (o : Operator) (t : Tree) (sign : PyOp) → m ≡ n + 1 → Some (o, t) ≡ link_at n (links_of (tree node)) → p ≡ place_of (tree node) → sign ≡ operator_of o → g ≡ record x { frames = frame.Expr (expr.Linked node m) ∷ x.frames } → GoesOn fns frozen r g y budget (within (frame.Expr (expr.Right sign v p)) (λ k. value_of k Plain t)) → GoesOn fns frozen r x y budget (λ k. linked k (place_of (tree node)) (links_from n (links_of (tree node))) v)
-link_pushed fns frozen r x y budget g n m v p node o t sign e q ep es eg h =
-    let Q : PyOp → Type 0 = λ z. GoesOn fns frozen r (record x { frames = frame.Expr (expr.Linked node m) ∷ x.frames }) y budget (within (frame.Expr (expr.Right z v p)) (λ k. value_of k Plain t)) in
-    let R : Going → Type 0 = λ z. GoesOn fns frozen r z y budget (within (frame.Expr (expr.Right sign v p)) (λ k. value_of k Plain t)) in
-    link_next fns frozen r x y budget n m v p node o t e q ep
-    (pushed fns frozen r x y budget (frame.Expr (expr.Linked node m)) (within (frame.Expr (expr.Right (operator_of o) v p)) (λ k. value_of k Plain t)) refl (subst Q es (subst R eg h)))
-
 pub comparing_pushed : (fns : Functions) (frozen : Made) (r : Result Now Halt) (x y : Going) (budget : ℕ) (g : Going) (n : ℕ) (v b kept : Val) (p : Place) (node : Expr) (o : Operator) (t : Tree) (sign : PyOp) → Some (o, t) ≡ link_at n (links_of (tree node)) → p ≡ place_of (tree node) → sign ≡ operator_of o → kept ≡ b → g ≡ record x { frames = frame.Expr (expr.Decided node n kept) ∷ x.frames } → GoesOn fns frozen r g y budget (λ k. related k sign v b p) → GoesOn fns frozen r x y budget (λ k. comparing k (place_of (tree node)) (links_from n (links_of (tree node))) v b)
 comparing_pushed fns frozen r x y budget g n v b kept p node o t sign q ep es ek eg h =
     let Q : PyOp → Type 0 = λ z. GoesOn fns frozen r (record x { frames = frame.Expr (expr.Decided node n kept) ∷ x.frames }) y budget (λ k. related k z v b p) in
@@ -178,6 +171,36 @@ comparing_pushed fns frozen r x y budget g n v b kept p node o t sign q ep es ek
     let S : Val → Type 0 = λ z. GoesOn fns frozen r x y budget (within (frame.Expr (expr.Decided node n z)) (λ k. related k (operator_of o) v b p)) in
     comparing_next fns frozen r x y budget n v b p node o t q ep
     (subst S ek (pushed fns frozen r x y budget (frame.Expr (expr.Decided node n kept)) (λ k. related k (operator_of o) v b p) refl (subst Q es (subst R eg h))))
+
+-- the same of the last operator: no frame waits for what it gives
+
+gives_all : (o : Outcome) (w : World) → after o (λ a. on_value a give w) ≡ o
+gives_all (Halts h s) w = refl
+gives_all (Done (got.Value v) s) w = refl
+gives_all (Done (got.Bound names) s) w = refl
+gives_all (Done (got.Through v) s) w = refl
+gives_all (Done got.Next s) w = refl
+gives_all (Done got.Broke s) w = refl
+gives_all (Done got.Continued s) w = refl
+gives_all (Done (got.Returned v) s) w = refl
+
+abbrev on_right : Place → PyOp → Val → Tree → Known → Doing
+on_right p sign v t = within (frame.Expr (expr.Right sign v p)) (λ k. value_of k Plain t)
+
+pub link_last : (fns : Functions) (frozen : Made) (r : Result Now Halt) (x y : Going) (budget : ℕ) (n m : ℕ) (v : Val) (p : Place) (node : Expr) (o : Operator) (t : Tree) (sign : PyOp) → m ≡ n + 1 → Some (o, t) ≡ link_at n (links_of (tree node)) → None ≡ link_at m (links_of (tree node)) → p ≡ place_of (tree node) → sign ≡ operator_of o → GoesOn fns frozen r x y budget (on_right p sign v t) → GoesOn fns frozen r x y budget (λ k. linked k (place_of (tree node)) (links_from n (links_of (tree node))) v)
+link_last fns frozen r x y budget n m v p node o t sign e q last ep es h =
+    let K : Known = known (steps_of fns.program) frozen x.state.here.room in
+    let S : PyOp → Type 0 = λ z. GoesOn fns frozen r x y budget (on_right p z v t) in
+    let Q : Links → Type 0 = λ z. GoesOn fns frozen r x y budget (λ k w s. after (on_right p (operator_of o) v t k w s) (λ g. on_value g (λ c. linked k (place_of (tree node)) z c) w)) in
+    link_next fns frozen r x y budget n m v p node o t e q ep
+    (subst Q (sym (links_from_none m (links_of (tree node)) last))
+    (same_total fns frozen r x y budget (on_right p (operator_of o) v t) (λ k w s. after (on_right p (operator_of o) v t k w s) (λ g. on_value g give w))
+    (λ w. sym (gives_all (on_right p (operator_of o) v t K w x.state) w)) (subst S es h)))
+
+pub link_before : (fns : Functions) (frozen : Made) (r : Result Now Halt) (x y : Going) (budget : ℕ) (n m : ℕ) (v : Val) (p : Place) (node : Expr) (o : Operator) (t : Tree) (sign : PyOp) → m ≡ n + 1 → Some (o, t) ≡ link_at n (links_of (tree node)) → p ≡ place_of (tree node) → sign ≡ operator_of o → GoesOn fns frozen r x y budget (within (frame.Expr (expr.Linked node m)) (on_right p sign v t)) → GoesOn fns frozen r x y budget (λ k. linked k (place_of (tree node)) (links_from n (links_of (tree node))) v)
+link_before fns frozen r x y budget n m v p node o t sign e q ep es h =
+    let S : PyOp → Type 0 = λ z. GoesOn fns frozen r x y budget (within (frame.Expr (expr.Linked node m)) (on_right p z v t)) in
+    link_next fns frozen r x y budget n m v p node o t e q ep (subst S es h)
 
 -- the same, by a truth that was tested
 

@@ -4,11 +4,14 @@ ghost use Rattle.py_tree.specs.declared.expr.Operator.{Operator};
 ghost use Rattle.py_tree.specs.Tree.{Tree};
 ghost use Rattle.py_frames.specs.Expr_parts.{link_at};
 ghost use Rattle.py_tree.specs.Seen.{tree};
+ghost use Rattle.py_frames.specs.declared.frame.ExprFrame.TheVariants as expr;
+ghost use Rattle.py_frames.specs.declared.frame.Frame.TheVariants as frame;
+ghost use Rattle.py_frames.specs.declared.frame.Purpose.TheVariants.{Plain};
 ghost use Rattle.py_frames.specs.Doing.{spend_each};
 ghost use Rattle.py_frames.specs.Parts.{place_of, links_from};
-ghost use Rattle.py_frames.specs.Expressions.{linked, compared, joined};
+ghost use Rattle.py_frames.specs.Expressions.{value_of, linked, compared, joined};
 ghost use Rattle.py_frames.specs.Expr_frames.{links_of, operand_place, first_operand, comparing, decided};
-ghost use Rattle.py_frames.specs.Frames.{GoesOn};
+ghost use Rattle.py_frames.specs.Frames.{GoesOn, within};
 
 use crate::seek::related;
 use amh_host::Place;
@@ -19,9 +22,89 @@ use py_frames::going::{Going, spend, wait_for};
 use py_frames::leaf::{
     PartAt, copied, following, goes_on, link_at, operand_place, operator_of, place_of,
 };
+use py_frames::leaf_value::leaf_value;
+use py_frames::operators::operated;
 use py_frames::state::{Got, Halt};
 use py_tree::{Expr, Link};
-use py_values::{Frozen, Val};
+use py_values::{Frozen, PyOp, Val};
+
+/// The first operand of a chain of operators begins; where it is there at once, no frame waits for it.
+#[tactic(auto, using(py_frames::proofs::BeginLaws::no_memory))]
+pub fn first_operand(
+    going: &mut Going,
+    functions: &Functions,
+    frozen: &Frozen,
+    node: Expr,
+    first: &Expr,
+    budget: u64,
+) -> Result<Now, Halt>
+    requires { going.old.state.used < budget }
+    ensures moves { GoesOn functions.now frozen.now result going.old going.new budget (within (frame.Expr (expr.Linked node 0)) (λ k. value_of k Plain (tree first.now))) }
+    ensures left { OnOk result (going.new.state.used < budget) }
+    ensures grows { going.old.state.used ≤ going.new.state.used }
+{
+    let Some(left) = leaf_value(going, frozen, first) else {
+        let linked = Frame::Expr(ExprFrame::Linked { node, at: 0 });
+        return wait_for(going, functions, frozen, first, linked, budget);
+    };
+    match spend(going, 1, place_of(first), budget) {
+        Err(halt) => Err(halt),
+        Ok(()) => next_link(going, functions, frozen, node, 0, left, budget),
+    }
+}
+
+// The right operand of an operator begins, and then the operator is carried out.
+#[tactic(auto, using(py_frames::proofs::BeginLaws::no_memory))]
+fn right_operand(
+    going: &mut Going,
+    functions: &Functions,
+    frozen: &Frozen,
+    op: PyOp,
+    left: Val,
+    operand: &Expr,
+    place: Place,
+    budget: u64,
+) -> Result<Now, Halt>
+    requires { going.old.state.used < budget }
+    ensures moves { GoesOn functions.now frozen.now result going.old going.new budget (within (frame.Expr (expr.Right op left place)) (λ k. value_of k Plain (tree operand.now))) }
+    ensures left { OnOk result (going.new.state.used < budget) }
+    ensures grows { going.old.state.used ≤ going.new.state.used }
+{
+    let Some(right) = leaf_value(going, frozen, operand) else {
+        let waits = Frame::Expr(ExprFrame::Right { op, left, place });
+        return wait_for(going, functions, frozen, operand, waits, budget);
+    };
+    match spend(going, 1, place_of(operand), budget) {
+        Err(halt) => Err(halt),
+        Ok(()) => operated(going, functions, frozen, op, &left, &right, place, budget),
+    }
+}
+
+// The same, where operators stand behind it: a frame waits for what it gives.
+#[tactic(auto, using(py_frames::proofs::BeginLaws::no_memory))]
+fn right_before(
+    going: &mut Going,
+    functions: &Functions,
+    frozen: &Frozen,
+    node: Expr,
+    at: u64,
+    op: PyOp,
+    left: Val,
+    operand: &Expr,
+    place: Place,
+    budget: u64,
+) -> Result<Now, Halt>
+    requires { going.old.state.used < budget }
+    ensures moves { GoesOn functions.now frozen.now result going.old going.new budget (within (frame.Expr (expr.Linked node at)) (within (frame.Expr (expr.Right op left place)) (λ k. value_of k Plain (tree operand.now)))) }
+    ensures left { OnOk result (going.new.state.used < budget) }
+    ensures grows { going.old.state.used ≤ going.new.state.used }
+{
+    let linked = Frame::Expr(ExprFrame::Linked { node, at });
+    let Ok(()) = going.frames.push(linked) else {
+        return Err(Halt::NoMemory);
+    };
+    right_operand(going, functions, frozen, op, left, operand, place, budget)
+}
 
 /// The operator of this number and those behind it, whose left operand has come.
 #[tactic(auto, using(py_frames::proofs::BeginLaws::no_memory))]
@@ -34,8 +117,10 @@ pub fn next_link(
     left: Val,
     budget: u64,
 ) -> Result<Now, Halt>
+    requires { going.old.state.used < budget }
     ensures moves { GoesOn functions.now frozen.now result going.old going.new budget (λ k. linked k (place_of (tree node)) (links_from n (links_of (tree node))) left) }
-    ensures used { going.new.state.used ≡ going.old.state.used }
+    ensures left { OnOk result (going.new.state.used < budget) }
+    ensures grows { going.old.state.used ≤ going.new.state.used }
 {
     let place = place_of(&node);
     let link = match link_at(&node, n) {
@@ -47,14 +132,14 @@ pub fn next_link(
         return Err(Halt::NoMemory);
     };
     let op = operator_of(link.operator);
-    let Ok(()) = going
-        .frames
-        .push(Frame::Expr(ExprFrame::Linked { node, at }))
-    else {
-        return Err(Halt::NoMemory);
-    };
-    let right = Frame::Expr(ExprFrame::Right { op, left, place });
-    wait_for(going, functions, frozen, &link.operand, right, budget)
+    let operand = &link.operand;
+    match link_at(&node, at) {
+        PartAt::NoMemory => Err(Halt::NoMemory),
+        PartAt::Past => right_operand(going, functions, frozen, op, left, operand, place, budget),
+        PartAt::Part(_) => right_before(
+            going, functions, frozen, node, at, op, left, operand, place, budget,
+        ),
+    }
 }
 
 /// The comparison of this number and those behind it, whose left operand has come.

@@ -1,11 +1,12 @@
 // Nodes with operands, where they begin: the first part begins, and a frame waits for it.
-ghost use Rattle.std.specs.Prelude.{◌≡◌, map};
+ghost use Rattle.std.specs.Prelude.{◌≡◌, ◌<◌, ◌≤◌, OnOk, map};
 ghost use Rattle.py_tree.specs.Seen.{tree, link_tree};
 ghost use Rattle.py_tree.specs.Tree.{Power, Unary, Not, Binary, Compare, Boolean, Choice, links};
 ghost use Rattle.py_frames.specs.declared.frame.Purpose.TheVariants.{Plain};
 ghost use Rattle.py_frames.specs.Begun.{value_after};
 ghost use Rattle.py_frames.specs.Frames.{GoesOn};
 
+use crate::expr_chain::first_operand;
 use py_frames::frame::{ExprFrame, Frame, Now};
 use py_frames::functions::Functions;
 use py_frames::going::{Going, wait_for};
@@ -110,21 +111,16 @@ pub fn begun_binary(
     _links: &[Link],
     budget: u64,
 ) -> Result<Now, Halt>
-    requires { tree e.now ≡ Binary e.now.place (tree first.now) (links (map link_tree _links.now)) }
+    requires room { going.old.state.used < budget }
+    requires kind { tree e.now ≡ Binary e.now.place (tree first.now) (links (map link_tree _links.now)) }
     ensures moves { GoesOn functions.now frozen.now result going.old going.new budget (λ k. value_after k Plain (tree e.now)) }
-    ensures used { going.new.state.used ≡ going.old.state.used }
+    ensures left { OnOk result (going.new.state.used < budget) }
+    ensures grows { going.old.state.used ≤ going.new.state.used }
 {
     let Ok(node) = e.share() else {
         return Err(Halt::NoMemory);
     };
-    wait_for(
-        going,
-        functions,
-        frozen,
-        first,
-        Frame::Expr(ExprFrame::Linked { node, at: 0 }),
-        budget,
-    )
+    first_operand(going, functions, frozen, node, first, budget)
 }
 
 // The first operand of a chain of comparisons.

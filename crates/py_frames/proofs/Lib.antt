@@ -8,6 +8,7 @@ pub mod ExprLaws
 pub mod ExprCharged
 pub mod ExprGoes
 pub mod ExprKinds
+pub mod LeafLaws
 pub mod ExprNames
 pub mod CallLaws
 pub mod KeywordLaws

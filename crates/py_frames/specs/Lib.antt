@@ -18,6 +18,7 @@ pub mod Def_frames
 pub mod Frames
 pub mod Begun
 pub mod Expr_parts
+pub mod Leaves
 pub mod Told
 pub mod Calling
 pub mod Trailing

@@ -2,6 +2,7 @@
 ghost use Rattle.std.specs.Prelude.{◌≡◌, [], ◌∷◌, OnOk, MatchOption};
 ghost use Rattle.py_frames.specs.Turns.{is_alone};
 
+use crate::boxed::Boxed;
 use crate::request::{Act, NamedVals, Request};
 use crate::state::{Got, Here};
 use amh_host::{NoMemory, Place};
@@ -265,7 +266,7 @@ pub enum WalkFrame {
     /// The value of a key that is made.
     PairMade {
         comp: Comprehended,
-        walk: Walk,
+        walk: Boxed<Walk>,
         done: Vals,
         outer: ScopeId,
         key: Val,
@@ -447,7 +448,7 @@ pub enum DefFrame {
         stmt: Stmt,
         base: Val,
         keywords: NamedVals,
-        outer: Here,
+        outer: Boxed<Here>,
     },
     /// The store's value for a class.
     ClassTold {
@@ -457,7 +458,7 @@ pub enum DefFrame {
     FileBody,
 }
 
-/// A node that waits for a part of it.
+/// A node that waits for a part of it. It is moved at each step: what is large and rare in it is held apart.
 #[derive(Drop)]
 pub enum Frame {
     Expr(ExprFrame),
@@ -478,7 +479,7 @@ pub enum Now {
     Came(Got),
     /// Waits for an answer to a request, which is one of those of an act; so many functions may still be begun.
     Waits {
-        request: Request,
+        request: Boxed<Request>,
         act: Act,
         rounds: u64,
     },

@@ -10,6 +10,7 @@ ghost use Rattle.py_frames.specs.Asking.{ask};
 ghost use Rattle.py_frames.specs.Statements.{run};
 ghost use Rattle.py_frames.specs.Frames.{GoesOn, KeepsRoom, within, told};
 
+use crate::boxed::Boxed;
 use crate::frame::{Frame, Frames, Now, Purpose};
 use crate::functions::Functions;
 use crate::request::{Cause, Request, Stop};
@@ -162,9 +163,12 @@ pub fn ask(
     ensures state { going.new ≡ going.old }
 {
     let act = request.act;
-    Ok(Now::Waits {
-        request,
-        act,
-        rounds: MOST,
-    })
+    match Boxed::new(going.alloc, request) {
+        Ok(request) => Ok(Now::Waits {
+            request,
+            act,
+            rounds: MOST,
+        }),
+        Err(_) => Err(Halt::NoMemory),
+    }
 }

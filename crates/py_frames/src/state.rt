@@ -1,5 +1,6 @@
 // What an evaluation changes.
 
+use crate::boxed::Boxed;
 use crate::request::{NamedVals, Request, Stop};
 use py_values::{Heap, ScopeId, Val};
 
@@ -37,7 +38,7 @@ pub struct State {
 /// Why an evaluation does not go on by itself.
 #[derive(Drop)]
 pub enum Halt {
-    Asks(Request),
+    Asks(Boxed<Request>),
     Stopped(Stop),
     NoMemory,
 }

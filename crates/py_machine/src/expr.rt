@@ -5,6 +5,7 @@ ghost use Rattle.py_frames.specs.declared.frame.Purpose.TheVariants.{Plain};
 ghost use Rattle.py_frames.specs.Expressions.{value_of};
 ghost use Rattle.py_frames.specs.Begun.{value_after};
 ghost use Rattle.py_frames.specs.Frames.{GoesOn};
+ghost use Rattle.py_frames.specs.Tables.{IsTable};
 
 use py_calls::trail::{begun_await, begun_trailed};
 use py_expressions::expr_kinds::{
@@ -32,7 +33,8 @@ pub fn begin(
     purpose: Purpose,
     budget: u64,
 ) -> Result<Now, Halt>
-    requires { going.old.state.used < budget }
+    requires room { going.old.state.used < budget }
+    requires table { IsTable functions.now }
     ensures moves { GoesOn functions.now frozen.now result going.old going.new budget (λ k. value_of k purpose (tree e.now)) }
     ensures left { OnOk result (going.new.state.used < budget) }
     ensures grows { going.old.state.used ≤ going.new.state.used }
@@ -53,7 +55,8 @@ fn begun(
     purpose: Purpose,
     budget: u64,
 ) -> Result<Now, Halt>
-    requires { going.old.state.used < budget }
+    requires room { going.old.state.used < budget }
+    requires table { IsTable functions.now }
     ensures moves { GoesOn functions.now frozen.now result going.old going.new budget (λ k. value_after k purpose (tree e.now)) }
     ensures left { OnOk result (going.new.state.used < budget) }
     ensures grows { going.old.state.used ≤ going.new.state.used }
@@ -123,8 +126,9 @@ fn begun_operands(
     e: &Expr,
     budget: u64,
 ) -> Result<Now, Halt>
+    requires { going.old.state.used < budget }
     ensures moves { GoesOn functions.now frozen.now result going.old going.new budget (λ k. value_after k Plain (tree e.now)) }
-    ensures used { OnOk result (going.new.state.used ≡ going.old.state.used) }
+    ensures left { OnOk result (going.new.state.used < budget) }
     ensures grows { going.old.state.used ≤ going.new.state.used }
 {
     match &*e.kind {

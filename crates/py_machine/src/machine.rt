@@ -137,7 +137,7 @@ impl Machine {
                     act,
                     rounds,
                 },
-            ) => self.asks(request, act, rounds),
+            ) => self.asks(request.into_inner(), act, rounds),
             Ok(Now::Came(got)) => self.ended(&got),
             Err(Halt::Stopped(stop)) => self.stopped(&stop),
             _ => {

@@ -87,10 +87,11 @@ default_as fns frozen r x y budget f s n vs us v e1 e2 h =
     value_as fns frozen r x y budget f (def.Default s n vs) v e1 (subst V e2 h)
 
 -- the body of a class
-pub class_goes : (fns : Functions) (frozen : Made) (r : Result Now Halt) (x y : Going) (budget room : ℕ) (f : DefFrame) (s : Stmt) (base : Val) (kw : List NamedVal) (outer : Here) (got : Got) → f ≡ def.ClassBody s base kw outer → GoesUnder outer.room fns frozen r x y budget (λ k. class_left k (step_of s) base kw outer got) → GoesUnder (def_room room f) fns frozen r x y budget (λ k. def_goes k f got)
-class_goes fns frozen r x y budget room f s base kw outer got e h =
+pub class_goes : (fns : Functions) (frozen : Made) (r : Result Now Halt) (x y : Going) (budget room : ℕ) (f : DefFrame) (s : Stmt) (base : Val) (kw : List NamedVal) (outer out : Here) (got : Got) → f ≡ def.ClassBody s base kw outer → out ≡ outer → GoesUnder out.room fns frozen r x y budget (λ k. class_left k (step_of s) base kw out got) → GoesUnder (def_room room f) fns frozen r x y budget (λ k. def_goes k f got)
+class_goes fns frozen r x y budget room f s base kw outer out got e q h =
     let F : DefFrame → Type 0 = λ z. GoesUnder (def_room room z) fns frozen r x y budget (λ k. def_goes k z got) in
-    subst F (sym e) h
+    let O : Here → Type 0 = λ z. GoesUnder z.room fns frozen r x y budget (λ k. class_left k (step_of s) base kw z got) in
+    subst F (sym e) (subst O q h)
 
 -- the file's body
 pub file_goes : (fns : Functions) (frozen : Made) (r : Result Now Halt) (x y : Going) (budget : ℕ) (f : DefFrame) (got : Got) → f ≡ def.FileBody → GoesOn fns frozen r x y budget (λ k. on_next got (body_ended k)) → GoesUnder (def_room x.state.here.room f) fns frozen r x y budget (λ k. def_goes k f got)

@@ -13,6 +13,7 @@ ghost use Rattle.py_frames.specs.Frames.{GoesOn};
 
 use amh_host::{Names, NoMemory};
 use py_frames::block::block_under;
+use py_frames::boxed::Boxed;
 use py_frames::frame::{DefFrame, Frame, Now};
 use py_frames::functions::Functions;
 use py_frames::going::Going;
@@ -267,6 +268,9 @@ fn class_inside(
         room: going.state.here.room,
     };
     let outer = mem::replace(&mut going.state.here, here);
+    let Ok(outer) = Boxed::new(going.alloc, outer) else {
+        return Err(Halt::NoMemory);
+    };
     block_under(
         going,
         functions,

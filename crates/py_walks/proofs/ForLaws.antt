@@ -3,11 +3,13 @@ use Rattle.std.proofs.Common.{◌≡◌, ℕ, suc, ◌+◌, ◌-◌, ◌≤◌, 
 use Rattle.amh_host.specs.declared.place.Place.{Place}
 use Rattle.py_tree.specs.declared.stmt.Stmt.{Stmt}
 use Rattle.py_tree.specs.Programs.{step_of, steps_of}
-use Rattle.py_tree.specs.Tree.{Tree}
+use Rattle.py_tree.specs.Tree.{Tree, Name}
 use Rattle.py_tree.specs.Steps.{Step, Pass, Break, Continue, Return, Assert, Raise, ImportAll, Import, Assign, Annotate, Augment, Evaluate, If, While, For, With, Def, Class, Steps}
 use Rattle.py_values.specs.Heaps.{Made, seen}
 use Rattle.py_values.specs.Elements.{element}
 use Rattle.py_values.specs.declared.val.Val.{Val}
+use Rattle.py_values.specs.declared.val.ValueStop.{ValueStop}
+use Rattle.py_values.specs.Names.{scope_bound}
 use Rattle.py_frames.specs.declared.request.Cause.TheVariants as cause
 use Rattle.py_frames.specs.declared.state.State.{State}
 use Rattle.py_frames.specs.declared.state.Halt.{Halt}
@@ -23,9 +25,11 @@ use Rattle.py_frames.specs.declared.frame.Frame.TheVariants as frame
 use Rattle.py_frames.specs.declared.frame.StmtFrame.TheVariants as stmt
 use Rattle.py_frames.specs.declared.functions.Functions.{Functions}
 use Rattle.py_frames.specs.declared.going.Going.{Going}
-use Rattle.py_frames.specs.Doing.{Doing, Known, heap_seen, after, on_value, on_next, and_then, then_do, came, stop, choose, spend}
+use Rattle.py_frames.specs.Doing.{World, Doing, Known, heap_seen, after, on_value, on_next, and_then, then_do, came, stop, choose, spend, made}
 use Rattle.py_frames.specs.Asking.{most}
-use Rattle.py_frames.specs.Values.{as_row}
+use Rattle.py_frames.specs.Functions.{named_val}
+use Rattle.py_frames.specs.Told.{Binds}
+use Rattle.py_frames.specs.Values.{as_row, bind, with_binding}
 use Rattle.py_frames.specs.Expressions.{value_of, assign, is_row, on_element}
 use Rattle.py_frames.specs.Statements.{known, run_all, row_size, for_turns, for_loop, turn_on}
 use Rattle.py_frames.specs.Stmt_begun.{run_after, loop_left}
@@ -34,7 +38,7 @@ use Rattle.py_frames.specs.Begun.{Spends}
 use Rattle.py_walks.specs.Walk_parts.{behind_walk, for_turn, is_for}
 use Rattle.py_frames.specs.Frames.{GoesOn, within}
 use Rattle.py_frames.proofs.BeginLaws.{no_memory, stop_goes}
-use Rattle.py_frames.proofs.ExprLaws.{same_total, spent_goes, spent_stops}
+use Rattle.py_frames.proofs.ExprLaws.{same_total, spent_goes, spent_stops, bind_goes, bind_stops}
 use Rattle.py_frames.proofs.StmtLaws.{meant_same, came_goes}
 use Rattle.py_frames.proofs.StmtGoes.{turn_ends, turn_stays}
 use Rattle.py_walks.proofs.WalkLaws.{under_frame}
@@ -144,6 +148,30 @@ for_spends fns frozen r x y z budget u p ts a ss t node w w2 v e1 e2 e3 s g h =
 pub for_stops : (fns : Functions) (frozen : Made) (h : Halt) (x z : Going) (budget : ℕ) (p : Place) (ts : Tree) (ss : Steps) (w : Walk) (v : Val) → Spends (Err h) 1 p x z budget → GoesOn fns frozen (Err h) x z budget (λ k. for_turn k w ts (run_all k ss) p v)
 for_stops fns frozen h x z budget p ts ss w v s =
     spent_stops fns frozen h x z budget 1 p (λ k. and_then (assign k ts v) (then_do (run_all k ss) (λ got. turn_on got (for_turns (w.turns - 1) k w.over (w.next + 1) w.size ts (run_all k ss) p)))) s
+
+-- ---- an element that goes to a name alone
+
+bind_next : (o : Result (Unit {0} × Made) ValueStop) (p : Place) (g : State → State) (n : Doing) (w : World) (s : State) → made o p (λ _ w2 s2. n w2 (g s2)) w s ≡ after (made o p (λ _ w2 s2. came Next w2 (g s2)) w s) (λ got. on_next got n w)
+bind_next (Ok u) p g n w s = refl
+bind_next (Err e) p g n w s = refl
+
+named_same : (fns : Functions) (frozen : Made) (r : Result Now Halt) (x z : Going) (budget : ℕ) (p : Place) (name : List ℕ) (t : Tree) (v : Val) (node : Stmt) (w : Walk) → t ≡ Name p name → GoesOn fns frozen r x z budget (λ k. bind k name v p (for_bound k w (step_of node))) → GoesOn fns frozen r x z budget (within (frame.Stmt (stmt.ForBound node w)) (λ k. assign k t v))
+named_same fns frozen r x z budget p name t v node w e h =
+    let K : Known = known (steps_of fns.program) frozen x.state.here.room in
+    let P : Tree → Type 0 = λ a. GoesOn fns frozen r x z budget (within (frame.Stmt (stmt.ForBound node w)) (λ k. assign k a v)) in
+    subst P (sym e)
+    (same_total fns frozen r x z budget (λ k. bind k name v p (for_bound k w (step_of node))) (within (frame.Stmt (stmt.ForBound node w)) (λ k. assign k (Name p name) v))
+    (λ a. bind_next (scope_bound (seen frozen x.state.heap) x.state.here.scope.0 name v) p (λ s. record s { bound = s.bound + 1; here = with_binding (named_val name v) s.here }) (for_bound K w (step_of node)) a x.state) h)
+
+pub named_bound : (fns : Functions) (frozen : Made) (r : Result Now Halt) (x y z : Going) (budget : ℕ) (p : Place) (name text : List ℕ) (t : Tree) (v : Val) (u : Unit {0}) (node : Stmt) (w : Walk) → t ≡ Name p name → text ≡ name → Binds (Ok u) (scope_bound (seen frozen x.state.heap) x.state.here.scope.0 text v) (named_val text v) p x y → GoesOn fns frozen r y z budget (λ k. for_bound k w (step_of node)) → GoesOn fns frozen r x z budget (within (frame.Stmt (stmt.ForBound node w)) (λ k. assign k t v))
+named_bound fns frozen r x y z budget p name text t v u node w e q b h =
+    let N : List ℕ → Type 0 = λ i. Binds (Ok u) (scope_bound (seen frozen x.state.heap) x.state.here.scope.0 i v) (named_val i v) p x y in
+    named_same fns frozen r x z budget p name t v node w e (bind_goes fns frozen r x y z budget u name v p (λ k. for_bound k w (step_of node)) (subst N q b) h)
+
+pub named_refused : (fns : Functions) (frozen : Made) (h : Halt) (x z : Going) (budget : ℕ) (p : Place) (name text : List ℕ) (t : Tree) (v : Val) (node : Stmt) (w : Walk) → t ≡ Name p name → text ≡ name → Binds (Err h) (scope_bound (seen frozen x.state.heap) x.state.here.scope.0 text v) (named_val text v) p x z → GoesOn fns frozen (Err h) x z budget (within (frame.Stmt (stmt.ForBound node w)) (λ k. assign k t v))
+named_refused fns frozen h x z budget p name text t v node w e q b =
+    let N : List ℕ → Type 0 = λ i. Binds (Err h) (scope_bound (seen frozen x.state.heap) x.state.here.scope.0 i v) (named_val i v) p x z in
+    named_same fns frozen (Err h) x z budget p name t v node w e (bind_stops fns frozen h x z budget name v p (λ k. for_bound k w (step_of node)) (subst N q b))
 
 -- ---- the body
 

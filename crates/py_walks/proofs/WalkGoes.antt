@@ -1,11 +1,14 @@
 -- How frames of comprehensions and of targets go on with a value, and with what else may come.
-use Rattle.std.proofs.Common.{◌≡◌, ℕ, refl, ◌∙◌, sym, subst, false, Some, None, Result, Ok}
+use Rattle.std.proofs.Common.{◌≡◌, ℕ, refl, ◌∙◌, sym, subst, List, false, Some, None, Result, Ok}
 use Rattle.py_values.specs.Heaps.{Made}
+use Rattle.py_values.specs.declared.val.ScopeId.{ScopeId}
 use Rattle.py_values.specs.declared.val.Val.{Val}
 use Rattle.py_frames.specs.declared.state.Halt.{Halt}
 use Rattle.py_frames.specs.declared.state.Got.{Got}
 use Rattle.py_frames.specs.declared.frame.Now.{Now}
 use Rattle.py_frames.specs.declared.frame.Now.TheVariants.{Came}
+use Rattle.py_frames.specs.declared.frame.Comprehended.{Comprehended}
+use Rattle.py_frames.specs.declared.frame.Walk.{Walk}
 use Rattle.py_frames.specs.declared.frame.WalkFrame.{WalkFrame}
 use Rattle.py_frames.specs.declared.frame.WalkFrame.TheVariants as walk
 use Rattle.py_frames.specs.declared.functions.Functions.{Functions}
@@ -44,6 +47,12 @@ pub value_as : (fns : Functions) (frozen : Made) (r : Result Now Halt) (x z : Go
 value_as fns frozen r x z budget f g v e h =
     let P : WalkFrame → Type 0 = λ a. GoesOn fns frozen r x z budget (λ k. walk_value_goes k a v) in
     subst P (sym e) h
+
+-- a key that was made waits with its walk held apart
+pub pair_as : (fns : Functions) (frozen : Made) (r : Result Now Halt) (x z : Going) (budget : ℕ) (f : WalkFrame) (c : Comprehended) (w out : Walk) (done : List Val) (outer : ScopeId) (key v : Val) → f ≡ walk.PairMade c w done outer key → out ≡ w → GoesOn fns frozen r x z budget (λ k. walk_value_goes k (walk.PairMade c out done outer key) v) → GoesOn fns frozen r x z budget (λ k. walk_value_goes k f v)
+pair_as fns frozen r x z budget f c w out done outer key v e q h =
+    let P : Walk → Type 0 = λ a. GoesOn fns frozen r x z budget (λ k. walk_value_goes k (walk.PairMade c a done outer key) v) in
+    value_as fns frozen r x z budget f (walk.PairMade c w done outer key) v e (subst P q h)
 
 pub frame_as : (fns : Functions) (frozen : Made) (r : Result Now Halt) (x z : Going) (budget : ℕ) (f g : WalkFrame) (got : Got) → f ≡ g → GoesOn fns frozen r x z budget (λ k. walk_goes k g got) → GoesOn fns frozen r x z budget (λ k. walk_goes k f got)
 frame_as fns frozen r x z budget f g got e h =

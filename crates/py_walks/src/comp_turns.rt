@@ -3,16 +3,20 @@ ghost use Rattle.std.specs.Prelude.{◌≡◌, ◌<◌, ◌≤◌, ◌++◌, [],
 ghost use Rattle.py_tree.specs.Seen.{tree};
 ghost use Rattle.py_tree.specs.Tree.{present};
 ghost use Rattle.py_values.specs.Elements.{element};
+ghost use Rattle.py_frames.specs.declared.frame.Frame.TheVariants as frame;
+ghost use Rattle.py_frames.specs.declared.frame.Purpose.TheVariants.{Plain};
+ghost use Rattle.py_frames.specs.declared.frame.WalkFrame.TheVariants as frame_of;
 ghost use Rattle.py_frames.specs.Doing.{on_next};
-ghost use Rattle.py_frames.specs.Expressions.{back_in, is_row};
+ghost use Rattle.py_frames.specs.Expressions.{back_in, is_row, value_of};
 ghost use Rattle.py_frames.specs.Walk_frames.{comp_of, with_comp, comp_over, walks_on, all_made, tested_by, made_came, condition_of};
 ghost use Rattle.py_walks.specs.Walk_parts.{comp_seen, element_turn, where_made};
-ghost use Rattle.py_frames.specs.Frames.{GoesOn};
+ghost use Rattle.py_frames.specs.Frames.{GoesOn, within};
 
 use crate::comprehensions::{element_at, element_begun, element_bound, enter_scope};
 use crate::target_turns::assign_under;
 use crate::walk_parts::{CompItem, CompParts, behind, comp_of, is_row};
 use py_frames::block::leaves;
+use py_frames::boxed::Boxed;
 use py_frames::expr_values::{new_dict, truth};
 use py_frames::frame::{Comprehended, Frame, Now, Walk, WalkFrame};
 use py_frames::functions::Functions;
@@ -339,18 +343,41 @@ pub fn made_came(
             CompItem::One(_) => one_more(
                 going, functions, frozen, comp, &parts, walk, done, outer, v, budget,
             ),
-            CompItem::Two(_, value) => {
-                let frame = Frame::Walk(WalkFrame::PairMade {
-                    comp,
-                    walk,
-                    done,
-                    outer,
-                    key: v,
-                });
-                wait_for(going, functions, frozen, value, frame, budget)
-            }
+            CompItem::Two(_, value) => value_begun(
+                going, functions, frozen, value, comp, walk, done, outer, v, budget,
+            ),
         },
     }
+}
+
+// The value of a key begins.
+#[tactic(auto, using(py_frames::proofs::BeginLaws::no_memory))]
+fn value_begun(
+    going: &mut Going,
+    functions: &Functions,
+    frozen: &Frozen,
+    value: &Expr,
+    comp: Comprehended,
+    walk: Walk,
+    done: Vals,
+    outer: ScopeId,
+    key: Val,
+    budget: u64,
+) -> Result<Now, Halt>
+    ensures moves { GoesOn functions.now frozen.now result going.old going.new budget (within (frame.Walk (frame_of.PairMade comp walk done outer key)) (λ k. value_of k Plain (tree value.now))) }
+    ensures state { going.new.state ≡ going.old.state }
+{
+    let Ok(walk) = Boxed::new(going.alloc, walk) else {
+        return Err(Halt::NoMemory);
+    };
+    let frame = Frame::Walk(WalkFrame::PairMade {
+        comp,
+        walk,
+        done,
+        outer,
+        key,
+    });
+    wait_for(going, functions, frozen, value, frame, budget)
 }
 
 // One element more, and on with the walk.

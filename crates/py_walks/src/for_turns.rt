@@ -3,23 +3,28 @@ ghost use Rattle.std.specs.Prelude.{◌≡◌, ◌<◌, ◌≤◌, OnOk};
 ghost use Rattle.py_tree.specs.Seen.{tree};
 ghost use Rattle.py_tree.specs.Programs.{step_of, steps_of};
 ghost use Rattle.py_tree.specs.Steps.{For};
+ghost use Rattle.py_tree.specs.Tree.{Name as Named};
+ghost use Rattle.py_frames.specs.declared.frame.Frame.TheVariants as frame;
+ghost use Rattle.py_frames.specs.declared.frame.StmtFrame.TheVariants as waits;
 ghost use Rattle.py_frames.specs.Doing.{on_next};
+ghost use Rattle.py_frames.specs.Expressions.{assign};
 ghost use Rattle.py_frames.specs.Statements.{run_all, for_turns, for_loop, turn_on};
 ghost use Rattle.py_frames.specs.Stmt_frames.{for_source, for_row, for_walks, for_bound};
 ghost use Rattle.py_walks.specs.Walk_parts.{for_turn};
-ghost use Rattle.py_frames.specs.Frames.{GoesOn};
+ghost use Rattle.py_frames.specs.Frames.{GoesOn, within};
 
 use crate::comprehensions::element_at;
 use crate::loops::{for_body_under, for_source, row_size};
 use crate::target_turns::assign_under;
 use crate::walk_parts::{behind, is_for, is_row};
 use py_frames::block::{leaves, loop_left};
+use py_frames::expr_values::bind;
 use py_frames::frame::{Frame, Now, StmtFrame, Walk};
 use py_frames::functions::Functions;
 use py_frames::going::{Going, MOST, spend, stopped};
 use py_frames::request::Cause;
 use py_frames::state::{Got, Halt};
-use py_tree::{Block, Expr, Stmt, StmtKind};
+use py_tree::{Block, Expr, ExprKind, Name, Stmt, StmtKind};
 use py_values::{Frozen, Val};
 
 /// The source of a `for` has come: a thing gives its elements first.
@@ -179,10 +184,59 @@ pub fn for_turn(
         return Err(Halt::NoMemory);
     };
     match spend(going, 1, s.place, budget) {
-        Ok(()) => {
+        Ok(()) => element_given(going, functions, frozen, stmt, targets, walk, v, budget),
+        Err(halt) => Err(halt),
+    }
+}
+
+// The element goes to the targets, and then the body runs; where the target is a name alone, no frame waits for that.
+fn element_given(
+    going: &mut Going,
+    functions: &Functions,
+    frozen: &Frozen,
+    stmt: Stmt,
+    targets: &Expr,
+    walk: Walk,
+    v: Val,
+    budget: u64,
+) -> Result<Now, Halt>
+    requires { going.old.state.used < budget }
+    ensures moves { GoesOn functions.now frozen.now result going.old going.new budget (within (frame.Stmt (waits.ForBound stmt walk)) (λ k. assign k (tree targets.now) v)) }
+    ensures left { OnOk result (going.new.state.used < budget) }
+    ensures grows { going.old.state.used ≤ going.new.state.used }
+{
+    match &*targets.kind {
+        ExprKind::Name(name) => name_given(
+            going, functions, frozen, stmt, targets, name, walk, v, budget,
+        ),
+        _ => {
             let frame = Frame::Stmt(StmtFrame::ForBound { stmt, walk });
             assign_under(going, functions, frozen, targets, v, frame, budget)
         }
+    }
+}
+
+// The element is bound to a name, and then the body runs.
+#[tactic(auto, using(crate::proofs::ForLaws::named_bound, crate::proofs::ForLaws::named_refused))]
+fn name_given(
+    going: &mut Going,
+    functions: &Functions,
+    frozen: &Frozen,
+    stmt: Stmt,
+    target: &Expr,
+    name: &Name,
+    walk: Walk,
+    v: Val,
+    budget: u64,
+) -> Result<Now, Halt>
+    requires lives { going.old.state.used < budget }
+    requires kind { tree target.now ≡ Named target.now.place name.now }
+    ensures moves { GoesOn functions.now frozen.now result going.old going.new budget (within (frame.Stmt (waits.ForBound stmt walk)) (λ k. assign k (tree target.now) v)) }
+    ensures left { OnOk result (going.new.state.used < budget) }
+    ensures grows { going.old.state.used ≤ going.new.state.used }
+{
+    match bind(going, frozen, name.as_str(), v, target.place) {
+        Ok(()) => for_body(going, functions, frozen, &stmt, walk, budget),
         Err(halt) => Err(halt),
     }
 }

@@ -130,7 +130,16 @@ fn walk_value(
             outer,
             key,
         } => pair_made_came(
-            going, functions, frozen, comp, walk, done, outer, key, v, budget,
+            going,
+            functions,
+            frozen,
+            comp,
+            walk.into_inner(),
+            done,
+            outer,
+            key,
+            v,
+            budget,
         ),
         WalkFrame::Unpacked { node } => unpacked(going, functions, frozen, node, v, budget),
         WalkFrame::StoredAt { over, val, place } => {

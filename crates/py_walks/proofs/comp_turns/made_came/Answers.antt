@@ -12,4 +12,4 @@ pub returns-in-One-clause-moves : goal.returns-in-One-clause-moves
 returns-in-One-clause-moves c = one_came c.args.functions.now c.args.frozen.now c.one_more.result c.args.going.now c.one_more.new.going c.args.budget c.args.comp (comp_seen c.in-Part.parts) c.args.walk c.args.outer c.args.done c.args.v _ c.in-Part.ensures (ap item_seen c.in-One.is) c.one_more.ensures.moves
 
 pub returns-clause-moves : goal.returns-clause-moves
-returns-clause-moves c = key_came c.args.functions.now c.args.frozen.now c.wait_for.result c.args.going.now c.wait_for.new.going c.args.budget c.args.comp (comp_seen c.in-Part.parts) c.args.walk c.args.outer c.args.done c.args.v _ _ c.in-Part.ensures (ap item_seen c.in-Two.is) c.wait_for.ensures.moves
+returns-clause-moves c = key_came c.args.functions.now c.args.frozen.now c.value_begun.result c.args.going.now c.value_begun.new.going c.args.budget c.args.comp (comp_seen c.in-Part.parts) c.args.walk c.args.outer c.args.done c.args.v _ _ c.in-Part.ensures (ap item_seen c.in-Two.is) c.value_begun.ensures.moves

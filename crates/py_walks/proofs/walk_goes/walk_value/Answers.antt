@@ -1,7 +1,7 @@
 -- Each kind of frame goes on with its value.
 use Rattle.py_frames.specs.declared.state.Got.TheVariants.{Next}
 use Rattle.py_frames.proofs.StmtLaws.{came_goes}
-use Rattle.py_walks.proofs.WalkGoes.{value_as}
+use Rattle.py_walks.proofs.WalkGoes.{value_as, pair_as}
 use Rattle.py_walks.proofs.walk_goes.walk_value.Goals as goal
 
 pub returns-in-Source-clause-moves : goal.returns-in-Source-clause-moves
@@ -17,7 +17,7 @@ pub returns-in-Made-clause-moves : goal.returns-in-Made-clause-moves
 returns-in-Made-clause-moves c = value_as _ _ _ _ _ _ _ _ _ c.in-Made.is c.made_came.ensures.moves
 
 pub returns-in-PairMade-clause-moves : goal.returns-in-PairMade-clause-moves
-returns-in-PairMade-clause-moves c = value_as _ _ _ _ _ _ _ _ _ c.in-PairMade.is c.pair_made_came.ensures.moves
+returns-in-PairMade-clause-moves c = pair_as _ _ _ _ _ _ _ _ c.in-PairMade.walk _ _ _ _ _ c.in-PairMade.is c.into_inner.ensures c.pair_made_came.ensures.moves
 
 pub returns-in-Unpacked-clause-moves : goal.returns-in-Unpacked-clause-moves
 returns-in-Unpacked-clause-moves c = value_as _ _ _ _ _ _ _ _ _ c.in-Unpacked.is c.unpacked.ensures.moves
