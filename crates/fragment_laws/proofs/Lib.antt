@@ -5,3 +5,5 @@ pub mod Unnamed
 pub mod PortFolds
 pub mod OneDriver
 pub mod DeltaNumbers
+pub mod Naming
+pub mod EdgeNumbers
