@@ -22,7 +22,7 @@ use Rattle.fragment_laws.proofs.PutsHere.{put_here}
 use Rattle.fragment_laws.proofs.PortFolds.{reads_by, port_by, reads_folded}
 use Rattle.fragment_laws.proofs.OneDriver.{IsDrivenOnce, drives, reads, ports, processes_once, ports_once, no_port, driven_held, read_held, free_held, starts_at, starts_length}
 
-length_map : {A B : Type 0} (f : A → B) (xs : List A) → length (map f xs) ≡ length xs
+pub length_map : {A B : Type 0} (f : A → B) (xs : List A) → length (map f xs) ≡ length xs
 length_map f [] = refl
 length_map f (x ∷ xs) = ap suc (length_map f xs)
 
@@ -47,7 +47,7 @@ module _ (c : Circuit) (st : State) (env : List ℤ) where
   left : List ℤ
   left = fold (comb_process c.pool env) begun c.processes
 
-  module _ (rules : IsDrivenOnce c) (rows : HasRows c st) (s : ℕ) (there : s < length c.pool.signals) where
+  module _ (rules : IsDrivenOnce c) (rows : HasRows c st) (s : ℕ) where
     -- ---- one process, one port
 
     process_count : (cur : List ℤ) (x : DesignProcess) → length (comb_process c.pool env cur x) ≡ length cur
@@ -72,13 +72,6 @@ module _ (c : Circuit) (st : State) (env : List ℤ) where
     unfolding left begun
     delta_folded = comb_reads_by c.memories st.rows left ∙ reads_folded comb_port c.memories st.rows left rows
 
-    begun_at : at begun s ≡ (if is_held c s then at st.held s else at (inits c.pool) s)
-    unfolding begun
-    begun_at = starts_at c s st there
-
-    begun_held : (b : Bool) → is_held c s ≡ b → at begun s ≡ (if b then at st.held s else at (inits c.pool) s)
-    begun_held b e = begun_at ∙ ap (λ t. if t then at st.held s else at (inits c.pool) s) e
-
     begun_length : length begun ≡ length c.pool.signals
     unfolding begun
     begun_length = starts_length c s st 0 c.pool.signals
@@ -90,55 +83,63 @@ module _ (c : Circuit) (st : State) (env : List ℤ) where
     pub delta_length : length (delta c st env) ≡ length c.pool.signals
     delta_length = ap length delta_folded ∙ fold_length (reads c s) s port_step port_count port_other (ports c s) left ∙ left_length ∙ begun_length
 
-    -- ---- by who drives it
+    module _ (there : s < length c.pool.signals) where
+      begun_at : at begun s ≡ (if is_held c s then at st.held s else at (inits c.pool) s)
+      unfolding begun
+      begun_at = starts_at c s st there
 
-    abbrev pub delta_number : Option DesignProcess → Option ReadPort → ℤ
-    delta_number (Some p) r = if is_none p.domain then at (put c.pool env p.body (inits c.pool)) s else at st.held s
-    delta_number None (Some x) = if is_none x.port.domain then row_at c.pool env (rows_of st x.number) x.port.addr else at st.held s
-    delta_number None None = if is_input c s then at st.held s else at (inits c.pool) s
+      begun_held : (b : Bool) → is_held c s ≡ b → at begun s ≡ (if b then at st.held s else at (inits c.pool) s)
+      begun_held b e = begun_at ∙ ap (λ t. if t then at st.held s else at (inits c.pool) s) e
 
-    by_process : (p : DesignProcess) → IsOnly (drives c s) c.processes p → at (delta c st env) s ≡ (if is_none p.domain then at (put c.pool env p.body (inits c.pool)) s else at st.held s)
-    unfolding left
-    by_process p o =
-        let f = fold_only (drives c s) s (comb_process c.pool env) process_count process_other c.processes p begun o in
-        ap (λ ys. at ys s) delta_folded
-        ∙ fold_none (reads c s) s port_step port_count port_other (ports c s) left (no_port c s rules p o)
-        ∙ f.result
-        ∙ by_domain p.domain refl f.then f.same (f.long ∙ begun_length)
-      where
-        by_domain : (d : Option DomainId) → p.domain ≡ d → (mid : List ℤ) → at mid s ≡ at begun s → length mid ≡ length c.pool.signals
-            → at (if is_none d then put c.pool env p.body mid else mid) s ≡ (if is_none d then at (put c.pool env p.body (inits c.pool)) s else at st.held s)
-        by_domain None e mid same long =
-            put_here c.pool env s p.body mid (inits c.pool) (long ∙ sym (length_map (λ (x : Sig). x.init) c.pool.signals)) (same ∙ begun_held false (driven_held c s rules p o ∙ ap is_some e))
-        by_domain (Some d) e mid same long = same ∙ begun_held true (driven_held c s rules p o ∙ ap is_some e)
+      -- ---- by who drives it
 
-    by_port : (x : ReadPort) → NonePass (drives c s) c.processes → IsOnly (reads c s) (ports c s) x → at (delta c st env) s ≡ (if is_none x.port.domain then row_at c.pool env (rows_of st x.number) x.port.addr else at st.held s)
-    unfolding left
-    by_port x none o =
-        let f = fold_only (reads c s) s port_step port_count port_other (ports c s) x left o in
-        ap (λ ys. at ys s) delta_folded
-        ∙ f.result
-        ∙ by_domain x.port.domain refl f.then (f.same ∙ fold_none (drives c s) s (comb_process c.pool env) process_count process_other c.processes begun none) (f.long ∙ left_length ∙ begun_length)
-      where
-        n : ℤ
-        n = row_at c.pool env (rows_of st x.number) x.port.addr
+      abbrev pub delta_number : Option DesignProcess → Option ReadPort → ℤ
+      delta_number (Some p) r = if is_none p.domain then at (put c.pool env p.body (inits c.pool)) s else at st.held s
+      delta_number None (Some x) = if is_none x.port.domain then row_at c.pool env (rows_of st x.number) x.port.addr else at st.held s
+      delta_number None None = if is_input c s then at st.held s else at (inits c.pool) s
 
-        by_domain : (d : Option (List ℕ)) → x.port.domain ≡ d → (mid : List ℤ) → at mid s ≡ at begun s → length mid ≡ length c.pool.signals
-            → at (if is_none d then slice_set mid x.port.word.0 n else mid) s ≡ (if is_none d then n else at st.held s)
-        by_domain None e mid same long =
-            let here : x.port.word.0 ≡ s = eqb-true x.port.word.0 s o.here in
-            ap (λ k. at (slice_set mid k n) s) here ∙ get_or-set_same mid s n (pos 0) (omega (arith, there, long))
-        by_domain (Some d) e mid same long = same ∙ begun_held true (read_held c s rules x none o ∙ ap is_some e)
+      by_process : (p : DesignProcess) → IsOnly (drives c s) c.processes p → at (delta c st env) s ≡ (if is_none p.domain then at (put c.pool env p.body (inits c.pool)) s else at st.held s)
+      unfolding left
+      by_process p o =
+          let f = fold_only (drives c s) s (comb_process c.pool env) process_count process_other c.processes p begun o in
+          ap (λ ys. at ys s) delta_folded
+          ∙ fold_none (reads c s) s port_step port_count port_other (ports c s) left (no_port c s rules p o)
+          ∙ f.result
+          ∙ by_domain p.domain refl f.then f.same (f.long ∙ begun_length)
+        where
+          by_domain : (d : Option DomainId) → p.domain ≡ d → (mid : List ℤ) → at mid s ≡ at begun s → length mid ≡ length c.pool.signals
+              → at (if is_none d then put c.pool env p.body mid else mid) s ≡ (if is_none d then at (put c.pool env p.body (inits c.pool)) s else at st.held s)
+          by_domain None e mid same long =
+              put_here c.pool env s p.body mid (inits c.pool) (long ∙ sym (length_map (λ (x : Sig). x.init) c.pool.signals)) (same ∙ begun_held false (driven_held c s rules p o ∙ ap is_some e))
+          by_domain (Some d) e mid same long = same ∙ begun_held true (driven_held c s rules p o ∙ ap is_some e)
 
-    by_nobody : NonePass (drives c s) c.processes → NonePass (reads c s) (ports c s) → at (delta c st env) s ≡ (if is_input c s then at st.held s else at (inits c.pool) s)
-    unfolding left
-    by_nobody none nothing =
-        ap (λ ys. at ys s) delta_folded
-        ∙ fold_none (reads c s) s port_step port_count port_other (ports c s) left nothing
-        ∙ fold_none (drives c s) s (comb_process c.pool env) process_count process_other c.processes begun none
-        ∙ begun_held (is_input c s) (free_held c s rules none nothing)
+      by_port : (x : ReadPort) → NonePass (drives c s) c.processes → IsOnly (reads c s) (ports c s) x → at (delta c st env) s ≡ (if is_none x.port.domain then row_at c.pool env (rows_of st x.number) x.port.addr else at st.held s)
+      unfolding left
+      by_port x none o =
+          let f = fold_only (reads c s) s port_step port_count port_other (ports c s) x left o in
+          ap (λ ys. at ys s) delta_folded
+          ∙ f.result
+          ∙ by_domain x.port.domain refl f.then (f.same ∙ fold_none (drives c s) s (comb_process c.pool env) process_count process_other c.processes begun none) (f.long ∙ left_length ∙ begun_length)
+        where
+          n : ℤ
+          n = row_at c.pool env (rows_of st x.number) x.port.addr
 
-    pub delta_at : (o : Option DesignProcess) (r : Option ReadPort) → find (drives c s) c.processes ≡ o → find (reads c s) (ports c s) ≡ r → at (delta c st env) s ≡ delta_number o r
-    delta_at (Some p) r e f = by_process p (find_only (drives c s) c.processes p (processes_once c s rules) e)
-    delta_at None (Some x) e f = by_port x (find_none (drives c s) c.processes e) (find_only (reads c s) (ports c s) x (ports_once c s rules) f)
-    delta_at None None e f = by_nobody (find_none (drives c s) c.processes e) (find_none (reads c s) (ports c s) f)
+          by_domain : (d : Option (List ℕ)) → x.port.domain ≡ d → (mid : List ℤ) → at mid s ≡ at begun s → length mid ≡ length c.pool.signals
+              → at (if is_none d then slice_set mid x.port.word.0 n else mid) s ≡ (if is_none d then n else at st.held s)
+          by_domain None e mid same long =
+              let here : x.port.word.0 ≡ s = eqb-true x.port.word.0 s o.here in
+              ap (λ k. at (slice_set mid k n) s) here ∙ get_or-set_same mid s n (pos 0) (omega (arith, there, long))
+          by_domain (Some d) e mid same long = same ∙ begun_held true (read_held c s rules x none o ∙ ap is_some e)
+
+      by_nobody : NonePass (drives c s) c.processes → NonePass (reads c s) (ports c s) → at (delta c st env) s ≡ (if is_input c s then at st.held s else at (inits c.pool) s)
+      unfolding left
+      by_nobody none nothing =
+          ap (λ ys. at ys s) delta_folded
+          ∙ fold_none (reads c s) s port_step port_count port_other (ports c s) left nothing
+          ∙ fold_none (drives c s) s (comb_process c.pool env) process_count process_other c.processes begun none
+          ∙ begun_held (is_input c s) (free_held c s rules none nothing)
+
+      pub delta_at : (o : Option DesignProcess) (r : Option ReadPort) → find (drives c s) c.processes ≡ o → find (reads c s) (ports c s) ≡ r → at (delta c st env) s ≡ delta_number o r
+      delta_at (Some p) r e f = by_process p (find_only (drives c s) c.processes p (processes_once c s rules) e)
+      delta_at None (Some x) e f = by_port x (find_none (drives c s) c.processes e) (find_only (reads c s) (ports c s) x (ports_once c s rules) f)
+      delta_at None None e f = by_nobody (find_none (drives c s) c.processes e) (find_none (reads c s) (ports c s) f)

@@ -45,7 +45,7 @@ module _ (c : Circuit) (st : State) (env : List ℤ) (listed : List DomainId) wh
   abbrev pub left : List ℤ
   left = fold (clocked c env listed) st.held c.processes
 
-  module _ (rules : IsDrivenOnce c) (sized : IsStateOf c st) (s : ℕ) (there : s < length c.pool.signals) where
+  module _ (rules : IsDrivenOnce c) (sized : IsStateOf c st) (s : ℕ) where
     -- ---- one process, one port
 
     process_count : (cur : List ℤ) (x : DesignProcess) → length (clocked c env listed cur x) ≡ length cur
@@ -99,67 +99,68 @@ module _ (c : Circuit) (st : State) (env : List ℤ) (listed : List DomainId) wh
     pub taken_length : length taken ≡ length c.pool.signals
     taken_length = ap length taken_folded ∙ fold_length (reads c s) s port_step port_count port_other (ports c s) left ∙ left_length ∙ sized.held
 
-    -- ---- by who drives it
+    module _ (there : s < length c.pool.signals) where
+      -- ---- by who drives it
 
-    abbrev pub register_after : DesignProcess → Option DomainId → ℤ
-    register_after p None = at st.held s
-    register_after p (Some d) =
-        let n : ℤ = at (put c.pool env p.body st.held) s in
-        if is_active c env listed d.0 then (if is_reset c env d.0 then own (slice_get c.pool.signals s) n else n) else at st.held s
+      abbrev pub register_after : DesignProcess → Option DomainId → ℤ
+      register_after p None = at st.held s
+      register_after p (Some d) =
+          let n : ℤ = at (put c.pool env p.body st.held) s in
+          if is_active c env listed d.0 then (if is_reset c env d.0 then own (slice_get c.pool.signals s) n else n) else at st.held s
 
-    abbrev pub taken_number : Option DesignProcess → Option ReadPort → ℤ
-    taken_number (Some p) r = register_after p p.domain
-    taken_number None (Some x) = if reads_now c env listed x.port then read_word c env listed x.memory (rows_of st x.number) x.port else at st.held s
-    taken_number None None = at st.held s
+      abbrev pub taken_number : Option DesignProcess → Option ReadPort → ℤ
+      taken_number (Some p) r = register_after p p.domain
+      taken_number None (Some x) = if reads_now c env listed x.port then read_word c env listed x.memory (rows_of st x.number) x.port else at st.held s
+      taken_number None None = at st.held s
 
-    by_process : (p : DesignProcess) → IsOnly (drives c s) c.processes p → at taken s ≡ register_after p p.domain
-    by_process p o =
-        let f = fold_only (drives c s) s (clocked c env listed) process_count process_other c.processes p st.held o in
-        ap (λ ys. at ys s) taken_folded
-        ∙ fold_none (reads c s) s port_step port_count port_other (ports c s) left (no_port c s rules p o)
-        ∙ f.result
-        ∙ by_domain p.domain f.then f.same f.long
-      where
-        by_domain : (d : Option DomainId) (mid : List ℤ) → at mid s ≡ at st.held s → length mid ≡ length st.held → at (clocked_at c env listed p mid d) s ≡ register_after p d
-        by_domain None mid same long = same
-        by_domain (Some d) mid same long =
-            let after : List ℤ = put c.pool env p.body mid in
-            let put_same : at after s ≡ at (put c.pool env p.body st.held) s = put_here c.pool env s p.body mid st.held long same in
-            let wide : s < length after = omega (arith, there, sized.held, long, put_length c.pool env p.body mid) in
-            let cleared_same : at (reset_all c.pool.signals after (driven c.pool p.body)) s ≡ own (slice_get c.pool.signals s) (at (put c.pool env p.body st.held) s) =
-            resets_at c.pool.signals (driven c.pool p.body) after s wide ∙ ap (λ b. if b then own (slice_get c.pool.signals s) (at after s) else at after s) o.here ∙ ap (own (slice_get c.pool.signals s)) put_same in
-            choose (is_active c env listed d.0) (is_reset c env d.0) after (reset_all c.pool.signals after (driven c.pool p.body)) mid put_same cleared_same same
-          where
-            choose : (a b : Bool) (xs ys zs : List ℤ) {l m n : ℤ} → at xs s ≡ l → at ys s ≡ m → at zs s ≡ n → at (if a then (if b then ys else xs) else zs) s ≡ (if a then (if b then m else l) else n)
-            choose true true xs ys zs e f g = f
-            choose true false xs ys zs e f g = e
-            choose false b xs ys zs e f g = g
+      by_process : (p : DesignProcess) → IsOnly (drives c s) c.processes p → at taken s ≡ register_after p p.domain
+      by_process p o =
+          let f = fold_only (drives c s) s (clocked c env listed) process_count process_other c.processes p st.held o in
+          ap (λ ys. at ys s) taken_folded
+          ∙ fold_none (reads c s) s port_step port_count port_other (ports c s) left (no_port c s rules p o)
+          ∙ f.result
+          ∙ by_domain p.domain f.then f.same f.long
+        where
+          by_domain : (d : Option DomainId) (mid : List ℤ) → at mid s ≡ at st.held s → length mid ≡ length st.held → at (clocked_at c env listed p mid d) s ≡ register_after p d
+          by_domain None mid same long = same
+          by_domain (Some d) mid same long =
+              let after : List ℤ = put c.pool env p.body mid in
+              let put_same : at after s ≡ at (put c.pool env p.body st.held) s = put_here c.pool env s p.body mid st.held long same in
+              let wide : s < length after = omega (arith, there, sized.held, long, put_length c.pool env p.body mid) in
+              let cleared_same : at (reset_all c.pool.signals after (driven c.pool p.body)) s ≡ own (slice_get c.pool.signals s) (at (put c.pool env p.body st.held) s) =
+              resets_at c.pool.signals (driven c.pool p.body) after s wide ∙ ap (λ b. if b then own (slice_get c.pool.signals s) (at after s) else at after s) o.here ∙ ap (own (slice_get c.pool.signals s)) put_same in
+              choose (is_active c env listed d.0) (is_reset c env d.0) after (reset_all c.pool.signals after (driven c.pool p.body)) mid put_same cleared_same same
+            where
+              choose : (a b : Bool) (xs ys zs : List ℤ) {l m n : ℤ} → at xs s ≡ l → at ys s ≡ m → at zs s ≡ n → at (if a then (if b then ys else xs) else zs) s ≡ (if a then (if b then m else l) else n)
+              choose true true xs ys zs e f g = f
+              choose true false xs ys zs e f g = e
+              choose false b xs ys zs e f g = g
 
-    by_port : (x : ReadPort) → NonePass (drives c s) c.processes → IsOnly (reads c s) (ports c s) x → at taken s ≡ (if reads_now c env listed x.port then read_word c env listed x.memory (rows_of st x.number) x.port else at st.held s)
-    unfolding edge_port
-    by_port x none o =
-        let f = fold_only (reads c s) s port_step port_count port_other (ports c s) x left o in
-        ap (λ ys. at ys s) taken_folded
-        ∙ f.result
-        ∙ by (reads_now c env listed x.port) f.then (f.same ∙ fold_none (drives c s) s (clocked c env listed) process_count process_other c.processes st.held none) (f.long ∙ left_length ∙ sized.held)
-      where
-        by : (b : Bool) (mid : List ℤ) → at mid s ≡ at st.held s → length mid ≡ length c.pool.signals
-            → at (if b then slice_set mid x.port.word.0 (read_word c env listed x.memory (rows_of st x.number) x.port) else mid) s ≡ (if b then read_word c env listed x.memory (rows_of st x.number) x.port else at st.held s)
-        by true mid same long =
-            let n : ℤ = read_word c env listed x.memory (rows_of st x.number) x.port in
-            ap (λ k. at (slice_set mid k n) s) (eqb-true x.port.word.0 s o.here) ∙ get_or-set_same mid s n (pos 0) (omega (arith, there, long))
-        by false mid same long = same
+      by_port : (x : ReadPort) → NonePass (drives c s) c.processes → IsOnly (reads c s) (ports c s) x → at taken s ≡ (if reads_now c env listed x.port then read_word c env listed x.memory (rows_of st x.number) x.port else at st.held s)
+      unfolding edge_port
+      by_port x none o =
+          let f = fold_only (reads c s) s port_step port_count port_other (ports c s) x left o in
+          ap (λ ys. at ys s) taken_folded
+          ∙ f.result
+          ∙ by (reads_now c env listed x.port) f.then (f.same ∙ fold_none (drives c s) s (clocked c env listed) process_count process_other c.processes st.held none) (f.long ∙ left_length ∙ sized.held)
+        where
+          by : (b : Bool) (mid : List ℤ) → at mid s ≡ at st.held s → length mid ≡ length c.pool.signals
+              → at (if b then slice_set mid x.port.word.0 (read_word c env listed x.memory (rows_of st x.number) x.port) else mid) s ≡ (if b then read_word c env listed x.memory (rows_of st x.number) x.port else at st.held s)
+          by true mid same long =
+              let n : ℤ = read_word c env listed x.memory (rows_of st x.number) x.port in
+              ap (λ k. at (slice_set mid k n) s) (eqb-true x.port.word.0 s o.here) ∙ get_or-set_same mid s n (pos 0) (omega (arith, there, long))
+          by false mid same long = same
 
-    by_nobody : NonePass (drives c s) c.processes → NonePass (reads c s) (ports c s) → at taken s ≡ at st.held s
-    by_nobody none nothing =
-        ap (λ ys. at ys s) taken_folded
-        ∙ fold_none (reads c s) s port_step port_count port_other (ports c s) left nothing
-        ∙ fold_none (drives c s) s (clocked c env listed) process_count process_other c.processes st.held none
+      by_nobody : NonePass (drives c s) c.processes → NonePass (reads c s) (ports c s) → at taken s ≡ at st.held s
+      by_nobody none nothing =
+          ap (λ ys. at ys s) taken_folded
+          ∙ fold_none (reads c s) s port_step port_count port_other (ports c s) left nothing
+          ∙ fold_none (drives c s) s (clocked c env listed) process_count process_other c.processes st.held none
 
-    pub taken_at : (o : Option DesignProcess) (r : Option ReadPort) → find (drives c s) c.processes ≡ o → find (reads c s) (ports c s) ≡ r → at taken s ≡ taken_number o r
-    taken_at (Some p) r e f = by_process p (find_only (drives c s) c.processes p (processes_once c s rules) e)
-    taken_at None (Some x) e f = by_port x (find_none (drives c s) c.processes e) (find_only (reads c s) (ports c s) x (ports_once c s rules) f)
-    taken_at None None e f = by_nobody (find_none (drives c s) c.processes e) (find_none (reads c s) (ports c s) f)
+      pub taken_at : (o : Option DesignProcess) (r : Option ReadPort) → find (drives c s) c.processes ≡ o → find (reads c s) (ports c s) ≡ r → at taken s ≡ taken_number o r
+      taken_at (Some p) r e f = by_process p (find_only (drives c s) c.processes p (processes_once c s rules) e)
+      taken_at None (Some x) e f = by_port x (find_none (drives c s) c.processes e) (find_only (reads c s) (ports c s) x (ports_once c s rules) f)
+      taken_at None None e f = by_nobody (find_none (drives c s) c.processes e) (find_none (reads c s) (ports c s) f)
 
 -- ---- asynchronous resets
 

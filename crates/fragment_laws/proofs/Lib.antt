@@ -7,3 +7,4 @@ pub mod OneDriver
 pub mod DeltaNumbers
 pub mod Naming
 pub mod EdgeNumbers
+pub mod RootNumbers

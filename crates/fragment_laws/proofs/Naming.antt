@@ -112,6 +112,13 @@ found_own (x ∷ ds) (suc j) d h is =
     ap (λ b. cond b (Some x) (domain_of ds d.name)) (other_name x.name ds j d (IsDistinct-head text_eq x.name (map name_of ds) h) is)
     ∙ found_own ds j d (IsDistinct-tail text_eq x.name (map name_of ds) h) is
 
+pub set_at : (s : ℕ) (cur : List ℤ) (k : ℕ) (n : ℤ) → s < length cur → at (slice_set cur k n) s ≡ (if k == s then n else at cur s)
+set_at s cur k n there =
+    ⊎_elim
+    (λ (e : k ≡ s). ap (λ j. at (slice_set cur j n) s) e ∙ get_or-set_same cur s n (pos 0) there ∙ ap (λ b. if b then n else at cur s) (sym (eq-eqb k s e)))
+    (λ (e : k ≢ s). get_or-set_other cur k s n (pos 0) (λ q. e (sym q)) ∙ ap (λ b. if b then n else at cur s) (sym (false_from_ne_true (k == s) (λ t. e (eqb-true k s t)))))
+    (cases_eq k s)
+
 -- ---- the domains of a design
 
 module _ (c : Circuit) (apart : AreApart c.domains) where
@@ -189,13 +196,6 @@ module _ (c : Circuit) (apart : AreApart c.domains) where
   -- ---- clocks
 
   module _ (s : ℕ) where
-    set_at : (cur : List ℤ) (k : ℕ) (n : ℤ) → s < length cur → at (slice_set cur k n) s ≡ (if k == s then n else at cur s)
-    set_at cur k n there =
-        ⊎_elim
-        (λ (e : k ≡ s). ap (λ j. at (slice_set cur j n) s) e ∙ get_or-set_same cur s n (pos 0) there ∙ ap (λ b. if b then n else at cur s) (sym (eq-eqb k s e)))
-        (λ (e : k ≢ s). get_or-set_other cur k s n (pos 0) (λ q. e (sym q)) ∙ ap (λ b. if b then n else at cur s) (sym (false_from_ne_true (k == s) (λ t. e (eqb-true k s t)))))
-        (cases_eq k s)
-
     pub toggles_named : (listed : List DomainId) (cur : List ℤ) → s < length cur → at (fold (toggle c.domains) cur listed) s ≡ fold (toggle_by c.domains s) (at cur s) (names listed)
     toggles_named [] cur there = refl
     toggles_named (x ∷ listed) cur there = first (slice_get c.domains x.0) refl (λ ys h. toggles_named listed ys h)
@@ -207,7 +207,7 @@ module _ (c : Circuit) (apart : AreApart c.domains) where
             let k : ℕ = d.clk.0 in
             let ys : List ℤ = slice_set cur k (pos 1 -ℤ at cur k) in
             more ys (omega (arith, there, length-set cur k (pos 1 -ℤ at cur k)))
-            ∙ ap (λ n. fold (toggle_by c.domains s) n (names listed)) (set_at cur k (pos 1 -ℤ at cur k) there ∙ own_number (k == s) refl ∙ ap (λ o. if option_test (λ (x : Domain). x.clk.0 == s) o then pos 1 -ℤ at cur s else at cur s) (sym (found_own c.domains x.0 d apart is)))
+            ∙ ap (λ n. fold (toggle_by c.domains s) n (names listed)) (set_at s cur k (pos 1 -ℤ at cur k) there ∙ own_number (k == s) refl ∙ ap (λ o. if option_test (λ (x : Domain). x.clk.0 == s) o then pos 1 -ℤ at cur s else at cur s) (sym (found_own c.domains x.0 d apart is)))
           where
             own_number : (b : Bool) → (d.clk.0 == s) ≡ b → (if b then pos 1 -ℤ at cur d.clk.0 else at cur s) ≡ (if b then pos 1 -ℤ at cur s else at cur s)
             own_number true e = ap (λ j. pos 1 -ℤ at cur j) (eqb-true d.clk.0 s e)
