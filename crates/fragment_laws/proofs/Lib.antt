@@ -8,3 +8,5 @@ pub mod DeltaNumbers
 pub mod Naming
 pub mod EdgeNumbers
 pub mod RootNumbers
+pub mod RootHistories
+pub mod RootLaws

@@ -39,10 +39,11 @@ use Rattle.fragment_laws.specs.Parts.{all_processes, all_memories}
 use Rattle.fragment_laws.specs.Surroundings.{domain_of, pool_in}
 use Rattle.fragment_laws.specs.Givers.{ReadPort, giver_among, giver}
 use Rattle.fragment_laws.specs.Settling.{for_each, inits, rows_of, driven_number, read_number, given_number, given_numbers}
-use Rattle.fragment_laws.specs.Stepping.{Happening, given, toggled, acts, register_number, write_port, rows_after, is_through, row_through, word_of, reads_now, taken_number, toggle_by, edge_number, moved, cleared_number, step}
+use Rattle.fragment_laws.specs.Stepping.{Happening, given, toggled, acts, register_number, write_port, rows_after, is_through, row_through, word_of, reads_now, taken_number, toggle_by, edge_number, moved, cleared_side, cleared_number, all_cleared, step}
 use Rattle.fragment_laws.specs.Lives.{first_number, first_state}
 use Rattle.fragment_laws.specs.Roots.{IsSideNamed, surroundings_of, happening, HasRows, IsStateOf}
 use Rattle.fragment_laws.proofs.Once.{find_mapped}
+use Rattle.fragment_laws.proofs.Unnamed.{fold_every}
 use Rattle.fragment_laws.proofs.OneDriver.{IsDrivenOnce, drives, reads, ports}
 use Rattle.fragment_laws.proofs.DeltaNumbers.{delta_number, delta_at, delta_length, length_map}
 use Rattle.fragment_laws.proofs.EdgeNumbers as edge
@@ -146,3 +147,150 @@ module _ (q : Pooled) (f : Fragment) (ds : List Domain) (ios : List Port) (colum
 
     pub first_same : first_state q f (surroundings_of d) ≡ design.first_state d
     first_same = ap (λ xs. let st : State = record { held = xs; rows = map (λ (m : Memory). m.rows) (all_memories f) } in st) first_held
+
+    -- ---- an event: ports, by the names of their domains
+
+    module _ (env : List ℤ) (listed : List DomainId) where
+      abbrev ns : List (List ℕ)
+      ns = names d apart listed
+
+      write_named : (m : Memory) (rows : List ℤ) (w : MemWrite) → write_port p ds env ns m rows w ≡ design.write_row d env listed m rows w
+      write_named m rows w =
+          ap (λ b. if b then slice_set rows (address p env w.addr) (written p env m (row_at p env rows w.addr) w) else rows) (sym (port_named d apart env listed (Some w.domain)))
+
+      rows_named : (ms : List Memory) (rows : List (List ℤ)) → rows_after p ds env ns ms rows ≡ design.rows_after d env listed ms rows
+      rows_named [] rows = refl
+      rows_named (m ∷ ms) [] = refl
+      rows_named (m ∷ ms) (rows ∷ more) =
+          let a = fold_every (write_port p ds env ns m) (design.write_row d env listed m) (write_named m) m.writes rows in
+          let b = rows_named ms more in
+          cc
+
+      through_named : (m : Memory) (through : List ℕ) (addr i : ℕ) (ws : List MemWrite) (row : ℤ) → row_through p ds env ns m through addr i ws row ≡ design.shown_through d env listed m through addr i ws row
+      through_named m through addr i [] row = refl
+      through_named m through addr i (w ∷ ws) row =
+          ap (λ b. row_through p ds env ns m through addr (suc i) ws (if list_any (λ k. k == i) through && (b && (address p env w.addr == addr)) then written p env m row w else row)) (sym (port_named d apart env listed (Some w.domain)))
+          ∙ through_named m through addr (suc i) ws (if design.writes_through d env listed through addr i w then written p env m row w else row)
+
+      word_named : (m : Memory) (rows : List ℤ) (r : MemRead) → word_of p ds env ns m rows r ≡ design.read_word d env listed m rows r
+      word_named m rows r =
+          let addr : ℕ = address p env r.addr in
+          ap (λ n. if nat_lt addr (length rows) then n else pos 0) (through_named m r.transparent addr 0 m.writes (at rows addr))
+
+      reads_named : (r : MemRead) → reads_now p ds env ns r ≡ design.reads_now d env listed r
+      reads_named r = ap (λ b. b && option_test (λ (e : ExprId). not (is_zero (num p env e.0))) r.enable) (sym (port_named d apart env listed r.domain))
+
+      -- ---- what each signal takes
+
+      module _ (st : State) (sized : IsStateOf d st) where
+        takes : (s : ℕ) (there : s < length p.signals) (o : Option Process) (r : Option ReadPort) → driver s ≡ o
+            → taken_number p ds st env ns s (giver_among o r) ≡ edge.taken_number d st env listed rules sized s there (option_map (process_in ds) o) r
+        takes s there (Some x) r e = by_side x.side (driver_named s x e)
+          where
+            by_place : (n : List ℕ) (o : Option ℕ) → place_of n ≡ o → (k : ℕ) × (o ≡ Some k)
+                → register_number p ds st env ns s x.body (Clocked n) ≡ edge.register_after d st env listed rules sized s there (process_in ds x) (option_map (λ (k : ℕ). let y : DomainId = record { 0 = k } in y) o)
+            by_place n (Some k) e h =
+                let a = active_named d apart env listed n k e in
+                let b = reset_named d apart env n k e in
+                cc
+            by_place n None e h = let no = h.1 in cc
+
+            by_side : (side : Side) → IsSideNamed ds side → register_number p ds st env ns s x.body side ≡ edge.register_after d st env listed rules sized s there (process_in ds x) (domain_number ds side)
+            by_side Comb h = refl
+            by_side (Clocked n) h = by_place n (place_of n) refl (placed (λ (y : Domain). text_eq y.name n) ds h)
+        takes s there None (Some x) e =
+            ap (λ b. if b then word_of p ds env ns x.memory (rows_of st x.number) x.port else at st.held s) (reads_named x.port)
+            ∙ ap (λ n. if design.reads_now d env listed x.port then n else at st.held s) (word_named x.memory (rows_of st x.number) x.port)
+        takes s there None None e = refl
+
+        abbrev after : List ℤ
+        after = edge.taken d st env listed rules sized 0
+
+        abbrev g : ℕ → ℤ
+        g = edge_number p f ds st env ns
+
+        toggles_length : (xs : List DomainId) (cur : List ℤ) → length (fold (design.toggle ds) cur xs) ≡ length cur
+        toggles_length [] cur = refl
+        toggles_length (x ∷ xs) cur = toggles_length xs (design.toggle ds cur x) ∙ one (slice_get ds x.0)
+          where
+            one : (o : Option Domain) → length (design.toggle_at cur o) ≡ length cur
+            one None = refl
+            one (Some y) = length-set cur y.clk.0 _
+
+        pub edge_length : length (fold (design.toggle ds) after listed) ≡ length p.signals
+        edge_length = toggles_length listed after ∙ edge.taken_length d st env listed rules sized 0
+
+        pub edge_same : for_each p g ≡ fold (design.toggle ds) after listed
+        edge_same =
+            lists_same (for_each p g) (fold (design.toggle ds) after listed) (for_each_length p g ∙ sym edge_length)
+            (λ s l.
+            let there : s < length p.signals = omega (arith, l, for_each_length p g) in
+            for_each_at p g s there
+            ∙ ap (λ n. fold (toggle_by ds s) n ns)
+            (takes s there (driver s) (reader s) refl
+            ∙ sym (edge.taken_at d st env listed rules sized s there (option_map (process_in ds) (driver s)) (reader s) (driver_in s) refl))
+            ∙ sym (toggles_named d apart s listed after (omega (arith, there, edge.taken_length d st env listed rules sized 0))))
+
+    moved_same : (st : State) (env : List ℤ) (e : Event) → IsStateOf d st → moved p f ds st env (happening d e) ≡ design.moved d st env e
+    moved_same st env (Set s n) sized = refl
+    moved_same st env (Edge listed) sized =
+        let a = edge_same env listed st sized in
+        let b = rows_named env listed (all_memories f) st.rows in
+        cc
+
+    moved_length : (st : State) (env : List ℤ) (e : Event) → IsStateOf d st → length (design.moved d st env e).held ≡ length p.signals
+    moved_length st env (Set s n) sized = length-set st.held s.0 n ∙ sized.held
+    moved_length st env (Edge listed) sized = edge_length env listed st sized
+
+    -- ---- asynchronous resets
+
+    module _ (st : State) (env : List ℤ) (e : Event) (sized : IsStateOf d st) where
+      abbrev m : State
+      m = design.moved d st env e
+
+      clears : (s : ℕ) (o : Option Process) (r : Option ReadPort) → driver s ≡ o → cleared_number p ds m.held s (giver_among o r) ≡ edge.cleared_number d rules st env e s (option_map (process_in ds) o)
+      clears s (Some x) r e' = by_side x.side (driver_named s x e')
+        where
+          by_place : (n : List ℕ) (o : Option ℕ) → place_of n ≡ o → (k : ℕ) × (o ≡ Some k)
+              → cleared_side p ds m.held s (Clocked n) ≡ (if option_test (λ (y : DomainId). design.is_cleared d m.held y.0) (option_map (λ (k : ℕ). let y : DomainId = record { 0 = k } in y) o) then own (slice_get p.signals s) (at m.held s) else at m.held s)
+          by_place n (Some k) e h = let a = cleared_named d apart m.held n k e in cc
+          by_place n None e h = let no = h.1 in cc
+
+          by_side : (side : Side) → IsSideNamed ds side → cleared_side p ds m.held s side ≡ (if option_test (λ (y : DomainId). design.is_cleared d m.held y.0) (domain_number ds side) then own (slice_get p.signals s) (at m.held s) else at m.held s)
+          by_side Comb h = refl
+          by_side (Clocked n) h = by_place n (place_of n) refl (placed (λ (y : Domain). text_eq y.name n) ds h)
+      clears s None (Some x) e' = refl
+      clears s None None e' = refl
+
+      abbrev resets_to : ℕ → ℤ
+      resets_to s = cleared_number p ds m.held s (giver p f s)
+
+      step_length : length (design.step d st env e).held ≡ length p.signals
+      step_length = clears_length d m.held d.processes m.held ∙ moved_length st env e sized
+
+      clears_same : for_each p resets_to ≡ (design.step d st env e).held
+      clears_same =
+          lists_same (for_each p resets_to) (design.step d st env e).held (for_each_length p resets_to ∙ sym step_length)
+          (λ s l.
+          let there : s < length p.signals = omega (arith, l, for_each_length p resets_to) in
+          for_each_at p resets_to s there
+          ∙ clears s (driver s) (reader s) refl
+          ∙ sym (edge.cleared_at d rules st env e s (option_map (process_in ds) (driver s)) (omega (arith, there, moved_length st env e sized)) (driver_in s)))
+
+      pub step_same : step q f (surroundings_of d) st env (happening d e) ≡ design.step d st env e
+      step_same = ap (λ (x : State). all_cleared p f ds x) (moved_same st env e sized) ∙ ap (λ (xs : List ℤ). record m { held = xs }) clears_same
+
+      moved_rows : (e : Event) → length (design.moved d st env e).rows ≡ length d.memories
+      moved_rows (Set s n) = sized.rows
+      moved_rows (Edge listed) = kept d.memories st.rows sized.rows
+        where
+          kept : (ms : List Memory) (rows : List (List ℤ)) → length rows ≡ length ms → length (design.rows_after d env listed ms rows) ≡ length ms
+          kept [] rows h = h
+          kept (m ∷ ms) [] h = h
+          kept (m ∷ ms) (rows ∷ more) h = ap suc (kept ms more (omega (arith, h)))
+
+      pub step_sized : IsStateOf d (design.step d st env e)
+      step_sized = record { held = step_length; rows = moved_rows e }
+
+    pub first_sized : IsStateOf d (design.first_state d)
+    first_sized = record { held = lows_length ds (inits p) ∙ inits_length; rows = length_map (λ (m : Memory). m.rows) d.memories }

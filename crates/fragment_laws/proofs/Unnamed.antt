@@ -20,7 +20,7 @@ use Rattle.design_ir.specs.Steps.{toggle, clocked_at, clocked, cleared_at, clear
 use Rattle.fragment_laws.specs.Parts.{unnamed}
 use Rattle.fragment_laws.proofs.Once.{any_mapped}
 
-fold_every : {A B : Type 0} (f g : B → A → B) → ((b : B) (x : A) → f b x ≡ g b x) → (xs : List A) (b : B) → fold f b xs ≡ fold g b xs
+pub fold_every : {A B : Type 0} (f g : B → A → B) → ((b : B) (x : A) → f b x ≡ g b x) → (xs : List A) (b : B) → fold f b xs ≡ fold g b xs
 fold_every f g each [] b = refl
 fold_every f g each (x ∷ xs) b = ap (λ c. fold f c xs) (each b x) ∙ fold_every f g each xs (g b x)
 
