@@ -10,3 +10,4 @@ pub mod EdgeNumbers
 pub mod RootNumbers
 pub mod RootHistories
 pub mod RootLaws
+pub mod PlainPools
