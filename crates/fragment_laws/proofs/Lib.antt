@@ -11,3 +11,4 @@ pub mod RootNumbers
 pub mod RootHistories
 pub mod RootLaws
 pub mod PlainPools
+pub mod ResolvedLaws

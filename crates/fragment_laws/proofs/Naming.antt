@@ -52,14 +52,14 @@ not_below n m e = grind (arith, nat_tests)
 is_below : (n m : ℕ) → nat_lt n m ≡ true → n < m
 is_below n m e = grind (arith, nat_tests)
 
-placed_below : {A : Type 0} (t : A → Bool) (xs : List A) (k : ℕ) → position t xs ≡ Some k → k < length xs
+pub placed_below : {A : Type 0} (t : A → Bool) (xs : List A) (k : ℕ) → position t xs ≡ Some k → k < length xs
 placed_below t xs k e = by (nat_lt (position_or_len t xs) (length xs)) refl e
   where
     by : (b : Bool) → nat_lt (position_or_len t xs) (length xs) ≡ b → cond b (Some (position_or_len t xs)) None ≡ Some k → k < length xs
     by true e f = omega (arith, is_below (position_or_len t xs) (length xs) e, place_is true (position_or_len t xs) k f)
     by false e f = cc
 
-none_past : {A : Type 0} (xs : List A) (k : ℕ) → slice_get xs k ≡ None → k < length xs → ⊥
+pub none_past : {A : Type 0} (xs : List A) (k : ℕ) → slice_get xs k ≡ None → k < length xs → ⊥
 none_past [] k e there = absurd (omega (arith, there))
 none_past (x ∷ xs) zero e there = cc
 none_past (x ∷ xs) (suc k) e there = none_past xs k e (omega (arith, there))
