@@ -1,5 +1,5 @@
 -- What computing everything at once gives a signal of a design, by who drives it.
-use Rattle.std.specs.Prelude.{◌≡◌, ◌≢◌, refl, ℕ, suc, ◌<◌, ◌==◌, Bool, true, false, if◌then◌else◌, is_some, is_none, List, [], ◌∷◌, map, length, slice_index_or, slice_set, ℤ, pos, Option, Some, None, fold}
+use Rattle.std.specs.Prelude.{◌≡◌, ◌≢◌, refl, ℕ, suc, ◌<◌, ◌==◌, Bool, true, false, if◌then◌else◌, is_some, is_none, List, [], ◌∷◌, map, length, slice_set, ℤ, pos, Option, Some, None, fold}
 use Rattle.std.specs.List.{find}
 use Rattle.std.proofs.Common.{sym, ◌∙◌, ap, arith}
 use Rattle.std.proofs.lemmas.Bool.{cond_both, false≢true, eq-eqb, eqb-true}
@@ -17,7 +17,7 @@ use Rattle.design_ir.proofs.PutLaws.{put_length, put_other}
 use Rattle.fragment_laws.specs.Givers.{ReadPort}
 use Rattle.fragment_laws.specs.Settling.{inits, rows_of}
 use Rattle.fragment_laws.specs.Roots.{HasRows}
-use Rattle.fragment_laws.proofs.Once.{NonePass, IsOnly, IsFolded, find_only, find_none, fold_length, fold_none, fold_only}
+use Rattle.fragment_laws.proofs.Once.{NonePass, IsOnly, find_only, find_none, fold_length, fold_none, fold_only}
 use Rattle.fragment_laws.proofs.PutsHere.{put_here}
 use Rattle.fragment_laws.proofs.PortFolds.{reads_by, port_by, reads_folded}
 use Rattle.fragment_laws.proofs.OneDriver.{IsDrivenOnce, drives, reads, ports, processes_once, ports_once, no_port, driven_held, read_held, free_held, starts_at, starts_length}

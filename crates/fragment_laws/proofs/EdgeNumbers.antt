@@ -1,7 +1,7 @@
 -- What an event leaves in a signal of a design, by who drives it.
-use Rattle.std.specs.Prelude.{◌≡◌, refl, ℕ, ◌<◌, ◌==◌, ◌&&◌, Bool, true, false, if◌then◌else◌, List, [], ◌∷◌, map, length, slice_get, slice_index_or, slice_set, ℤ, pos, Option, Some, None, fold}
-use Rattle.std.specs.List.{list_any, find}
-use Rattle.std.proofs.Common.{sym, ◌∙◌, ap, arith}
+use Rattle.std.specs.Prelude.{◌≡◌, refl, ℕ, ◌<◌, Bool, true, false, if◌then◌else◌, List, [], ◌∷◌, length, slice_get, slice_set, ℤ, pos, Option, Some, None, fold}
+use Rattle.std.specs.List.{find}
+use Rattle.std.proofs.Common.{◌∙◌, ap, arith}
 use Rattle.std.proofs.lemmas.Bool.{cond_both, eqb-true}
 use Rattle.std.proofs.lemmas.List.{length-set, get_or-set_same, get_or-set_other}
 use Rattle.design_ir.specs.declared.ids.DomainId.{DomainId}
@@ -13,7 +13,7 @@ use Rattle.design_ir.specs.Guards.{driven}
 use Rattle.design_ir.specs.Put.{put}
 use Rattle.design_ir.specs.Clearing.{own}
 use Rattle.design_ir.specs.Circuits.{Circuit, State, option_test, at}
-use Rattle.design_ir.specs.Steps.{is_active, is_reset, is_cleared, reset_all, clocked_at, clocked, cleared, read_word, reads_now, clocked_read, clocked_reads, moved, step}
+use Rattle.design_ir.specs.Steps.{is_active, is_reset, is_cleared, reset_all, clocked_at, clocked, read_word, reads_now, clocked_read, clocked_reads, moved, step}
 use Rattle.design_ir.proofs.PutLaws.{put_length, put_other}
 use Rattle.design_ir.proofs.Resets.{resets_length, resets_at, resets_other}
 use Rattle.design_ir.proofs.ClearedLaws.{resets_act}

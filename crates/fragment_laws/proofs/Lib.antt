@@ -12,3 +12,6 @@ pub mod RootHistories
 pub mod RootLaws
 pub mod PlainPools
 pub mod ResolvedLaws
+pub mod GrowthLaws
+pub mod GrowthNeeds
+pub mod Samples

@@ -1,8 +1,8 @@
 -- Domains by their numbers and by their names.
-use Rattle.std.specs.Prelude.{◌≡◌, ◌≢◌, refl, ℕ, zero, suc, not, ◌<◌, ◌≤◌, ◌==◌, ◌&&◌, ◌||◌, ⊤, IsSome, Bool, true, false, cond, if◌then◌else◌, List, [], ◌∷◌, map, length, nat_lt, position, slice_get, slice_index_or, slice_set, ℤ, pos, ◌-ℤ◌, Option, Some, None, option_map, option_and_then, fold}
+use Rattle.std.specs.Prelude.{◌≡◌, ◌≢◌, refl, ℕ, zero, suc, not, ◌<◌, ◌≤◌, ◌==◌, ◌&&◌, ◌||◌, IsSome, Bool, true, false, cond, if◌then◌else◌, List, [], ◌∷◌, map, length, nat_lt, position, slice_get, slice_index_or, slice_set, ℤ, pos, ◌-ℤ◌, Option, Some, None, option_map, fold}
 use Rattle.std.specs.List.{AllByRecursion, IsDistinct, list_any, find, filter_map, cons_option, position_or_len}
 use Rattle.std.proofs.Common.{sym, ◌∙◌, ap, arith, subst, ⊎_elim}
-use Rattle.std.proofs.lemmas.Bool.{false≢true, eq-eqb, eqb-true, cond_both, or_parts, cases_eq, false_from_ne_true}
+use Rattle.std.proofs.lemmas.Bool.{false≢true, eq-eqb, eqb-true, or_parts, cases_eq, false_from_ne_true}
 use Rattle.std.proofs.lemmas.Bool.Decides.{nat_tests}
 use Rattle.std.proofs.lemmas.List.{length-set, get_or-set_same, get_or-set_other}
 use Rattle.std.proofs.lemmas.List.Folds.{find_at}

@@ -1,7 +1,7 @@
 -- Lists of which one element at most passes a test, and folds over them.
-use Rattle.std.specs.Prelude.{◌≡◌, refl, ℕ, ◌==◌, ◌&&◌, ◌||◌, ⊤, Bool, true, false, cond, List, [], ◌∷◌, ◌++◌, map, length, ℤ, Option, Some, None, fold, option_map}
+use Rattle.std.specs.Prelude.{◌≡◌, refl, ℕ, ◌==◌, ◌&&◌, ◌||◌, ⊤, Bool, true, false, cond, List, [], ◌∷◌, ◌++◌, map, length, ℤ, Some, None, fold, option_map}
 use Rattle.std.specs.List.{AllByRecursion, IsDistinct, list_any, find}
-use Rattle.std.proofs.Common.{sym, ◌∙◌, ap, subst, ⊎_elim}
+use Rattle.std.proofs.Common.{sym, ◌∙◌, ap, ⊎_elim}
 use Rattle.std.proofs.lemmas.Bool.{false≢true, or_parts, or_cases, or_from, and_right, eqb-true}
 use Rattle.std.proofs.lemmas.Map.Keys.{IsDistinct-head, IsDistinct-tail}
 use Rattle.design_ir.specs.Circuits.{at, is_among}

@@ -1,6 +1,6 @@
 -- Who drives a signal of a design, and what it holds where settling starts.
-use Rattle.std.specs.Prelude.{◌≡◌, refl, ℕ, zero, suc, ◌+◌, ◌<◌, ◌==◌, ◌&&◌, ◌||◌, Bool, true, false, IsTrue, if◌then◌else◌, is_some, List, [], ◌∷◌, ◌++◌, map, length, ℤ, Option, Some, None}
-use Rattle.std.specs.List.{AllByRecursion, IsDistinct, flat_map, list_any, find}
+use Rattle.std.specs.Prelude.{◌≡◌, refl, ℕ, zero, suc, ◌+◌, ◌<◌, ◌==◌, ◌&&◌, ◌||◌, Bool, true, false, IsTrue, if◌then◌else◌, is_some, List, [], ◌∷◌, ◌++◌, map, length}
+use Rattle.std.specs.List.{AllByRecursion, IsDistinct, flat_map, list_any}
 use Rattle.std.proofs.Common.{sym, ◌∙◌, ap, arith, subst}
 use Rattle.std.proofs.Math.Path.{fun_ext}
 use Rattle.std.proofs.lemmas.Bool.{false≢true, or_from, eqb-true}
@@ -15,7 +15,7 @@ use Rattle.design_ir.specs.Designs.{drivers, share}
 use Rattle.design_ir.specs.Settled.{starts}
 use Rattle.fragment_laws.specs.Givers.{ReadPort, ports_from}
 use Rattle.fragment_laws.specs.Settling.{inits}
-use Rattle.fragment_laws.proofs.Once.{NonePass, AtMostOne, IsOnly, find_only, find_none, one_left, one_right, one_across, only_any, none_of_kind, only_of_kind, one_mapped, none_mapped, any_mapped, once}
+use Rattle.fragment_laws.proofs.Once.{NonePass, AtMostOne, IsOnly, one_left, one_right, one_across, only_any, none_of_kind, only_of_kind, one_mapped, none_mapped, any_mapped, once}
 use Rattle.fragment_laws.proofs.PortFolds.{data_of, data_listed, any_listed}
 
 -- each signal is driven once at most, and no input is driven

@@ -1,18 +1,17 @@
 -- An expression in which no reset stands means the same whichever resets the domains have.
-use Rattle.std.specs.Prelude.{◌≡◌, refl, ℕ, zero, suc, ◌<◌, ◌||◌, Bool, true, false, List, [], ◌∷◌, map, length, slice_get, ℤ, pos, unsigned_abs, Option, Some, None, option_map}
+use Rattle.std.specs.Prelude.{◌≡◌, refl, ℕ, zero, suc, ◌<◌, Bool, false, List, [], ◌∷◌, map, length, slice_get, ℤ, pos, unsigned_abs, Option, Some, option_map}
 use Rattle.std.specs.List.{AllByRecursion, flat_map, list_any}
 use Rattle.std.proofs.Common.{sym, ◌∙◌, ap, arith}
 use Rattle.std.proofs.lemmas.Bool.{false≢true, or_parts}
-use Rattle.std.proofs.lemmas.Option.{slice_get-map, slice_get-get_or}
+use Rattle.std.proofs.lemmas.Option.{slice_get-map}
 use Rattle.shape_rules.specs.Forms.{Form, unsigned}
 use Rattle.design_ir.specs.declared.ids.ExprId.{ExprId}
-use Rattle.design_ir.specs.declared.signal.Sig.{Sig}
 use Rattle.design_ir.specs.declared.domain.Domain.{Domain}
 use Rattle.design_ir.specs.declared.expr.Expr as expr
 use Rattle.design_ir.specs.declared.expr.Expr.{Expr}
 use Rattle.design_ir.specs.declared.expr.Expr.TheVariants.{Const, Unary, Binary, Mux, Slice, Cat, Part, Pick, Cast, Matches, Reset}
 use Rattle.design_ir.specs.Named.{named, AllBelow}
-use Rattle.design_ir.specs.Pools.{Pooled, answer}
+use Rattle.design_ir.specs.Pools.{Pooled}
 use Rattle.design_ir.specs.PoolRules.{IsPool}
 use Rattle.design_ir.specs.Values.{form, form_step, num, value_step, signal_form, joined, picked, common_of_all}
 use Rattle.design_ir.specs.Targets.{Bit, target_bits, target_step, target_signals, signals_step, padded}
@@ -22,6 +21,7 @@ use Rattle.design_ir.proofs.Equations.{answer_at, standing}
 use Rattle.design_ir.proofs.Congruence.{AreSame, same_below, form_same}
 use Rattle.fragment_laws.specs.Surroundings.{read_in, pool_in}
 use Rattle.fragment_laws.specs.SamePools.{IsSame}
+use Rattle.fragment_laws.proofs.Twins.{all_imp}
 
 -- ---- what an expression means is decided by what those that it names mean
 
@@ -101,10 +101,6 @@ module _ (forms forms' : ℕ → Form) (nums nums' : ℕ → ℤ) where
   places_same sig_form f g (Cast a signed) h k l = l.0
   places_same sig_form f g (Matches a patterns) h k l = refl
   places_same sig_form f g (Reset domain place) h k l = refl
-
-all_imp : {A : Type 0} {P Q : A → Type 0} (f : (x : A) → P x → Q x) (xs : List A) → AllByRecursion P xs → AllByRecursion Q xs
-all_imp f [] h = tt
-all_imp f (x ∷ xs) h = (f x h.0, all_imp f xs h.1)
 
 same_refl : {A : Type 0} (f : ℕ → A) (es : List ExprId) → AreSame f f es
 same_refl f [] = tt

@@ -1,5 +1,5 @@
 -- The read ports of memories one after another, as one list.
-use Rattle.std.specs.Prelude.{◌≡◌, refl, ℕ, suc, ◌+◌, ◌==◌, ◌&&◌, ◌||◌, Bool, true, false, is_some, List, [], ◌∷◌, ◌++◌, map, length, slice_index_or, ℤ, fold}
+use Rattle.std.specs.Prelude.{◌≡◌, refl, ℕ, suc, ◌||◌, Bool, true, false, List, [], ◌∷◌, ◌++◌, map, length, slice_index_or, ℤ, fold}
 use Rattle.std.specs.List.{flat_map, list_any}
 use Rattle.std.proofs.Common.{sym, ◌∙◌, ap, arith, append_assoc}
 use Rattle.std.proofs.Math.Seq.{get_or-append_seam}

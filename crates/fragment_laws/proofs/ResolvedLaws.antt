@@ -1,6 +1,6 @@
 -- The design that `resolve` gives means what the module does.
-use Rattle.std.specs.Prelude.{◌≡◌, refl, ℕ, ⊤, Bool, true, false, if◌then◌else◌, is_some, IsTrue, IsSome, List, [], ◌∷◌, ◌++◌, map, length, position, slice_get, Option, Some, None, option_map, Ok, Err}
-use Rattle.std.specs.List.{AllByRecursion, find}
+use Rattle.std.specs.Prelude.{◌≡◌, refl, ℕ, Bool, true, false, if◌then◌else◌, is_some, IsSome, List, [], ◌∷◌, ◌++◌, map, length, position, slice_get, Option, Some, None, option_map, Ok, Err}
+use Rattle.std.specs.List.{AllByRecursion}
 use Rattle.std.proofs.Common.{sym, ◌∙◌, ap, subst, append-nil}
 use Rattle.std.proofs.lemmas.Bool.{false≢true}
 use Rattle.lists.specs.Texts.{text_eq}
@@ -18,27 +18,23 @@ use Rattle.design_ir.specs.Pools.{Pooled}
 use Rattle.design_ir.specs.PoolRules.{IsPool}
 use Rattle.design_ir.specs.Guards.{block_exprs}
 use Rattle.design_ir.specs.Circuits.{Circuit}
-use Rattle.design_ir.specs.Designs.{IsDesign}
 use Rattle.clock_domains.specs.declared.top.TopPorts.{TopPorts}
 use Rattle.clock_domains.specs.declared.stop.ResolveStop.{ResolveStop}
 use Rattle.clock_domains.specs.declared.stop.ResolveStop.TheVariants as stop
 use Rattle.clock_domains.specs.Resolvable.{IsResolvable, IsSideOf, IsPlain}
 use Rattle.clock_domains.specs.Resolved.{domain_names, with_domains, domains_from, is_past_limit, file_start, driver_refusal, top_inputs, domain_number, process_in, is_clocked, ports_of, circuit_of, or_refused, resolved_in, resolved}
-use Rattle.clock_domains.specs.Ready.{IsGiven, IsReady}
+use Rattle.clock_domains.specs.Ready.{IsReady}
 use Rattle.clock_domains.proofs.DesignSound.{sides_with}
 use Rattle.clock_domains.proofs.DesignParts.{numbers_found}
 use Rattle.clock_domains.proofs.ReadyLaws.{ready_design}
 use Rattle.fragment_laws.specs.Parts.{unnamed, all_processes, all_memories, processes_of, memories_of}
 use Rattle.fragment_laws.specs.Surroundings.{domain_of, pool_in}
-use Rattle.fragment_laws.specs.SamePools.{IsSame, AllSame, AreSameIn}
+use Rattle.fragment_laws.specs.SamePools.{AllSame}
+use Rattle.fragment_laws.proofs.Twins.{all_imp}
 use Rattle.fragment_laws.specs.Roots.{IsSideNamed, IsRoot, MeansItsRoot, ResolvedMeansItsRoot}
 use Rattle.fragment_laws.proofs.Naming.{find_placed, placed_below, none_past}
 use Rattle.fragment_laws.proofs.PlainPools.{plain_same}
 use Rattle.fragment_laws.proofs.RootLaws.{means}
-
-all_imp : {A : Type 0} {P Q : A → Type 0} (f : (x : A) → P x → Q x) (xs : List A) → AllByRecursion P xs → AllByRecursion Q xs
-all_imp f [] h = tt
-all_imp f (x ∷ xs) h = (f x h.0, all_imp f xs h.1)
 
 all_mapped : {A B : Type 0} (P : B → Type 0) (f : A → B) (xs : List A) → AllByRecursion (λ x. P (f x)) xs → AllByRecursion P (map f xs)
 all_mapped P f [] h = tt

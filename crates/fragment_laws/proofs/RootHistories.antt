@@ -1,5 +1,5 @@
 -- A design has the histories of its root.
-use Rattle.std.specs.Prelude.{◌≡◌, ◌↔◌, refl, List, [], ◌∷◌, map, ℤ}
+use Rattle.std.specs.Prelude.{◌≡◌, List, [], ◌∷◌, map, ℤ}
 use Rattle.std.specs.List.{AllByRecursion, IsDistinct}
 use Rattle.std.proofs.Common.{sym, ◌∙◌, subst}
 use Rattle.lists.specs.Texts.{text_eq}
@@ -18,7 +18,7 @@ use Rattle.fragment_laws.specs.Parts.{all_processes}
 use Rattle.fragment_laws.specs.Surroundings.{Surroundings}
 use Rattle.fragment_laws.specs.Settling.{IsSettled}
 use Rattle.fragment_laws.specs.Stepping.{step}
-use Rattle.fragment_laws.specs.Lives.{first_state, HistoryFrom, History}
+use Rattle.fragment_laws.specs.Lives.{first_state, HistoryFrom}
 use Rattle.fragment_laws.specs.Roots.{IsSideNamed, surroundings_of, happening, HasRows, IsStateOf, MeansItsRoot}
 use Rattle.fragment_laws.proofs.OneDriver.{IsDrivenOnce}
 use Rattle.fragment_laws.proofs.RootNumbers.{root_design, settle_same, step_same, step_sized, first_same, first_sized}

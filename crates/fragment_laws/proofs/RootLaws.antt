@@ -1,9 +1,8 @@
 -- A design whose domains were resolved means what its root does.
-use Rattle.std.specs.Prelude.{◌≡◌, ◌↔◌, refl, IsTrue, false, List, [], ◌∷◌, map, length, ℤ}
+use Rattle.std.specs.Prelude.{◌≡◌, IsTrue, false, List, map, length, ℤ}
 use Rattle.std.specs.List.{AllByRecursion, IsDistinct, list_any}
 use Rattle.std.proofs.Common.{sym, ◌∙◌, ap, subst}
 use Rattle.design_ir.specs.declared.port.Port.{Port}
-use Rattle.design_ir.specs.declared.memory.Memory.{Memory}
 use Rattle.design_ir.specs.declared.fragment.Fragment.{Fragment}
 use Rattle.design_ir.specs.declared.event.Event.{Event}
 use Rattle.design_ir.specs.Pools.{Pooled}
@@ -12,10 +11,9 @@ use Rattle.design_ir.specs.Designs.{IsDesign, drivers, share}
 use Rattle.design_ir.specs.Settled.{delta}
 use Rattle.design_ir.specs.Steps as design
 use Rattle.design_ir.specs.Histories as history
-use Rattle.fragment_laws.specs.Parts.{unnamed, all_memories}
+use Rattle.fragment_laws.specs.Parts.{unnamed}
 use Rattle.fragment_laws.specs.Surroundings.{pool_in}
-use Rattle.fragment_laws.specs.Stepping.{step}
-use Rattle.fragment_laws.specs.Roots.{IsRoot, surroundings_of, happening, HasRows, IsStateOf, MeansItsRoot, DesignsMeanTheirRoots}
+use Rattle.fragment_laws.specs.Roots.{IsRoot, IsStateOf, MeansItsRoot, DesignsMeanTheirRoots}
 use Rattle.fragment_laws.proofs.Twins as twin
 use Rattle.fragment_laws.proofs.Unnamed as bare
 use Rattle.fragment_laws.proofs.DeltaNumbers.{length_map}

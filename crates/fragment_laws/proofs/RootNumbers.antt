@@ -1,7 +1,7 @@
 -- A design whose processes are those of a fragment gives each signal the number that the fragment gives it.
-use Rattle.std.specs.Prelude.{◌≡◌, refl, ℕ, suc, ◌<◌, ◌==◌, ◌&&◌, ◌||◌, Bool, true, false, not, if◌then◌else◌, nat_lt, is_none, IsSome, List, [], ◌∷◌, map, length, position, slice_get, slice_set, ℤ, pos, Option, Some, None, option_map, fold}
-use Rattle.std.specs.List.{AllByRecursion, IsDistinct, list_any, find, range_with_len}
-use Rattle.std.proofs.Common.{sym, ◌∙◌, ap, arith, subst}
+use Rattle.std.specs.Prelude.{◌≡◌, refl, ℕ, suc, ◌<◌, ◌==◌, ◌&&◌, ◌||◌, Bool, true, false, not, if◌then◌else◌, nat_lt, is_none, List, [], ◌∷◌, map, length, position, slice_get, slice_set, ℤ, pos, Option, Some, None, option_map, fold}
+use Rattle.std.specs.List.{AllByRecursion, IsDistinct, list_any, find}
+use Rattle.std.proofs.Common.{sym, ◌∙◌, ap, arith}
 use Rattle.std.proofs.lemmas.List.{length-set}
 use Rattle.std.proofs.lemmas.List.FromFn.{length-map-range_with_len, get_or-map-range_with_len}
 use Rattle.lists.specs.Texts.{text_eq}
@@ -18,11 +18,9 @@ use Rattle.design_ir.specs.declared.memory.Memory.{Memory}
 use Rattle.design_ir.specs.declared.process.Side.{Side}
 use Rattle.design_ir.specs.declared.process.Side.TheVariants.{Comb, Clocked}
 use Rattle.design_ir.specs.declared.process.Process.{Process}
-use Rattle.design_ir.specs.declared.process.DesignProcess.{DesignProcess}
 use Rattle.design_ir.specs.declared.fragment.Fragment.{Fragment}
 use Rattle.design_ir.specs.declared.event.Event.{Event}
 use Rattle.design_ir.specs.declared.event.Event.TheVariants.{Set, Edge}
-use Rattle.design_ir.specs.Trees.{Block}
 use Rattle.design_ir.specs.Pools.{Pooled}
 use Rattle.design_ir.specs.Guards.{driven}
 use Rattle.design_ir.specs.Values.{num}
@@ -36,15 +34,15 @@ use Rattle.design_ir.proofs.Resets.{lists_same}
 use Rattle.design_ir.proofs.ClearedLaws.{clears_length}
 use Rattle.clock_domains.specs.Resolved.{domain_number, process_in}
 use Rattle.fragment_laws.specs.Parts.{all_processes, all_memories}
-use Rattle.fragment_laws.specs.Surroundings.{domain_of, pool_in}
+use Rattle.fragment_laws.specs.Surroundings.{pool_in}
 use Rattle.fragment_laws.specs.Givers.{ReadPort, giver_among, giver}
 use Rattle.fragment_laws.specs.Settling.{for_each, inits, rows_of, driven_number, read_number, given_number, given_numbers}
-use Rattle.fragment_laws.specs.Stepping.{Happening, given, toggled, acts, register_number, write_port, rows_after, is_through, row_through, word_of, reads_now, taken_number, toggle_by, edge_number, moved, cleared_side, cleared_number, all_cleared, step}
+use Rattle.fragment_laws.specs.Stepping.{register_number, write_port, rows_after, row_through, word_of, reads_now, taken_number, toggle_by, edge_number, moved, cleared_side, cleared_number, all_cleared, step}
 use Rattle.fragment_laws.specs.Lives.{first_number, first_state}
 use Rattle.fragment_laws.specs.Roots.{IsSideNamed, surroundings_of, happening, HasRows, IsStateOf}
 use Rattle.fragment_laws.proofs.Once.{find_mapped}
 use Rattle.fragment_laws.proofs.Unnamed.{fold_every}
-use Rattle.fragment_laws.proofs.OneDriver.{IsDrivenOnce, drives, reads, ports}
+use Rattle.fragment_laws.proofs.OneDriver.{IsDrivenOnce, drives, ports}
 use Rattle.fragment_laws.proofs.DeltaNumbers.{delta_number, delta_at, delta_length, length_map}
 use Rattle.fragment_laws.proofs.EdgeNumbers as edge
 use Rattle.fragment_laws.proofs.Naming.{find_holds, placed, names, active_named, port_named, reset_named, cleared_named, set_at, toggles_named}

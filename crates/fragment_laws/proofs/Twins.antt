@@ -1,8 +1,8 @@
 -- A design over another pool in which its expressions mean the same settles and steps as before.
-use Rattle.std.specs.Prelude.{◌≡◌, refl, ℕ, suc, ◌+◌, ◌==◌, ◌&&◌, ◌||◌, nat_lt, not, Bool, cond, if◌then◌else◌, is_some, is_none, List, [], ◌∷◌, ◌++◌, map, length, slice_set, ℤ, pos, Option, Some, None, fold}
+use Rattle.std.specs.Prelude.{◌≡◌, refl, ℕ, suc, ◌+◌, ◌==◌, ◌&&◌, ◌||◌, nat_lt, not, Bool, if◌then◌else◌, is_some, is_none, List, [], ◌∷◌, ◌++◌, map, length, slice_set, ℤ, pos, Option, Some, None, fold}
 use Rattle.std.specs.List.{AllByRecursion, flat_map, list_any}
 use Rattle.std.specs.Option.{option_map_or}
-use Rattle.std.proofs.Common.{sym, ◌∙◌, ap}
+use Rattle.std.proofs.Common.{◌∙◌, ap}
 use Rattle.amh_bits.specs.Patterns.{nat_bit}
 use Rattle.shape_rules.specs.Operators.{is_zero}
 use Rattle.design_ir.specs.declared.ids.DomainId.{DomainId}
@@ -20,15 +20,19 @@ use Rattle.design_ir.specs.Values.{num}
 use Rattle.design_ir.specs.Targets.{Bit, target_bits, target_signals}
 use Rattle.design_ir.specs.Put.{put, put_statement, put_choices, put_number, put_bits, put_bit, put_place}
 use Rattle.design_ir.specs.Guards.{Guarded, guarded, driven, statement_exprs, choices_exprs, block_exprs}
-use Rattle.design_ir.specs.Rows.{row_at, written, address}
-use Rattle.design_ir.specs.Circuits.{Circuit, State, option_test, at, is_among, is_register, is_held}
+use Rattle.design_ir.specs.Rows.{written, address}
+use Rattle.design_ir.specs.Circuits.{Circuit, State, option_test, at, is_among, is_register}
 use Rattle.design_ir.specs.Designs.{drivers}
 use Rattle.design_ir.specs.Settled.{starts, comb_process, comb_read, comb_reads, delta}
-use Rattle.design_ir.specs.Steps.{port_active, clock_low, toggle, is_active, is_reset, is_cleared, reset_all, clocked_at, clocked, cleared_at, cleared, write_row, rows_after, writes_through, shown_through, read_word, reads_now, clocked_read, clocked_reads, moved, all_cleared, step, first_state}
+use Rattle.design_ir.specs.Steps.{port_active, clock_low, toggle, clocked_at, clocked, cleared_at, cleared, write_row, rows_after, writes_through, shown_through, read_word, reads_now, clocked_read, clocked_reads, moved, all_cleared, step, first_state}
 use Rattle.design_ir.proofs.DesignGrowth.{block_targets}
 use Rattle.fragment_laws.specs.SamePools.{IsSame, AllSame, IsSameMemory, AreSameIn, write_exprs, read_exprs}
 
 -- ---- lists
+
+pub all_imp : {A : Type 0} {P Q : A → Type 0} (f : (x : A) → P x → Q x) (xs : List A) → AllByRecursion P xs → AllByRecursion Q xs
+all_imp f [] h = tt
+all_imp f (x ∷ xs) h = (f x h.0, all_imp f xs h.1)
 
 pub all_left : {A : Type 0} (P : A → Type 0) (xs ys : List A) → AllByRecursion P (xs ++ ys) → AllByRecursion P xs
 all_left P [] ys h = tt
@@ -38,7 +42,7 @@ pub all_right : {A : Type 0} (P : A → Type 0) (xs ys : List A) → AllByRecurs
 all_right P [] ys h = h
 all_right P (x ∷ xs) ys h = all_right P xs ys h.1
 
-flat_same : {A B : Type 0} (P : A → Type 0) (f g : A → List B) → ((x : A) → P x → f x ≡ g x) → (xs : List A) → AllByRecursion P xs → flat_map f xs ≡ flat_map g xs
+pub flat_same : {A B : Type 0} (P : A → Type 0) (f g : A → List B) → ((x : A) → P x → f x ≡ g x) → (xs : List A) → AllByRecursion P xs → flat_map f xs ≡ flat_map g xs
 flat_same P f g each [] h = refl
 flat_same P f g each (x ∷ xs) h = let a = each x h.0 in let b = flat_same P f g each xs h.1 in cc
 
@@ -46,7 +50,7 @@ map_same : {A B : Type 0} (P : A → Type 0) (f g : A → B) → ((x : A) → P 
 map_same P f g each [] h = refl
 map_same P f g each (x ∷ xs) h = let a = each x h.0 in let b = map_same P f g each xs h.1 in cc
 
-any_same : {A : Type 0} (P : A → Type 0) (f g : A → Bool) → ((x : A) → P x → f x ≡ g x) → (xs : List A) → AllByRecursion P xs → list_any f xs ≡ list_any g xs
+pub any_same : {A : Type 0} (P : A → Type 0) (f g : A → Bool) → ((x : A) → P x → f x ≡ g x) → (xs : List A) → AllByRecursion P xs → list_any f xs ≡ list_any g xs
 any_same P f g each [] h = refl
 any_same P f g each (x ∷ xs) h = let a = each x h.0 in let b = any_same P f g each xs h.1 in cc
 

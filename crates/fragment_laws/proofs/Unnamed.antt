@@ -1,5 +1,5 @@
 -- The names of its memories say nothing of how a design settles and steps.
-use Rattle.std.specs.Prelude.{◌≡◌, refl, ℕ, suc, ◌==◌, ◌&&◌, ◌||◌, Bool, if◌then◌else◌, is_some, List, [], ◌∷◌, ◌++◌, map, length, nat_lt, slice_set, ℤ, pos, Option, Some, None, fold}
+use Rattle.std.specs.Prelude.{◌≡◌, refl, ℕ, suc, ◌==◌, ◌&&◌, ◌||◌, if◌then◌else◌, is_some, List, [], ◌∷◌, ◌++◌, map, length, nat_lt, slice_set, ℤ, pos, Option, Some, None, fold}
 use Rattle.std.specs.List.{flat_map, list_any}
 use Rattle.std.proofs.Common.{◌∙◌, ap}
 use Rattle.design_ir.specs.declared.ids.DomainId.{DomainId}
@@ -16,7 +16,7 @@ use Rattle.design_ir.specs.Circuits.{Circuit, State, is_among, is_register}
 use Rattle.design_ir.specs.Circuits as circuit
 use Rattle.design_ir.specs.Designs.{drivers}
 use Rattle.design_ir.specs.Settled.{starts, comb_process, comb_read, comb_reads, delta}
-use Rattle.design_ir.specs.Steps.{toggle, clocked_at, clocked, cleared_at, cleared, write_row, rows_after, writes_through, shown_through, read_word, reads_now, clocked_read, clocked_reads, moved, all_cleared, step, first_state}
+use Rattle.design_ir.specs.Steps.{toggle, clocked_at, clocked, cleared_at, cleared, write_row, rows_after, writes_through, shown_through, reads_now, clocked_read, clocked_reads, moved, all_cleared, step, first_state}
 use Rattle.fragment_laws.specs.Parts.{unnamed}
 use Rattle.fragment_laws.proofs.Once.{any_mapped}
 

@@ -6,3 +6,4 @@ pub mod Stepping
 pub mod Lives
 pub mod SamePools
 pub mod Roots
+pub mod Growth

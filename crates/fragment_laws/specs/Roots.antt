@@ -3,7 +3,6 @@ use Rattle.std.specs.Prelude.{◌≡◌, ◌↔◌, ℕ, ⊤, IsSome, List, map,
 use Rattle.std.specs.List.{AllByRecursion, filter_map}
 use Rattle.design_ir.specs.declared.ids.DomainId.{DomainId}
 use Rattle.design_ir.specs.declared.domain.Domain.{Domain}
-use Rattle.design_ir.specs.declared.memory.Memory.{Memory}
 use Rattle.design_ir.specs.declared.process.Side.{Side}
 use Rattle.design_ir.specs.declared.process.Side.TheVariants.{Comb, Clocked}
 use Rattle.design_ir.specs.declared.process.Process.{Process}

@@ -1,5 +1,5 @@
 -- What a fragment holds after an event, signal by signal. (Amaranth guide: Clock domains, Memories)
-use Rattle.std.specs.Prelude.{◌-ℤ◌, ℕ, suc, ◌==◌, nat_lt, ◌&&◌, Bool, not, if◌then◌else◌, List, [], ◌∷◌, length, slice_get, slice_set, ℤ, pos, Option, Some, None, fold}
+use Rattle.std.specs.Prelude.{◌-ℤ◌, ℕ, suc, ◌==◌, nat_lt, ◌&&◌, Bool, not, if◌then◌else◌, List, [], ◌∷◌, length, slice_get, slice_set, ℤ, pos, Option, fold}
 use Rattle.std.specs.List.{list_any}
 use Rattle.lists.specs.Texts.{text_eq}
 use Rattle.shape_rules.specs.Operators.{is_zero}
