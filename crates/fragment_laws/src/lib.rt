@@ -15,7 +15,7 @@
 mod grows;
 mod laws;
 
-pub use grows::Grows;
+pub use grows::{Grows, put_both};
 pub use laws::{
     designs_grow_on, designs_mean_their_roots, growth_keeps_meaning, growth_keeps_needs,
     resolved_means_its_root,
