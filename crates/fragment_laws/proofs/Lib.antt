@@ -1,0 +1,17 @@
+pub mod Once
+pub mod PutsHere
+pub mod Twins
+pub mod Unnamed
+pub mod PortFolds
+pub mod OneDriver
+pub mod DeltaNumbers
+pub mod Naming
+pub mod EdgeNumbers
+pub mod RootNumbers
+pub mod RootHistories
+pub mod RootLaws
+pub mod PlainPools
+pub mod ResolvedLaws
+pub mod GrowthLaws
+pub mod GrowthNeeds
+pub mod Samples
