@@ -26,31 +26,31 @@ use Rattle.elab_store.specs.Components.{members_in, class_members}
 use Rattle.elab_acts.specs.ComponentClasses.{class_answered}
 use Rattle.elab_acts.specs.Interfaces.{init_answered}
 
-pub thing : ℕ → Val
+unfoldable pub thing : ℕ → Val
 thing n = val.Hw (record { 0 = n })
 
 -- nothing is made in the heap
 none_seen : Seen
 none_seen = seen nothing nothing
 
-pub class : ℕ → Val
+unfoldable pub class : ℕ → Val
 class n = val.Class (record { 0 = n })
 
-pub object : ℕ → Val
+unfoldable pub object : ℕ → Val
 object n = val.Object (record { 0 = n })
 
 -- ---- the names: things 0 to 3
 
-pub with_wiring : Answered
+unfoldable pub with_wiring : Answered
 with_wiring = imported (codes "amaranth.lib") (codes "wiring") nothing_held
 
-pub with_in : Answered
+unfoldable pub with_in : Answered
 with_in = imported (codes "amaranth.lib.wiring") (codes "In") with_wiring.held
 
-pub with_out : Answered
+unfoldable pub with_out : Answered
 with_out = imported (codes "amaranth.lib.wiring") (codes "Out") with_in.held
 
-pub with_component : Answered
+unfoldable pub with_component : Answered
 with_component = library_given (wiring_named (codes "Component")) with_out.held
 
 names_given : (with_wiring.answer ≡ answer.Give (thing 0)) × (with_in.answer ≡ answer.Give (thing 1)) × (with_out.answer ≡ answer.Give (thing 2)) × (with_component.answer ≡ answer.Give (thing 3))
@@ -64,16 +64,16 @@ other_names = (refl, refl, refl)
 
 -- ---- the members: things 4 to 6
 
-pub bit : Val → Called
+unfoldable pub bit : Val → Called
 bit name = called (name ∷ val.Int (pos 1) ∷ []) ([] ∷ [])
 
-pub with_a : Answered
+unfoldable pub with_a : Answered
 with_a = member_called none_seen false (bit (thing 1)) with_component.held
 
-pub with_b : Answered
+unfoldable pub with_b : Answered
 with_b = member_called none_seen false (bit (thing 1)) with_a.held
 
-pub with_y : Answered
+unfoldable pub with_y : Answered
 with_y = member_called none_seen true (bit (thing 2)) with_b.held
 
 y_given : with_y.answer ≡ answer.Give (thing 6)
@@ -90,13 +90,13 @@ bad_members = (refl, refl, refl, refl)
 
 -- ---- the class: row 0, over thing 3
 
-pub gate_names : List (List ℕ)
+unfoldable pub gate_names : List (List ℕ)
 gate_names = codes "Gate" ∷ codes ":a" ∷ codes ":b" ∷ codes ":y" ∷ codes ".elaborate" ∷ []
 
-pub gate_vals : List Val
+unfoldable pub gate_vals : List Val
 gate_vals = class 0 ∷ thing 3 ∷ thing 4 ∷ thing 5 ∷ thing 6 ∷ val.Func (record { 0 = 0 }) ∷ []
 
-pub with_gate : Answered
+unfoldable pub with_gate : Answered
 with_gate = class_answered gate_vals gate_names with_y.held
 
 named : NamedMember → List ℕ
@@ -126,10 +126,10 @@ more_members = refl
 
 -- ---- the object: row 1, of class 0
 
-pub rows : Seen
+unfoldable pub rows : Seen
 rows = seen nothing (record nothing { rows = (thing 3 ∷ []) ∷ (class 0 ∷ []) ∷ [] })
 
-pub with_top : Answered
+unfoldable pub with_top : Answered
 with_top = init_answered rows (object 1 ∷ []) [] with_gate.held
 
 bound : List ℕ → Val → NamedVal

@@ -30,30 +30,30 @@ use Rattle.elab_acts.specs.Interfaces.{member_given}
 use Rattle.elab_acts.specs.Blocks.{case_patterns, condition_called}
 use Rattle.elab_store.specs.Stores.{Held, Answered, nothing_held}
 
-pub hw : ℕ → Val
+unfoldable pub hw : ℕ → Val
 hw n = val.Hw (record { 0 = n })
 
-pub heap : Seen
+unfoldable pub heap : Seen
 heap = seen nothing nothing
 
-pub op : Thing
+unfoldable pub op : Thing
 op = thing.Enumeration (record { shape = unsigned 2; members = record { name = codes "SUB"; number = pos 2 } ∷ [] })
 
-pub sub : Thing
+unfoldable pub sub : Thing
 sub = thing.Member (record { of = record { 0 = 0 }; number = pos 2; shape = unsigned 2; is_integer = false })
 
-pub cmd : Thing
+unfoldable pub cmd : Thing
 cmd = thing.Layout (record {
   layout = record { fields = record { name = codes "op"; low = 0; shape = unsigned 2 } ∷ record { name = codes "val"; low = 2; shape = signed_form 4 } ∷ []; width = 6 };
   readings = reading.Numbered (record { 0 = 0 }) ∷ reading.Plain ∷ [];
   is_array = false;
 })
 
-pub held : Held
+unfoldable pub held : Held
 held = record nothing_held { store = record nothing_held.store { things = op ∷ sub ∷ cmd ∷ [] } }
 
 -- a call that is assigned to a name: the callee is thing 9
-pub call : List ℕ → List Val → List (List ℕ) → Called
+unfoldable pub call : List ℕ → List Val → List (List ℕ) → Called
 call target vals keywords = called (hw 9 ∷ vals) (target ∷ keywords)
 
 signal : List ℕ → ℕ → ℕ → Sig
@@ -62,7 +62,7 @@ signal n width init = record { name = n; shape = unsigned width; init = pos init
 -- ---- signals
 
 -- `c = Signal(Cmd)` is a view of six bits
-pub with_c : Answered
+unfoldable pub with_c : Answered
 with_c = signal_called heap (call (codes "c") (hw 2 ∷ []) []) held
 
 c_given : (with_c.answer ≡ answer.Give (hw 3)) × (with_c.held.pool.signals ≡ signal (codes "c") 6 0 ∷ [])
@@ -71,7 +71,7 @@ unfolding identifiers hw heap op sub cmd held call signal with_c
 c_given = (refl, refl, refl)
 
 -- `s = Signal(Op, init=Op.SUB)` is a value of the enumeration, and begins at the number of the member
-pub with_s : Answered
+unfoldable pub with_s : Answered
 with_s = signal_called heap (call (codes "s") (hw 0 ∷ hw 1 ∷ []) (codes "init" ∷ [])) with_c.held
 
 s_given : (with_s.answer ≡ answer.Give (hw 4)) × (with_s.held.pool.signals ≡ signal (codes "c") 6 0 ∷ signal (codes "s") 2 2 ∷ [])
