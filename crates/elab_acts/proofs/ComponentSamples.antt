@@ -30,7 +30,7 @@ unfoldable pub thing : ℕ → Val
 thing n = val.Hw (record { 0 = n })
 
 -- nothing is made in the heap
-none_seen : Seen
+unfoldable pub none_seen : Seen
 none_seen = seen nothing nothing
 
 unfoldable pub class : ℕ → Val
