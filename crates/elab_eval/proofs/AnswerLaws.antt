@@ -19,7 +19,7 @@ use Rattle.elab_store.specs.Stores.{Stored, Held, Answered}
 use Rattle.elab_store.specs.Held.{held_of, Gives}
 use Rattle.elab_store.specs.Sound.{IsSound}
 use Rattle.elab_eval.specs.Table.{prim, own_answered, either_answered, with_plan}
-use Rattle.elab_eval.proofs.GrownLaws.{pool_grown}
+use Rattle.elab_acts.proofs.GrownLaws.{pool_grown}
 
 -- a held pool and store
 abbrev pub held_with : Pooled → Stored → List Thing → Held

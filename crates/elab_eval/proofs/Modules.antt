@@ -1,7 +1,7 @@
 -- A module whose statements stand is one that can be resolved.
-use Rattle.std.specs.Prelude.{◌≡◌, refl, ℕ, ◌<◌, Bool, true, false, not, List, [], ◌∷◌, map, length, slice_get, Option, Some, None, zero, suc}
-use Rattle.std.specs.List.{AllByRecursion, IsDistinct, filter}
-use Rattle.std.proofs.Common.{sym, ◌∙◌, subst, cond}
+use Rattle.std.specs.Prelude.{◌≡◌, refl, ℕ, ◌<◌, false, not, List, [], ◌∷◌, map, length, slice_get, Option, Some, None, zero, suc}
+use Rattle.std.specs.List.{AllByRecursion, IsDistinct}
+use Rattle.std.proofs.Common.{sym, ◌∙◌, subst}
 use Rattle.design_ir.specs.declared.ids.ExprId.{ExprId}
 use Rattle.design_ir.specs.declared.process.Process.{Process}
 use Rattle.design_ir.specs.declared.process.Side.{Side}
@@ -16,25 +16,8 @@ use Rattle.elab_store.specs.Sound.{IsNoReset, IsBuilt}
 use Rattle.elab_store.specs.Stores.{Stored}
 use Rattle.elab_eval.specs.Elaborates.{module_in, root_module}
 use Rattle.elab_store.proofs.Pools.{no_resets}
+use Rattle.elab_acts.proofs.EachLaws.{all_map, all_filter, all_each}
 use Rattle.elab_store.proofs.Standing.{IsGiven, Stand, entries_stand, blocks_stand, givens_stand, targets_stand, exprs_stand}
-
--- ---- lists
-
-pub all_map : {A B : Type 0} (P : B → Type 0) (f : A → B) (xs : List A) → AllByRecursion (λ x. P (f x)) xs → AllByRecursion P (map f xs)
-all_map P f [] h = tt
-all_map P f (x ∷ xs) h = (h.0, all_map P f xs h.1)
-
-pub all_if : {A : Type 0} (P : A → Type 0) (b : Bool) (x : A) (xs : List A) → P x → AllByRecursion P xs → AllByRecursion P (cond b (x ∷ xs) xs)
-all_if P true x xs h hs = (h, hs)
-all_if P false x xs h hs = hs
-
-pub all_filter : {A : Type 0} (P : A → Type 0) (test : A → Bool) (xs : List A) → AllByRecursion P xs → AllByRecursion P (filter test xs)
-all_filter P test [] h = tt
-all_filter P test (x ∷ xs) h = all_if P (test x) x (filter test xs) h.0 (all_filter P test xs h.1)
-
-pub all_each : {A : Type 0} (P Q : A → Type 0) (xs : List A) → ((x : A) → P x → Q x) → AllByRecursion P xs → AllByRecursion Q xs
-all_each P Q [] f h = tt
-all_each P Q (x ∷ xs) f h = (f x h.0, all_each P Q xs f h.1)
 
 -- ---- sides
 

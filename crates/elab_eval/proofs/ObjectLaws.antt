@@ -31,13 +31,13 @@ use Rattle.clock_domains.specs.Resolvable.{IsPortOf, ArePorts, AreTopPorts}
 use Rattle.amh_things.specs.Things.{thing_of, held_expr}
 use Rattle.elab_store.specs.Stores.{Held}
 use Rattle.elab_store.specs.Components.{ports_at}
-use Rattle.elab_eval.specs.ComponentTops.{component_ports}
-use Rattle.elab_eval.specs.Interfaces.{component_class}
+use Rattle.elab_eval.specs.ComponentTops.{made_ports, component_ports}
+use Rattle.elab_acts.specs.Interfaces.{component_class}
 use Rattle.elab_eval.specs.ObjectTops.{signal_in, held_signal, has_public_name, attribute_signal, attribute_signals, before_others, each_once, signal_ports, held_ports, ports_as}
 use Rattle.elab_eval.specs.Elaborates.{ports_of}
 use Rattle.elab_store.specs.Sound.{IsSound}
-use Rattle.elab_eval.proofs.Modules.{all_map, all_filter, all_each}
-use Rattle.elab_eval.proofs.PortLaws.{all_found, ports_resolve}
+use Rattle.elab_acts.proofs.EachLaws.{all_map, all_filter, all_each}
+use Rattle.elab_acts.proofs.PortLaws.{all_found}
 
 -- ---- each once
 
@@ -218,6 +218,16 @@ ports_stand h ss sound there = record {
 }
 
 -- ---- the ports of the top are ports of the pool
+
+ports_resolve : (q : Pooled) (made : Option (List Port)) (found : TopPorts) → ((ps : List Port) → made ≡ Some ps → ArePorts q ps) → made_ports made ≡ Some found → AreTopPorts q found
+ports_resolve q (Some ps) found h e = subst (AreTopPorts q) (some_same e) (h ps refl)
+  where
+    some_same : Some (ports.Members ps) ≡ Some found → ports.Members ps ≡ found
+    some_same e = cc
+ports_resolve q None found h e = absurd (none_some e)
+  where
+    none_some : None ≡ Some found → ⊥
+    none_some e = cc
 
 pub top_stands : (s : Seen) (h : Held) (o : Option ObjId) (found : TopPorts) → IsSound h → IsPool h.pool → ports_of s h o ≡ Some found → AreTopPorts h.pool found
 top_stands s h None found sound rules e = subst (AreTopPorts h.pool) (some_same e) tt

@@ -21,20 +21,20 @@ use Rattle.elab_store.specs.declared.kept.HdlName.TheVariants as hdl
 use Rattle.elab_store.specs.declared.kept.Kept.{Kept}
 use Rattle.elab_store.specs.declared.kept.Kept.TheVariants as kept
 use Rattle.elab_store.specs.Stores.{Held, Answered, refused, kept_of}
-use Rattle.elab_eval.specs.Imports.{import_answered}
+use Rattle.elab_acts.specs.Imports.{import_answered}
 use Rattle.elab_store.specs.Calls.{Called, called}
-use Rattle.elab_eval.specs.Signals.{module_called, signal_called}
-use Rattle.elab_eval.specs.Likes.{like_given, like_called}
-use Rattle.elab_eval.specs.Equations.{equated}
-use Rattle.elab_eval.specs.Blocks.{block_called, block_entered, block_left}
+use Rattle.elab_acts.specs.Signals.{module_called, signal_called}
+use Rattle.elab_acts.specs.Likes.{like_given, like_called}
+use Rattle.elab_acts.specs.Equations.{equated}
+use Rattle.elab_acts.specs.Blocks.{block_called, block_entered, block_left}
 use Rattle.amh_host.specs.declared.place.Place.{Place}
 use Rattle.elab_machines.specs.StateMachines.{part_attribute, next_stored, part_called, part_entered, part_left}
-use Rattle.elab_eval.specs.Sides.{module_attribute, domain_named, domain_given, index_name, domain_stored, deepest, equations_in, statements_added}
-use Rattle.elab_eval.specs.Libraries.{wiring_named, library_given, thing_name_given}
-use Rattle.elab_eval.specs.Members.{member_called}
-use Rattle.elab_eval.specs.ComponentClasses.{class_answered}
-use Rattle.elab_eval.specs.Interfaces.{init_answered}
-use Rattle.elab_eval.specs.Tops.{global, body_ended, elaborate_ended}
+use Rattle.elab_acts.specs.Sides.{module_attribute, domain_named, domain_given, index_name, domain_stored, deepest, equations_in, statements_added}
+use Rattle.elab_acts.specs.Libraries.{wiring_named, library_given, thing_name_given}
+use Rattle.elab_acts.specs.Members.{member_called}
+use Rattle.elab_acts.specs.ComponentClasses.{class_answered}
+use Rattle.elab_acts.specs.Interfaces.{init_answered}
+use Rattle.elab_acts.specs.Tops.{global, body_ended, elaborate_ended}
 
 -- ---- calls
 

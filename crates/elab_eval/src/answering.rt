@@ -1,4 +1,4 @@
-// What a request is answered: the table of shapes and values first, and then this crate's acts.
+// What a request is answered where the table of shapes and values leaves it open: which act of elab_acts or elab_machines it asks for.
 ghost use Rattle.std.specs.Prelude.{◌≡◌, ◌<◌, length};
 ghost use Rattle.std.specs.Option.{option_copied};
 ghost use Rattle.py_values.specs.Heaps.{seen};
@@ -10,22 +10,22 @@ ghost use Rattle.elab_store.specs.Sound.{IsSound};
 ghost use Rattle.elab_store.specs.Stores.{kept_of};
 ghost use Rattle.elab_store.specs.Held.{held_of, Gives};
 
-use crate::blocks::{call_block, enter_block, leave_block};
-use crate::component_classes::answer_class;
-use crate::equations::equate;
-use crate::imports::import;
-use crate::interfaces::answer_init;
-use crate::libraries::{give_base, give_layout, give_library, wiring_named};
-use crate::likes::{give_like, make_like};
-use crate::member_calls::call_member;
-use crate::sides::{
-    add_statements, domain_named, give_domain, index_name, module_attribute, store_domain,
-};
-use crate::signals::{make_module, make_signal};
-use crate::tops::{end_body, end_elaborate};
 use amh_host::Place;
 use amh_values::{Method, Thing};
 use design_ir::ExprId;
+use elab_acts::blocks::{call_block, enter_block, leave_block};
+use elab_acts::component_classes::answer_class;
+use elab_acts::equations::equate;
+use elab_acts::imports::import;
+use elab_acts::interfaces::answer_init;
+use elab_acts::libraries::{give_base, give_layout, give_library, wiring_named};
+use elab_acts::likes::{give_like, make_like};
+use elab_acts::member_calls::call_member;
+use elab_acts::sides::{
+    add_statements, domain_named, give_domain, index_name, module_attribute, store_domain,
+};
+use elab_acts::signals::{make_module, make_signal};
+use elab_acts::tops::{end_body, end_elaborate};
 use elab_machines::state_machines::{
     call_part, enter_part, leave_part, part_attribute, store_next,
 };

@@ -2,9 +2,9 @@
 ghost use Rattle.std.specs.Prelude.{◌≡◌, IfOk};
 ghost use Rattle.elab_eval.specs.ComponentTops.{component_ports};
 
-use crate::interfaces::copied_text;
 use clock_domains::TopPorts;
 use design_ir::{Port, Ports};
+use elab_acts::interfaces::copied_text;
 use elab_store::store::Store;
 use lists::NoMemory;
 use py_values::ObjId;

@@ -1,30 +1,18 @@
 //! From a program to a design: what a program is answered when it asks about hardware, and what comes of it.
 //!
 //! `elaborate` runs a program with `Machine` of py_machine and answers each request by one table, `prim` of specs/Table.antt: shapes and
-//! values are those of amh_values, and imports, modules, signals, statements, blocks, classes, components and the top are this crate's own, a family of
-//! acts in a file each. Which answers a program gets is the relation `Reaches` of specs/Reaches.antt, and what then comes of it is `Elaborates` of
+//! values are those of amh_values, state machines those of elab_machines, and imports, modules, signals, statements, blocks, classes, components and the
+//! top those of elab_acts. Which answers a program gets is the relation `Reaches` of specs/Reaches.antt, and what then comes of it is `Elaborates` of
 //! specs/Elaborates.antt, which `elaborate` meets exactly; there is one such outcome (`outcome_is_one`).
 #![tactic(auto)]
 
 mod answering;
-mod blocks;
-mod classes;
-mod component_classes;
 mod component_tops;
-mod equations;
 mod finish;
-mod imports;
-mod interfaces;
 mod laws;
-mod libraries;
-mod likes;
-mod member_calls;
 mod object_tops;
 mod refusal;
 mod running;
-mod sides;
-mod signals;
-mod tops;
 
 pub use elab_store::kept::{
     Begin, BlockName, DomainName, Equation, HdlName, Kept, MachineCall, MachinePart, StateCall, Top,

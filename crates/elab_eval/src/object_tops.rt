@@ -11,10 +11,10 @@ ghost use Rattle.elab_eval.specs.Elaborates.{top_ports};
 ghost use Rattle.elab_store.specs.Held.{held_of};
 
 use crate::component_tops::component_ports;
-use crate::interfaces::{component_class, copied_text};
-use crate::tops::first_in;
 use clock_domains::TopPorts;
 use design_ir::{Expr, Exprs, Port, Ports, SigId};
+use elab_acts::interfaces::{component_class, copied_text};
+use elab_acts::tops::first_in;
 use elab_store::store::Elaboration;
 use lists::NoMemory;
 use py_values::{Frozen, Heap, ObjId, Val};

@@ -6,7 +6,7 @@ use Rattle.elab_store.specs.Sound.{IsSound}
 use Rattle.elab_eval.specs.Table.{own_answered}
 use Rattle.elab_store.specs.Held.{held_of, Gives}
 use Rattle.elab_eval.proofs.AnswerLaws.{planned, planned_sound, left_open, gives_sound, nothing_changed}
-use Rattle.elab_eval.proofs.SoundLaws.{own_sound}
+use Rattle.elab_eval.proofs.TableSound.{own_sound}
 use Rattle.elab_eval.proofs.running.answer_request.Goals as goal
 
 pub answer_own-requires : goal.answer_own-requires

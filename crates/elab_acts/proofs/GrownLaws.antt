@@ -1,0 +1,207 @@
+-- What is held stays sound when it grows.
+use Rattle.std.proofs.Common.{◌≡◌, ℕ, zero, suc, ◌<◌, ◌≤◌, refl, ap, ◌∙◌, sym, subst, true, List, [], ◌∷◌, ◌++◌, length, Some, arith}
+use Rattle.std.specs.Prelude.{slice_get, slice_set, codes, IsTrue}
+use Rattle.std.specs.List.{AllByRecursion, list_all}
+use Rattle.std.proofs.lemmas.List.Elements.{All-append}
+use Rattle.std.proofs.lemmas.List.Sums.{AllPass-from_list_all}
+use Rattle.std.proofs.lemmas.List.{length-append}
+use Rattle.lists.specs.Names.{IsName, continues_name}
+use Rattle.design_ir.specs.declared.signal.Sig.{Sig}
+use Rattle.design_ir.specs.declared.ids.ExprId.{ExprId}
+use Rattle.design_ir.specs.declared.expr.Expr.{Expr}
+use Rattle.design_ir.specs.Pools.{Pooled}
+use Rattle.module_dsl.specs.declared.step.Step.{Step}
+use Rattle.module_dsl.specs.declared.step.Step.TheVariants.{Assign, Enter, Leave}
+use Rattle.module_dsl.specs.declared.step.Opening.{Opening}
+use Rattle.module_dsl.specs.declared.step.Opening.TheVariants as opening
+use Rattle.module_dsl.specs.Builders.{Built}
+use Rattle.elab_store.specs.declared.kept.Begin.{Begin}
+use Rattle.elab_store.specs.declared.kept.Begin.TheVariants as begin
+use Rattle.amh_things.specs.declared.thing.Thing.{Thing}
+use Rattle.amh_things.specs.declared.thing.Thing.TheVariants as thing
+use Rattle.amh_things.specs.declared.thing.Reading.{Reading}
+use Rattle.amh_things.specs.declared.thing.Reading.TheVariants as reading
+use Rattle.amh_things.specs.Things.{read_as}
+use Rattle.amh_things.specs.Held.{IsHeld, AreHeld}
+use Rattle.elab_store.specs.declared.kept.Kept.{Kept}
+use Rattle.elab_store.specs.declared.kept.Kept.TheVariants as kept_as
+use Rattle.elab_store.specs.declared.kept.Top.{Top}
+use Rattle.elab_store.specs.Stores.{Held, kept_given}
+use Rattle.elab_store.specs.Sound.{IsAssigned, IsBegin, IsKept, IsOpening, IsTold, IsBuilt, IsMachine, IsSound}
+use Rattle.elab_store.specs.declared.own_machine.OwnMachine.{OwnMachine}
+use Rattle.elab_store.proofs.Pools.{IsGrown, target_stays, there_stays}
+use Rattle.elab_acts.proofs.EachLaws.{all_each}
+use Rattle.elab_acts.proofs.PortLaws.{objects_stay}
+
+-- ---- lists
+
+pub all_and : {A : Type 0} (P : A → Type 0) (xs ys : List A) → AllByRecursion P xs → AllByRecursion P ys → AllByRecursion P (xs ++ ys)
+all_and P [] ys h g = g
+all_and P (x ∷ xs) ys h g = (h.0, all_and P xs ys h.1 g)
+
+-- ---- under a pool that grows
+
+assigned_stays : (p q : Pooled) (t v : ExprId) → IsGrown p q → IsAssigned p t v → IsAssigned q t v
+assigned_stays p q t v g h = record {
+  target_there = there_stays p q t.0 g h.target_there;
+  value_there = there_stays p q v.0 g h.value_there;
+  is_target = target_stays p q t.0 g h.target_there ∙ h.is_target;
+}
+
+begin_stays : (p q : Pooled) → IsGrown p q → (b : Begin) → IsBegin p b → IsBegin q b
+begin_stays p q g (begin.If e) h = there_stays p q e.0 g h
+begin_stays p q g (begin.Elif e) h = there_stays p q e.0 g h
+begin_stays p q g begin.Else h = tt
+begin_stays p q g (begin.Switch e) h = there_stays p q e.0 g h
+begin_stays p q g (begin.Case n) h = tt
+begin_stays p q g begin.Default h = tt
+begin_stays p q g begin.Misplaced h = tt
+
+pub kept_stays : (p q : Pooled) → IsGrown p q → (k : Kept) → IsKept p k → IsKept q k
+kept_stays p q g (kept_as.Statement x) h = assigned_stays p q x.target x.value g h
+kept_stays p q g (kept_as.Name n) h = tt
+kept_stays p q g (kept_as.Module m) h = tt
+kept_stays p q g (kept_as.Domains m) h = tt
+kept_stays p q g (kept_as.Domain m d) h = tt
+kept_stays p q g (kept_as.Member m) h = tt
+kept_stays p q g (kept_as.Signature n) h = tt
+kept_stays p q g (kept_as.BlockName m n) h = tt
+kept_stays p q g (kept_as.Block m b) h = begin_stays p q g b h
+kept_stays p q g (kept_as.OfMachine x) h = tt
+
+opening_stays : (p q : Pooled) → IsGrown p q → (o : Opening) → IsOpening p o → IsOpening q o
+opening_stays p q g (opening.If e) h = there_stays p q e.0 g h
+opening_stays p q g (opening.Elif e) h = there_stays p q e.0 g h
+opening_stays p q g (opening.Else e) h = there_stays p q e.0 g h
+opening_stays p q g (opening.Switch e) h = there_stays p q e.0 g h
+opening_stays p q g (opening.Case e) h = there_stays p q e.0 g h
+
+told_stays : (p q : Pooled) → IsGrown p q → (x : Step) → IsTold p x → IsTold q x
+told_stays p q g (Assign side target value place) h = (h.0, assigned_stays p q target value g h.1)
+told_stays p q g (Enter o) h = opening_stays p q g o h
+told_stays p q g Leave h = tt
+
+pub built_stays : (p q : Pooled) → IsGrown p q → (b : Built) → IsBuilt p b → IsBuilt q b
+built_stays p q g b h = record { steps = all_each (IsTold p) (IsTold q) b.steps (told_stays p q g) h.steps }
+
+held_stays : (m n : ℕ) → m ≤ n → (t : Thing) → IsHeld m t → IsHeld n t
+held_stays m n le (thing.Value e) h = omega (arith, h, le)
+held_stays m n le (thing.Method x e y) h = omega (arith, h, le)
+held_stays m n le (thing.Numbered x e) h = omega (arith, h, le)
+held_stays m n le (thing.View x e) h = omega (arith, h, le)
+held_stays m n le (thing.Layout x) h = tt
+held_stays m n le (thing.Enumeration x) h = tt
+held_stays m n le (thing.Member x) h = h
+held_stays m n le (thing.Name x) h = tt
+held_stays m n le (thing.Shape x) h = tt
+held_stays m n le (thing.Array x) h = tt
+held_stays m n le (thing.Kept x) h = tt
+
+grown_length : (p q : Pooled) → IsGrown p q → length p.exprs ≤ length q.exprs
+grown_length p q g = omega (arith, ap length g.exprs, length-append p.exprs g.more)
+
+get_stays : (es more : List Expr) (k : ℕ) (e : Expr) → slice_get es k ≡ Some e → slice_get (es ++ more) k ≡ Some e
+get_stays [] more k e h = absurd cc
+get_stays (x ∷ es) more zero e h = h
+get_stays (x ∷ es) more (suc k) e h = get_stays es more k e h
+
+get_front : (es more : List Expr) (k : ℕ) (e : Expr) → k < length es → slice_get (es ++ more) k ≡ Some e → slice_get es k ≡ Some e
+get_front [] more k e lt h = absurd (omega (arith, lt))
+get_front (x ∷ es) more zero e lt h = h
+get_front (x ∷ es) more (suc k) e lt h = get_front es more k e (omega (arith, lt)) h
+
+placed_below : (es : List Expr) (k : ℕ) (e : Expr) → slice_get es k ≡ Some e → k < length es
+placed_below [] k e h = absurd cc
+placed_below (x ∷ es) zero e h = omega arith
+placed_below (x ∷ es) (suc k) e h = omega (arith, placed_below es k e h)
+
+pub machine_stays : (p q : Pooled) → IsGrown p q → (x : OwnMachine) → IsMachine p x → IsMachine q x
+machine_stays p q g x h = record {
+  register = ap (λ es. slice_get es x.machine.register.0) g.exprs ∙ get_stays p.exprs g.more x.machine.register.0 _ h.register;
+  target = target_stays p q x.machine.register.0 g (placed_below p.exprs x.machine.register.0 _ h.register) ∙ h.target;
+  side = h.side;
+  front = λ k e lt at. h.front k e lt (get_front p.exprs g.more k e (let there = placed_below p.exprs x.machine.register.0 _ h.register in omega (arith, lt, there)) (subst (λ es. slice_get es k ≡ Some e) g.exprs at));
+}
+
+-- what was held stands under a pool that grew by such signals and such expressions
+pub pool_grown : (h : Held) (q : Pooled) (xs : List Sig) (es : List Expr) → IsSound h → q.signals ≡ h.pool.signals ++ xs → q.exprs ≡ h.pool.exprs ++ es
+    → AllByRecursion (λ (x : Sig). IsName x.name) xs → IsSound (record h { pool = q })
+pool_grown h q xs es s e1 e2 names =
+    let g : IsGrown h.pool q = record { more = es; exprs = e2 } in record {
+      names = subst (AllByRecursion (λ (x : Sig). IsName x.name)) (sym e1) (all_and (λ (x : Sig). IsName x.name) h.pool.signals xs s.names names);
+      things = all_each (IsHeld (length h.pool.exprs)) (IsHeld (length q.exprs)) h.store.things (held_stays (length h.pool.exprs) (length q.exprs) (grown_length h.pool q g)) s.things;
+      kept = all_each (IsKept h.pool) (IsKept q) h.store.kept (kept_stays h.pool q g) s.kept;
+      modules = all_each (IsBuilt h.pool) (IsBuilt q) h.store.modules (built_stays h.pool q g) s.modules;
+      ports = objects_stay h.pool q h.store.components.objects (omega (arith, ap length e1, length-append h.pool.signals xs)) s.ports;
+      machines = all_each (IsMachine h.pool) (IsMachine q) h.store.machines (machine_stays h.pool q g) s.machines;
+    }
+
+-- things that are sound are put behind the others
+pub things_grown : (h : Held) (ts : List Thing) → IsSound h → AreHeld (length h.pool.exprs) ts → IsSound (record h { store = record h.store { things = h.store.things ++ ts } })
+things_grown h ts s held = record {
+  names = s.names;
+  kept = s.kept;
+  modules = s.modules;
+  ports = s.ports;
+  machines = s.machines;
+  things = all_and (IsHeld (length h.pool.exprs)) h.store.things ts s.things held;
+}
+
+-- what stands for an expression by a reading
+pub read_held : (n : ℕ) (r : Reading) (e : ExprId) → e.0 < n → IsHeld n (read_as r e)
+read_held n reading.Plain e h = h
+read_held n (reading.Numbered o) e h = h
+read_held n (reading.Viewed o) e h = h
+
+pub kept_grown : (h : Held) (k : Kept) → IsSound h → IsKept h.pool k → IsSound (record h { store = record h.store { kept = h.store.kept ++ k ∷ [] } })
+kept_grown h k s held = record {
+  names = s.names;
+  things = s.things;
+  modules = s.modules;
+  ports = s.ports;
+  machines = s.machines;
+  kept = all_and (IsKept h.pool) h.store.kept (k ∷ []) s.kept (held, tt);
+}
+
+-- ---- statements that a module gets
+
+-- a module that was told one thing more
+pub told_module : (q : Pooled) (m : ℕ) (c : Built) (bs : List Built) → IsBuilt q c → AllByRecursion (IsBuilt q) bs → AllByRecursion (IsBuilt q) (slice_set bs m c)
+told_module q m c [] h g = tt
+told_module q zero c (b ∷ bs) h g = (h, g.1)
+told_module q (suc m) c (b ∷ bs) h g = (g.0, told_module q m c bs h g.1)
+
+pub module_built : (q : Pooled) (bs : List Built) (m : ℕ) (b : Built) → AllByRecursion (IsBuilt q) bs → slice_get bs m ≡ Some b → IsBuilt q b
+module_built q [] m b h e = cc
+module_built q (x ∷ bs) zero b h e = let same : x ≡ b = cc in subst (IsBuilt q) same h.0
+module_built q (x ∷ bs) (suc m) b h e = module_built q bs m b h.1 e
+
+pub with_top_sound : (h : Held) (t : Top) → IsSound h → IsSound (record h { store = record h.store { top = t } })
+with_top_sound h t s = record { names = s.names; things = s.things; kept = s.kept; modules = s.modules; ports = s.ports; machines = s.machines }
+
+-- ---- a new thing of this crate
+
+pub keeping_sound : (h : Held) (k : Kept) → IsSound h → IsKept h.pool k → IsSound (kept_given k h).held
+keeping_sound h k s held = record {
+  names = s.names;
+  modules = s.modules;
+  ports = s.ports;
+  machines = s.machines;
+  things = all_and (IsHeld (length h.pool.exprs)) h.store.things (thing.Kept (length h.store.kept) ∷ []) s.things (tt, tt);
+  kept = all_and (IsKept h.pool) h.store.kept (k ∷ []) s.kept (held, tt);
+}
+
+-- ---- names
+
+pub sync_name : IsName (codes "sync")
+sync_name = record { first = 115; rest = codes "ync"; whole = refl; starts = refl; continues = AllPass-from_list_all continues_name (codes "ync") refl }
+
+-- a name with more letters behind it
+pub name_more : (name more : List ℕ) → IsName name → list_all continues_name more ≡ true → IsName (name ++ more)
+name_more name more n h = record {
+  first = n.first;
+  rest = n.rest ++ more;
+  whole = ap (λ xs. xs ++ more) n.whole;
+  starts = n.starts;
+  continues = All-append (λ b. IsTrue (continues_name b)) n.rest more n.continues (AllPass-from_list_all continues_name more h);
+}

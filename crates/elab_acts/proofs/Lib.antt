@@ -1,0 +1,15 @@
+pub mod ComponentLaws
+pub mod ComponentSamples
+pub mod ComponentSound
+pub mod EachLaws
+pub mod EnterLaws
+pub mod GivenLaws
+pub mod GrownLaws
+pub mod LikeSamples
+pub mod ListLaws
+pub mod MachineSound
+pub mod PortLaws
+pub mod ShapeSamples
+pub mod SideLaws
+pub mod SoundLaws
+pub mod ToldLaws

@@ -1,0 +1,6 @@
+use Rattle.std.proofs.Common.{◌≡◌, drop}
+use Rattle.elab_acts.specs.Sides.{statements_told}
+use Rattle.elab_acts.proofs.sides.put_all.Given as goal
+
+abbrev pub invariant-loop-q : goal.invariant-loop-q
+invariant-loop-q l = statements_told l.of l.name (drop l.q-index l.equations) l.store ≡ statements_told l.of l.name l.equations l.initial.store

@@ -1,0 +1,14 @@
+pub mod Blocks
+pub mod Classes
+pub mod ComponentClasses
+pub mod Entering
+pub mod Equations
+pub mod Imports
+pub mod Interfaces
+pub mod Libraries
+pub mod Likes
+pub mod Members
+pub mod Puts
+pub mod Sides
+pub mod Signals
+pub mod Tops

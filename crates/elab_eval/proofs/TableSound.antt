@@ -1,0 +1,260 @@
+-- What is held stays sound by every answer of this crate.
+use Rattle.std.proofs.Common.{◌≡◌, ℕ, ◌+◌, ◌<◌, refl, ap, sym, subst, true, false, List, [], ◌∷◌, length, Option, Some, None, true≢false, is_some}
+use Rattle.std.specs.Prelude.{slice_get, codes}
+use Rattle.lists.specs.Texts.{text_eq}
+use Rattle.amh_host.specs.declared.place.Place.{Place}
+use Rattle.py_values.specs.declared.val.Val.{Val}
+use Rattle.py_values.specs.declared.val.Val.TheVariants as val
+use Rattle.py_values.specs.Heaps.{Seen}
+use Rattle.py_frames.specs.declared.request.Act.{Act}
+use Rattle.py_frames.specs.declared.request.Act.TheVariants as act
+use Rattle.py_frames.specs.declared.request.Request.{Request}
+use Rattle.design_ir.specs.declared.ids.ExprId.{ExprId}
+use Rattle.design_ir.specs.PoolRules.{IsPool}
+use Rattle.amh_things.specs.declared.thing.Thing.{Thing}
+use Rattle.amh_things.specs.declared.thing.Thing.TheVariants as thing
+use Rattle.amh_things.specs.declared.thing.Method.TheVariants as method
+use Rattle.amh_things.specs.Held.{AreHeld}
+use Rattle.amh_things.specs.Things.{thing_of, base_called as base_named, layout_named}
+use Rattle.elab_store.specs.declared.kept.HdlName.{HdlName}
+use Rattle.elab_store.specs.declared.kept.HdlName.TheVariants as hdl
+use Rattle.elab_store.specs.declared.kept.Kept.{Kept}
+use Rattle.elab_store.specs.declared.kept.Kept.TheVariants as kept_as
+use Rattle.elab_store.specs.Stores.{Held, kept_of}
+use Rattle.elab_store.specs.Calls.{Called, called}
+use Rattle.elab_acts.specs.Signals.{signal_arguments}
+use Rattle.elab_acts.specs.Sides.{domain_named, index_name, equations_in, deepest}
+use Rattle.elab_acts.specs.Blocks.{block_named}
+use Rattle.elab_acts.specs.Tops.{global}
+use Rattle.elab_eval.specs.Table.{kept_called, equated_by, called_by, call_answered, attribute_of, attribute_answered, attribute_stored, store_answered, index_of, index_answered, index_stored, index_store_answered, added, operator_answered, kept_entered, kept_left, enter_answered, leave_answered, own_answered, only}
+use Rattle.elab_eval.specs.Table as table
+use Rattle.elab_acts.specs.Libraries.{wiring_named}
+use Rattle.elab_eval.specs.Table.{name_attribute}
+use Rattle.elab_acts.specs.Likes.{like_arguments}
+use Rattle.elab_store.specs.Sound.{IsKept, IsSound}
+use Rattle.elab_acts.proofs.SideLaws.{equations_stand, kept_stands}
+use Rattle.elab_acts.proofs.GrownLaws.{keeping_sound}
+use Rattle.elab_machines.specs.StateMachines.{part_named}
+use Rattle.elab_acts.proofs.MachineSound as machine
+use Rattle.elab_acts.proofs.ComponentSound as component
+use Rattle.elab_acts.proofs.SoundLaws.{if_sound, thing_name_sound, import_sound, module_sound, signal_sound, like_sound, thing_at, eq_sound, block_name_sound, block_call_sound, enter_sound, leave_sound, domain_sound, stored_sound, statements_sound, class_sound, base_sound, body_sound, end_sound}
+
+-- ---- calls
+
+-- the expression of a value whose `eq` is called
+pub equated_there : (n : ℕ) (ts : List Thing) (v : Val) (e : ExprId) → AreHeld n ts → equated_by (thing_of ts v) ≡ Some e → e.0 < n
+equated_there n ts (val.Hw h) e held is = by_thing (slice_get ts h.0) refl is
+  where
+    by_thing : (o : Option Thing) → slice_get ts h.0 ≡ o → equated_by o ≡ Some e → e.0 < n
+    by_thing None at_h is = absurd (true≢false (ap is_some (sym is)))
+    by_thing (Some (thing.Method x y method.Eq)) at_h is = let same : y ≡ e = cc in subst (λ (z : ExprId). z.0 < n) same (thing_at n ts h.0 (thing.Method x y method.Eq) held at_h)
+    by_thing (Some t) at_h is = absurd (true≢false (ap is_some (sym is)))
+equated_there n ts v e held is = absurd (true≢false (ap is_some (sym is)))
+
+name_sound : (s : Seen) (n : HdlName) (c : Called) (h : Held) → IsSound h → IsSound (table.name_called s n c h).held
+name_sound s hdl.Module c h t = module_sound c h t
+name_sound s hdl.Signal c h t = signal_sound s c.name (signal_arguments c) h t
+name_sound s hdl.Like c h t = like_sound s c.name (like_arguments c) c.placed h t
+name_sound s hdl.Elaboratable c h t = t
+name_sound s hdl.Shape c h t = t
+name_sound s hdl.Value c h t = t
+name_sound s hdl.In c h t = component.member_sound s false c h t
+name_sound s hdl.Out c h t = component.member_sound s true c h t
+name_sound s hdl.Wiring c h t = t
+name_sound s hdl.Enumerations c h t = t
+name_sound s hdl.Data c h t = t
+name_sound s hdl.Component c h t = t
+
+own_call_sound : (s : Seen) (o : Option Kept) (c : Called) (p : Place) (h : Held) → IsSound h → IsSound (kept_called s o c p h).held
+own_call_sound s None c p h t = t
+own_call_sound s (Some (kept_as.Name n)) c p h t = name_sound s n c h t
+own_call_sound s (Some (kept_as.Module n)) c p h t = t
+own_call_sound s (Some (kept_as.Domains n)) c p h t = t
+own_call_sound s (Some (kept_as.Domain n d)) c p h t = t
+own_call_sound s (Some (kept_as.Statement n)) c p h t = t
+own_call_sound s (Some (kept_as.Member m)) c p h t = t
+own_call_sound s (Some (kept_as.Signature m)) c p h t = t
+own_call_sound s (Some (kept_as.BlockName m n)) c p h t = block_call_sound s m n c h t
+own_call_sound s (Some (kept_as.Block m b)) c p h t = t
+own_call_sound s (Some (kept_as.OfMachine x)) c p h t = machine.part_call_sound s x c p h t
+
+call_sound : (s : Seen) (r : Request) (c : Called) (h : Held) → IsSound h → IsSound (call_answered s r c h).held
+call_sound s r c h t = by_eq (equated_by (thing_of h.store.things c.callee)) (λ e is. equated_there (length h.pool.exprs) h.store.things c.callee e t.things is)
+  where
+    by_eq : (o : Option ExprId) → ((e : ExprId) → o ≡ Some e → e.0 < length h.pool.exprs) → IsSound (called_by s o r c h).held
+    by_eq None f = own_call_sound s (kept_of h.store c.callee) c r.place h t
+    by_eq (Some e) f = eq_sound h e c.placed c.keywords r.place t (f e refl)
+
+-- ---- attributes and indices
+
+library_name_sound : (n : HdlName) (name : List ℕ) (h : Held) → IsSound h → IsSound (name_attribute n name h).held
+library_name_sound hdl.Wiring name h t = component.library_sound (wiring_named name) h t
+library_name_sound hdl.Enumerations name h t = thing_name_sound (base_named name) h t
+library_name_sound hdl.Data name h t = thing_name_sound (layout_named name) h t
+library_name_sound hdl.Module name h t = t
+library_name_sound hdl.Signal name h t = if_sound (text_eq name (codes "like")) _ _ (keeping_sound h (kept_as.Name hdl.Like) t tt) t
+library_name_sound hdl.Like name h t = t
+library_name_sound hdl.Elaboratable name h t = t
+library_name_sound hdl.Shape name h t = t
+library_name_sound hdl.Value name h t = t
+library_name_sound hdl.In name h t = t
+library_name_sound hdl.Out name h t = t
+library_name_sound hdl.Component name h t = t
+
+attribute_sound : (o : Option Kept) (name : List ℕ) (h : Held) → IsSound h → IsSound (attribute_of o name h).held
+attribute_sound None name h t = t
+attribute_sound (Some (kept_as.Module m)) name h t = if_sound (text_eq name (codes "d")) _ _ (keeping_sound h (kept_as.Domains m) t tt) (machine.part_given_sound (part_named m name) _ h t (block_name_sound m (block_named name) h t))
+attribute_sound (Some (kept_as.Domains m)) name h t = domain_sound m (domain_named name) h t
+attribute_sound (Some (kept_as.Name m)) name h t = library_name_sound m name h t
+attribute_sound (Some (kept_as.Domain m d)) name h t = t
+attribute_sound (Some (kept_as.Statement m)) name h t = t
+attribute_sound (Some (kept_as.Member m)) name h t = t
+attribute_sound (Some (kept_as.Signature m)) name h t = t
+attribute_sound (Some (kept_as.BlockName m n)) name h t = t
+attribute_sound (Some (kept_as.Block m b)) name h t = t
+attribute_sound (Some (kept_as.OfMachine x)) name h t = machine.part_attribute_sound x name h t
+
+attributes_sound : (vs : List Val) (o : Option (List ℕ)) (h : Held) → IsSound h → IsSound (attribute_answered vs o h).held
+attributes_sound [] o h t = t
+attributes_sound (x ∷ []) None h t = t
+attributes_sound (x ∷ []) (Some n) h t = attribute_sound (kept_of h.store x) n h t
+attributes_sound (x ∷ y ∷ vs) o h t = t
+
+attribute_stored_sound : (s : Seen) (o : Option Kept) (name : List ℕ) (v : Val) (p : Place) (h : Held) → IsSound h → IsSound (attribute_stored s o name v p h).held
+attribute_stored_sound s (Some (kept_as.Domains m)) name v p h t = stored_sound m (domain_named name) v h t
+attribute_stored_sound s None name v p h t = t
+attribute_stored_sound s (Some (kept_as.Module m)) name v p h t = machine.next_sound s m name v p h t
+attribute_stored_sound s (Some (kept_as.Name m)) name v p h t = t
+attribute_stored_sound s (Some (kept_as.Domain m d)) name v p h t = t
+attribute_stored_sound s (Some (kept_as.Statement m)) name v p h t = t
+attribute_stored_sound s (Some (kept_as.Member m)) name v p h t = t
+attribute_stored_sound s (Some (kept_as.Signature m)) name v p h t = t
+attribute_stored_sound s (Some (kept_as.BlockName m n)) name v p h t = t
+attribute_stored_sound s (Some (kept_as.Block m b)) name v p h t = t
+attribute_stored_sound s (Some (kept_as.OfMachine x)) name v p h t = t
+
+stores_sound : (s : Seen) (vs : List Val) (o : Option (List ℕ)) (p : Place) (h : Held) → IsSound h → IsSound (store_answered s vs o p h).held
+stores_sound s [] o p h t = t
+stores_sound s (x ∷ []) o p h t = t
+stores_sound s (x ∷ v ∷ []) None p h t = t
+stores_sound s (x ∷ v ∷ []) (Some n) p h t = attribute_stored_sound s (kept_of h.store x) n v p h t
+stores_sound s (x ∷ v ∷ w ∷ vs) o p h t = t
+
+index_sound : (s : Seen) (o : Option Kept) (i : Val) (h : Held) → IsSound h → IsSound (index_of s o i h).held
+index_sound s (Some (kept_as.Domains m)) i h t = domain_sound m (index_name s i) h t
+index_sound s None i h t = t
+index_sound s (Some (kept_as.Module m)) i h t = t
+index_sound s (Some (kept_as.Name m)) i h t = t
+index_sound s (Some (kept_as.Domain m d)) i h t = t
+index_sound s (Some (kept_as.Statement m)) i h t = t
+index_sound s (Some (kept_as.Member m)) i h t = t
+index_sound s (Some (kept_as.Signature m)) i h t = t
+index_sound s (Some (kept_as.BlockName m n)) i h t = t
+index_sound s (Some (kept_as.Block m b)) i h t = t
+index_sound s (Some (kept_as.OfMachine x)) i h t = t
+
+indices_sound : (s : Seen) (vs : List Val) (h : Held) → IsSound h → IsSound (index_answered s vs h).held
+indices_sound s [] h t = t
+indices_sound s (x ∷ []) h t = t
+indices_sound s (x ∷ i ∷ []) h t = index_sound s (kept_of h.store x) i h t
+indices_sound s (x ∷ i ∷ j ∷ vs) h t = t
+
+index_stored_sound : (s : Seen) (o : Option Kept) (i v : Val) (h : Held) → IsSound h → IsSound (index_stored s o i v h).held
+index_stored_sound s (Some (kept_as.Domains m)) i v h t = stored_sound m (index_name s i) v h t
+index_stored_sound s None i v h t = t
+index_stored_sound s (Some (kept_as.Module m)) i v h t = t
+index_stored_sound s (Some (kept_as.Name m)) i v h t = t
+index_stored_sound s (Some (kept_as.Domain m d)) i v h t = t
+index_stored_sound s (Some (kept_as.Statement m)) i v h t = t
+index_stored_sound s (Some (kept_as.Member m)) i v h t = t
+index_stored_sound s (Some (kept_as.Signature m)) i v h t = t
+index_stored_sound s (Some (kept_as.BlockName m n)) i v h t = t
+index_stored_sound s (Some (kept_as.Block m b)) i v h t = t
+index_stored_sound s (Some (kept_as.OfMachine x)) i v h t = t
+
+index_stores_sound : (s : Seen) (vs : List Val) (h : Held) → IsSound h → IsSound (index_store_answered s vs h).held
+index_stores_sound s [] h t = t
+index_stores_sound s (x ∷ []) h t = t
+index_stores_sound s (x ∷ i ∷ []) h t = t
+index_stores_sound s (x ∷ i ∷ v ∷ []) h t = index_stored_sound s (kept_of h.store x) i v h t
+index_stores_sound s (x ∷ i ∷ v ∷ w ∷ vs) h t = t
+
+-- ---- operators
+
+added_sound : (s : Seen) (o : Option Kept) (x v : Val) (h : Held) → IsSound h → IsSound (added s o x v h).held
+added_sound s (Some (kept_as.Domain m d)) x v h t = statements_sound x m d (equations_in deepest s h.store v) h t (λ qs e. equations_stand h.pool h.store t.kept deepest s v qs e)
+added_sound s None x v h t = t
+added_sound s (Some (kept_as.Module m)) x v h t = t
+added_sound s (Some (kept_as.Name m)) x v h t = t
+added_sound s (Some (kept_as.Domains m)) x v h t = t
+added_sound s (Some (kept_as.Statement m)) x v h t = t
+added_sound s (Some (kept_as.Member m)) x v h t = t
+added_sound s (Some (kept_as.Signature m)) x v h t = t
+added_sound s (Some (kept_as.BlockName m n)) x v h t = t
+added_sound s (Some (kept_as.Block m b)) x v h t = t
+added_sound s (Some (kept_as.OfMachine y)) x v h t = t
+
+operator_sound : (s : Seen) (vs : List Val) (o : Option (List ℕ)) (h : Held) → IsSound h → IsSound (operator_answered s vs o h).held
+operator_sound s [] o h t = t
+operator_sound s (x ∷ []) o h t = t
+operator_sound s (x ∷ v ∷ []) None h t = t
+operator_sound s (x ∷ v ∷ []) (Some sign) h t = if_sound (text_eq sign (codes "+=")) _ _ (added_sound s (kept_of h.store x) x v h t) t
+operator_sound s (x ∷ v ∷ w ∷ vs) o h t = t
+
+-- ---- `with`
+
+kept_entered_sound : (s : Seen) (o : Option Kept) (h : Held) → IsPool h.pool → IsSound h → ((k : Kept) → o ≡ Some k → IsKept h.pool k) → IsSound (kept_entered s o h).held
+kept_entered_sound s (Some (kept_as.OfMachine x)) h rules t f = machine.part_entered_sound s x h rules t
+kept_entered_sound s None h rules t f = enter_sound None h t f
+kept_entered_sound s (Some (kept_as.Name n)) h rules t f = enter_sound (Some (kept_as.Name n)) h t f
+kept_entered_sound s (Some (kept_as.Module m)) h rules t f = enter_sound (Some (kept_as.Module m)) h t f
+kept_entered_sound s (Some (kept_as.Domains m)) h rules t f = enter_sound (Some (kept_as.Domains m)) h t f
+kept_entered_sound s (Some (kept_as.Domain m d)) h rules t f = enter_sound (Some (kept_as.Domain m d)) h t f
+kept_entered_sound s (Some (kept_as.Statement q)) h rules t f = enter_sound (Some (kept_as.Statement q)) h t f
+kept_entered_sound s (Some (kept_as.Member m)) h rules t f = enter_sound (Some (kept_as.Member m)) h t f
+kept_entered_sound s (Some (kept_as.Signature m)) h rules t f = enter_sound (Some (kept_as.Signature m)) h t f
+kept_entered_sound s (Some (kept_as.BlockName m n)) h rules t f = enter_sound (Some (kept_as.BlockName m n)) h t f
+kept_entered_sound s (Some (kept_as.Block m b)) h rules t f = enter_sound (Some (kept_as.Block m b)) h t f
+
+enters_sound : (s : Seen) (vs : List Val) (h : Held) → IsPool h.pool → IsSound h → IsSound (enter_answered s vs h).held
+enters_sound s [] h rules t = t
+enters_sound s (x ∷ []) h rules t = kept_entered_sound s (kept_of h.store x) h rules t (kept_stands h.pool h.store t.kept x)
+enters_sound s (x ∷ y ∷ vs) h rules t = t
+
+kept_left_sound : (o : Option Kept) (h : Held) → IsSound h → IsSound (kept_left o h).held
+kept_left_sound (Some (kept_as.OfMachine x)) h t = machine.part_left_sound x h t
+kept_left_sound None h t = leave_sound None h t
+kept_left_sound (Some (kept_as.Name n)) h t = leave_sound (Some (kept_as.Name n)) h t
+kept_left_sound (Some (kept_as.Module m)) h t = leave_sound (Some (kept_as.Module m)) h t
+kept_left_sound (Some (kept_as.Domains m)) h t = leave_sound (Some (kept_as.Domains m)) h t
+kept_left_sound (Some (kept_as.Domain m d)) h t = leave_sound (Some (kept_as.Domain m d)) h t
+kept_left_sound (Some (kept_as.Statement q)) h t = leave_sound (Some (kept_as.Statement q)) h t
+kept_left_sound (Some (kept_as.Member m)) h t = leave_sound (Some (kept_as.Member m)) h t
+kept_left_sound (Some (kept_as.Signature m)) h t = leave_sound (Some (kept_as.Signature m)) h t
+kept_left_sound (Some (kept_as.BlockName m n)) h t = leave_sound (Some (kept_as.BlockName m n)) h t
+kept_left_sound (Some (kept_as.Block m b)) h t = leave_sound (Some (kept_as.Block m b)) h t
+
+leaves_sound : (vs : List Val) (h : Held) → IsSound h → IsSound (leave_answered vs h).held
+leaves_sound [] h t = t
+leaves_sound (x ∷ []) h t = kept_left_sound (kept_of h.store x) h t
+leaves_sound (x ∷ y ∷ vs) h t = t
+
+-- ---- all acts
+
+pub own_sound : (s : Seen) (a : Act) (r : Request) (h : Held) → IsPool h.pool → IsSound h → IsSound (own_answered s a r h).held
+own_sound s act.Import r h rules t = import_sound r.names h t
+own_sound s act.Attribute r h rules t = attributes_sound r.vals (only r.names) h t
+own_sound s act.SetAttribute r h rules t = stores_sound s r.vals (only r.names) r.place h t
+own_sound s act.CallThing r h rules t = call_sound s r (called r.vals r.names) h t
+own_sound s act.Index r h rules t = indices_sound s r.vals h t
+own_sound s act.SetIndex r h rules t = index_stores_sound s r.vals h t
+own_sound s act.Operator r h rules t = operator_sound s r.vals (only r.names) h t
+own_sound s act.Length r h rules t = t
+own_sound s act.Iterate r h rules t = t
+own_sound s act.Enter r h rules t = enters_sound s r.vals h rules t
+own_sound s act.Leave r h rules t = leaves_sound r.vals h t
+own_sound s act.ClassMade r h rules t = component.class_sound r.vals r.names h (class_sound r.vals r.names h t) t
+own_sound s act.InitBase r h rules t = component.init_sound s r.vals r.names h (base_sound r.vals r.names h t) t
+own_sound s act.BodyEnd r h rules t = body_sound s (global (codes "top") r.vals r.names) h t
+own_sound s act.Returned r h rules t = end_sound s r.vals h t
+own_sound s act.Await r h rules t = t

@@ -1,6 +1,0 @@
-use Rattle.std.proofs.Common.{◌≡◌, drop}
-use Rattle.elab_eval.specs.Sides.{statements_told}
-use Rattle.elab_eval.proofs.sides.put_all.Given as goal
-
-abbrev pub invariant-loop-q : goal.invariant-loop-q
-invariant-loop-q l = statements_told l.of l.name (drop l.q-index l.equations) l.store ≡ statements_told l.of l.name l.equations l.initial.store
