@@ -10,7 +10,6 @@ use Rattle.shape_rules.specs.Forms.{Form, unsigned}
 use Rattle.shape_rules.specs.Operators.{is_zero}
 use Rattle.design_ir.specs.declared.ids.DomainId.{DomainId}
 use Rattle.design_ir.specs.declared.domain.Domain.{Domain}
-use Rattle.design_ir.specs.declared.memory.Memory.{Memory}
 use Rattle.design_ir.specs.declared.event.Event.TheVariants.{Edge}
 use Rattle.design_ir.specs.Values.{signal_form}
 use Rattle.design_ir.specs.Circuits.{Circuit, State, at, option_test}
@@ -28,7 +27,8 @@ use Rattle.netlist.specs.Carried.{IsIn, Carries}
 use Rattle.netlist.specs.Module.{signal_value, clock_of}
 use Rattle.netlist.proofs.SignalBits.{bit_at-signal}
 use Rattle.netlist.proofs.OneDriver.{fold_none, length-fold}
-use Rattle.netlist.proofs.Driven.{driven_by, input_none}
+use Rattle.netlist.proofs.Driven.{driven_by, input_none, input_unread}
+use Rattle.netlist.proofs.ReadOnce.{clocked_reads-other, length-clocked_reads}
 use Rattle.netlist.proofs.RegisterSteps.{all_at, clocked_at-other, length-clocked_at}
 
 -- ---- clocks are apart
@@ -105,7 +105,7 @@ turned true (pos (suc zero)) h = omega arith
 turned true (pos (suc (suc n))) h = absurd (omega arith)
 turned true (negsuc n) h = absurd h
 
-module _ (c : Circuit) (design : IsDesign c) (flat : c.memories ≡ []) (env : List ℤ) (st : State) (listed : List DomainId) (ordered : Ascending 0 listed) (count : length st.held ≡ length c.pool.signals)
+module _ (c : Circuit) (design : IsDesign c) (env : List ℤ) (st : State) (listed : List DomainId) (ordered : Ascending 0 listed) (count : length st.held ≡ length c.pool.signals)
     (d : DomainId) (x : Domain) (is : slice_get c.domains d.0 ≡ Some x) where
   clock : IsClockDomain c x
   clock = all_at (IsClockDomain c) c.domains d.0 x design.domains is
@@ -117,9 +117,10 @@ module _ (c : Circuit) (design : IsDesign c) (flat : c.memories ≡ []) (env : L
       let still : at after x.clk.0 ≡ at st.held x.clk.0 = fold_none (driven_by c) x.clk.0 (clocked c env listed) (λ cur q. length-clocked_at c env listed x.clk.0 q cur q.domain) (λ cur q h. clocked_at-other c env listed x.clk.0 q cur q.domain h)
       c.processes st.held (input_none c x.clk.0 design clock.clock_input) in
       let long : length after ≡ length st.held = length-fold (driven_by c) x.clk.0 (clocked c env listed) (λ cur q. length-clocked_at c env listed x.clk.0 q cur q.domain) (λ cur q h. clocked_at-other c env listed x.clk.0 q cur q.domain h) c.processes st.held in
-      ap (λ (ms : List Memory). at (fold (toggle c.domains) (clocked_reads c env listed ms st.rows after) listed) x.clk.0) flat
-      ∙ toggles_at c.domains design.clocks d.0 x is listed 0 after (omega (arith, long, count, clock.clock.there)) ordered
-      ∙ ap (λ z. cond (list_any (λ (e : DomainId). e.0 == d.0) listed) (pos 1 -ℤ z) z) still
+      let read : List ℤ = clocked_reads c env listed c.memories st.rows after in
+      let unread : at read x.clk.0 ≡ at after x.clk.0 = clocked_reads-other c env listed x.clk.0 c.memories st.rows after (input_unread c x.clk.0 design clock.clock_input) in
+      toggles_at c.domains design.clocks d.0 x is listed 0 read (omega (arith, length-clocked_reads c env listed c.memories st.rows after, long, count, clock.clock.there)) ordered
+      ∙ ap (λ z. cond (list_any (λ (e : DomainId). e.0 == d.0) listed) (pos 1 -ℤ z) z) (unread ∙ still)
 
   -- so the clock's bit goes from 0 to 1 where the domain is active, as each domain is active where it rises
   pub rises_edge : AllRisingSync c → (old new : Wires) → at st.held x.clk.0 ≡ at env x.clk.0 → IsIn (signal_form c.pool.signals x.clk.0) (at env x.clk.0)

@@ -32,6 +32,21 @@ pub mod BitWrites
 pub mod PutSources
 pub mod Origins
 pub mod OneDriver
+pub mod ReadOnce
+pub mod SanityMemories
+mod PortAddresses
+mod WritePorts
+mod ReadPorts
+pub mod HiddenWires
+pub mod PartsDrawn
+pub mod ReadWires
+pub mod OthersDrawn
+pub mod MemoryNames
+pub mod ReadData
+pub mod PartsFit
+pub mod PortEdges
+pub mod MemoryWrites
+pub mod MemoriesFit
 pub mod Driven
 pub mod SourcedSpecs
 pub mod Starts
@@ -74,6 +89,8 @@ pub mod PartsDefined
 pub mod NeededInside
 pub mod FixedAims
 pub mod ModuleObeys
+pub mod PartsObey
+pub mod PortStands
 pub mod CombSignals
 pub mod OrderedBits
 pub mod SignalWires
@@ -85,6 +102,12 @@ pub mod SettledModule
 pub mod DefinedWires
 pub mod ModuleSteps
 pub mod ModuleHistories
+pub mod KeptRows
+pub mod KeptReads
+pub mod KeptReadSteps
+pub mod ReadMoves
+pub mod KeptMemories
+pub mod MovedMemories
 pub mod LatestFits
 pub mod SanityStatements
 pub mod LowerParts

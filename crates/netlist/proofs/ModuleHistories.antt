@@ -14,7 +14,7 @@ use Rattle.design_ir.specs.Histories.{HistoryFrom}
 use Rattle.design_ir.proofs.RisingLaws.{steps_are_moves}
 use Rattle.design_ir.specs.Legal.{IsLegal, AllLegal}
 use Rattle.comb_graph.specs.Orders.{IsOrder}
-use Rattle.comb_graph.specs.Laws.{FitsRows, SettlesOnce}
+use Rattle.comb_graph.specs.Laws.{SettlesOnce}
 use Rattle.comb_graph.proofs.SettledOnce.{settles_once}
 use Rattle.rtlil_text.specs.Rules.{IsModule}
 use Rattle.rtlil_text.specs.Meaning.{State as Kept}
@@ -28,11 +28,12 @@ use Rattle.netlist.specs.Module.{module_of}
 use Rattle.netlist.specs.Laws.{ModulesHaveTheHistory}
 use Rattle.netlist.proofs.ColumnSignals.{columns_distinct}
 use Rattle.netlist.proofs.ModuleHeld.{All-among}
-use Rattle.netlist.proofs.ModuleRules.{module_rules}
+use Rattle.netlist.proofs.PartsFit.{CellLaws}
+use Rattle.netlist.proofs.ModuleRules.{module_rules, no_part}
 use Rattle.netlist.proofs.RegisterCells.{clocked_held}
 use Rattle.netlist.proofs.SettledNumbers.{settled_held}
 use Rattle.netlist.proofs.SignalWires.{named_by}
-use Rattle.netlist.proofs.HeldFits.{AreHeld, first_held, moved_held}
+use Rattle.netlist.proofs.HeldFits.{AreHeld, first_held, step_held}
 use Rattle.netlist.proofs.ModuleStates.{AgreeOnInputs, Keeps}
 use Rattle.netlist.proofs.SettledModule.{signals_carry, exprs_carry, shows}
 use Rattle.netlist.proofs.DefinedWires.{column_found, wires_defined}
@@ -41,13 +42,13 @@ use Rattle.netlist.proofs.ModuleSteps.{inputs_agree, first_keeps, moved_keeps}
 module _ (c : Circuit) (order : List Bit) (rules : IsPool c.pool) (bytes : AllByRecursion HasByteStride c.pool.exprs) (design : IsDesign c) (plain : IsPlain c) (module_so : IsModule (module_of c)) (is_order : IsOrder c order) where
   -- the module is where the design is
   record IsThere (st : State) (kept : Kept) (ins : List ℤ) : Type 0 where
-    held : AreHeld c.pool st.held
+    held : AreHeld c st
     agree : AgreeOnInputs c ins st.held
     keeps : Keeps c kept st.held
 
   module _ (st : State) (kept : Kept) (ins : List ℤ) (h : IsThere st kept ins) where
     once : SettlesOnce c st
-    once = settles_once c order rules design is_order st (record { held = h.held.fits; rows = subst (λ ms. FitsRows ms st.rows) (sym plain.flat) tt })
+    once = settles_once c order rules design is_order st h.held.fits
 
     column_now : (x : Column) → Among c.columns x → SameColumn c once.env (wire_bit (module_of c) kept (inputs_at c ins)) x
     column_now x a i l =
@@ -62,26 +63,25 @@ module _ (c : Circuit) (order : List Bit) (rules : IsPool c.pool) (bytes : AllBy
         wires_defined c rules design plain.flat plain.plain module_so kept (inputs_at c ins) once.env st.held once.fits h.held.long
         (signals_carry c order rules bytes design plain module_so is_order st once.env once.settled once.fits kept ins h.agree h.keeps)
         (exprs_carry c order rules bytes design plain module_so is_order st once.env once.settled once.fits kept ins h.agree h.keeps)
-        (λ s p d clock there. sym (settled_held c once.env design st plain.flat once.settled s there (clocked_held c design rules plain.flat plain.plain s p d clock)))
+        (λ s p d clock there. sym (settled_held c once.env design st once.settled s there (clocked_held c design rules plain.plain s p d clock)))
+
+    unmoved : (e : Event) → moved c st once.env e ≡ step c st once.env e
+    unmoved e = sym (steps_are_moves c plain.rising st once.env e)
 
     -- so it is after an event, which clears nothing
-    there_moved : (e : Event) → IsLegal c e → IsThere (moved c st once.env e) (rtl.step (module_of c) (inputs_at c ins) (inputs_at c (inputs_after c ins e)) kept) (inputs_after c ins e)
-    there_moved e legal = record {
-      held = moved_held c rules design plain.plain plain.flat st once.env e legal h.held;
-      agree = inputs_agree c design plain.flat st once.env ins e legal h.held.long h.agree;
+    there_after : (e : Event) → IsLegal c e → IsThere (step c st once.env e) (rtl.step (module_of c) (inputs_at c ins) (inputs_at c (inputs_after c ins e)) kept) (inputs_after c ins e)
+    there_after e legal = record {
+      held = step_held c rules design st once.env e legal h.held;
+      agree = subst (λ (x : State). AgreeOnInputs c (inputs_after c ins e) x.held) (unmoved e) (inputs_agree c design st once.env ins e legal h.held.long h.agree);
       keeps =
-          moved_keeps c rules design plain.flat plain.rising plain.plain module_so st once.env once.settled once.fits kept ins h.held.long h.agree h.keeps
+          subst (λ (x : State). Keeps c (rtl.step (module_of c) (inputs_at c ins) (inputs_at c (inputs_after c ins e)) kept) x.held) (unmoved e)
+          (moved_keeps c rules design plain.rising plain.plain module_so st once.env once.settled once.fits kept ins h.held.long h.agree h.keeps
           (signals_carry c order rules bytes design plain module_so is_order st once.env once.settled once.fits kept ins h.agree h.keeps)
-          (shows c order rules bytes design plain module_so is_order st once.env once.settled once.fits kept ins h.agree h.keeps) e legal;
+          (shows c order rules bytes design plain module_so is_order st once.env once.settled once.fits kept ins h.agree h.keeps) e legal);
     }
 
-    there_after : (e : Event) → IsLegal c e → IsThere (step c st once.env e) (rtl.step (module_of c) (inputs_at c ins) (inputs_at c (inputs_after c ins e)) kept) (inputs_after c ins e)
-    there_after e legal =
-        subst (λ (x : State). IsThere x (rtl.step (module_of c) (inputs_at c ins) (inputs_at c (inputs_after c ins e)) kept) (inputs_after c ins e))
-        (sym (steps_are_moves c plain.rising st once.env e)) (there_moved e legal)
-
   there_first : IsThere (first_state c) (rtl.first_state (module_of c)) (first_inputs c)
-  there_first = record { held = first_held c rules; agree = record { long = refl; same = λ s e. refl }; keeps = first_keeps c design module_so }
+  there_first = record { held = first_held c rules design; agree = record { long = refl; same = λ s e. refl }; keeps = first_keeps c design module_so }
 
   -- ---- the only history
 
@@ -136,5 +136,5 @@ module _ (c : Circuit) (order : List Bit) (rules : IsPool c.pool) (bytes : AllBy
       let r = runs events (first_state c) (rtl.first_state (module_of c)) (first_inputs c) legal there_first in
       record { envs = r.envs; is_history = record { settles = r.settles_so; only = r.only }; columns = r.columns; defined = r.defined }
 
-pub modules_have_the_history : ModulesHaveTheHistory
-modules_have_the_history c order rules bytes design plain few is_order = same_history c order rules bytes design plain (module_rules c rules design few) is_order
+pub modules_have_the_history : CellLaws → ModulesHaveTheHistory
+modules_have_the_history laws c order rules bytes design plain few is_order = same_history c order rules bytes design plain (module_rules c rules design laws (no_part c plain.flat) few) is_order

@@ -24,7 +24,7 @@ use Rattle.netlist.specs.CombDrawings.{ObeysUnkept, ObeysComb}
 use Rattle.netlist.specs.Expressions.{part_count, drawn}
 use Rattle.netlist.specs.Made.{HasByteStride}
 use Rattle.netlist.specs.PoolsDrawn.{IsDrawn}
-use Rattle.netlist.specs.Module.{wire_id, signal_value, expr_value, Driving, ByEvents, ByComb, ByClock, ByNothing, driving, reset_of, register_drawing, driving_drawing, signal_drawing, drawn_from, drawings, all_drawings, module_of}
+use Rattle.netlist.specs.Module.{wire_id, signal_value, expr_value, Driving, ByEvents, ByComb, ByClock, ByNothing, driving, reset_of, register_drawing, driving_drawing, signal_drawing, drawn_from, drawings, other_drawings, all_drawings, module_of, ByRead}
 use Rattle.netlist.proofs.ModuleHeld.{All-among}
 use Rattle.netlist.proofs.ModuleParts.{signal_among, cell_held, link_held}
 use Rattle.netlist.proofs.LogicCells.{IsLogic, AreLogic, logic_unkept, logic_bit, drawn_logic}
@@ -85,6 +85,7 @@ driving_simple : (c : Circuit) (s : ℕ) (d : Driving) → AllByRecursion IsSimp
 driving_simple c s ByEvents = tt
 driving_simple c s (ByComb p) = tt
 driving_simple c s (ByClock p d) = register_simple c s p d (reset_of c s d)
+driving_simple c s ByRead = tt
 driving_simple c s ByNothing = tt
 
 signal_simple : (c : Circuit) (s : ℕ) → AllByRecursion IsSimple (signal_drawing c s).cells
@@ -116,4 +117,4 @@ module _ (c : Circuit) (rules : IsModule (module_of c)) (kept : State) (inputs :
   pub all_drawn : AllByRecursion HasByteStride c.pool.exprs → IsDrawn (wire_bit (module_of c) kept inputs) c.pool (wire_id c) value_id (part_start c.pool.exprs)
   all_drawn bytes k e is =
       let d : Drawing = drawn (signal_value c) (expr_value c) (part_start c.pool.exprs k) (expr_value c k) e in
-      (AllByRecursion-among HasByteStride c.pool.exprs e bytes (Among-slice_get c.pool.exprs k e is), obeys_drawing d (Among-left (drawings c) _ d (expression_among c k e is)) (drawn_logic (signal_value c) (expr_value c) (part_start c.pool.exprs k) (expr_value c k) e))
+      (AllByRecursion-among HasByteStride c.pool.exprs e bytes (Among-slice_get c.pool.exprs k e is), obeys_drawing d (Among-left (drawings c) (other_drawings c) d (expression_among c k e is)) (drawn_logic (signal_value c) (expr_value c) (part_start c.pool.exprs k) (expr_value c k) e))

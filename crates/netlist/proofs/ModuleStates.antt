@@ -47,8 +47,8 @@ clocked_by c design flat s none register = by (find (drives c s) c.processes) re
   where
     by_domain : (p : DesignProcess) (d : Option DomainId) → p.domain ≡ d → find (drives c s) c.processes ≡ Some p → IsClockedBy c s
     by_domain p None h e =
-        let o : IsOnly (driven_by c) s c.processes p = find_only (driven_by c) s c.processes p (distinct_processes c flat design) e in
-        absurd (false≢true (ap is_some (sym h) ∙ sym (is_register-only c flat s p o) ∙ register))
+        let o : IsOnly (driven_by c) s c.processes p = find_only (driven_by c) s c.processes p (distinct_processes c design) e in
+        absurd (false≢true (ap is_some (sym h) ∙ sym (is_register-only c design s p o) ∙ register))
     by_domain p (Some d) h e = record { process = p; domain = d; clock = driving-clock c s none p d e h }
 
     by : (o : Option DesignProcess) → find (drives c s) c.processes ≡ o → IsClockedBy c s

@@ -11,7 +11,6 @@ use Rattle.design_ir.specs.declared.ids.DomainId.{DomainId}
 use Rattle.design_ir.specs.declared.ids.SigId.{SigId}
 use Rattle.design_ir.specs.declared.signal.Sig.{Sig}
 use Rattle.design_ir.specs.declared.domain.Domain.{Domain}
-use Rattle.design_ir.specs.declared.memory.Memory.{Memory}
 use Rattle.design_ir.specs.declared.process.DesignProcess.{DesignProcess}
 use Rattle.design_ir.specs.declared.event.Event.{Event}
 use Rattle.design_ir.specs.declared.event.Event.TheVariants.{Set, Edge}
@@ -42,7 +41,8 @@ use Rattle.netlist.proofs.Reading.{bit_of}
 use Rattle.netlist.proofs.BitWrites.{some_signal}
 use Rattle.netlist.proofs.Linked.{bit_at-whole}
 use Rattle.netlist.proofs.OneDriver.{fold_none, length-fold}
-use Rattle.netlist.proofs.Driven.{driven_by, input_none}
+use Rattle.netlist.proofs.Driven.{driven_by, input_none, input_unread}
+use Rattle.netlist.proofs.ReadOnce.{clocked_reads-other, length-clocked_reads}
 use Rattle.netlist.proofs.RegisterSteps.{is_clocked, all_at, clocked_at-other, length-clocked_at, next_spec}
 use Rattle.netlist.proofs.ClockEdges.{length-toggle_at}
 use Rattle.netlist.proofs.RegisterCells.{register_at, its_domain, next_bit-register}
@@ -79,23 +79,23 @@ module _ (c : Circuit) (design : IsDesign c) where
       toggles_agree ds (toggle c.domains xs d) (toggle c.domains ys d) (length-toggle_at xs (slice_get c.domains d.0) ∙ long) (toggle_at_agrees d.0 xs ys (slice_get c.domains d.0) refl long h)
 
   -- inputs are after an event what the design holds of them
-  pub inputs_agree : c.memories ≡ [] → (st : State) (env : List ℤ) (ins : List ℤ) (e : Event) → IsLegal c e → length st.held ≡ length c.pool.signals → AgreeOnInputs c ins st.held
+  pub inputs_agree : (st : State) (env : List ℤ) (ins : List ℤ) (e : Event) → IsLegal c e → length st.held ≡ length c.pool.signals → AgreeOnInputs c ins st.held
       → AgreeOnInputs c (inputs_after c ins e) (moved c st env e).held
-  inputs_agree flat st env ins (Set s n) legal long h =
+  inputs_agree st env ins (Set s n) legal long h =
       let there : s.0 < length c.pool.signals = settable_there c s.0 design (λ i. legal.0 i && not (legal.1 i)) in
       set_agrees ins st.held s.0 n (omega (arith, there, long, h.long)) h
-  inputs_agree flat st env ins (Edge ds) legal long h =
+  inputs_agree st env ins (Edge ds) legal long h =
       let after : List ℤ = fold (clocked c env ds) st.held c.processes in
-      let reads : clocked_reads c env ds c.memories st.rows after ≡ after = ap (λ (ms : List Memory). clocked_reads c env ds ms st.rows after) flat in
+      let read : List ℤ = clocked_reads c env ds c.memories st.rows after in
       let count : length after ≡ length st.held =
       length-fold (driven_by c) 0 (clocked c env ds) (λ cur q. length-clocked_at c env ds 0 q cur q.domain) (λ cur q k. clocked_at-other c env ds 0 q cur q.domain k) c.processes st.held in
-      let still : AgreeOnInputs c ins after = record {
-        long = h.long ∙ sym count;
+      let still : AgreeOnInputs c ins read = record {
+        long = h.long ∙ sym (length-clocked_reads c env ds c.memories st.rows after ∙ count);
         same = λ s e.
             h.same s e
-            ∙ sym (fold_none (driven_by c) s (clocked c env ds) (λ cur q. length-clocked_at c env ds s q cur q.domain) (λ cur q k. clocked_at-other c env ds s q cur q.domain k) c.processes st.held (input_none c s design e));
+            ∙ sym (clocked_reads-other c env ds s c.memories st.rows after (input_unread c s design e) ∙ fold_none (driven_by c) s (clocked c env ds) (λ cur q. length-clocked_at c env ds s q cur q.domain) (λ cur q k. clocked_at-other c env ds s q cur q.domain k) c.processes st.held (input_none c s design e));
       } in
-      toggles_agree ds ins (clocked_reads c env ds c.memories st.rows after) (h.long ∙ long) (subst (AgreeOnInputs c ins) (sym reads) still)
+      toggles_agree ds ins read (h.long ∙ long) still
 
 -- ---- registers at first
 
@@ -120,7 +120,7 @@ module _ (c : Circuit) (design : IsDesign c) (module_rules : IsModule (module_of
 
 -- ---- registers after an event
 
-unmoved : (v : Option Bool) → is_edge 1 v v ≡ false
+pub unmoved : (v : Option Bool) → is_edge 1 v v ≡ false
 unmoved None = refl
 unmoved (Some true) = refl
 unmoved (Some false) = refl
@@ -130,35 +130,37 @@ any_at t [] k x e h = cc
 any_at t (y ∷ xs) zero x e h = let same : y ≡ x = cc in or_left (t y) (list_any t xs) (ap t same ∙ h)
 any_at t (y ∷ xs) (suc k) x e h = or_right (t y) (list_any t xs) (any_at t xs k x e h)
 
-module _ (c : Circuit) (rules : IsPool c.pool) (design : IsDesign c) (flat : c.memories ≡ []) (rising : AllRisingSync c) (plain : ArePlain c) (module_rules : IsModule (module_of c))
+-- the bit of a clock stays where an input takes a number
+module _ (c : Circuit) (design : IsDesign c) (module_rules : IsModule (module_of c)) (kept : Kept) (ins : List ℤ) (d : DomainId) (x : Domain) (is : slice_get c.domains d.0 ≡ Some x) (t : SigId) (n : ℤ) (legal : IsLegal c (Set t n)) where
+  pub clock_still : bit_at (source_value (wire_bit (module_of c) kept (inputs_at c (slice_set ins t.0 n)))) (spec_bits (clock_of c d)) 0 ≡ bit_at (source_value (wire_bit (module_of c) kept (inputs_at c ins))) (spec_bits (clock_of c d)) 0
+  clock_still =
+      let rule : IsClockDomain c x = all_at (IsClockDomain c) c.domains d.0 x design.domains is in
+      let clk : ℕ = x.clk.0 in
+      let w : ℕ = (signal_form c.pool.signals clk).width in
+      let wide : w ≡ 1 = ap (λ (f : Form). f.width) rule.clock.shape in
+      let apart : clk ≢ t.0 = λ q. false≢true (sym legal.1 ∙ any_at (λ (y : Domain). y.clk.0 == t.0) c.domains d.0 x is (eq-eqb clk t.0 q)) in
+      let spec : clock_of c d ≡ whole (signal_value c clk) = ap (λ o. unwrap_or (option_map (λ (y : Domain). whole (signal_value c y.clk.0)) o) []) is in
+      let bit = λ (xs : List ℤ). bit_at-whole (wire_bit (module_of c) kept (inputs_at c xs)) (signal_value c clk) 0 (omega (arith, wide)) ∙ input_wire_bit c design module_rules kept xs clk 0 rule.clock_input (omega (arith, wide)) in
+      ap (λ v. bit_at (source_value (wire_bit (module_of c) kept (inputs_at c (slice_set ins t.0 n)))) (spec_bits v) 0) spec
+      ∙ bit (slice_set ins t.0 n)
+      ∙ ap (λ z. slice_get (number_bits w (pattern w z)) 0) (get_or-set_other ins t.0 clk n (pos 0) apart)
+      ∙ sym (bit ins)
+      ∙ ap (λ v. bit_at (source_value (wire_bit (module_of c) kept (inputs_at c ins))) (spec_bits v) 0) (sym spec)
+
+module _ (c : Circuit) (rules : IsPool c.pool) (design : IsDesign c) (rising : AllRisingSync c) (plain : ArePlain c) (module_rules : IsModule (module_of c))
     (st : State) (env : List ℤ) (settled : Settled c st env) (fit : FitsSignals c.pool env) (kept : Kept) (ins : List ℤ) (count : length st.held ≡ length c.pool.signals) (agree : AgreeOnInputs c ins st.held) (keeps : Keeps c kept st.held)
     (signals : (s : ℕ) → Carries (wire_bit (module_of c) kept (inputs_at c ins)) (signal_value c s) (at env s)) (shows : Shows (wire_bit (module_of c) kept (inputs_at c ins)) c env) where
   -- ---- an input takes a number
 
   module _ (s : ℕ) (p : DesignProcess) (d : DomainId) (clock : driving c s ≡ ByClock p d) (i : ℕ) (l : i < (signal_form c.pool.signals s).width) where
     module _ (t : SigId) (n : ℤ) (legal : IsLegal c (Set t n)) where
-      clock_still : bit_at (source_value (wire_bit (module_of c) kept (inputs_at c (slice_set ins t.0 n)))) (spec_bits (clock_of c d)) 0 ≡ bit_at (source_value (wire_bit (module_of c) kept (inputs_at c ins))) (spec_bits (clock_of c d)) 0
-      clock_still =
-          let x : (y : Domain) × (slice_get c.domains d.0 ≡ Some y) = its_domain c design rules flat plain s p d clock in
-          let rule : IsClockDomain c x.0 = all_at (IsClockDomain c) c.domains d.0 x.0 design.domains x.1 in
-          let clk : ℕ = x.0.clk.0 in
-          let w : ℕ = (signal_form c.pool.signals clk).width in
-          let wide : w ≡ 1 = ap (λ (f : Form). f.width) rule.clock.shape in
-          let apart : clk ≢ t.0 = λ q. false≢true (sym legal.1 ∙ any_at (λ (y : Domain). y.clk.0 == t.0) c.domains d.0 x.0 x.1 (eq-eqb clk t.0 q)) in
-          let spec : clock_of c d ≡ whole (signal_value c clk) = ap (λ o. unwrap_or (option_map (λ (y : Domain). whole (signal_value c y.clk.0)) o) []) x.1 in
-          let bit = λ (xs : List ℤ). bit_at-whole (wire_bit (module_of c) kept (inputs_at c xs)) (signal_value c clk) 0 (omega (arith, wide)) ∙ input_wire_bit c design module_rules kept xs clk 0 rule.clock_input (omega (arith, wide)) in
-          ap (λ v. bit_at (source_value (wire_bit (module_of c) kept (inputs_at c (slice_set ins t.0 n)))) (spec_bits v) 0) spec
-          ∙ bit (slice_set ins t.0 n)
-          ∙ ap (λ z. slice_get (number_bits w (pattern w z)) 0) (get_or-set_other ins t.0 clk n (pos 0) apart)
-          ∙ sym (bit ins)
-          ∙ ap (λ v. bit_at (source_value (wire_bit (module_of c) kept (inputs_at c ins))) (spec_bits v) 0) (sym spec)
-
       set_keeps : next_bit (module_of c) kept (inputs_at c ins) (inputs_at c (slice_set ins t.0 n)) (register_at c s p d (step_id (3 * s))) i (kept.registers (wire_id c s) i) Dff ≡ Some (bit_of (at (slice_set st.held t.0 n) s) i)
       set_keeps =
           let D = bit_at (source_value (wire_bit (module_of c) kept (inputs_at c ins))) (spec_bits (next_spec c s p (reset_of c s d))) i in
           let old = bit_at (source_value (wire_bit (module_of c) kept (inputs_at c ins))) (spec_bits (clock_of c d)) 0 in
           let apart : s ≢ t.0 = λ q. false≢true (sym (is_clocked c p d s clock).no_input ∙ ap (is_input c) q ∙ legal.0) in
-          ap (λ v. cond (is_edge 1 old v) D (kept.registers (wire_id c s) i)) clock_still
+          let x : (y : Domain) × (slice_get c.domains d.0 ≡ Some y) = its_domain c design rules plain s p d clock in
+          ap (λ v. cond (is_edge 1 old v) D (kept.registers (wire_id c s) i)) (clock_still c design module_rules kept ins d x.0 x.1 t n legal)
           ∙ ap (λ b. cond b D (kept.registers (wire_id c s) i)) (unmoved old)
           ∙ keeps s p d clock i l
           ∙ ap (λ z. Some (bit_of z i)) (sym (get_or-set_other st.held t.0 s n (pos 0) apart))
@@ -167,9 +169,9 @@ module _ (c : Circuit) (rules : IsPool c.pool) (design : IsDesign c) (flat : c.m
 
   held_same : (t : ℕ) → is_held c t ≡ true → at st.held t ≡ at env t
   held_same t e = ⊎_elim
-      (λ (there : t < length c.pool.signals). sym (settled_held c env design st flat settled t there e))
+      (λ (there : t < length c.pool.signals). sym (settled_held c env design st settled t there e))
       (λ (past : length c.pool.signals ≤ t).
-      get_or_past st.held t (pos 0) (omega (arith, past, count)) ∙ sym (get_or_past env t (pos 0) (omega (arith, past, length-settled c env design st flat settled t))))
+      get_or_past st.held t (pos 0) (omega (arith, past, count)) ∙ sym (get_or_past env t (pos 0) (omega (arith, past, length-settled c env design st settled t))))
       (cases_lt t (length c.pool.signals))
 
   kept_after : (e : Event) → IsLegal c e → (s : ℕ) (p : DesignProcess) (d : DomainId) → driving c s ≡ ByClock p d → (i : ℕ) → i < (signal_form c.pool.signals s).width
@@ -180,9 +182,9 @@ module _ (c : Circuit) (rules : IsPool c.pool) (design : IsDesign c) (flat : c.m
       let old = inputs_at c ins in
       let new = inputs_at c (inputs_after c ins (Edge ds)) in
       let there : s < length c.pool.signals = some_signal c.pool.signals s (omega (arith, l)) in
-      let after = inputs_agree c design flat st env ins (Edge ds) legal count agree in
+      let after = inputs_agree c design st env ins (Edge ds) legal count agree in
       ap (λ before. next_bit m kept old new (register_at c s p d (step_id (3 * s))) i before Dff) (keeps s p d clock i l)
-      ∙ next_bit-register c design rules flat plain s p d clock rising (omega (arith, l)) env fit st count held_same ds legal.2 m kept old new shows signals (obeys_signal c module_rules kept old s there)
+      ∙ next_bit-register c design rules plain s p d clock rising (omega (arith, l)) env fit st count held_same ds legal.2 m kept old new shows signals (obeys_signal c module_rules kept old s there)
       (λ t input. input_carries c design module_rules kept (inputs_after c ins (Edge ds)) (moved c st env (Edge ds)).held after t input) (step_id (3 * s)) i l
 
   -- the registers keep what the design holds after the event

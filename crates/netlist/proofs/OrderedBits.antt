@@ -1,13 +1,15 @@
 -- Along an order of the combinational bits, each bit of each signal's wire is that of the settled environment.
-use Rattle.std.specs.Prelude.{◌≡◌, refl, ℕ, zero, suc, ◌-◌, ◌==◌, ◌<◌, ◌≤◌, nat_lt, Bool, true, false, cond, List, [], ◌∷◌, ◌++◌, length, slice_get, ℤ, Some, Contains}
-use Rattle.std.specs.List.{AllByRecursion}
+use Rattle.std.specs.Prelude.{◌≡◌, refl, ℕ, zero, suc, ◌-◌, ◌==◌, ◌<◌, ◌≤◌, ◌&&◌, nat_lt, Bool, true, false, cond, List, [], ◌∷◌, ◌++◌, length, slice_get, ℤ, Some, is_none, Contains}
+use Rattle.std.specs.List.{AllByRecursion, list_any}
 use Rattle.std.proofs.Common.{sym, ◌∙◌, ap, subst, arith, ⊎_elim, inl, inr, append-nil, append_assoc}
-use Rattle.std.proofs.lemmas.Bool.{cond_below, ltb-true, ltb-false}
+use Rattle.std.proofs.lemmas.Bool.{false≢true, cond_below, ltb-true, ltb-false}
 use Rattle.amh_bits.specs.Patterns.{IsOf}
 use Rattle.amh_bits.proofs.Same.{past_unsigned, past_signed}
 use Rattle.shape_rules.specs.Forms.{Form, IsForm}
 use Rattle.design_ir.specs.declared.ids.ExprId.{ExprId}
 use Rattle.design_ir.specs.declared.signal.Sig.{Sig}
+use Rattle.design_ir.specs.declared.memory.MemRead.{MemRead}
+use Rattle.design_ir.specs.declared.memory.Memory.{Memory}
 use Rattle.design_ir.specs.PoolRules.{IsPool}
 use Rattle.design_ir.specs.Targets.{Bit}
 use Rattle.design_ir.specs.Needed.{extended, needed}
@@ -35,7 +37,7 @@ use Rattle.netlist.proofs.BitWrites.{some_signal}
 use Rattle.netlist.proofs.FixedTargets.{IsInside}
 use Rattle.netlist.proofs.NeededInside.{needed_inside}
 use Rattle.netlist.proofs.SettledBits.{IsFrom, settled_bit}
-use Rattle.netlist.proofs.CombSignals.{HasProcess, comb_process, comb_bit, free_bits}
+use Rattle.netlist.proofs.CombSignals.{HasProcess, IsReadAtOnce, comb_source, comb_bit, free_bits}
 
 all_from : {A : Type 0} (P : A → Type 0) (xs : List A) → ((x : A) → Among xs x → P x) → AllByRecursion P xs
 all_from P [] f = tt
@@ -60,7 +62,7 @@ module _ (c : Circuit) (order : List Bit) (rules : IsPool c.pool) (design : IsDe
 
       by : (t : Bool) → is_held c b.sig ≡ t → Has b
       by true e = (has_carried wires (signal_value c b.sig) (at env b.sig) (held b.sig e)).at b.index inside
-      by false e = (free_bits c design flat b.sig wires (omega (arith, inside)) (obeys b.sig there) env st settled e free).at b.index inside
+      by false e = (free_bits c design b.sig wires (omega (arith, inside)) (obeys b.sig there) env st settled e free).at b.index inside
 
   -- ---- one bit, where those before it are there
 
@@ -98,17 +100,22 @@ module _ (c : Circuit) (order : List Bit) (rules : IsPool c.pool) (design : IsDe
         by true l h = follow e there k (ltb-true k f.width l) h
         by false l h = past f.signed f.width (value_id e.0) k (num c.pool env e.0) (needed c.pool e.0) (has_shape c.pool env rules fit e there) (num_fits c.pool env rules fit e there) (follow e there) (ltb-false k f.width l) h
 
-    comb_has : (b : Bit) → IsCombBit c b → ((x : Bit) → IsCombBit c x → Needs c b x → Contains before x) → Has b
-    comb_has b is behind =
-        let h : HasProcess c design flat b.sig = comb_process c design flat b.sig is.comb in
+    process_has : (b : Bit) → IsCombBit c b → ((x : Bit) → IsCombBit c x → Needs c b x → Contains before x) → HasProcess c design b.sig → Has b
+    process_has b is behind h =
         let there : b.sig < length c.pool.signals = some_signal c.pool.signals b.sig (omega (arith, is.inside)) in
         let x : (y : Sig) × (slice_get c.pool.signals b.sig ≡ Some y) = element c.pool.signals b.sig there in
-        comb_bit c design flat b.sig wires (omega (arith, is.inside)) (obeys b.sig there) h b.index is.inside
+        comb_bit c design b.sig wires (omega (arith, is.inside)) (obeys b.sig there) h b.index is.inside
         ∙ ⊎_elim
         (λ (e : at_last c false h.process b.sig b.index ≡ Constant (bit_of (at env b.sig) b.index)). ap (source_value wires) e)
-        (λ (f : IsFrom c env design rules plain st flat settled b.sig h.process b.index).
+        (λ (f : IsFrom c env design rules plain st settled b.sig h.process b.index).
         ap (source_value wires) f.source ∙ source_has f.expr f.place f.usable.there (needed_has b behind f.expr f.place f.usable.there f.needs) ∙ ap (λ t. Some t) (sym f.same))
-        (settled_bit c env design rules plain st flat settled b.sig h.process b.index x.0 x.1 h.unheld h.only h.domain is.inside)
+        (settled_bit c env design rules plain st settled b.sig h.process b.index x.0 x.1 h.unheld h.only h.domain is.inside)
+
+    none_read : (b : Bit) → IsReadAtOnce c design b.sig → list_any (λ (m : Memory). list_any (λ (r : MemRead). is_none r.domain && (r.word.0 == b.sig)) m.reads) c.memories ≡ false
+    none_read b r = ap (list_any (λ (m : Memory). list_any (λ (q : MemRead). is_none q.domain && (q.word.0 == b.sig)) m.reads)) flat
+
+    comb_has : (b : Bit) → IsCombBit c b → ((x : Bit) → IsCombBit c x → Needs c b x → Contains before x) → Has b
+    comb_has b is behind = ⊎_elim (λ h. process_has b is behind h) (λ r. absurd (false≢true (sym (none_read b r) ∙ r.read))) (comb_source c design b.sig is.comb)
 
   -- ---- all bits
 

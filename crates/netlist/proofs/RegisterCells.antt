@@ -1,5 +1,5 @@
 -- A register's cell takes, bit by bit, what an event of the design gives the register.
-use Rattle.std.specs.Prelude.{◌≡◌, refl, ℕ, ◌<◌, ◌≤◌, Bool, true, false, cond, List, [], length, slice_get, ℤ, Option, Some, is_some}
+use Rattle.std.specs.Prelude.{◌≡◌, refl, ℕ, ◌<◌, ◌≤◌, Bool, true, false, cond, List, length, slice_get, ℤ, Option, Some, is_some}
 use Rattle.std.proofs.Common.{sym, ◌∙◌, ap, subst}
 use Rattle.shape_rules.specs.declared.cell.CellKind.TheVariants.{Dff}
 use Rattle.design_ir.specs.declared.ids.DomainId.{DomainId}
@@ -37,13 +37,13 @@ use Rattle.netlist.proofs.ClockEdges.{rises_edge}
 abbrev pub register_at : Circuit → ℕ → DesignProcess → DomainId → List ℕ → RtlCell
 register_at c s p d id = register_cell id (signal_form c.pool.signals s).width (clock_of c d) (next_spec c s p (reset_of c s d)) (whole (signal_value c s))
 
-module _ (c : Circuit) (design : IsDesign c) (rules : IsPool c.pool) (flat : c.memories ≡ []) (plain : ArePlain c)
+module _ (c : Circuit) (design : IsDesign c) (rules : IsPool c.pool) (plain : ArePlain c)
     (s : ℕ) (p : DesignProcess) (d : DomainId) (clock : driving c s ≡ ByClock p d) where
   its_only : IsOnly (driven_by c) s c.processes p
-  its_only = find_only (driven_by c) s c.processes p (distinct_processes c flat design) (is_clocked c p d s clock).found
+  its_only = find_only (driven_by c) s c.processes p (distinct_processes c design) (is_clocked c p d s clock).found
 
   pub clocked_held : is_held c s ≡ true
-  clocked_held = or_right (is_input c s) (is_register c s) (is_register-only c flat s p its_only ∙ ap is_some (is_clocked c p d s clock).domain)
+  clocked_held = or_right (is_input c s) (is_register c s) (is_register-only c design s p its_only ∙ ap is_some (is_clocked c p d s clock).domain)
 
   pub its_domain : (x : Domain) × (slice_get c.domains d.0 ≡ Some x)
   its_domain =
@@ -61,13 +61,13 @@ module _ (c : Circuit) (design : IsDesign c) (rules : IsPool c.pool) (flat : c.m
         let rule : IsClockDomain c x = all_at (IsClockDomain c) c.domains d.0 x design.domains its_domain.1 in
         let held : is_held c x.clk.0 ≡ true = or_left (is_input c x.clk.0) (is_register c x.clk.0) rule.clock_input in
         ap (λ t. cond t (bit_at (source_value (wire_bit m kept old)) (spec_bits (next_spec c s p (reset_of c s d))) k) before)
-        (rises_edge c design flat env st listed ordered count d x its_domain.1 rising (wire_bit m kept old) (wire_bit m kept new) (same x.clk.0 held) (fit x.clk.0 rule.clock.there) (carried x.clk.0) (events x.clk.0 rule.clock_input))
+        (rises_edge c design env st listed ordered count d x its_domain.1 rising (wire_bit m kept old) (wire_bit m kept new) (same x.clk.0 held) (fit x.clk.0 rule.clock.there) (carried x.clk.0) (events x.clk.0 rule.clock_input))
 
     by_edge : (b : Bool) (k : ℕ) → k < (signal_form c.pool.signals s).width → is_active c env listed d.0 ≡ b
         → cond b (bit_at (source_value (wire_bit m kept old)) (spec_bits (next_spec c s p (reset_of c s d))) k) (Some (bit_of (at st.held s) k)) ≡ Some (bit_of (at (moved c st env (Edge listed)).held s) k)
     by_edge true k l e =
-        (reads_register c design flat s p d clock env listed st (wire_bit m kept old) rules plain fit shows count (same s clocked_held) carried e some obeys).at k l
-    by_edge false k l e = ap (λ z. Some (bit_of z k)) (sym (held_register c design flat s p d clock env listed st e))
+        (reads_register c design s p d clock env listed st (wire_bit m kept old) rules plain fit shows count (same s clocked_held) carried e some obeys).at k l
+    by_edge false k l e = ap (λ z. Some (bit_of z k)) (sym (held_register c design s p d clock env listed st e))
 
     pub next_bit-register : (id : List ℕ) (k : ℕ) → k < (signal_form c.pool.signals s).width
         → next_bit m kept old new (register_at c s p d id) k (Some (bit_of (at st.held s) k)) Dff ≡ Some (bit_of (at (moved c st env (Edge listed)).held s) k)

@@ -10,7 +10,6 @@ use Rattle.shape_rules.specs.Operators.{is_zero}
 use Rattle.design_ir.specs.declared.ids.DomainId.{DomainId}
 use Rattle.design_ir.specs.declared.signal.Sig.{Sig}
 use Rattle.design_ir.specs.declared.domain.Domain.{Domain}
-use Rattle.design_ir.specs.declared.memory.Memory.{Memory}
 use Rattle.design_ir.specs.declared.process.DesignProcess.{DesignProcess}
 use Rattle.design_ir.specs.declared.event.Event.TheVariants.{Edge}
 use Rattle.design_ir.specs.PoolRules.{IsPool}
@@ -35,14 +34,15 @@ use Rattle.netlist.specs.Operators.{whole}
 use Rattle.netlist.specs.Carried.{Carries}
 use Rattle.netlist.specs.CombDrawings.{ObeysUnkept, ObeysComb}
 use Rattle.netlist.specs.Spelled.{spec_of}
-use Rattle.netlist.specs.Module.{signal_value, drives, driving_by, driving, ByEvents, ByComb, ByClock, ByNothing, init_bits, bits_at_last, reset_of, clock_of, register_cell, register_drawing, signal_drawing}
+use Rattle.netlist.specs.Module.{signal_value, is_read, drives, undriven, driving_by, driving, Driving, ByEvents, ByComb, ByClock, ByRead, ByNothing, init_bits, bits_at_last, reset_of, clock_of, register_cell, register_drawing, signal_drawing}
 use Rattle.netlist.proofs.Reading.{HasBits, Reads, reads_low}
 use Rattle.netlist.proofs.Widths.{has_equal}
 use Rattle.netlist.proofs.Bitwise.{mux_cell_bits}
 use Rattle.netlist.proofs.BitWrites.{some_signal}
 use Rattle.netlist.proofs.SignalBits.{bit_at-signal}
 use Rattle.netlist.proofs.OneDriver.{IsOnly, IsFolded, find_only, fold_only}
-use Rattle.netlist.proofs.Driven.{driven_by, distinct_processes, by_comb, by_clock}
+use Rattle.netlist.proofs.Driven.{driven_by, distinct_processes, process_unread, by_comb, by_clock}
+use Rattle.netlist.proofs.ReadOnce.{clocked_reads-other}
 use Rattle.netlist.proofs.ResetLaws.{length-reset_all, reset_all-other, reset_all-less, reset_all-full, IsResetOf, is_reset-of, reset_of-some, reset_of-none}
 use Rattle.netlist.proofs.SettledWires.{Shows, reads_next, signal_drawing-some}
 use Rattle.netlist.specs.Plain.{ArePlain}
@@ -59,10 +59,10 @@ end_bits-register_cell id width clock next now = refl
 -- ---- a register's process and domain
 
 module _ (c : Circuit) (p : DesignProcess) (d : DomainId) where
-  found_domain : (q : DesignProcess) (x : Option DomainId) → q.domain ≡ x → driving_by (Some q) ≡ ByClock p d → (q ≡ p) × (p.domain ≡ Some d)
-  found_domain q None e h = let other : ByComb q ≡ ByClock p d = sym (by_comb q e) ∙ h in cc
-  found_domain q (Some y) e h =
-      let both : ByClock q y ≡ ByClock p d = sym (by_clock q y e) ∙ h in
+  found_domain : (u : Driving) (q : DesignProcess) (x : Option DomainId) → q.domain ≡ x → driving_by u (Some q) ≡ ByClock p d → (q ≡ p) × (p.domain ≡ Some d)
+  found_domain u q None e h = let other : ByComb q ≡ ByClock p d = sym (by_comb u q e) ∙ h in cc
+  found_domain u q (Some y) e h =
+      let both : ByClock q y ≡ ByClock p d = sym (by_clock u q y e) ∙ h in
       let same : q ≡ p = cc in
       let number : y ≡ d = cc in
       (same, ap (λ (z : DesignProcess). z.domain) (sym same) ∙ e ∙ ap (λ z. Some z) number)
@@ -72,11 +72,15 @@ module _ (c : Circuit) (p : DesignProcess) (d : DomainId) where
     pub found : find (drives c s) c.processes ≡ Some p
     pub domain : p.domain ≡ Some d
 
-  by_parts : (s : ℕ) (t : Bool) (o : Option DesignProcess) → is_input c s ≡ t → find (drives c s) c.processes ≡ o → cond t ByEvents (driving_by o) ≡ ByClock p d → IsClocked s
+  unclocked : (b : Bool) → cond b ByRead ByNothing ≡ ByClock p d → ⊥
+  unclocked true e = let other : ByRead ≡ ByClock p d = e in cc
+  unclocked false e = let other : ByNothing ≡ ByClock p d = e in cc
+
+  by_parts : (s : ℕ) (t : Bool) (o : Option DesignProcess) → is_input c s ≡ t → find (drives c s) c.processes ≡ o → cond t ByEvents (driving_by (undriven c s) o) ≡ ByClock p d → IsClocked s
   by_parts s true o i f h = let other : ByEvents ≡ ByClock p d = h in cc
-  by_parts s false None i f h = let other : ByNothing ≡ ByClock p d = h in cc
+  by_parts s false None i f h = absurd (unclocked (is_read c s) h)
   by_parts s false (Some q) i f h =
-      let r = found_domain q q.domain refl h in
+      let r = found_domain (undriven c s) q q.domain refl h in
       record { no_input = i; found = f ∙ ap (λ x. Some x) r.0; domain = r.1 }
 
   pub is_clocked : (s : ℕ) → driving c s ≡ ByClock p d → IsClocked s
@@ -107,7 +111,7 @@ module _ (c : Circuit) (env : List ℤ) (listed : List DomainId) (s : ℕ) where
   toggle_at-other cur None h = refl
   toggle_at-other cur (Some x) h = get_or-set_other cur x.clk.0 s (pos 1 -ℤ at cur x.clk.0) (pos 0) (h x refl)
 
-  toggles-other : (ds : List DomainId) (cur : List ℤ) → ((d : DomainId) (x : Domain) → slice_get c.domains d.0 ≡ Some x → s ≢ x.clk.0) → at (fold (toggle c.domains) cur ds) s ≡ at cur s
+  pub toggles-other : (ds : List DomainId) (cur : List ℤ) → ((d : DomainId) (x : Domain) → slice_get c.domains d.0 ≡ Some x → s ≢ x.clk.0) → at (fold (toggle c.domains) cur ds) s ≡ at cur s
   toggles-other [] cur h = refl
   toggles-other (d ∷ ds) cur h = toggles-other ds (toggle c.domains cur d) h ∙ toggle_at-other cur (slice_get c.domains d.0) (λ x e. h d x e)
 
@@ -117,16 +121,16 @@ all_at P (y ∷ xs) zero x h e = let same : y ≡ x = cc in subst P same h.0
 all_at P (y ∷ xs) (suc k) x h e = all_at P xs k x h.1 e
 
 -- a signal that is no input is no clock
-no_clock : (c : Circuit) (s : ℕ) → AllByRecursion (IsClockDomain c) c.domains → is_input c s ≡ false → (d : DomainId) (x : Domain) → slice_get c.domains d.0 ≡ Some x → s ≢ x.clk.0
+pub no_clock : (c : Circuit) (s : ℕ) → AllByRecursion (IsClockDomain c) c.domains → is_input c s ≡ false → (d : DomainId) (x : Domain) → slice_get c.domains d.0 ≡ Some x → s ≢ x.clk.0
 no_clock c s h none d x e same =
     let input : is_input c x.clk.0 ≡ true = (all_at (IsClockDomain c) c.domains d.0 x h e).clock_input in
     false≢true (sym none ∙ ap (is_input c) same ∙ input)
 
 -- ---- a register at an edge
 
-module _ (c : Circuit) (design : IsDesign c) (flat : c.memories ≡ []) (s : ℕ) (p : DesignProcess) (d : DomainId) (clock : driving c s ≡ ByClock p d) where
+module _ (c : Circuit) (design : IsDesign c) (s : ℕ) (p : DesignProcess) (d : DomainId) (clock : driving c s ≡ ByClock p d) where
   only : IsOnly (driven_by c) s c.processes p
-  only = find_only (driven_by c) s c.processes p (distinct_processes c flat design) (is_clocked c p d s clock).found
+  only = find_only (driven_by c) s c.processes p (distinct_processes c design) (is_clocked c p d s clock).found
 
   -- ---- the choice that a reset makes
 
@@ -168,7 +172,7 @@ module _ (c : Circuit) (design : IsDesign c) (flat : c.memories ≡ []) (s : ℕ
     by_process : at (moved c st env (Edge listed)).held s ≡ at (clocked_at c env listed p folded.then (Some d)) s
     by_process =
         toggles-other c env listed s listed (clocked_reads c env listed c.memories st.rows (fold (clocked c env listed) st.held c.processes)) (no_clock c s design.domains (is_clocked c p d s clock).no_input)
-        ∙ ap (λ (ms : List Memory). at (clocked_reads c env listed ms st.rows (fold (clocked c env listed) st.held c.processes)) s) flat
+        ∙ clocked_reads-other c env listed s c.memories st.rows (fold (clocked c env listed) st.held c.processes) (process_unread c design s p only)
         ∙ folded.result
         ∙ ap (λ o. at (clocked_at c env listed p folded.then o) s) (is_clocked c p d s clock).domain
 

@@ -41,7 +41,7 @@ module _ (c : Circuit) (order : List Bit) (rules : IsPool c.pool) (bytes : AllBy
   held_so s held i inside =
       let w : ℕ = (signal_form c.pool.signals s).width in
       let there : s < length c.pool.signals = some_signal c.pool.signals s (omega (arith, inside)) in
-      let same : at st.held s ≡ at env s = sym (settled_held c env design st plain.flat settled s there held) in
+      let same : at st.held s ≡ at env s = sym (settled_held c env design st settled s there held) in
       held_carries c design module_rules kept ins plain.flat st.held agree keeps s held i inside ∙ ap (λ z. slice_get (number_bits w (pattern w z)) i) same
 
   follow : AllFollow wires c.pool env (wire_id c) value_id

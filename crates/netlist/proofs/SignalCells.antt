@@ -35,7 +35,7 @@ use Rattle.netlist.specs.Latest.{Latest, source_at, with_source, given, latest_o
 use Rattle.netlist.specs.Latest as latest_spec
 use Rattle.netlist.specs.Spelled.{spec_of}
 use Rattle.netlist.specs.Fits.{HasWire, HasValue, DrawingFits}
-use Rattle.netlist.specs.Module.{signal_value, expr_value, wire_id, Driving, ByEvents, ByComb, ByClock, ByNothing, drives, driving_at, driving_by, driving, init_bits, at_first, at_last, bits_at_last, domain_of, reset_of, clock_of, register_cell, register_drawing, driving_drawing, signal_drawing, module_of}
+use Rattle.netlist.specs.Module.{signal_value, expr_value, wire_id, Driving, ByEvents, ByComb, ByClock, ByRead, ByNothing, drives, driving_at, is_read, undriven, driving_by, driving, init_bits, at_first, at_last, bits_at_last, domain_of, reset_of, clock_of, register_cell, register_drawing, driving_drawing, signal_drawing, module_of}
 use Rattle.netlist.proofs.Drawn.{form_sign}
 use Rattle.netlist.proofs.NeededBits.{all_right}
 use Rattle.netlist.proofs.Reading.{HasSign}
@@ -78,7 +78,7 @@ source_fits m v k sign h =
 
 -- ---- registers
 
-register_fits : (m : RtlModule) (id : List ℕ) (width : ℕ) (clock after now : List SigPart) → SpecIs m clock 1 → SpecIs m after width → SpecIs m now width → CellFits m (register_cell id width clock after now)
+pub register_fits : (m : RtlModule) (id : List ℕ) (width : ℕ) (clock after now : List SigPart) → SpecIs m clock 1 → SpecIs m after width → SpecIs m now width → CellFits m (register_cell id width clock after now)
 register_fits m id width clock after now p q r = record {
   parameters = refl;
   values = All-from_recursion (λ (p : RtlParameter). ValueFits p.value) (register_cell id width clock after now).parameters (tt, (tt, tt));
@@ -136,7 +136,7 @@ module _ (c : Circuit) (pool : IsPool c.pool) (h : IsDesign c) where
   bit_is : (s : SigId) → IsSignalOf c (unsigned 1) s → SpecIs (module_of c) (whole (signal_value c s.0)) 1
   bit_is s g = subst (λ (f : Form). SpecIs (module_of c) (whole (signal_value c s.0)) f.width) g.shape (whole_is (module_of c) (signal_value c s.0) (signal_held c s.0 g.there))
 
-  clock_is : (d : DomainId) → d.0 < length c.domains → SpecIs (module_of c) (clock_of c d) 1
+  pub clock_is : (d : DomainId) → d.0 < length c.domains → SpecIs (module_of c) (clock_of c d) 1
   clock_is d p =
       let x = element c.domains d.0 p in
       let domain : IsClockDomain c x.0 = AllByRecursion-among (IsClockDomain c) c.domains x.0 h.domains (Among-slice_get c.domains d.0 x.0 x.1) in
@@ -194,26 +194,28 @@ module _ (c : Circuit) (pool : IsPool c.pool) (h : IsDesign c) where
     IsDriving ByEvents = Unit {0}
     IsDriving (ByComb p) = IsProcess c p
     IsDriving (ByClock p d) = IsProcess c p × (d.0 < length c.domains)
+    IsDriving ByRead = Unit {0}
     IsDriving ByNothing = Unit {0}
 
     is_driving-at : (p : DesignProcess) (d : Option DomainId) → IsProcess c p → IsDomain c d → IsDriving (driving_at p d)
     is_driving-at p None q g = q
     is_driving-at p (Some d) q g = (q, g)
 
-    is_driving-by : (p : Option DesignProcess) → ((x : DesignProcess) → p ≡ Some x → IsProcess c x) → IsDriving (driving_by p)
-    is_driving-by None each = tt
+    is_driving-by : (p : Option DesignProcess) → ((x : DesignProcess) → p ≡ Some x → IsProcess c x) → IsDriving (driving_by (undriven c s) p)
+    is_driving-by None each = cond_both (is_read c s) ByRead ByNothing IsDriving (λ _. tt) (λ _. tt)
     is_driving-by (Some p) each = let q = each p refl in is_driving-at p p.domain q q.domain
 
     is_driving : IsDriving (driving c s)
     is_driving =
         let p = find (drives c s) c.processes in
-        cond_both (is_input c s) ByEvents (driving_by p) IsDriving (λ _. tt)
+        cond_both (is_input c s) ByEvents (driving_by (undriven c s) p) IsDriving (λ _. tt)
         (λ _. is_driving-by p (λ x e. AllByRecursion-among (IsProcess c) c.processes x h.processes (found_process (drives c s) c.processes x e)))
 
     driving_fits : (x : Driving) → IsDriving x → 1 ≤ (signal_form c.pool.signals s).width → All (Contains (module_of c).wires) (driving_drawing c s x).wires → DrawingFits (module_of c) (driving_drawing c s x)
     driving_fits ByEvents g some held = nothing_fits (module_of c)
     driving_fits (ByComb p) g some held = linked_fits (module_of c) (signal_value c s) (bits_at_last c false p s) (signal_held c s there) (last_is false p s g there)
     driving_fits (ByClock p d) g some held = register_drawing-fits p d (reset_of c s d) some g.0 g.1 (reset_is s d) held
+    driving_fits ByRead g some held = nothing_fits (module_of c)
     driving_fits ByNothing g some held =
         linked_fits (module_of c) (signal_value c s) (spec_of (map Constant (init_bits c s))) (signal_held c s there) (constants_are (module_of c) (init_bits c s) (signal_form c.pool.signals s).width (length-init_bits c s))
 

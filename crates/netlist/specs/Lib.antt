@@ -10,13 +10,16 @@ pub mod Latest
 pub mod Spelled
 pub mod CombDrawings
 pub mod ItemSteps
+pub mod SignalDrawings
+pub mod PortGuards
+pub mod MemoryDrawings
 pub mod Module
 pub mod Tables
 pub mod PoolsDrawn
 pub mod Drives
 pub mod Corresponds
 pub mod FirstValues
-pub mod PortGuards
+pub mod PortLaws
 pub mod Plain
 pub mod Beyond
 pub mod Histories

@@ -31,7 +31,7 @@ mod wires;
 
 pub use beyond::first_beyond;
 pub use laws::{
-    expressions_are_made, guards_are_made, modules_are_sound, modules_have_the_history,
-    operators_are_made,
+    expressions_are_made, guards_are_made, memory_ports_are_made, modules_are_sound,
+    modules_have_the_history, operators_are_made,
 };
 pub use lowering::lower;

@@ -26,6 +26,7 @@ use cell_split::split_tangled;
 use comb_graph::Ranks;
 use design_ir::{Design, Expr, ExprId, Exprs};
 use flat_design::{flat_has_the_history, flat_keeps_orders, flatten};
+use memory_cells::cells_keep_the_rules;
 use rtlil_text::{RtlModule, RtlWire};
 use std::alloc::Global;
 
@@ -99,6 +100,7 @@ pub(crate) fn draw(alloc: Global, design: &Design) -> Result<RtlModule, NoMemory
     ensures columns { IfOk result (Corresponds design.now) }
     ensures begins { IfOk result (HasFirstValues design.now) }
 {
+    cells_keep_the_rules();
     let _ = design.count();
     let _ = design.processes();
     let drawing = drawing_of(alloc, design)?;

@@ -29,4 +29,4 @@ returns-clause-history c =
     c.lower_plain.ensures.history
 
 pub returns-clause-begins : goal.returns-clause-begins
-returns-clause-begins c = IfOk-weaker c.lower_plain.result _ _ (λ m h. HasFirstValues-flat c.args.design.now c.in_ok-flat.flat m c.requires.flat c.in_ok-flat.ensures.flat h) c.lower_plain.ensures.begins
+returns-clause-begins c = IfOk-weaker c.lower_plain.result _ _ (λ m h. HasFirstValues-flat c.args.design.now c.in_ok-flat.flat m c.in_ok-flat.ensures.flat h) c.lower_plain.ensures.begins
