@@ -22,7 +22,7 @@ use Rattle.rtlil_text.specs.History.{Wires}
 use Rattle.netlist.specs.Carried.{ObeysCell}
 use Rattle.netlist.specs.CombDrawings.{ObeysComb}
 use Rattle.netlist.specs.Spelled.{spec_of}
-use Rattle.netlist.specs.Module.{wire_id, signal_value, drives, ByRead, ByNothing, init_bits, at_last, bits_at_last, link_to, signal_drawing}
+use Rattle.netlist.specs.Module.{wire_id, signal_value, drives, driving, ByRead, ByNothing, init_bits, at_last, bits_at_last, link_to, signal_drawing}
 use Rattle.netlist.proofs.Reading.{HasBits, Reads}
 use Rattle.netlist.proofs.Widths.{linked_bits, has_equal}
 use Rattle.netlist.proofs.BitWrites.{some_signal}
@@ -80,24 +80,28 @@ module _ (c : Circuit) (design : IsDesign c) (s : ℕ) where
       by None e = refl
       by (Some p) e = absurd (by_domain p p.domain refl (only_of p e))
 
-  -- ---- on wires
+-- ---- on wires
 
-  module _ (wires : Wires) (some : 1 ≤ (signal_form c.pool.signals s).width) (obeys : ObeysComb wires (signal_drawing c s)) where
-    -- a combinational signal's bit is its source behind all statements
-    pub comb_bit : (h : HasProcess) (i : ℕ) → i < (signal_form c.pool.signals s).width → wires (wire_id c s) i ≡ source_value wires (at_last c false h.process s i)
-    comb_bit h i l =
-        let drawn : ObeysComb wires (link_to c s (bits_at_last c false h.process s)) = subst (ObeysComb wires) (signal_drawing-some c s _ some (driving-comb c s h.no_input h.process h.found h.domain)) obeys in
-        linked_bit wires (signal_value c s) (bits_at_last c false h.process s) i (record { cells = All-nil (ObeysCell wires); links = drawn.links }) l
-        ∙ bit_at-sources wires (at_last c false h.process s) (signal_form c.pool.signals s).width i l
+module _ (c : Circuit) (s : ℕ) (wires : Wires) (some : 1 ≤ (signal_form c.pool.signals s).width) (obeys : ObeysComb wires (signal_drawing c s)) where
+  -- a combinational signal's bit is its source behind all statements
+  pub comb_bit : (design : IsDesign c) (h : HasProcess c design s) (i : ℕ) → i < (signal_form c.pool.signals s).width → wires (wire_id c s) i ≡ source_value wires (at_last c false h.process s i)
+  comb_bit design h i l =
+      let drawn : ObeysComb wires (link_to c s (bits_at_last c false h.process s)) = subst (ObeysComb wires) (signal_drawing-some c s _ some (driving-comb c s h.no_input h.process h.found h.domain)) obeys in
+      linked_bit wires (signal_value c s) (bits_at_last c false h.process s) i (record { cells = All-nil (ObeysCell wires); links = drawn.links }) l
+      ∙ bit_at-sources wires (at_last c false h.process s) (signal_form c.pool.signals s).width i l
 
-    -- a signal that nothing drives has its first number
-    pub free_bits : (env : List ℤ) (st : State) → Settled c st env → is_held c s ≡ false → is_comb c s ≡ false → HasBits wires (wire_id c s) (signal_form c.pool.signals s).width (at env s)
-    free_bits env st settled unheld free =
-        let w : ℕ = (signal_form c.pool.signals s).width in
-        let none = free_none unheld free in
-        let x : (y : Sig) × (slice_get c.pool.signals s ≡ Some y) = element c.pool.signals s (some_signal c.pool.signals s some) in
-        let right : List SigPart = spec_of (map Constant (init_bits c s)) in
-        let drawn : ObeysComb wires (link_to c s right) = subst (ObeysComb wires) (signal_drawing-some c s ByNothing some (driving-found c s (or_parts (is_input c s) (is_register c s) unheld).0 None none ∙ ap (λ b. cond b ByRead ByNothing) (free_unread c design s unheld free))) obeys in
-        let reads : Reads wires right w x.0.init = subst (λ bits. Reads wires (spec_of (map Constant bits)) w x.0.init) (sym (init_bits_are c s x.0 x.1)) (reads_constants wires w x.0.init) in
-        has_equal wires (wire_id c s) w x.0.init (at env s) (sym (settled_none c env design st settled s x.0 x.1 unheld free))
-        (linked_bits wires (signal_value c s) right w x.0.init reads (omega arith) (record { cells = All-nil (ObeysCell wires); links = drawn.links }))
+  -- a signal that nothing drives has its first number
+  pub nothing_bits : (x : Sig) → slice_get c.pool.signals s ≡ Some x → driving c s ≡ ByNothing → HasBits wires (wire_id c s) (signal_form c.pool.signals s).width x.init
+  nothing_bits x is nothing =
+      let w : ℕ = (signal_form c.pool.signals s).width in
+      let right : List SigPart = spec_of (map Constant (init_bits c s)) in
+      let drawn : ObeysComb wires (link_to c s right) = subst (ObeysComb wires) (signal_drawing-some c s ByNothing some nothing) obeys in
+      let reads : Reads wires right w x.init = subst (λ bits. Reads wires (spec_of (map Constant bits)) w x.init) (sym (init_bits_are c s x is)) (reads_constants wires w x.init) in
+      linked_bits wires (signal_value c s) right w x.init reads (omega arith) (record { cells = All-nil (ObeysCell wires); links = drawn.links })
+
+  -- so has what is neither held nor combinational
+  pub free_bits : IsDesign c → (env : List ℤ) (st : State) → Settled c st env → is_held c s ≡ false → is_comb c s ≡ false → HasBits wires (wire_id c s) (signal_form c.pool.signals s).width (at env s)
+  free_bits design env st settled unheld free =
+      let x : (y : Sig) × (slice_get c.pool.signals s ≡ Some y) = element c.pool.signals s (some_signal c.pool.signals s some) in
+      has_equal wires (wire_id c s) (signal_form c.pool.signals s).width x.0.init (at env s) (sym (settled_none c env design st settled s x.0 x.1 unheld free))
+      (nothing_bits x.0 x.1 (driving-found c s (or_parts (is_input c s) (is_register c s) unheld).0 None (free_none c design s unheld free) ∙ ap (λ b. cond b ByRead ByNothing) (free_unread c design s unheld free)))

@@ -30,7 +30,6 @@ use Rattle.netlist.specs.Plain.{ArePlain}
 use Rattle.netlist.specs.Histories.{AllDefined}
 use Rattle.netlist.specs.Module.{column_of, signal_value, expr_value, first_value, Driving, ByEvents, ByComb, ByClock, ByRead, ByNothing, driving, reset_of, register_drawing, driving_drawing, signal_drawing, column_wire, column_wires, signal_wires, expr_wires, drawn_from, drawings, other_drawings, all_drawings, module_of}
 use Rattle.netlist.specs.MemoryDrawings.{memory_drawings}
-use Rattle.netlist.proofs.PartsDrawn.{no_drawings}
 use Rattle.netlist.proofs.Reading.{has_carried}
 use Rattle.netlist.proofs.ColumnSignals.{column_at, column_signals, columns_distinct}
 use Rattle.netlist.proofs.ManyDrawn.{drawing_wires}
@@ -65,11 +64,12 @@ none_is : (o : Option Column) → is_none o ≡ true → o ≡ None
 none_is None e = refl
 none_is (Some x) e = absurd (false≢true e)
 
-module _ (c : Circuit) (rules : IsPool c.pool) (design : IsDesign c) (flat : c.memories ≡ []) (plain : ArePlain c) (module_rules : IsModule (module_of c)) (kept : Kept) (inputs : Inputs)
+module _ (c : Circuit) (rules : IsPool c.pool) (design : IsDesign c) (plain : ArePlain c) (module_rules : IsModule (module_of c)) (kept : Kept) (inputs : Inputs)
     (env held : List ℤ) (fit : FitsSignals c.pool env) (count : length held ≡ length c.pool.signals)
     (signals : (s : ℕ) → Carries (wire_bit (module_of c) kept inputs) (signal_value c s) (at env s))
     (exprs : (e : ExprId) → e.0 < length c.pool.exprs → Carries (wire_bit (module_of c) kept inputs) (expr_value c e.0) (num c.pool env e.0))
-    (same : (s : ℕ) (p : DesignProcess) (d : DomainId) → driving c s ≡ ByClock p d → s < length c.pool.signals → at held s ≡ at env s) where
+    (same : (s : ℕ) (p : DesignProcess) (d : DomainId) → driving c s ≡ ByClock p d → s < length c.pool.signals → at held s ≡ at env s)
+    (stored : (d : Drawing) → Among (memory_drawings c) d → AreDefined (wire_bit (module_of c) kept inputs) d.wires) where
   abbrev wires : Wires
   wires = wire_bit (module_of c) kept inputs
 
@@ -156,7 +156,7 @@ module _ (c : Circuit) (rules : IsPool c.pool) (design : IsDesign c) (flat : c.m
   drawing_defined d a =
       let steps : List Drawing = map (signal_drawing c) (range_with_len 0 (length c.pool.signals)) in
       ⊎_elim (λ e. parts_defined 0 0 c.pool.exprs (omega arith) (λ x b. Among-left (drawings c) (other_drawings c) x b) d e)
-      (λ other. ⊎_elim (λ s. all_steps_defined 0 (length c.pool.signals) (omega arith) d s) (λ m. absurd (subst (λ ds. Among ds d) (no_drawings c flat) m)) (Among-append steps (memory_drawings c) d other))
+      (λ other. ⊎_elim (λ s. all_steps_defined 0 (length c.pool.signals) (omega arith) d s) (λ m. stored d m) (Among-append steps (memory_drawings c) d other))
       (Among-append (drawings c) (other_drawings c) d a)
 
   others_defined : All HasBits (other_wires c)

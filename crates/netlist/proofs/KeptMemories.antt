@@ -1,13 +1,14 @@
 -- What the state of a design's module keeps of the design's memories: their rows, and the data of clocked read ports.
-use Rattle.std.specs.Prelude.{◌≡◌, ◌<◌, ◌+◌, ◌*◌, ◌^◌, ℕ, suc, List, [], ◌∷◌, ◌++◌, map, length, ◌⊎◌, Some}
+use Rattle.std.specs.Prelude.{◌≡◌, ◌<◌, ◌+◌, ◌*◌, ◌^◌, ℕ, suc, List, [], ◌∷◌, ◌++◌, map, length, ◌⊎◌, Some, pos}
 use Rattle.std.proofs.Common.{ap, subst, inl, inr, ⊎_elim}
 use Rattle.shape_rules.specs.Forms.{Form}
 use Rattle.design_ir.specs.declared.memory.MemWrite.{MemWrite}
 use Rattle.design_ir.specs.declared.memory.MemRead.{MemRead}
+use Rattle.design_ir.specs.declared.memory.Memory.{Memory}
 use Rattle.design_ir.specs.PoolRules.{IsPool}
 use Rattle.design_ir.specs.Values.{signal_form}
-use Rattle.design_ir.specs.Circuits.{Circuit, State}
-use Rattle.design_ir.specs.Designs.{IsDesign, IsReadPort}
+use Rattle.design_ir.specs.Circuits.{Circuit, State, at}
+use Rattle.design_ir.specs.Designs.{IsDesign, IsMemory, IsReadPort}
 use Rattle.design_ir.specs.Steps.{first_state}
 use Rattle.rtlil_text.specs.Rules.{IsModule}
 use Rattle.rtlil_text.specs.Meaning.{State as Kept}
@@ -19,8 +20,8 @@ use Rattle.netlist.specs.Module.{module_of}
 use Rattle.netlist.specs.MemoryDrawings.{Placed, Part, FirstRows, Writes, Reads, write_parts, parts_of, part_drawing, read_drawing, all_parts, drawn_parts, memories_of, memory_drawings}
 use Rattle.netlist.proofs.PartsDrawn.{IsPartOf, design_parts, placed_among}
 use Rattle.netlist.proofs.MemoriesFit.{IsPlaced, plans_are}
-use Rattle.netlist.proofs.KeptRows.{KeepsRows, first_rows}
-use Rattle.netlist.proofs.KeptReads.{KeepsRead, read_begins}
+use Rattle.netlist.proofs.KeptRows.{KeepsRows, AreDeep, first_rows, first_deep}
+use Rattle.netlist.proofs.KeptReads.{KeepsRead, word_begins, read_begins}
 
 -- ---- parts by their numbers
 
@@ -80,7 +81,14 @@ IsReadAt c n x r = IsNumbered (3 * length c.pool.signals) (all_parts (memories_o
 
 pub record KeepsMemories (c : Circuit) (kept : Kept) (st : State) : Type 0 where
   pub rows : KeepsRows c kept st.rows
+  pub deep : AreDeep c.memories st.rows
   pub reads : (n : ℕ) (x : Placed) (r : MemRead) (d : List ℕ) → IsReadAt c n x r → r.domain ≡ Some d → KeepsRead c kept st.held x.memory n r
+  -- a memory without rows gives 0
+  pub dry : (m : Memory) (r : MemRead) → Among c.memories m → m.depth ≡ 0 → Among m.reads r → at st.held r.word.0 ≡ pos 0
+
+-- a port of a memory of the design keeps the rules
+pub port_rules : (c : Circuit) → IsDesign c → (m : Memory) (r : MemRead) → Among c.memories m → Among m.reads r → IsReadPort c m r
+port_rules c design m r a b = AllByRecursion-among (IsReadPort c m) m.reads r (AllByRecursion-among (IsMemory c) c.memories m design.memories a).reads b
 
 module _ (c : Circuit) (pool : IsPool c.pool) (design : IsDesign c) (few : length (all_parts (memories_of c)) < 10 ^ 18) (rules : IsModule (module_of c)) where
   module _ (n : ℕ) (x : Placed) (r : MemRead) (here : IsReadAt c n x r) where
@@ -107,6 +115,8 @@ module _ (c : Circuit) (pool : IsPool c.pool) (design : IsDesign c) (few : lengt
   pub first_memories : RowsBegin → KeepsMemories c (rtl.first_state (module_of c)) (first_state c)
   first_memories begin = record {
     rows = first_rows c pool design few begin;
+    deep = first_deep c c.memories design.memories;
     reads = λ n x r d here clocked.
         read_begins c rules x.plan x.memory n r d clocked (read_among n x r here) (ap (λ (p : Plan). p.width) (read_placed n x r here).plan) (read_part n x r here).port (read_wide n x r here);
+    dry = λ m r a none b. word_begins c m r (port_rules c design m r a b);
   }

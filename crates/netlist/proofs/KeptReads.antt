@@ -139,7 +139,7 @@ module _ (c : Circuit) (rules : IsModule (module_of c)) (p : Plan) (m : Memory) 
     abbrev wires : rtl.Wires
     wires = rtl.wire_bit (module_of c) kept inputs
 
-    kept_at : (id : List ℕ) (i : ℕ) (spec : List SigPart) → driver (module_of c) id i ≡ ByCell (reading c p m n r (Some d) spec) i → wires id i ≡ kept.registers id i
+    pub kept_at : (id : List ℕ) (i : ℕ) (spec : List SigPart) → driver (module_of c) id i ≡ ByCell (reading c p m n r (Some d) spec) i → wires id i ≡ kept.registers id i
     kept_at id i spec by_cell = wire_bit-driven (module_of c) kept inputs id i ∙ ap (driven_bit (module_of c) kept inputs (source_value wires) id i) by_cell
 
     -- the signal of the port has the bits of its data

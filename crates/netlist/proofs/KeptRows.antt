@@ -42,7 +42,15 @@ pub record HasItsRows (kept : Kept) (x : Placed) (rows : List ℤ) : Type 0 wher
 abbrev pub KeepsRows : Circuit → Kept → List (List ℤ) → Type 0
 KeepsRows c kept all = AllZip (HasItsRows kept) (memories_of c) (rows_there c.memories all)
 
+-- a list of rows for each memory of the design, as many as it is deep, those without bits among them
+abbrev pub AreDeep : List Memory → List (List ℤ) → Type 0
+AreDeep ms all = AllZip (λ (m : Memory) (rows : List ℤ). length rows ≡ m.depth) ms all
+
 -- ---- at first
+
+pub first_deep : (c : Circuit) (ms : List Memory) → AllByRecursion (IsMemory c) ms → AreDeep ms (map (λ (m : Memory). m.rows) ms)
+first_deep c [] are = tt
+first_deep c (m ∷ ms) are = (are.0.rows, first_deep c ms are.1)
 
 module _ (c : Circuit) (pool : IsPool c.pool) (design : IsDesign c) (few : length (all_parts (memories_of c)) < 10 ^ 18) (begin : RowsBegin) where
   own_first : (x : Placed) → Among (memories_of c) x → length x.memory.rows ≡ x.memory.depth → HasItsRows (rtl.first_state (module_of c)) x x.memory.rows
@@ -91,6 +99,12 @@ module _ (c : Circuit) (env : List ℤ) (listed : List DomainId) where
   length-writes : (m : Memory) (ws : List MemWrite) (rows : List ℤ) → length (fold (write_row c env listed m) rows ws) ≡ length rows
   length-writes m [] rows = refl
   length-writes m (w ∷ ws) rows = length-writes m ws (write_row c env listed m rows w) ∙ length-write_row m rows w
+
+  -- memories stay as deep
+  pub deep_after : (ms : List Memory) (all : List (List ℤ)) → AreDeep ms all → AreDeep ms (rows_after c env listed ms all)
+  deep_after [] all h = h
+  deep_after (m ∷ ms) [] h = h
+  deep_after (m ∷ ms) (rows ∷ all) h = (length-writes m m.writes rows ∙ h.0, deep_after ms all h.1)
 
 module _ (t : Moment) (follow : RowsFollow) (stand : (x : Placed) → Among (memories_of t.design) x → Stands t x.memory x.plan.id) where
   abbrev next : Kept
@@ -167,3 +181,17 @@ module _ (kept : Kept) (x : Placed) (r : MemRead) (port : Among x.memory.reads r
 
   pub port_located : (c : Circuit) (all : List (List ℤ)) → KeepsRows c kept all → Among (memories_of c) x → IsLocated kept c.memories all x r
   port_located c all h a = locate c.memories all (memories_of c) (memories_are c) h a
+
+-- a port of any memory of the design stands beside rows, as many as the memory is deep
+pub record StandsBeside (ms : List Memory) (all : List (List ℤ)) (m : Memory) (r : MemRead) : Type 0 where
+  pub rows : List ℤ
+  pub located : Located ms all m rows r
+  pub long : length rows ≡ m.depth
+
+pub stands_beside : (ms : List Memory) (all : List (List ℤ)) (m : Memory) (r : MemRead) → AreDeep ms all → Among ms m → Among m.reads r → StandsBeside ms all m r
+stands_beside [] all m r h a b = absurd a
+stands_beside (x ∷ ms) [] m r h a b = absurd h
+stands_beside (x ∷ ms) (rows ∷ all) m r h a b = ⊎_elim
+    (λ (here : x ≡ m). record { rows = rows; located = inl (here, refl, subst (λ (y : Memory). Among y.reads r) (sym here) b); long = h.0 ∙ ap (λ (y : Memory). y.depth) here })
+    (λ (later : Among ms m). let k = stands_beside ms all m r h.1 later b in record { rows = k.rows; located = inr k.located; long = k.long })
+    a

@@ -107,7 +107,11 @@ pub mod KeptReads
 pub mod KeptReadSteps
 pub mod ReadMoves
 pub mod KeptMemories
+pub mod PortSignals
+pub mod SettledReads
 pub mod MovedMemories
+pub mod MemoryLaws
+pub mod MemoryWires
 pub mod LatestFits
 pub mod SanityStatements
 pub mod LowerParts

@@ -1,13 +1,17 @@
 -- The module of a plain design with an order of its bits has the design's history.
-use Rattle.std.specs.Prelude.{◌≡◌, List, [], ◌∷◌, ℤ, All, Some}
+use Rattle.std.specs.Prelude.{◌≡◌, ℕ, ◌<◌, ◌^◌, List, [], ◌∷◌, length, slice_set, ℤ, All, Some}
 use Rattle.std.specs.List.{AllByRecursion}
 use Rattle.std.proofs.Common.{refl, sym, ap, ◌∙◌, subst}
 use Rattle.std.proofs.lemmas.List.Elements.{All-nil, All-cons}
+use Rattle.design_ir.specs.declared.ids.DomainId.{DomainId}
+use Rattle.design_ir.specs.declared.ids.ExprId.{ExprId}
 use Rattle.design_ir.specs.declared.port.Column.{Column}
 use Rattle.design_ir.specs.declared.event.Event.{Event}
+use Rattle.design_ir.specs.declared.event.Event.TheVariants.{Set, Edge}
 use Rattle.design_ir.specs.PoolRules.{IsPool}
 use Rattle.design_ir.specs.Targets.{Bit}
-use Rattle.design_ir.specs.Circuits.{Circuit, State}
+use Rattle.design_ir.specs.Values.{num}
+use Rattle.design_ir.specs.Circuits.{Circuit, State, at}
 use Rattle.design_ir.specs.Designs.{IsDesign}
 use Rattle.design_ir.specs.Steps.{moved, step, first_state}
 use Rattle.design_ir.specs.Histories.{HistoryFrom}
@@ -17,32 +21,40 @@ use Rattle.comb_graph.specs.Orders.{IsOrder}
 use Rattle.comb_graph.specs.Laws.{SettlesOnce}
 use Rattle.comb_graph.proofs.SettledOnce.{settles_once}
 use Rattle.rtlil_text.specs.Rules.{IsModule}
-use Rattle.rtlil_text.specs.Meaning.{State as Kept}
+use Rattle.rtlil_text.specs.Meaning.{Inputs, State as Kept}
 use Rattle.rtlil_text.specs.History as rtl
 use Rattle.rtlil_text.specs.History.{wire_bit, history_from}
 use Rattle.rtlil_text.proofs.Among.{Among}
+use Rattle.netlist.specs.Carried.{Carries}
 use Rattle.netlist.specs.Made.{HasByteStride}
 use Rattle.netlist.specs.Plain.{IsPlain}
 use Rattle.netlist.specs.Histories.{inputs_at, first_inputs, inputs_after, inputs_over, SameColumn, SameColumns, AllDefined, SameHistory}
-use Rattle.netlist.specs.Module.{module_of}
+use Rattle.netlist.specs.PortLaws.{IsCarried}
+use Rattle.netlist.specs.Module.{signal_value, expr_value, module_of}
+use Rattle.netlist.specs.MemoryDrawings.{all_parts, memories_of}
 use Rattle.netlist.specs.Laws.{ModulesHaveTheHistory}
 use Rattle.netlist.proofs.ColumnSignals.{columns_distinct}
 use Rattle.netlist.proofs.ModuleHeld.{All-among}
 use Rattle.netlist.proofs.PartsFit.{CellLaws}
-use Rattle.netlist.proofs.ModuleRules.{module_rules, no_part}
+use Rattle.netlist.proofs.ModuleRules.{module_rules}
 use Rattle.netlist.proofs.RegisterCells.{clocked_held}
 use Rattle.netlist.proofs.SettledNumbers.{settled_held}
 use Rattle.netlist.proofs.SignalWires.{named_by}
 use Rattle.netlist.proofs.HeldFits.{AreHeld, first_held, step_held}
-use Rattle.netlist.proofs.ModuleStates.{AgreeOnInputs, Keeps}
+use Rattle.netlist.proofs.ModuleStates.{AgreeOnInputs, Keeps, input_carries}
+use Rattle.netlist.proofs.KeptMemories.{KeepsMemories, first_memories}
+use Rattle.netlist.proofs.MovedMemories.{memories_moved, memories_set}
+use Rattle.netlist.proofs.MemoryLaws.{MemoryLaws}
+use Rattle.netlist.proofs.MemoryWires.{memory_wires}
 use Rattle.netlist.proofs.SettledModule.{signals_carry, exprs_carry, shows}
 use Rattle.netlist.proofs.DefinedWires.{column_found, wires_defined}
-use Rattle.netlist.proofs.ModuleSteps.{inputs_agree, first_keeps, moved_keeps}
+use Rattle.netlist.proofs.ModuleSteps.{held_same, inputs_agree, first_keeps, moved_keeps}
 
-module _ (c : Circuit) (order : List Bit) (rules : IsPool c.pool) (bytes : AllByRecursion HasByteStride c.pool.exprs) (design : IsDesign c) (plain : IsPlain c) (module_so : IsModule (module_of c)) (is_order : IsOrder c order) where
+module _ (laws : MemoryLaws) (c : Circuit) (order : List Bit) (rules : IsPool c.pool) (bytes : AllByRecursion HasByteStride c.pool.exprs) (design : IsDesign c) (plain : IsPlain c) (few : length (all_parts (memories_of c)) < 10 ^ 18) (module_so : IsModule (module_of c)) (is_order : IsOrder c order) where
   -- the module is where the design is
   record IsThere (st : State) (kept : Kept) (ins : List ℤ) : Type 0 where
     held : AreHeld c st
+    memories : KeepsMemories c kept st
     agree : AgreeOnInputs c ins st.held
     keeps : Keeps c kept st.held
 
@@ -50,20 +62,37 @@ module _ (c : Circuit) (order : List Bit) (rules : IsPool c.pool) (bytes : AllBy
     once : SettlesOnce c st
     once = settles_once c order rules design is_order st h.held.fits
 
+    signals : (s : ℕ) → Carries (wire_bit (module_of c) kept (inputs_at c ins)) (signal_value c s) (at once.env s)
+    signals = signals_carry laws c order rules bytes design plain.plain few module_so is_order st once.env once.settled once.fits kept ins h.memories h.agree h.keeps
+
+    exprs : (e : ExprId) → e.0 < length c.pool.exprs → Carries (wire_bit (module_of c) kept (inputs_at c ins)) (expr_value c e.0) (num c.pool once.env e.0)
+    exprs = exprs_carry laws c order rules bytes design plain.plain few module_so is_order st once.env once.settled once.fits kept ins h.memories h.agree h.keeps
+
     column_now : (x : Column) → Among c.columns x → SameColumn c once.env (wire_bit (module_of c) kept (inputs_at c ins)) x
     column_now x a i l =
         ap (λ id. wire_bit (module_of c) kept (inputs_at c ins) id i) (sym (named_by c x.sig.0 (Some x) (column_found c.columns x (columns_distinct c design) a)))
-        ∙ signals_carry c order rules bytes design plain module_so is_order st once.env once.settled once.fits kept ins h.agree h.keeps x.sig.0 i l
+        ∙ signals x.sig.0 i l
 
     columns_now : All (SameColumn c once.env (wire_bit (module_of c) kept (inputs_at c ins))) c.columns
     columns_now = All-among (SameColumn c once.env (wire_bit (module_of c) kept (inputs_at c ins))) c.columns column_now
 
     defined_now : AllDefined (module_of c) (wire_bit (module_of c) kept (inputs_at c ins))
     defined_now =
-        wires_defined c rules design plain.flat plain.plain module_so kept (inputs_at c ins) once.env st.held once.fits h.held.long
-        (signals_carry c order rules bytes design plain module_so is_order st once.env once.settled once.fits kept ins h.agree h.keeps)
-        (exprs_carry c order rules bytes design plain module_so is_order st once.env once.settled once.fits kept ins h.agree h.keeps)
+        wires_defined c rules design plain.plain module_so kept (inputs_at c ins) once.env st.held once.fits h.held.long signals exprs
         (λ s p d clock there. sym (settled_held c once.env design st once.settled s there (clocked_held c design rules plain.plain s p d clock)))
+        (memory_wires laws c rules design few module_so once.env once.fits st kept (inputs_at c ins) h.memories exprs)
+
+    carried : (listed : List DomainId) (new : Inputs) → IsCarried (record { design = c; env = once.env; listed = listed; rtl = module_of c; st = kept; old = inputs_at c ins; new = new })
+    carried listed new = record { pool = rules; fits = once.fits; exprs = exprs }
+
+    memories_after : (e : Event) → IsLegal c e → KeepsMemories c (rtl.step (module_of c) (inputs_at c ins) (inputs_at c (inputs_after c ins e)) kept) (moved c st once.env e)
+    memories_after (Set s n) legal =
+        memories_set c rules design few module_so once.env st kept ins s n legal laws.writes laws.reads laws.follow (carried [] (inputs_at c (slice_set ins s.0 n))) h.memories
+    memories_after (Edge listed) legal =
+        let new : List ℤ = inputs_after c ins (Edge listed) in
+        let after = inputs_agree c design st once.env ins (Edge listed) legal h.held.long h.agree in
+        memories_moved c rules design few module_so plain.rising once.env once.fits st listed legal.2 h.held.long (held_same c design st once.env once.settled h.held.long) kept (inputs_at c ins) (inputs_at c new) laws.writes laws.reads laws.follow (carried listed (inputs_at c new)) signals
+        (λ s input. input_carries c design module_so kept new (moved c st once.env (Edge listed)).held after s input) h.memories
 
     unmoved : (e : Event) → moved c st once.env e ≡ step c st once.env e
     unmoved e = sym (steps_are_moves c plain.rising st once.env e)
@@ -72,16 +101,18 @@ module _ (c : Circuit) (order : List Bit) (rules : IsPool c.pool) (bytes : AllBy
     there_after : (e : Event) → IsLegal c e → IsThere (step c st once.env e) (rtl.step (module_of c) (inputs_at c ins) (inputs_at c (inputs_after c ins e)) kept) (inputs_after c ins e)
     there_after e legal = record {
       held = step_held c rules design st once.env e legal h.held;
+      memories =
+          subst (KeepsMemories c (rtl.step (module_of c) (inputs_at c ins) (inputs_at c (inputs_after c ins e)) kept)) (unmoved e) (memories_after e legal);
       agree = subst (λ (x : State). AgreeOnInputs c (inputs_after c ins e) x.held) (unmoved e) (inputs_agree c design st once.env ins e legal h.held.long h.agree);
       keeps =
           subst (λ (x : State). Keeps c (rtl.step (module_of c) (inputs_at c ins) (inputs_at c (inputs_after c ins e)) kept) x.held) (unmoved e)
           (moved_keeps c rules design plain.rising plain.plain module_so st once.env once.settled once.fits kept ins h.held.long h.agree h.keeps
-          (signals_carry c order rules bytes design plain module_so is_order st once.env once.settled once.fits kept ins h.agree h.keeps)
-          (shows c order rules bytes design plain module_so is_order st once.env once.settled once.fits kept ins h.agree h.keeps) e legal);
+          signals
+          (shows laws c order rules bytes design plain.plain few module_so is_order st once.env once.settled once.fits kept ins h.memories h.agree h.keeps) e legal);
     }
 
   there_first : IsThere (first_state c) (rtl.first_state (module_of c)) (first_inputs c)
-  there_first = record { held = first_held c rules design; agree = record { long = refl; same = λ s e. refl }; keeps = first_keeps c design module_so }
+  there_first = record { held = first_held c rules design; memories = first_memories c rules design few module_so laws.begin; agree = record { long = refl; same = λ s e. refl }; keeps = first_keeps c design module_so }
 
   -- ---- the only history
 
@@ -136,5 +167,5 @@ module _ (c : Circuit) (order : List Bit) (rules : IsPool c.pool) (bytes : AllBy
       let r = runs events (first_state c) (rtl.first_state (module_of c)) (first_inputs c) legal there_first in
       record { envs = r.envs; is_history = record { settles = r.settles_so; only = r.only }; columns = r.columns; defined = r.defined }
 
-pub modules_have_the_history : CellLaws → ModulesHaveTheHistory
-modules_have_the_history laws c order rules bytes design plain few is_order = same_history c order rules bytes design plain (module_rules c rules design laws (no_part c plain.flat) few) is_order
+pub modules_have_the_history : CellLaws → MemoryLaws → ModulesHaveTheHistory
+modules_have_the_history cells laws c order rules bytes design plain parts few is_order = same_history laws c order rules bytes design plain parts (module_rules c rules design cells parts few) is_order

@@ -118,6 +118,16 @@ module _ (c : Circuit) (design : IsDesign c) (module_rules : IsModule (module_of
       first_register_is c design module_rules s p d clock i l x.0 x.1
       ∙ ap (λ z. Some (bit_of z i)) (sym (low_other c.domains (map (λ (y : Sig). y.init) c.pool.signals) s apart ∙ init_of c.pool.signals s x.0 x.1))
 
+-- ---- what a state holds, the settled environment has
+
+module _ (c : Circuit) (design : IsDesign c) (st : State) (env : List ℤ) (settled : Settled c st env) (count : length st.held ≡ length c.pool.signals) where
+  pub held_same : (t : ℕ) → is_held c t ≡ true → at st.held t ≡ at env t
+  held_same t e = ⊎_elim
+      (λ (there : t < length c.pool.signals). sym (settled_held c env design st settled t there e))
+      (λ (past : length c.pool.signals ≤ t).
+      get_or_past st.held t (pos 0) (omega (arith, past, count)) ∙ sym (get_or_past env t (pos 0) (omega (arith, past, length-settled c env design st settled t))))
+      (cases_lt t (length c.pool.signals))
+
 -- ---- registers after an event
 
 pub unmoved : (v : Option Bool) → is_edge 1 v v ≡ false
@@ -167,13 +177,6 @@ module _ (c : Circuit) (rules : IsPool c.pool) (design : IsDesign c) (rising : A
 
   -- ---- both events
 
-  held_same : (t : ℕ) → is_held c t ≡ true → at st.held t ≡ at env t
-  held_same t e = ⊎_elim
-      (λ (there : t < length c.pool.signals). sym (settled_held c env design st settled t there e))
-      (λ (past : length c.pool.signals ≤ t).
-      get_or_past st.held t (pos 0) (omega (arith, past, count)) ∙ sym (get_or_past env t (pos 0) (omega (arith, past, length-settled c env design st settled t))))
-      (cases_lt t (length c.pool.signals))
-
   kept_after : (e : Event) → IsLegal c e → (s : ℕ) (p : DesignProcess) (d : DomainId) → driving c s ≡ ByClock p d → (i : ℕ) → i < (signal_form c.pool.signals s).width
       → next_bit (module_of c) kept (inputs_at c ins) (inputs_at c (inputs_after c ins e)) (register_at c s p d (step_id (3 * s))) i (kept.registers (wire_id c s) i) Dff ≡ Some (bit_of (at (moved c st env e).held s) i)
   kept_after (Set t n) legal s p d clock i l = set_keeps s p d clock i l t n legal
@@ -184,7 +187,7 @@ module _ (c : Circuit) (rules : IsPool c.pool) (design : IsDesign c) (rising : A
       let there : s < length c.pool.signals = some_signal c.pool.signals s (omega (arith, l)) in
       let after = inputs_agree c design st env ins (Edge ds) legal count agree in
       ap (λ before. next_bit m kept old new (register_at c s p d (step_id (3 * s))) i before Dff) (keeps s p d clock i l)
-      ∙ next_bit-register c design rules plain s p d clock rising (omega (arith, l)) env fit st count held_same ds legal.2 m kept old new shows signals (obeys_signal c module_rules kept old s there)
+      ∙ next_bit-register c design rules plain s p d clock rising (omega (arith, l)) env fit st count (held_same c design st env settled count) ds legal.2 m kept old new shows signals (obeys_signal c module_rules kept old s there)
       (λ t input. input_carries c design module_rules kept (inputs_after c ins (Edge ds)) (moved c st env (Edge ds)).held after t input) (step_id (3 * s)) i l
 
   -- the registers keep what the design holds after the event

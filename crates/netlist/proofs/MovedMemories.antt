@@ -1,7 +1,7 @@
 -- The state of a design's module keeps the design's memories over events: edges of its clocks, and numbers that inputs take.
-use Rattle.std.specs.Prelude.{◌≡◌, ◌<◌, ◌^◌, ◌&&◌, ℕ, max, nat_lt, not, Bool, true, false, if◌then◌else◌, List, [], ◌∷◌, length, slice_set, ℤ, Option, Some, None, IsSome, option_and_then, fold}
+use Rattle.std.specs.Prelude.{◌≡◌, ◌<◌, ◌^◌, ◌&&◌, ℕ, max, nat_lt, not, Bool, true, false, if◌then◌else◌, List, [], ◌∷◌, length, slice_set, ℤ, pos, Option, Some, None, IsSome, option_and_then, fold}
 use Rattle.std.proofs.Common.{refl, sym, ap, ◌∙◌, arith, subst}
-use Rattle.std.proofs.lemmas.Bool.{and_parts, ltb-true}
+use Rattle.std.proofs.lemmas.Bool.{and_parts, ltb-true, le-ltb, cond-false, cond_both}
 use Rattle.design_ir.specs.declared.ids.DomainId.{DomainId}
 use Rattle.design_ir.specs.declared.ids.ExprId.{ExprId}
 use Rattle.design_ir.specs.declared.ids.SigId.{SigId}
@@ -15,7 +15,7 @@ use Rattle.design_ir.specs.Circuits.{Circuit, State, FitsSignals, at, is_input, 
 use Rattle.design_ir.specs.Designs.{IsDesign, IsMemory, IsReadPort, IsClocking}
 use Rattle.design_ir.specs.Rows.{address, row_at, written}
 use Rattle.design_ir.specs.Legal.{Ascending, IsLegal}
-use Rattle.design_ir.specs.Steps.{is_active, port_active, write_row, rows_after, reads_now, read_word, moved}
+use Rattle.design_ir.specs.Steps.{is_active, port_active, write_row, rows_after, reads_now, shown_through, read_word, moved}
 use Rattle.design_ir.specs.Rising.{AllRisingSync}
 use Rattle.shape_rules.specs.Operators.{is_zero}
 use Rattle.rtlil_text.specs.declared.sig.SigPart.{SigPart}
@@ -38,13 +38,13 @@ use Rattle.netlist.proofs.PortAddresses.{row_width_is}
 use Rattle.netlist.proofs.PortEdges.{port_edge, named_domain}
 use Rattle.netlist.proofs.PortStands.{stands}
 use Rattle.netlist.proofs.MemoriesFit.{IsPlaced, plans_are}
-use Rattle.netlist.proofs.KeptRows.{IsLocated, rows_kept, port_located}
+use Rattle.netlist.proofs.KeptRows.{IsLocated, StandsBeside, rows_kept, deep_after, port_located, stands_beside}
 use Rattle.netlist.proofs.KeptReads.{KeepsRead}
 use Rattle.netlist.proofs.KeptReadSteps.{ReadLaws, read_follows}
 use Rattle.netlist.proofs.ReadMoves.{word_moved, word_set}
 use Rattle.netlist.proofs.ReadData.{Located}
 use Rattle.netlist.proofs.ModuleSteps.{unmoved, clock_still}
-use Rattle.netlist.proofs.KeptMemories.{IsReadAt, KeepsMemories, read_among, part_among, read_placed, read_part, read_wide, own_read_among}
+use Rattle.netlist.proofs.KeptMemories.{IsReadAt, KeepsMemories, port_rules, read_among, part_among, read_placed, read_part, read_wide, own_read_among}
 
 -- the enable of a clocked port
 pub clocked_port : (c : Circuit) (r : MemRead) (d : List ℕ) → r.domain ≡ Some d → IsClocking c r.domain r.enable → (e : ExprId) × IsClockedPort c r d e × IsSome (domain_named c d)
@@ -88,8 +88,26 @@ module _ (c : Circuit) (pool : IsPool c.pool) (design : IsDesign c) (few : lengt
         env listed kept old new carried (stand x placed) (λ spec. edges d at_clock.2 ∙ ap (port_active c env listed) (sym clocked)) found.rows found.has.long found.has.has st.held after
         (words x.memory found.rows r found.located port.word.there) (h.reads n x r d here clocked)
 
+    -- nothing is read where there are no rows
+    read_none : (m : Memory) (rows : List ℤ) (r : MemRead) → length rows ≡ 0 → read_word c env listed m rows r ≡ pos 0
+    read_none m rows r none =
+        let addr : ℕ = address c.pool env r.addr in
+        cond-false (nat_lt addr (length rows)) (shown_through c env listed m r.transparent addr 0 m.writes (at rows addr)) (pos 0) (le-ltb addr (length rows) (omega (arith, none)))
+
+    dry_after : KeepsMemories c kept st → (m : Memory) (r : MemRead) → Among c.memories m → m.depth ≡ 0 → Among m.reads r → at after r.word.0 ≡ pos 0
+    dry_after h m r a none b =
+        let beside : StandsBeside c.memories st.rows m r = stands_beside c.memories st.rows m r h.deep a b in
+        let word : ℤ = read_word c env listed m beside.rows r in
+        words m beside.rows r beside.located (port_rules c design m r a b).word.there
+        ∙ cond_both (reads_now c env listed r) word (at st.held r.word.0) (λ z. z ≡ pos 0) (λ t. read_none m beside.rows r (beside.long ∙ none)) (λ t. h.dry m r a none b)
+
     pub memories_kept : KeepsMemories c kept st → KeepsMemories c next (record { held = after; rows = rows_after c env listed c.memories st.rows })
-    memories_kept h = record { rows = rows_kept t follow stand st.rows h.rows; reads = λ n x r d here clocked. read_kept n x r d here clocked h }
+    memories_kept h = record {
+      rows = rows_kept t follow stand st.rows h.rows;
+      deep = deep_after c env listed c.memories st.rows h.deep;
+      reads = λ n x r d here clocked. read_kept n x r d here clocked h;
+      dry = dry_after h;
+    }
 
 -- ---- edges
 

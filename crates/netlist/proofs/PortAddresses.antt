@@ -5,6 +5,7 @@ use Rattle.std.proofs.Common.{refl, sym, ap, ◌∙◌, arith, subst, ⊎_elim}
 use Rattle.std.proofs.lemmas.Bool.{cases_lt, eqb-true, eqb-false, lt-ltb, leb-true, leb-false}
 use Rattle.std.proofs.Math.Nat.{mul-div_cancel, mul_comm}
 use Rattle.amh_bits.specs.Patterns.{IsOf, pattern}
+use Rattle.shape_rules.specs.Operators.{truth}
 use Rattle.design_ir.specs.declared.ids.ExprId.{ExprId}
 use Rattle.design_ir.specs.declared.memory.MemWrite.{MemWrite}
 use Rattle.design_ir.specs.declared.memory.Memory.{Memory}
@@ -23,7 +24,8 @@ use Rattle.netlist.specs.Ids.{value_id, step_id}
 use Rattle.netlist.specs.Carried.{Carries, Obeys}
 use Rattle.netlist.specs.Module.{expr_value}
 use Rattle.netlist.specs.MemoryDrawings.{row_width, names_rows, port_address, address_guard, is_row, guarded_address}
-use Rattle.netlist.proofs.PortGuards.{guards_made}
+use Rattle.netlist.proofs.PortGuards.{guards_made, guard_bits}
+use Rattle.netlist.proofs.Reading.{HasBits}
 
 -- ---- a number without a sign
 
@@ -42,13 +44,19 @@ module _ (c : Circuit) (env : List ℤ) (rules : IsPool c.pool) (fit : FitsSigna
   exact_row t = lt-ltb (address c.pool env e) m.depth (subst (λ d. address c.pool env e < d) (sym (eqb-true m.depth (2 ^ (form c.pool e.0).width) t)) address_is.1)
 
   module _ (wires : Wires) (carried : Carries wires (expr_value c e.0) (num c.pool env e.0)) (n : ℕ) (some : 1 ≤ m.depth) (obeys : Obeys wires (address_guard c m n e)) where
+    own : Carries wires (port_address c e) (pos (address c.pool env e))
+    own i h =
+        let w : ℕ = (form c.pool e.0).width in
+        carried i h ∙ ap (λ z. slice_get (number_bits w (pattern w z)) i) address_is.0
+
     guard : (bit_at (source_value wires) (spec_bits (is_row c m n e)) 0 ≡ Some (nat_lt (address c.pool env e) m.depth))
         × (read (source_value wires) (spec_bits (guarded_address c m n e)) ≡ Some (number_bits (max 1 (form c.pool e.0).width) (guarded m.depth (address c.pool env e))))
-    guard =
-        let w : ℕ = (form c.pool e.0).width in
-        let own : Carries wires (port_address c e) (pos (address c.pool env e)) =
-        λ i h. carried i h ∙ ap (λ z. slice_get (number_bits w (pattern w z)) i) address_is.0 in
-        guards_made wires step_id n m.depth (value_id e.0) w (address c.pool env e) address_is.1 some is.width.enough own obeys
+    guard = guards_made wires step_id n m.depth (value_id e.0) (form c.pool e.0).width (address c.pool env e) address_is.1 some is.width.enough own obeys
+
+    -- the wires of the guard have bits
+    pub guard_has : names_rows c m e ≡ false
+        → HasBits wires (step_id (n + 1)) 1 (truth (nat_lt (address c.pool env e) m.depth)) × HasBits wires (step_id (n + 3)) (form c.pool e.0).width (cond (nat_lt (address c.pool env e) m.depth) (pos (address c.pool env e)) (pos 0))
+    guard_has behind = guard_bits wires step_id n m.depth (value_id e.0) (form c.pool e.0).width (address c.pool env e) address_is.1 some is.width.enough own obeys behind
 
     -- the one bit says whether the address is one of a row
     pub row_bit_is : bit_at (source_value wires) (spec_bits (is_row c m n e)) 0 ≡ Some (nat_lt (address c.pool env e) m.depth)

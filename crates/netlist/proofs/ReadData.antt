@@ -45,7 +45,7 @@ distinct_left (x ∷ xs) ys d = (left xs (IsDistinct-head share x (xs ++ ys) d),
     left (z ∷ zs) h = (h.0, left zs h.1)
 
 -- a signal that is given behind these ports is given by none of them
-unread_before : (s : ℕ) (rs : List MemRead) (others : List (List ℕ)) → IsDistinct share (map word_of rs ++ others) → list_any (has_it s) others ≡ true → list_any (has_it s) (map word_of rs) ≡ false
+pub unread_before : (s : ℕ) (rs : List MemRead) (others : List (List ℕ)) → IsDistinct share (map word_of rs ++ others) → list_any (has_it s) others ≡ true → list_any (has_it s) (map word_of rs) ≡ false
 unread_before s [] others d h = refl
 unread_before s (x ∷ rs) others d h =
     or_from (is_among (word_of x) s) (list_any (has_it s) (map word_of rs)) (own (is_among (word_of x) s) refl) (unread_before s rs others (IsDistinct-tail share (word_of x) (map word_of rs ++ others) d) h)

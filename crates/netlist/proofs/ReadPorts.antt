@@ -55,7 +55,7 @@ module _ (c : Circuit) (env : List ℤ) (rules : IsPool c.pool) (fit : FitsSigna
 
   module _ (reads : ReadsFollow) (guards : GuardsFollow) where
     -- a bit that the cell gives is that of the row at the guarded address
-    row_given : (id : List ℕ) (word : List SigPart) → GivesRow rtl st wires c p m n r id word → (i : ℕ) → i < m.shape.width → wires id i ≡ Some (bit_of (at rows (guarded m.depth addr)) i)
+    pub row_given : (id : List ℕ) (word : List SigPart) → GivesRow rtl st wires c p m n r id word → (i : ℕ) → i < m.shape.width → wires id i ≡ Some (bit_of (at rows (guarded m.depth addr)) i)
     row_given id word gives i h =
         let number : ℕ = guarded m.depth addr in
         let below : number < 2 ^ p.address = guarded_fits c env rules fit m r.addr port.addr wires carried n some obeys p.address wide in

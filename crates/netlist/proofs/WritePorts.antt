@@ -61,7 +61,7 @@ module _ (t : Moment) (rules : IsPool t.design.pool) (fit : FitsSignals t.design
         spreads wires (value_id w.enable.0) w.granularity (granules m w) (pattern (granules m w) (num t.design.pool t.env w.enable.0)) i enable_bit (omega (arith, h, granules_fill m w port.granularity))
 
     -- under the guard
-    guarded_bit : (i : ℕ) → i < m.shape.width → (obeys : Obeys wires (address_guard t.design m n w.addr))
+    pub guarded_bit : (i : ℕ) → i < m.shape.width → (obeys : Obeys wires (address_guard t.design m n w.addr))
         → (names_rows t.design m w.addr ≡ false → ObeysCell wires (zeros_unless (step_id (n + 4)) m.shape.width (enable_spec m w) (is_row t.design m n w.addr) (wire_part (step_id (n + 5)) 0 m.shape.width)))
         → bit_at (source_value wires) (spec_bits (write_enable t.design m n w)) i ≡ Some (nat_lt (address_at t w.addr) m.depth && lets i)
     guarded_bit i h obeys cell = by (names_rows t.design m w.addr) refl

@@ -34,7 +34,8 @@ ModulesKeepTheRules = (c : Circuit) → IsPool c.pool → IsDesign c → length 
 abbrev pub ModulesCorrespond : Type 0
 ModulesCorrespond = (c : Circuit) → IsPool c.pool → IsDesign c → Corresponds c (module_of c)
 
--- where strides are bytes, as in the code, and the bits of comb signals have an order, the module has the design's history, and every bit of it has a value
+-- where strides are bytes, as in the code, and the bits of comb signals have an order, the module has the design's history, its memories' too, and every
+-- bit of it has a value
 abbrev pub ModulesHaveTheHistory : Type 0
 ModulesHaveTheHistory =
-    (c : Circuit) (order : List Bit) → IsPool c.pool → AllByRecursion HasByteStride c.pool.exprs → IsDesign c → IsPlain c → part_total c.pool.exprs < 10 ^ 63 → IsOrder c order → SameHistory c (module_of c)
+    (c : Circuit) (order : List Bit) → IsPool c.pool → AllByRecursion HasByteStride c.pool.exprs → IsDesign c → IsPlain c → length (all_parts (memories_of c)) < 10 ^ 18 → part_total c.pool.exprs < 10 ^ 63 → IsOrder c order → SameHistory c (module_of c)

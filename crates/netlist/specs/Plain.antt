@@ -1,5 +1,5 @@
--- Designs that can be lowered so far: no memories, domains that rise and reset at edges alone, no choices, and fixed targets alone.
-use Rattle.std.specs.Prelude.{◌≡◌, true, []}
+-- Designs that can be lowered so far: domains that rise and reset at edges alone, no choices, and fixed targets alone.
+use Rattle.std.specs.Prelude.{◌≡◌, true}
 use Rattle.std.specs.List.{AllByRecursion}
 use Rattle.design_ir.specs.declared.process.DesignProcess.{DesignProcess}
 use Rattle.design_ir.specs.Circuits.{Circuit}
@@ -11,6 +11,5 @@ abbrev pub ArePlain : Circuit → Type 0
 ArePlain c = AllByRecursion (λ (p : DesignProcess). is_plain c.pool p.body ≡ true) c.processes
 
 pub record IsPlain (c : Circuit) : Type 0 where
-  pub flat : c.memories ≡ []
   pub rising : AllRisingSync c
   pub plain : ArePlain c

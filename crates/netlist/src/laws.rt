@@ -4,7 +4,8 @@ ghost use Rattle.netlist.specs.PortLaws.{WritePortsAreMade, CombReadsAreMade, Cl
 ghost use Rattle.netlist.specs.Laws.{OperatorsAreMade, ExpressionsAreMade, ModulesKeepTheRules, ModulesCorrespond, ModulesHaveTheHistory};
 
 use memory_cells::{
-    cells_keep_the_rules, ends_carry_the_port, guards_follow, guards_show_the_word, reads_follow,
+    cells_keep_the_rules, clocked_reads_follow, ends_carry_the_port, guarded_reads_follow,
+    guards_follow, guards_show_the_word, reads_follow, rows_begin, rows_follow,
 };
 
 /// Where the wires of its operands carry two integers, the cells of an operator give its wire the operator's integer:
@@ -28,11 +29,19 @@ pub fn modules_are_sound()
 }
 
 /// Where the bits of combinational signals have an order, the module of a plain design has the design's history, and
-/// every bit of it has a value, whatever legal events come.
+/// every bit of it has a value, whatever legal events come: its memories begin, are written and are read as the design's.
 pub fn modules_have_the_history()
     ensures { ModulesHaveTheHistory }
 {
     cells_keep_the_rules();
+    rows_begin();
+    rows_follow();
+    reads_follow();
+    guards_follow();
+    clocked_reads_follow();
+    guarded_reads_follow();
+    ends_carry_the_port();
+    memory_ports_are_made();
 }
 
 /// Where the wire of a memory port's address carries a number, the guard's one bit says whether a row has it, and the cell

@@ -1,6 +1,6 @@
 //! The lowering of a design to a module of RTLIL.
 //!
-//! specs/Module.antt says which module a design without memories and without choices is lowered to. Each expression has
+//! specs/Module.antt says which module a design without choices is lowered to, with its memories. Each expression has
 //! a wire of its own, which cells or a link drive (specs/Operators.antt, specs/Expressions.antt), and statements give
 //! each bit of a signal one source (specs/Latest.antt). `lower` makes that module in one pass over each list, and promises
 //! that it keeps the rules of RTLIL text, has the design's columns, and has the design's history over all legal events;

@@ -55,6 +55,7 @@ pub fn lower(alloc: Global, design: &Design, ranks: &Ranks) -> Result<RtlModule,
 
 // The module of a design without choices and with fixed targets alone.
 fn lower_plain(alloc: Global, design: &Design, ranks: &Ranks) -> Result<RtlModule, NoMemory>
+    requires flat { design.now.memories ≡ [] }
     requires plain { IsPlain design.now }
     requires ordered { IsOrder design.now (map bit_of ranks.now.order) }
     ensures rules { IfOk result IsModule }
@@ -94,7 +95,8 @@ fn is_a_byte(_n: u8)
 
 // The module, in time that is linear in the numbers of expressions, statements and bits of signals.
 pub(crate) fn draw(alloc: Global, design: &Design) -> Result<RtlModule, NoMemory>
-    requires { IsPlain design.now }
+    requires flat { design.now.memories ≡ [] }
+    requires plain { IsPlain design.now }
     ensures module { IfOk result (λ m. (m ≡ module_of design.now) × (part_total design.now.pool.exprs < 10 ^ 63)) }
     ensures sound { IfOk result IsModule }
     ensures columns { IfOk result (Corresponds design.now) }
@@ -124,6 +126,7 @@ fn wires_of(alloc: Global, design: &Design, tables: &Tables) -> Result<Vec<RtlWi
 fn drawing_of(alloc: Global, design: &Design) -> Result<Drawing, NoMemory>
     requires pool { IsPool design.now.pool }
     requires rules { IsDesign design.now }
+    requires flat { design.now.memories ≡ [] }
     requires plain { IsPlain design.now }
     ensures drawn { IfOk result (λ d. drawn_module d ≡ module_of design.now) }
     ensures few { IfOk result (λ d. part_total design.now.pool.exprs < 10 ^ 63) }

@@ -9,5 +9,5 @@ use Rattle.netlist.proofs.lowering.drawing_of.Goals as goal
 pub returns-clause-drawn : goal.returns-clause-drawn
 returns-clause-drawn c =
     let d = c.args.design.now in
-    module_is d c.requires.plain.flat c.in_ok-wires_of.field-0.items c.push_expressions.new.drawing c.push_signals.new.drawing c.in_ok-wires_of.ensures
+    module_is d c.requires.flat c.in_ok-wires_of.field-0.items c.push_expressions.new.drawing c.push_signals.new.drawing c.in_ok-wires_of.ensures
     (c.in_ok-push_expressions.ensures.drawn ∙ ap (λ (x : Drawing). and_also x (together (drawings d))) c.of_wires-drawing.ensures) c.in_ok-push_signals.ensures

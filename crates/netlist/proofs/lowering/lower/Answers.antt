@@ -10,8 +10,8 @@ use Rattle.netlist.proofs.lowering.lower.Goals as goal
 
 pub lower_plain-requires : goal.lower_plain-requires
 lower_plain-requires c = record {
+  flat = ap (λ (x : Circuit). x.memories) c.in_ok-flat.ensures.flat.rest ∙ c.requires.flat;
   plain = record {
-    flat = ap (λ (x : Circuit). x.memories) c.in_ok-flat.ensures.flat.rest ∙ c.requires.flat;
     rising = subst AllRisingSync (sym c.in_ok-flat.ensures.flat.rest) c.requires.rising;
     plain = c.in_ok-flat.ensures.plain;
   };
