@@ -129,6 +129,9 @@ pub mod LowerLatest
 pub mod LowerDomains
 pub mod LowerWires
 pub mod LowerModule
+pub mod LowerMemories
+pub mod LowerPorts
+pub mod LowerReads
 pub mod FlatModules
 pub mod FirstBits
 pub mod FirstValues

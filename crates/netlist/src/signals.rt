@@ -12,7 +12,7 @@ ghost use Rattle.netlist.specs.Operands.{wire_part};
 ghost use Rattle.netlist.specs.Operators.{whole};
 ghost use Rattle.netlist.specs.Expressions.{and_also};
 ghost use Rattle.netlist.specs.Spelled.{spec_of};
-ghost use Rattle.netlist.specs.Module.{signal_value, init_bits, clock_of, reset_of, link_to, register_cell, register_drawing, bits_at_last, driving_at, driving, driving_drawing, signal_drawing};
+ghost use Rattle.netlist.specs.Module.{signal_value, init_bits, clock_of, reset_of, link_to, register_cell, register_drawing, bits_at_last, driving_at, driving, driving_drawing, undriven, signal_drawing};
 ghost use Rattle.netlist.specs.Plain.{IsPlain};
 ghost use Rattle.netlist.specs.Tables.{AreTables, last_spec, together};
 
@@ -22,6 +22,7 @@ use crate::drivers::{driver_of, driver_places};
 use crate::expressions::signal_value;
 use crate::ids::step_id;
 use crate::parts::{const_part, wire_part};
+use crate::read_signals::read_signals;
 use crate::sources::{BitSource, init_bits, sources};
 use crate::spelling::spec_of;
 use crate::tables::{column_places, is_input, port_places};
@@ -31,12 +32,14 @@ use design_ir::{Design, DomainId, SigId};
 use rtlil_text::{RtlCell, SigSpec};
 use std::alloc::Global;
 
-/// For each signal the places of its column, its port and its driver, and where its bits come from.
+/// For each signal the places of its column, its port and its driver, whether a port of a memory gives it, and where its bits
+/// come from.
 #[derive(Drop)]
 pub(crate) struct Tables {
     pub columns: Vec<Option<u32>>,
     pub ports: Vec<Option<u32>>,
     pub drivers: Vec<Option<u32>>,
+    pub reads: Vec<bool>,
     pub bits: Vec<BitSource>,
 }
 
@@ -51,11 +54,13 @@ impl Tables {
         let columns = column_places(alloc, design)?;
         let ports = port_places(alloc, design)?;
         let drivers = driver_places(alloc, design)?;
+        let reads = read_signals(alloc, design)?;
         let bits = sources(alloc, design, ports.as_slice(), drivers.as_slice())?;
         Ok(Tables {
             columns,
             ports,
             drivers,
+            reads,
             bits,
         })
     }
@@ -119,7 +124,12 @@ fn reset_of(design: &Design, s: SigId, d: DomainId) -> Option<SigId>
 }
 
 // The bits of a signal's wire.
-fn whole_signal(alloc: Global, design: &Design, t: &Tables, s: SigId) -> Result<SigSpec, NoMemory>
+pub(crate) fn whole_signal(
+    alloc: Global,
+    design: &Design,
+    t: &Tables,
+    s: SigId,
+) -> Result<SigSpec, NoMemory>
     requires tables { AreTables design.now t.now }
     requires there { s.0 < length design.now.pool.signals }
     ensures { IfOk result (λ spec. spec ≡ whole (signal_value design.now s.0)) }
@@ -129,7 +139,12 @@ fn whole_signal(alloc: Global, design: &Design, t: &Tables, s: SigId) -> Result<
 
 // The bit of a domain's clock.
 #[tactic(auto, using(crate::proofs::LowerDomains::clock_there))]
-fn clock_of(alloc: Global, design: &Design, t: &Tables, d: DomainId) -> Result<SigSpec, NoMemory>
+pub(crate) fn clock_of(
+    alloc: Global,
+    design: &Design,
+    t: &Tables,
+    d: DomainId,
+) -> Result<SigSpec, NoMemory>
     requires rules { IsDesign design.now }
     requires tables { AreTables design.now t.now }
     requires domain { d.0 < length design.now.domains }
@@ -140,7 +155,7 @@ fn clock_of(alloc: Global, design: &Design, t: &Tables, d: DomainId) -> Result<S
 }
 
 // The bits of the wire with this number.
-fn step_bits(alloc: Global, n: u128, width: u32) -> Result<SigSpec, NoMemory>
+pub(crate) fn step_bits(alloc: Global, n: u128, width: u32) -> Result<SigSpec, NoMemory>
     requires { n < 2 ^ 100 }
     ensures { IfOk result (λ spec. spec ≡ wire_part (step_id n) 0 width) }
 {
@@ -284,11 +299,26 @@ fn wired_drawing(alloc: Global, design: &Design, t: &Tables, s: SigId) -> Result
     }
     match driver_of(design, t.drivers.as_slice(), s) {
         Some(p) => driven_drawing(alloc, design, t, s, p.domain),
-        None => {
-            let bits = init_spec(alloc, design, s)?;
-            link_to(alloc, design, t, s, bits)
-        }
+        None => undriven_drawing(alloc, design, t, s),
     }
+}
+
+// What gives a signal its number that neither events nor statements drive: a port of a memory, whose cell gives it, or nothing.
+fn undriven_drawing(
+    alloc: Global,
+    design: &Design,
+    t: &Tables,
+    s: SigId,
+) -> Result<Drawing, NoMemory>
+    requires tables { AreTables design.now t.now }
+    requires there { s.0 < length design.now.pool.signals }
+    ensures { IfOk result (λ d. d ≡ driving_drawing design.now s.0 (undriven design.now s.0)) }
+{
+    if t.reads[s.0 as usize] {
+        return Ok(Drawing::new(alloc));
+    }
+    let bits = init_spec(alloc, design, s)?;
+    link_to(alloc, design, t, s, bits)
 }
 
 /// What drives the wire of a signal; a signal without bits has none.

@@ -1,8 +1,7 @@
 use Rattle.std.specs.Prelude.{map}
-use Rattle.std.proofs.Common.{sym, ◌∙◌, ap, subst}
+use Rattle.std.proofs.Common.{sym, subst}
 use Rattle.std.proofs.lemmas.Result.{IfOk-weaker}
 use Rattle.comb_graph.specs.Rankings.{bit_of}
-use Rattle.design_ir.specs.Circuits.{Circuit}
 use Rattle.design_ir.specs.Rising.{AllRisingSync}
 use Rattle.netlist.proofs.FlatModules.{Corresponds-flat, SameHistory-flat}
 use Rattle.netlist.proofs.FirstValues.{HasFirstValues-flat}
@@ -10,7 +9,6 @@ use Rattle.netlist.proofs.lowering.lower.Goals as goal
 
 pub lower_plain-requires : goal.lower_plain-requires
 lower_plain-requires c = record {
-  flat = ap (λ (x : Circuit). x.memories) c.in_ok-flat.ensures.flat.rest ∙ c.requires.flat;
   plain = record {
     rising = subst AllRisingSync (sym c.in_ok-flat.ensures.flat.rest) c.requires.rising;
     plain = c.in_ok-flat.ensures.plain;
