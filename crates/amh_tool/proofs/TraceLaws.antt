@@ -61,36 +61,36 @@ ends_once c st (e ∷ es) (env ∷ envs) s t m n h k = ends_once c (step c st en
 
 -- the simulator holds this state, and has these numbers
 record IsAt (st : State) (numbers : List ℤ) (s : Simulated) : Type 0 where
-  state : state_of s.held ≡ st
+  state : state_of s.held s.rows ≡ st
   env : s.env ≡ numbers
 
 -- where events have one history, what a simulator came to behind one event more is what follows from where it stood
 next_is : (c : Circuit) (es : List Event) (e : Event) (old new : Simulated) (x : List ℤ) → HasOneHistory c (es ++ e ∷ []) → Stands c es old → Stands c (es ++ e ∷ []) new
-    → Settled c (step c (state_of old.held) old.env e) x → IsAt (step c (state_of old.held) old.env e) x new
+    → Settled c (step c (state_of old.held old.rows) old.env e) x → IsAt (step c (state_of old.held old.rows) old.env e) x new
 next_is c es e old new x one was is settled =
-    let o = history_of c es (state_of old.held) old.env was.reaches in
-    let n = history_of c (es ++ e ∷ []) (state_of new.held) new.env is.reaches in
-    let more = extend c (first_state c) es o.0 (state_of old.held) old.env e x o.1 o.2 settled in
+    let o = history_of c es (state_of old.held old.rows) old.env was.reaches in
+    let n = history_of c (es ++ e ∷ []) (state_of new.held new.rows) new.env is.reaches in
+    let more = extend c (first_state c) es o.0 (state_of old.held old.rows) old.env e x o.1 o.2 settled in
     let same : o.0 ++ x ∷ [] ≡ n.0 = one.only (o.0 ++ x ∷ []) more.0 ∙ sym (one.only n.0 n.1) in
-    let ends = subst (λ envs. Ends c (first_state c) (es ++ e ∷ []) envs (step c (state_of old.held) old.env e) x) same more.1 in
-    let both = ends_once c (first_state c) (es ++ e ∷ []) n.0 (state_of new.held) (step c (state_of old.held) old.env e) new.env x n.2 ends in
+    let ends = subst (λ envs. Ends c (first_state c) (es ++ e ∷ []) envs (step c (state_of old.held old.rows) old.env e) x) same more.1 in
+    let both = ends_once c (first_state c) (es ++ e ∷ []) n.0 (state_of new.held new.rows) (step c (state_of old.held old.rows) old.env e) new.env x n.2 ends in
     record { state = both.0; env = both.1 }
 
 -- before any event a simulator holds the first state
-first_is : (c : Circuit) (s : Simulated) → Stands c [] s → state_of s.held ≡ first_state c
+first_is : (c : Circuit) (s : Simulated) → Stands c [] s → state_of s.held s.rows ≡ first_state c
 first_is c s h =
-    let past = history_of c [] (state_of s.held) s.env h.reaches in here past.0 past.2
+    let past = history_of c [] (state_of s.held s.rows) s.env h.reaches in here past.0 past.2
   where
-    here : (envs : List (List ℤ)) → Ends c (first_state c) [] envs (state_of s.held) s.env → state_of s.held ≡ first_state c
+    here : (envs : List (List ℤ)) → Ends c (first_state c) [] envs (state_of s.held s.rows) s.env → state_of s.held s.rows ≡ first_state c
     here [] ends = absurd ends
     here (env ∷ []) ends = ends.0
     here (env ∷ more ∷ envs) ends = absurd ends
 
 settled_first : (c : Circuit) (s : Simulated) → Stands c [] s → Settled c (first_state c) s.env
 settled_first c s h =
-    let past = history_of c [] (state_of s.held) s.env h.reaches in here past.0 past.1 past.2
+    let past = history_of c [] (state_of s.held s.rows) s.env h.reaches in here past.0 past.1 past.2
   where
-    here : (envs : List (List ℤ)) → History c [] envs → Ends c (first_state c) [] envs (state_of s.held) s.env → Settled c (first_state c) s.env
+    here : (envs : List (List ℤ)) → History c [] envs → Ends c (first_state c) [] envs (state_of s.held s.rows) s.env → Settled c (first_state c) s.env
     here [] history ends = absurd ends
     here (env ∷ []) history ends = subst (Settled c (first_state c)) (sym ends.1) history
     here (env ∷ more ∷ envs) history ends = absurd ends
@@ -133,7 +133,7 @@ begins_with c events s law legal first =
 -- how the history, and the text of its rows, go on from here
 pub record GoesOn (c : Circuit) (b : Board) (time : ℕ) (to_come : List Event) (s : Simulated) (so_far all : List ℕ) : Type 0 where
   pub later : List (List ℤ)
-  pub history : HistoryFrom c (state_of s.held) to_come (s.env ∷ later)
+  pub history : HistoryFrom c (state_of s.held s.rows) to_come (s.env ∷ later)
   pub text : so_far ++ row_lines b (timed (suc time) to_come) s.env later ≡ all
 
 pub goes_from_first : (c : Circuit) (b : Board) (events : List Event) (s : Simulated) (envs : List (List ℤ)) → Stands c [] s → History c events (s.env ∷ envs)
@@ -153,7 +153,7 @@ goes_on c b time gone to_come more e old new so_far line all split one was is ma
     let from = subst (λ es. GoesOn c b time es old so_far all) split h in
     here more from.later from.history (subst (λ n. so_far ++ row_lines b (timed n (e ∷ more)) old.env from.later ≡ all) (sym (add-one time)) from.text)
   where
-    moved : (more : List Event) (x : List ℤ) (later : List (List ℤ)) → Settled c (step c (state_of old.held) old.env e) x → HistoryFrom c (step c (state_of old.held) old.env e) more (x ∷ later)
+    moved : (more : List Event) (x : List ℤ) (later : List (List ℤ)) → Settled c (step c (state_of old.held old.rows) old.env e) x → HistoryFrom c (step c (state_of old.held old.rows) old.env e) more (x ∷ later)
         → so_far ++ row_lines b (timed (time + 1) (e ∷ more)) old.env (x ∷ later) ≡ all → GoesOn c b (time + 1) more new (so_far ++ line) all
     moved more x later settled history text =
         let past = next_is c gone e old new x one was is settled in
@@ -161,7 +161,7 @@ goes_on c b time gone to_come more e old new so_far line all split one was is ma
           later = later;
           history =
               subst (λ st. HistoryFrom c st more (new.env ∷ later)) (sym past.state)
-              (subst (λ y. HistoryFrom c (step c (state_of old.held) old.env e) more (y ∷ later)) (sym past.env) history);
+              (subst (λ y. HistoryFrom c (step c (state_of old.held old.rows) old.env e) more (y ∷ later)) (sym past.env) history);
           text =
               append_assoc so_far line (row_lines b (timed (suc (time + 1)) more) new.env later)
               ∙ ap (λ l. so_far ++ (l ++ row_lines b (timed (suc (time + 1)) more) new.env later)) made
@@ -169,7 +169,7 @@ goes_on c b time gone to_come more e old new so_far line all split one was is ma
               ∙ text;
         }
 
-    here : (more : List Event) (later : List (List ℤ)) → HistoryFrom c (state_of old.held) (e ∷ more) (old.env ∷ later)
+    here : (more : List Event) (later : List (List ℤ)) → HistoryFrom c (state_of old.held old.rows) (e ∷ more) (old.env ∷ later)
         → so_far ++ row_lines b (timed (time + 1) (e ∷ more)) old.env later ≡ all → GoesOn c b (time + 1) more new (so_far ++ line) all
     here [] [] history text = absurd history.1
     here [] (x ∷ []) history text = moved [] x [] history.1 history.1 text

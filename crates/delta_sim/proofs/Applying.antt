@@ -11,18 +11,18 @@ use Rattle.design_ir.specs.PoolRules.{IsPool}
 use Rattle.design_ir.specs.Settled.{delta}
 use Rattle.design_ir.specs.Steps.{step}
 use Rattle.design_ir.proofs.NumbersFit.{FitsSignals}
-use Rattle.comb_graph.specs.Laws.{FitsState, FitsRows, HasDeltas, DeltasAreFew}
+use Rattle.comb_graph.specs.Laws.{FitsState, HasDeltas, DeltasAreFew}
 use Rattle.comb_graph.specs.Orders.{is_comb}
 use Rattle.comb_graph.proofs.DeltaLaws.{delta_length}
 use Rattle.comb_graph.proofs.EventStarts.{begin_ready}
 use Rattle.delta_sim.specs.declared.plan.Plan.{Plan}
-use Rattle.delta_sim.specs.After.{after}
 use Rattle.delta_sim.specs.Driven.{numbers_of}
 use Rattle.delta_sim.specs.Plans.{Rests, Wakes, taken}
 use Rattle.delta_sim.specs.Settling.{EndsIn}
-use Rattle.delta_sim.specs.Standing.{Simulated, state_of, AreNumbersOf, IsSimOf}
+use Rattle.delta_sim.specs.Ports.{AreReadsClocked}
+use Rattle.delta_sim.specs.Standing.{Simulated, state_of, AreNumbersOf, AreRowsOf, IsSimOf}
 use Rattle.delta_sim.proofs.DeltaSteps.{below_of}
-use Rattle.delta_sim.proofs.Lives.{step_is, after_numbers}
+use Rattle.delta_sim.proofs.Lives.{same_state, fits_state, step_numbers, step_rows}
 use Rattle.delta_sim.proofs.Resting.{rests_first}
 use Rattle.delta_sim.proofs.Settling.{same_lists}
 use Rattle.delta_sim.proofs.Taking.{taken_at, taken_other, taken_length}
@@ -56,30 +56,28 @@ module _ (c : Circuit) (st : State) where
       (λ (t : is_held c s ≡ false). taken_other st.held given env s (is ∙ t) ∙ sym (with_here env s inside ∙ ap (λ b. if b then at st.held s else at env s) t))
       (cases_Bool (is_held c s)))
 
--- a state of numbers of their shapes
-pub fits_state : (c : Circuit) → c.memories ≡ [] → (held : List ℤ) → FitsSignals c.pool held → FitsState c (state_of held)
-fits_state c flat held fit = record { held = fit; rows = subst (λ ms. FitsRows ms []) (sym flat) tt }
-
 -- the environment with the event's change in it, and the deltas behind it
-pub record IsBegun (c : Circuit) (plan : Plan) (longest : ℕ) (held env first : List ℤ) (marks : List Bool) : Type 0 where
+pub record IsBegun (c : Circuit) (plan : Plan) (longest : ℕ) (held : List ℤ) (rows : List (List ℤ)) (env first : List ℤ) (marks : List Bool) : Type 0 where
   pub held_of : AreNumbersOf c held
-  pub fit : FitsState c (state_of held)
+  pub rows_of : AreRowsOf c rows
+  pub fit : FitsState c (state_of held rows)
   pub numbers : AreNumbersOf c first
-  pub rests : Rests c (state_of held) plan.tasks marks first
-  pub ends : EndsIn c (state_of held) first (longest + 2)
-  pub deltas : (rest : List (List ℤ)) → DeltasFrom c (state_of held) first rest → Deltas c (state_of held) env (first ∷ rest)
+  pub rests : Rests c (state_of held rows) plan.tasks marks first
+  pub ends : EndsIn c (state_of held rows) first (longest + 2)
+  pub deltas : (rest : List (List ℤ)) → DeltasFrom c (state_of held rows) first rest → Deltas c (state_of held rows) env (first ∷ rest)
 
-module _ (c : Circuit) (flat : c.memories ≡ []) (rules : IsPool c.pool) (design : IsDesign c) (s : Simulated) (of : IsSimOf c s) (e : Event) (legal : IsLegal c e) (laws : DeltasAreFew) where
+module _ (c : Circuit) (ports : AreReadsClocked c) (rules : IsPool c.pool) (design : IsDesign c) (s : Simulated) (of : IsSimOf c s) (e : Event) (legal : IsLegal c e) (laws : DeltasAreFew) where
   abbrev old : State
-  old = state_of s.held
+  old = state_of s.held s.rows
 
-  pub begins : (held first : List ℤ) (was marks : List Bool) → held ≡ after c s.held s.env e → first ≡ taken held (numbers_of s.plan.given) s.env → Wakes s.plan.readers s.env first was marks → IsBegun c s.plan s.longest held s.env first marks
-  begins held first was marks held_is first_is wakes =
-      let new : State = state_of held in
-      let stepped : step c old s.env e ≡ new = step_is c flat s.held s.env e ∙ ap state_of (sym held_is) in
-      let held_of : AreNumbersOf c held = subst (AreNumbersOf c) (sym held_is) (after_numbers c flat s.held s.env e rules design legal of.held) in
-      let fit_old : FitsState c old = fits_state c flat s.held of.held.fits in
-      let fit : FitsState c new = fits_state c flat held held_of.fits in
+  pub begins : (held : List ℤ) (rows : List (List ℤ)) (first : List ℤ) (was marks : List Bool) → held ≡ (step c old s.env e).held → rows ≡ (step c old s.env e).rows → first ≡ taken held (numbers_of s.plan.given) s.env → Wakes s.plan.readers s.env first was marks → IsBegun c s.plan s.longest held rows s.env first marks
+  begins held rows first was marks held_is rows_is first_is wakes =
+      let new : State = state_of held rows in
+      let stepped : step c old s.env e ≡ new = same_state (step c old s.env e) held rows held_is rows_is in
+      let held_of : AreNumbersOf c held = subst (AreNumbersOf c) (sym held_is) (step_numbers c rules design s.held s.rows s.env e legal of.held of.rows) in
+      let rows_of : AreRowsOf c rows = subst (AreRowsOf c) (sym rows_is) (step_rows c rules design s.held s.rows s.env e legal of.held of.rows) in
+      let fit_old : FitsState c old = fits_state c rules design s.held s.rows of.held of.rows in
+      let fit : FitsState c new = fits_state c rules design held rows held_of rows_of in
       let all : HasDeltas c new s.env s.longest = subst (λ st. HasDeltas c st s.env s.longest) stepped (laws c s.longest rules design of.longest old s.env e fit_old of.settled legal) in
       let put_in : first ≡ with_held c new 0 s.env = first_is ∙ taken_is c new (numbers_of s.plan.given) s.env of.env.count of.plan.given in
       let begun = begin_ready c rules design old new fit_old fit s.env of.settled in
@@ -88,9 +86,10 @@ module _ (c : Circuit) (flat : c.memories ≡ []) (rules : IsPool c.pool) (desig
       let kept : (t : ℕ) → is_held c t ≡ false → at first t ≡ at s.env t = λ t h. ap (λ xs. at xs t) first_is ∙ kept_at t h in
       record {
         held_of = held_of;
+        rows_of = rows_of;
         fit = fit;
         numbers = record { count = long; fits = subst (FitsSignals c.pool) (sym put_in) begun.whole.fits };
-        rests = rests_first c flat rules design (length s.numbers) of.numbers.few s.plan of.plan old new s.env first was marks of.settled ready kept long (delta_length c new rules design first) wakes;
+        rests = rests_first c rules design (length s.numbers) of.numbers.few s.plan of.plan ports old new s.env first was marks of.settled ready kept long (delta_length c new rules design first) wakes;
         ends = ends_here new put_in all.deltas all.are all.few;
         deltas = λ rest are. (put_in, are);
       }

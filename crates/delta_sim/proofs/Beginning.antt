@@ -1,5 +1,5 @@
 -- Where a simulator begins: all tasks wait, and the deltas end.
-use Rattle.std.specs.Prelude.{◌≡◌, ◌≢◌, refl, ℕ, zero, suc, ◌+◌, ◌<◌, ◌≤◌, ◌⊎◌, ◌||◌, if◌then◌else◌, Bool, true, false, List, [], ◌∷◌, length, replicate, slice_get, slice_index_or, ℤ, pos, Some, fold}
+use Rattle.std.specs.Prelude.{◌≡◌, ◌≢◌, refl, ℕ, zero, suc, ◌+◌, ◌<◌, ◌≤◌, ◌⊎◌, ◌||◌, if◌then◌else◌, Bool, true, false, List, [], ◌∷◌, map, length, replicate, slice_get, slice_index_or, ℤ, pos, Some, fold}
 use Rattle.std.specs.List.{AllByRecursion}
 use Rattle.std.proofs.Common.{sym, ◌∙◌, ap, arith, subst, inl, inr, ⊎_elim}
 use Rattle.std.proofs.lemmas.Bool.{cases_Bool, cases_lt, false≢true}
@@ -7,6 +7,7 @@ use Rattle.std.proofs.lemmas.List.{get_or_past, get_or-set_other}
 use Rattle.amh_bits.specs.Patterns.{IsOf}
 use Rattle.amh_bits.proofs.InShape.{of_zero}
 use Rattle.design_ir.specs.declared.domain.Domain.{Domain}
+use Rattle.design_ir.specs.declared.memory.Memory.{Memory}
 use Rattle.design_ir.specs.declared.signal.Sig.{Sig}
 use Rattle.design_ir.specs.Circuits.{Circuit, State, at, is_input, is_held, is_register}
 use Rattle.design_ir.specs.Designs.{IsDesign, IsClockDomain}
@@ -23,11 +24,11 @@ use Rattle.comb_graph.proofs.ChainRounds.{IsReady, settled_after}
 use Rattle.comb_graph.proofs.DeltaLaws.{delta_start, starts_length}
 use Rattle.delta_sim.specs.declared.plan.Plan.{Plan}
 use Rattle.delta_sim.specs.Plans.{IsPlan, Rests}
+use Rattle.delta_sim.specs.Ports.{AreReadsClocked}
 use Rattle.delta_sim.specs.Settling.{EndsIn}
 use Rattle.delta_sim.specs.Standing.{state_of, AreNumbersOf}
 use Rattle.delta_sim.specs.Tasks.{AreFitting}
-use Rattle.delta_sim.proofs.Applying.{fits_state}
-use Rattle.delta_sim.proofs.Lives.{first_numbers}
+use Rattle.delta_sim.proofs.Lives.{fits_state, first_numbers, first_rows}
 use Rattle.delta_sim.proofs.Resting.{comb_signal}
 use Rattle.delta_sim.proofs.TargetsInside.{inits}
 use Rattle.delta_sim.proofs.TaskValues.{starts_get}
@@ -64,7 +65,7 @@ module _ (c : Circuit) (st : State) (env : List ℤ) (n : ℕ) (settled : Settle
 
 -- ---- the numbers before any event
 
-module _ (c : Circuit) (flat : c.memories ≡ []) (rules : IsPool c.pool) (design : IsDesign c) where
+module _ (c : Circuit) (rules : IsPool c.pool) (design : IsDesign c) where
   low_other : (s : ℕ) → is_input c s ≡ false → (ds : List Domain) (cur : List ℤ) → AllByRecursion (IsClockDomain c) ds → at (fold clock_low cur ds) s ≡ at cur s
   low_other s e [] cur h = refl
   low_other s e (d ∷ ds) cur h =
@@ -88,49 +89,50 @@ module _ (c : Circuit) (flat : c.memories ≡ []) (rules : IsPool c.pool) (desig
       ⊎_elim h (λ (past : n ≤ s). get_or_past E s (pos 0) (omega (arith, past, long)) ∙ sym (get_or_past F s (pos 0) (omega (arith, past, long')))) (cases_lt s n)
 
   module _ (held : List ℤ) (is : held ≡ fold clock_low (inits c.pool.signals) c.domains) where
-    abbrev st : State
-    st = state_of held
-
     pub numbers : AreNumbersOf c held
     numbers = first_numbers c held rules is
-
-    pub fit : FitsState c (state_of held)
-    fit = fits_state c flat held numbers.fits
 
     free_at : (s : ℕ) (x : Sig) → slice_get c.pool.signals s ≡ Some x → is_held c s ≡ false → at held s ≡ x.init
     free_at s x get free = ap (λ xs. at xs s) is ∙ low_other s (no_input s free) c.domains (inits c.pool.signals) design.domains ∙ init_at c.pool.signals s x get
 
-    start_at : (s : ℕ) → at held s ≡ at (starts c st 0 c.pool.signals) s
-    start_at s = same_at (length c.pool.signals) s held (starts c st 0 c.pool.signals) numbers.count (starts_length c st 0 c.pool.signals) (λ inside.
-        let x = element c.pool.signals s inside in
-        let here : 0 + s ≡ s = omega arith in
-        let begun : at (starts c st 0 c.pool.signals) s ≡ (if is_held c s then at held s else x.0.init) = starts_get c flat design st 0 s c.pool.signals x.0 x.1 ∙ ap (λ k. if is_held c k then at held k else x.0.init) here in
-        ⊎_elim
-        (λ (t : is_held c s ≡ true). sym (begun ∙ ap (λ b. if b then at held s else x.0.init) t))
-        (λ (t : is_held c s ≡ false). free_at s x.0 x.1 t ∙ sym (begun ∙ ap (λ b. if b then at held s else x.0.init) t))
-        (cases_Bool (is_held c s)))
+    module _ (rows : List (List ℤ)) (rows_is : rows ≡ map (λ (m : Memory). m.rows) c.memories) where
+      abbrev st : State
+      st = state_of held rows
 
-    -- numbers that differ from what is held only where combinational processes drive
-    module _ (env : List ℤ) (of : AreNumbersOf c env) (same : (s : ℕ) → is_comb c s ≡ false → at env s ≡ at held s) where
-      ready_at : (s : ℕ) → is_comb c s ≡ false → at env s ≡ at (delta c st env) s
-      ready_at s comb = same s comb ∙ start_at s ∙ sym (delta_start c st rules design env s comb)
+      pub fit : FitsState c (state_of held rows)
+      fit = fits_state c rules design held rows numbers (first_rows c rows rules design rows_is)
 
-      ready : IsReady c rules design st fit env
-      ready = record { whole = record { fits = of.fits; long = of.count }; held = ready_at }
-
-      pub first_ends : (longest : ℕ) → IsLongest c longest → EndsIn c (state_of held) env (longest + 2)
-      first_ends longest chain = ends_in c st env longest (settled_after c rules design st fit env ready longest chain)
-
-      -- where all tasks wait, whatever none of them drives rests
-      pub first_rests : (count : ℕ) (plan : Plan) (marks : List Bool) → IsPlan c count plan → ((j : ℕ) → j < length plan.tasks → slice_index_or marks j false ≡ true) → Rests c (state_of held) plan.tasks marks env
-      first_rests count plan marks planned all s untouched =
+      start_at : (s : ℕ) → at held s ≡ at (starts c st 0 c.pool.signals) s
+      start_at s = same_at (length c.pool.signals) s held (starts c st 0 c.pool.signals) numbers.count (starts_length c st 0 c.pool.signals) (λ inside.
+          let x = element c.pool.signals s inside in
+          let here : 0 + s ≡ s = omega arith in
+          let begun : at (starts c st 0 c.pool.signals) s ≡ (if is_held c s then at held s else x.0.init) = starts_get c design st 0 s c.pool.signals x.0 x.1 ∙ ap (λ k. if is_held c k then at held k else x.0.init) here in
           ⊎_elim
-          (λ (comb : is_comb c s ≡ true).
-          let o = comb_signal c flat s comb in
-          let v = planned.covered o.k o.p s o.stands o.comb o.drives in
-          absurd (false≢true (sym (untouched v.j v.t v.stands (all v.j (place_below plan.tasks v.j v.t v.stands))) ∙ v.drives)))
-          (λ (comb : is_comb c s ≡ false). sym (ready_at s comb))
-          (cases_Bool (is_comb c s))
+          (λ (t : is_held c s ≡ true). sym (begun ∙ ap (λ b. if b then at held s else x.0.init) t))
+          (λ (t : is_held c s ≡ false). free_at s x.0 x.1 t ∙ sym (begun ∙ ap (λ b. if b then at held s else x.0.init) t))
+          (cases_Bool (is_held c s)))
+
+      -- numbers that differ from what is held only where combinational processes drive
+      module _ (env : List ℤ) (of : AreNumbersOf c env) (same : (s : ℕ) → is_comb c s ≡ false → at env s ≡ at held s) where
+        ready_at : (s : ℕ) → is_comb c s ≡ false → at env s ≡ at (delta c st env) s
+        ready_at s comb = same s comb ∙ start_at s ∙ sym (delta_start c st rules design env s comb)
+
+        ready : IsReady c rules design st fit env
+        ready = record { whole = record { fits = of.fits; long = of.count }; held = ready_at }
+
+        pub first_ends : (longest : ℕ) → IsLongest c longest → EndsIn c (state_of held rows) env (longest + 2)
+        first_ends longest chain = ends_in c st env longest (settled_after c rules design st fit env ready longest chain)
+
+        -- where all tasks wait, whatever none of them drives rests
+        pub first_rests : (ports : AreReadsClocked c) (count : ℕ) (plan : Plan) (marks : List Bool) → IsPlan c count plan → ((j : ℕ) → j < length plan.tasks → slice_index_or marks j false ≡ true) → Rests c (state_of held rows) plan.tasks marks env
+        first_rests ports count plan marks planned all s untouched =
+            ⊎_elim
+            (λ (comb : is_comb c s ≡ true).
+            let o = comb_signal c ports s comb in
+            let v = planned.covered o.k o.p s o.stands o.comb o.drives in
+            absurd (false≢true (sym (untouched v.j v.t v.stands (all v.j (place_below plan.tasks v.j v.t v.stands))) ∙ v.drives)))
+            (λ (comb : is_comb c s ≡ false). sym (ready_at s comb))
+            (cases_Bool (is_comb c s))
 
 -- ---- what is computed at first
 

@@ -8,12 +8,13 @@ use Rattle.std.proofs.lemmas.Bool.Decides.{Decides-int_eq}
 use Rattle.std.proofs.lemmas.List.{get_or_past}
 use Rattle.std.proofs.lemmas.List.Sums.{sum_by-cons}
 use Rattle.design_ir.specs.declared.process.DesignProcess.{DesignProcess}
-use Rattle.design_ir.specs.declared.memory.Memory.{Memory}
 use Rattle.design_ir.specs.Circuits.{Circuit, at, is_among}
 use Rattle.delta_sim.specs.declared.plan.Plan.{Plan}
 use Rattle.delta_sim.specs.Plans.{IsPlan, Wakes, readers_of}
+use Rattle.delta_sim.specs.Ports.{AreReadsClocked}
 use Rattle.delta_sim.specs.Reads.{block_reads}
-use Rattle.delta_sim.specs.Woken.{changed, is_woken, woken, ports_woken}
+use Rattle.delta_sim.specs.Woken.{changed, is_woken, woken}
+use Rattle.delta_sim.proofs.ClockedReads.{ports_none}
 use Rattle.delta_sim.proofs.Waits.{none_marked}
 
 -- ---- tests
@@ -87,14 +88,11 @@ none_count : (f : DesignProcess → Bool) (ps : List DesignProcess) → ((p : De
 none_count f [] h = refl
 none_count f (p ∷ ps) h = sum_by-cons (λ x. cond (f x) 1 0) p ps ∙ ap (λ b. cond b 1 0 + count_by f ps) (h p) ∙ omega (arith, none_count f ps h)
 
-module _ (c : Circuit) (flat : c.memories ≡ []) where
-  ports_none : (old new : List ℤ) → ports_woken c old new c.memories [] [] ≡ 0
-  ports_none old new = ap (λ (ms : List Memory). ports_woken c old new ms [] []) flat
+module _ (c : Circuit) (free : AreReadsClocked c) (rows after : List (List ℤ)) where
+  pub woken_is : (old new : List ℤ) → woken c rows after old new ≡ count_by (is_woken c old new) c.processes
+  woken_is old new = omega (arith, ports_none c old new c.memories rows after free)
 
-  pub woken_is : (old new : List ℤ) → woken c [] [] old new ≡ count_by (is_woken c old new) c.processes
-  woken_is old new = omega (arith, ports_none old new)
-
-  pub woken_same : (env : List ℤ) → woken c [] [] env env ≡ 0
+  pub woken_same : (env : List ℤ) → woken c rows after env env ≡ 0
   woken_same env =
       woken_is env env ∙ none_count (is_woken c env env) c.processes (λ p.
       ⊎_elim
@@ -112,7 +110,7 @@ module _ (c : Circuit) (flat : c.memories ≡ []) where
         (cases_lt s (length c.pool.signals))
 
     -- those that were woken are marked, and no others are
-    pub woken_count : (old new : List ℤ) (marks : List Bool) → Wakes plan.processes old new (replicate (length c.processes) false) marks → length marks ≡ length c.processes → count_by (λ b. b) marks ≡ woken c [] [] old new
+    pub woken_count : (old new : List ℤ) (marks : List Bool) → Wakes plan.processes old new (replicate (length c.processes) false) marks → length marks ≡ length c.processes → count_by (λ b. b) marks ≡ woken c rows after old new
     woken_count old new marks wakes long =
         count_same (is_woken c old new) marks c.processes long (λ k p stands. same_tests (slice_index_or marks k false) (is_woken c old new p)
         (λ h. ⊎_elim

@@ -16,6 +16,7 @@ use Rattle.comb_graph.specs.Orders.{is_comb}
 use Rattle.delta_sim.specs.declared.plan.Plan.{Plan}
 use Rattle.delta_sim.specs.declared.task.Task.{Task}
 use Rattle.delta_sim.specs.Driven.{numbers_of}
+use Rattle.delta_sim.specs.Ports.{AreReadsClocked}
 use Rattle.delta_sim.specs.Plans.{IsPlan, IsUntouched, Rests, begun, taken}
 use Rattle.delta_sim.specs.Tasks.{picked}
 use Rattle.delta_sim.specs.Waiting.{Waiting, IsWaiting}
@@ -83,7 +84,7 @@ below_of n [] s h e = absurd (false≢true e)
 below_of n (x ∷ xs) s h e =
     ⊎_elim (λ (t : (x == s) ≡ true). subst (λ k. k < n) (eqb-true x s t) h.0) (λ (t : (x == s) ≡ false). below_of n xs s h.1 (sym (ap (λ b. b || is_among xs s) t) ∙ e)) (cases_Bool (x == s))
 
-module _ (c : Circuit) (flat : c.memories ≡ []) (rules : IsPool c.pool) (design : IsDesign c) (count : ℕ) (few : count ≤ length c.pool.exprs) (plan : Plan) (is : IsPlan c count plan) where
+module _ (c : Circuit) (rules : IsPool c.pool) (design : IsDesign c) (count : ℕ) (few : count ≤ length c.pool.exprs) (plan : Plan) (is : IsPlan c count plan) where
   -- ---- runs
 
   -- the signals of the first tasks have what a delta leaves in them
@@ -100,20 +101,20 @@ module _ (c : Circuit) (flat : c.memories ≡ []) (rules : IsPool c.pool) (desig
       (λ (same : x ≡ j).
       let alike : task ≡ t = let f : Some task ≡ Some t = sym stands ∙ ap (slice_get plan.tasks) same ∙ there in cc in
       let out' : is_among (numbers_of task.outs) s ≡ true = subst (λ (y : Task). is_among (numbers_of y.outs) s ≡ true) (sym alike) out in
-      run_gives c flat rules design count few plan is x task stands s out' st env cur next (below_of (length c.pool.signals) (numbers_of task.outs) s of.below out') long e)
+      run_gives c rules design count few plan is x task stands s out' st env cur next (below_of (length c.pool.signals) (numbers_of task.outs) s of.below out') long e)
       (λ (other : x ≢ j).
       let none : is_among (numbers_of task.outs) s ≡ false = is.apart j x t task s there stands (λ f. other (sym f)) out in
-      run_keeps c flat rules design count few plan is x task stands s none env cur next e ∙ was st j s t there (among_next list i j among other) out)
+      run_keeps c rules design count few plan is x task stands s none env cur next e ∙ was st j s t there (among_next list i j among other) out)
       (cases_eq x j)
 
   -- ---- the environment behind a delta
 
   -- a combinational signal is one of a task that waits, or of none that does
-  touched : (marks : List Bool) (s : ℕ) → IsUntouched plan.tasks marks s ⊎ ((j : ℕ) × (t : Task) × (slice_get plan.tasks j ≡ Some t) × (slice_index_or marks j false ≡ true) × (is_among (numbers_of t.outs) s ≡ true))
-  touched marks s =
+  touched : (ports : AreReadsClocked c) (marks : List Bool) (s : ℕ) → IsUntouched plan.tasks marks s ⊎ ((j : ℕ) × (t : Task) × (slice_get plan.tasks j ≡ Some t) × (slice_index_or marks j false ≡ true) × (is_among (numbers_of t.outs) s ≡ true))
+  touched ports marks s =
       ⊎_elim
       (λ (comb : is_comb c s ≡ true).
-      let o = comb_signal c flat s comb in
+      let o = comb_signal c ports s comb in
       let v = is.covered o.k o.p s o.stands o.comb o.drives in
       ⊎_elim
       (λ (w : slice_index_or marks v.j false ≡ true). inr (v.j, v.t, v.stands, w, v.drives))
@@ -152,17 +153,17 @@ module _ (c : Circuit) (flat : c.memories ≡ []) (rules : IsPool c.pool) (desig
           → (list_any (λ (q : DesignProcess). is_none q.domain && is_among (driven c.pool q.body) s) ps || list_any (λ (m : Memory). list_any (λ (r : MemRead). is_none r.domain && (r.word.0 == s)) m.reads) c.memories) ≡ true
       drives_comb ps k p is d e = left _ _ (any ps k p is d e)
 
-  pub delta_is : (st : State) (marks : List Bool) (env next after : List ℤ) → length env ≡ length c.pool.signals → length after ≡ length env → length (delta c st env) ≡ length c.pool.signals → Rests c st plan.tasks marks env
+  pub delta_is : (ports : AreReadsClocked c) (st : State) (marks : List Bool) (env next after : List ℤ) → length env ≡ length c.pool.signals → length after ≡ length env → length (delta c st env) ≡ length c.pool.signals → Rests c st plan.tasks marks env
       → ((j s : ℕ) (t : Task) → slice_get plan.tasks j ≡ Some t → slice_index_or marks j false ≡ true → is_among (numbers_of t.outs) s ≡ true → at next s ≡ at (delta c st env) s)
       → ((s : ℕ) → IsUntouched plan.tasks marks s → at after s ≡ at env s)
       → ((j s : ℕ) (t : Task) → slice_get plan.tasks j ≡ Some t → slice_index_or marks j false ≡ true → is_among (numbers_of t.outs) s ≡ true → at after s ≡ at next s)
       → after ≡ delta c st env
-  delta_is st marks env next after long same long' rests ran kept taken =
+  delta_is ports st marks env next after long same long' rests ran kept taken =
       same_lists after (delta c st env) (same ∙ long ∙ sym long') (λ s h.
       ⊎_elim
       (λ (u : IsUntouched plan.tasks marks s). kept s u ∙ sym (rests s u))
       (λ (x : (j : ℕ) × (t : Task) × (slice_get plan.tasks j ≡ Some t) × (slice_index_or marks j false ≡ true) × (is_among (numbers_of t.outs) s ≡ true)). taken x.0 s x.1 x.2 x.3 x.4 ∙ ran x.0 s x.1 x.2 x.3 x.4)
-      (touched marks s))
+      (touched ports marks s))
 
 -- ---- numbers that are taken, one task after another
 

@@ -94,10 +94,6 @@ module _ (c : Circuit) where
   pub toggle_fits : (cur more : List ℤ) (d : DomainId) → IsDesign c → more ≡ toggle c.domains cur d → FitsSignals c.pool cur → FitsSignals c.pool more
   toggle_fits cur more d design e fit = subst (FitsSignals c.pool) (sym e) (toggle_fits_at d.0 (slice_get c.domains d.0) cur design refl fit)
 
-  pub toggles_fit : (ds : List DomainId) (cur : List ℤ) → IsDesign c → FitsSignals c.pool cur → FitsSignals c.pool (fold (toggle c.domains) cur ds)
-  toggles_fit [] cur design fit = fit
-  toggles_fit (d ∷ ds) cur design fit = toggles_fit ds (toggle c.domains cur d) design (toggle_fits cur (toggle c.domains cur d) d design refl fit)
-
   toggle_length_at : (o : Option Domain) (cur : List ℤ) → length (toggle_at cur o) ≡ length cur
   toggle_length_at None cur = refl
   toggle_length_at (Some x) cur = length-set cur x.clk.0 _

@@ -40,7 +40,11 @@ pub mod Settles
 pub mod StatementTurns
 pub mod TaskValues
 pub mod WritesFit
-pub mod SweepsFit
+pub mod ClockedReads
+pub mod PortsFit
+pub mod PortTurns
+pub mod Granules
+pub mod PortPrograms
 pub mod Starts
 pub mod Turns
 pub mod Settling

@@ -14,78 +14,84 @@ use Rattle.design_ir.specs.Histories.{Reaches, start, after as reaches_after}
 use Rattle.design_ir.specs.Legal.{IsLegal}
 use Rattle.design_ir.specs.PoolRules.{IsPool}
 use Rattle.design_ir.specs.Settled.{Settled}
-use Rattle.design_ir.specs.Steps.{clocked, clocked_reads, rows_after, toggle, moved, all_cleared, step, clock_low, first_state}
+use Rattle.design_ir.specs.Steps.{clocked, clocked_reads, moved, step, clock_low, first_state}
 use Rattle.design_ir.specs.Values.{signal_form}
 use Rattle.design_ir.proofs.ClearedLaws.{clears_length}
 use Rattle.design_ir.proofs.NumbersFit.{FitsSignals}
-use Rattle.comb_graph.proofs.StepFits.{clears_fit}
-use Rattle.delta_sim.specs.After.{held_before, after}
-use Rattle.delta_sim.specs.Standing.{Simulated, state_of, AreNumbersOf, IsSimOf, Stands}
+use Rattle.comb_graph.specs.Laws.{FitsRows, FitsState}
+use Rattle.comb_graph.proofs.StepFits.{first_fits, step_fits}
+use Rattle.delta_sim.specs.Standing.{Simulated, state_of, AreNumbersOf, AreRowsOf, IsSimOf, Stands}
 use Rattle.delta_sim.proofs.DrivenLists.{append_turn}
 use Rattle.delta_sim.proofs.Starts.{drop_get}
-use Rattle.delta_sim.proofs.EdgesFit.{clocks_fit, clocks_length, toggles_fit, toggles_length}
-use Rattle.delta_sim.proofs.SweepsFit.{delta_length, delta_fits}
+use Rattle.delta_sim.proofs.EdgesFit.{clocks_length, toggles_length}
+use Rattle.delta_sim.proofs.PortsFit.{reads_length, rows_length}
 use Rattle.delta_sim.proofs.TargetsInside.{inits, inits_fit}
 use Rattle.delta_sim.proofs.WritesFit.{set_fits}
 
-module _ (c : Circuit) (flat : c.memories ≡ []) where
+module _ (c : Circuit) (rules : IsPool c.pool) (design : IsDesign c) where
   -- ---- events
 
-  moved_is : (held env : List ℤ) (e : Event) → moved c (state_of held) env e ≡ state_of (held_before c held env e)
-  moved_is held env (Set s n) = refl
-  moved_is held env (Edge listed) =
+  -- a state of numbers and rows of their shapes
+  pub fits_state : (held : List ℤ) (rows : List (List ℤ)) → AreNumbersOf c held → AreRowsOf c rows → FitsState c (state_of held rows)
+  fits_state held rows numbers are = record { held = numbers.fits; rows = are.fits }
+
+  moved_count : (held : List ℤ) (rows : List (List ℤ)) (env : List ℤ) (e : Event) → length (moved c (state_of held rows) env e).held ≡ length held
+  moved_count held rows env (Set s n) = length-set held s.0 n
+  moved_count held rows env (Edge listed) =
       let registers : List ℤ = fold (clocked c env listed) held c.processes in
-      let both : List Memory → State = λ ms. record { held = fold (toggle c.domains) (clocked_reads c env listed ms [] registers) listed; rows = rows_after c env listed ms [] } in
-      ap both flat
+      let all : List ℤ = clocked_reads c env listed c.memories rows registers in
+      toggles_length c listed all ∙ reads_length c env listed c.memories rows registers ∙ clocks_length c env listed c.processes held
 
-  pub step_is : (held env : List ℤ) (e : Event) → step c (state_of held) env e ≡ state_of (after c held env e)
-  step_is held env e = ap (all_cleared c) (moved_is held env e)
+  rows_count : (held : List ℤ) (rows : List (List ℤ)) (env : List ℤ) (e : Event) → length rows ≡ length c.memories → length (moved c (state_of held rows) env e).rows ≡ length c.memories
+  rows_count held rows env (Set s n) many = many
+  rows_count held rows env (Edge listed) many = rows_length c env listed c.memories rows many
 
-  before_numbers : (held env : List ℤ) (e : Event) → IsPool c.pool → IsDesign c → IsLegal c e → AreNumbersOf c held → AreNumbersOf c (held_before c held env e)
-  before_numbers held env (Set s n) rules design legal numbers = record {
-    count = length-set held s.0 n ∙ numbers.count;
-    fits = set_fits c.pool held s.0 n legal.2 numbers.fits;
+  module _ (held : List ℤ) (rows : List (List ℤ)) (env : List ℤ) (e : Event) (legal : IsLegal c e) (numbers : AreNumbersOf c held) (are : AreRowsOf c rows) where
+    stepped : FitsState c (step c (state_of held rows) env e)
+    stepped = step_fits c rules design (state_of held rows) env e legal (fits_state held rows numbers are)
+
+    pub step_numbers : AreNumbersOf c (step c (state_of held rows) env e).held
+    step_numbers =
+        let before : List ℤ = (moved c (state_of held rows) env e).held in
+        record { count = clears_length c before c.processes before ∙ moved_count held rows env e ∙ numbers.count; fits = stepped.held }
+
+    pub step_rows : AreRowsOf c (step c (state_of held rows) env e).rows
+    step_rows = record { count = rows_count held rows env e are.count; fits = stepped.rows }
+
+-- the state of numbers and rows that are those of another
+pub same_state : (st : State) (held : List ℤ) (rows : List (List ℤ)) → held ≡ st.held → rows ≡ st.rows → st ≡ state_of held rows
+same_state st held rows h r = ap (λ xs. state_of xs st.rows) (sym h) ∙ ap (state_of held) (sym r)
+
+-- what holds of a state holds of the same numbers and rows
+pub move_state : (P : State → Type 0) (held held' : List ℤ) (rows rows' : List (List ℤ)) → held' ≡ held → rows' ≡ rows → P (state_of held rows) → P (state_of held' rows')
+move_state P held held' rows rows' h r x = subst (λ xs. P (state_of xs rows')) (sym h) (subst (λ ys. P (state_of held ys)) (sym r) x)
+
+module _ (c : Circuit) where
+  pub happened : (events : List Event) (e : Event) (old new : Simulated) → IsSimOf c new → step c (state_of old.held old.rows) old.env e ≡ state_of new.held new.rows → Settled c (state_of new.held new.rows) new.env → Stands c events old → Stands c (events ++ e ∷ []) new
+  happened events e old new of state settled stands = record {
+    of_design = of;
+    reaches = subst (λ st. Reaches c (events ++ e ∷ []) st new.env) state (reaches_after events (state_of old.held old.rows) old.env e new.env stands.reaches (subst (λ st. Settled c st new.env) (sym state) settled));
   }
-  before_numbers held env (Edge listed) rules design legal numbers =
-      let registers : List ℤ = fold (clocked c env listed) held c.processes in
-      record {
-        count = toggles_length c listed registers ∙ clocks_length c env listed c.processes held ∙ numbers.count;
-        fits = toggles_fit c listed registers design (clocks_fit c env listed c.processes held rules numbers.fits);
-      }
-
-  pub after_numbers : (held env : List ℤ) (e : Event) → IsPool c.pool → IsDesign c → IsLegal c e → AreNumbersOf c held → AreNumbersOf c (after c held env e)
-  after_numbers held env e rules design legal numbers =
-      let before : List ℤ = held_before c held env e in
-      let were = before_numbers held env e rules design legal numbers in
-      record { count = clears_length c before c.processes before ∙ were.count; fits = clears_fit c rules design before c.processes before were.fits }
-
-  pub settled_numbers : (held env : List ℤ) → IsPool c.pool → AreNumbersOf c held → Settled c (state_of held) env → AreNumbersOf c env
-  settled_numbers held env rules numbers settled = record {
-    count = ap length (sym settled) ∙ delta_length c (state_of held) flat env;
-    fits = subst (FitsSignals c.pool) settled (delta_fits c (state_of held) flat rules numbers.fits env);
-  }
-
-  pub happened : (events : List Event) (e : Event) (old new : Simulated) → IsSimOf c new → new.held ≡ after c old.held old.env e → Settled c (state_of new.held) new.env → Stands c events old → Stands c (events ++ e ∷ []) new
-  happened events e old new of is settled stands =
-      let state : step c (state_of old.held) old.env e ≡ state_of new.held = step_is old.held old.env e ∙ ap state_of (sym is) in
-      record {
-        of_design = of;
-        reaches = subst (λ st. Reaches c (events ++ e ∷ []) st new.env) state (reaches_after events (state_of old.held) old.env e new.env stands.reaches (subst (λ st. Settled c st new.env) (sym state) settled));
-      }
 
   -- ---- the start
 
-  pub first_is : (held : List ℤ) → held ≡ fold clock_low (inits c.pool.signals) c.domains → first_state c ≡ state_of held
-  first_is held is =
-      ap (λ (ms : List Memory). record { held = fold clock_low (inits c.pool.signals) c.domains; rows = map (λ (m : Memory). m.rows) ms }) flat ∙ ap state_of (sym is)
-
-  pub started : (s : Simulated) → IsSimOf c s → s.held ≡ fold clock_low (inits c.pool.signals) c.domains → Settled c (state_of s.held) s.env → Stands c [] s
-  started s of is settled =
-      let state = first_is s.held is in
+  pub started : (s : Simulated) → IsSimOf c s → s.held ≡ fold clock_low (inits c.pool.signals) c.domains → s.rows ≡ map (λ (m : Memory). m.rows) c.memories → Settled c (state_of s.held s.rows) s.env → Stands c [] s
+  started s of is rows_is settled =
+      let state : first_state c ≡ state_of s.held s.rows = same_state (first_state c) s.held s.rows is rows_is in
       record {
         of_design = of;
         reaches = subst (λ st. Reaches c [] st s.env) state (start s.env (subst (λ st. Settled c st s.env) (sym state) settled));
       }
+
+  mapped_length : (ms : List Memory) → length (map (λ (m : Memory). m.rows) ms) ≡ length ms
+  mapped_length [] = refl
+  mapped_length (m ∷ ms) = ap suc (mapped_length ms)
+
+  pub first_rows : (rows : List (List ℤ)) → IsPool c.pool → IsDesign c → rows ≡ map (λ (m : Memory). m.rows) c.memories → AreRowsOf c rows
+  first_rows rows rules design is = record {
+    count = ap length is ∙ mapped_length c.memories;
+    fits = subst (FitsRows c.memories) (sym is) (first_fits c rules design).rows;
+  }
 
 pub inits_turn : (sigs : List Sig) (s : ℕ) (x : Sig) (now more all : List ℤ) → slice_get sigs s ≡ Some x → more ≡ now ++ x.init ∷ [] → now ++ inits (drop s sigs) ≡ all → more ++ inits (drop (s + 1) sigs) ≡ all
 inits_turn sigs s x now more all is grown known =

@@ -6,6 +6,7 @@ use Rattle.std.proofs.lemmas.List.{get_or_past, get_or-set_same, get_or-set_othe
 use Rattle.std.proofs.Math.ListN.{length-append}
 use Rattle.design_ir.specs.declared.ids.DomainId.{DomainId}
 use Rattle.design_ir.specs.declared.ids.SigId.{SigId}
+use Rattle.design_ir.specs.declared.memory.Memory.{Memory}
 use Rattle.design_ir.specs.declared.process.DesignProcess.{DesignProcess}
 use Rattle.design_ir.specs.Circuits.{Circuit, is_among, is_held}
 use Rattle.design_ir.specs.Designs.{IsDesign}
@@ -20,6 +21,7 @@ use Rattle.delta_sim.specs.Driven.{numbers_of}
 use Rattle.delta_sim.specs.Groups.{AreOthers, IsApart}
 use Rattle.delta_sim.specs.Marks.{is_marked}
 use Rattle.delta_sim.specs.Plans.{IsPlan, IsTable, IsClockedTask, IsCombTask, IsCovered, readers_of}
+use Rattle.delta_sim.specs.Ports.{HasPorts}
 use Rattle.delta_sim.specs.Reads.{block_reads}
 use Rattle.delta_sim.specs.Reading.{AreFirst}
 use Rattle.delta_sim.specs.Tables.{IsAdded, AreTables, ArePartial}
@@ -196,7 +198,7 @@ module _ (c : Circuit) where
         below = λ s k h. absurd (false≢true (sym (ap (λ t. is_among (readers_of t s) k) e ∙ none_read (length c.pool.signals) s k) ∙ h));
       }
 
-module _ (c : Circuit) (flat : c.memories ≡ []) (design : IsDesign c) (n : ℕ) (p : DesignProcess) (stands : slice_get c.processes n ≡ Some p)
+module _ (c : Circuit) (design : IsDesign c) (n : ℕ) (p : DesignProcess) (stands : slice_get c.processes n ≡ Some p)
     (clocked tasks : List Task) (readers processes : List (List ℕ)) (was : AreTables c n clocked tasks readers processes) where
   older : (k : ℕ) → k < n + 1 → (k < n) ⊎ (k ≡ n)
   older k lt = ⊎_elim (λ h. inl h) (λ (h : n ≤ k). inr (omega (arith, h, lt))) (cases_lt k n)
@@ -297,7 +299,7 @@ module _ (c : Circuit) (flat : c.memories ≡ []) (design : IsDesign c) (n : ℕ
 
 -- ---- a group of its statements more
 
-module _ (c : Circuit) (flat : c.memories ≡ []) (design : IsDesign c) (n : ℕ) (p : DesignProcess) (stands : slice_get c.processes n ≡ Some p) (comb : p.domain ≡ None)
+module _ (c : Circuit) (design : IsDesign c) (n : ℕ) (p : DesignProcess) (stands : slice_get c.processes n ≡ Some p) (comb : p.domain ≡ None)
     (gone group : List ℕ) (tasks : List Task) (readers processes : List (List ℕ)) (was : ArePartial c n p gone tasks readers processes) (other : AreOthers gone group) (apart : IsApart c.pool p.body group)
     (x : Compiled) (compiled : IsCompiled c n p group x) (readers' processes' : List (List ℕ))
     (added : IsAdded (numbers_of x.reads) (length tasks) readers readers') (added' : IsAdded (numbers_of x.reads) n processes processes') where
@@ -325,7 +327,7 @@ module _ (c : Circuit) (flat : c.memories ≡ []) (design : IsDesign c) (n : ℕ
       (λ (e : b.process ≡ n). gone_apart s (was.now j b s is e h))
       (λ (e : b.process ≢ n).
       none_of (is_among (numbers_of x.task.outs) s) (λ t.
-      let free = no_other c flat design b.process old.0.p s old.0.task.process (old.0.task.drives s h) n p stands (λ f. e (sym f)) in
+      let free = no_other c design b.process old.0.p s old.0.task.process (old.0.task.drives s h) n p stands (λ f. e (sym f)) in
       false≢true (sym free ∙ drives_part c.pool s p.body group (sym (compiled.outs s) ∙ t))))
       (cases_eq b.process n)
 
@@ -439,8 +441,8 @@ if_ok (Err e) q = tt
 -- ---- all processes
 
 pub planned : (c : Circuit) (design : IsDesign c) (plan : Plan) (marks : List Bool) → AreFirst false (is_held c) (length c.pool.signals) marks → ((s : ℕ) → is_among (numbers_of plan.given) s ≡ is_marked marks s)
-    → AreTables c (length c.processes) plan.clocked plan.tasks plan.readers plan.processes → IsPlan c (length c.pool.exprs) plan
-planned c design plan marks first given all = record {
+    → AreTables c (length c.processes) plan.clocked plan.tasks plan.readers plan.processes → ((k : ℕ) (m : Memory) → slice_get c.memories k ≡ Some m → HasPorts c (length c.pool.exprs) plan.ports k m) → IsPlan c (length c.pool.exprs) plan
+planned c design plan marks first given all ports = record {
   given = λ s inside. given s ∙ first.each s inside;
   given_below = all_of (λ s. s < length c.pool.signals) (numbers_of plan.given) (λ s h.
       ⊎_elim
@@ -451,6 +453,7 @@ planned c design plan marks first given all = record {
   tasks = λ j t is. (all.tasks j t is).0;
   covered = λ k p s is dom h. all.covered k p s (place_below c.processes k p is) is dom h;
   apart = all.apart;
+  ports = ports;
   readers = all.readers;
   awake = all.awake;
   processes = all.processes;

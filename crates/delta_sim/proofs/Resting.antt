@@ -5,8 +5,6 @@ use Rattle.std.proofs.Common.{sym, ◌∙◌, ap, arith, subst, ⊎_elim}
 use Rattle.std.proofs.lemmas.Bool.{cases_Bool, cases_lt, eqb-true, eq-eqb, false≢true}
 use Rattle.std.proofs.lemmas.List.{get_or_past, get_or-set_same, get_or-set_other, length-set}
 use Rattle.design_ir.specs.declared.ids.ExprId.{ExprId}
-use Rattle.design_ir.specs.declared.memory.Memory.{Memory}
-use Rattle.design_ir.specs.declared.memory.MemRead.{MemRead}
 use Rattle.design_ir.specs.declared.process.DesignProcess.{DesignProcess}
 use Rattle.design_ir.specs.declared.signal.Sig.{Sig}
 use Rattle.design_ir.specs.Circuits.{Circuit, State, at, is_among, is_held}
@@ -25,9 +23,11 @@ use Rattle.delta_sim.specs.declared.plan.Plan.{Plan}
 use Rattle.delta_sim.specs.declared.task.Task.{Task}
 use Rattle.delta_sim.specs.Driven.{numbers_of}
 use Rattle.delta_sim.specs.Plans.{IsPlan, IsCombTask, Wakes, IsUntouched, Rests, init_at, begun}
+use Rattle.delta_sim.specs.Ports.{AreReadsClocked}
 use Rattle.delta_sim.specs.Reads.{block_reads}
 use Rattle.delta_sim.specs.Tasks.{AreAmong, picked}
 use Rattle.delta_sim.proofs.Agrees.{put_agrees}
+use Rattle.delta_sim.proofs.ClockedReads.{words_none}
 use Rattle.delta_sim.proofs.Frames.{put_frame}
 use Rattle.delta_sim.proofs.PlaceWalks.{among_index, there_at}
 use Rattle.delta_sim.proofs.TaskValues.{delta_at, not_held, starts_init}
@@ -66,10 +66,10 @@ or_false : (a : Bool) → (a || false) ≡ true → a ≡ true
 or_false true e = refl
 or_false false e = e
 
-pub comb_signal : (c : Circuit) → c.memories ≡ [] → (s : ℕ) → is_comb c s ≡ true → IsOfComb c s
-comb_signal c flat s h =
+pub comb_signal : (c : Circuit) → AreReadsClocked c → (s : ℕ) → is_comb c s ≡ true → IsOfComb c s
+comb_signal c ports s h =
     let P : DesignProcess → Bool = λ p. is_none p.domain && is_among (driven c.pool p.body) s in
-    let some : list_any P c.processes ≡ true = or_false (list_any P c.processes) (sym (ap (λ (ms : List Memory). list_any P c.processes || list_any (λ (m : Memory). list_any (λ (r : MemRead). is_none r.domain && (r.word.0 == s)) m.reads) ms) flat) ∙ h) in
+    let some : list_any P c.processes ≡ true = or_false (list_any P c.processes) (ap (λ b. list_any P c.processes || b) (sym (words_none s c.memories ports)) ∙ h) in
     let r = any_place P c.processes some in
     record { k = r.0; p = r.1; stands = r.2; comb = none_is r.1.domain (and_left (is_none r.1.domain) (is_among (driven c.pool r.1.body) s) r.3); drives = and_right (is_none r.1.domain) (is_among (driven c.pool r.1.body) s) r.3 }
 
@@ -114,7 +114,7 @@ begun_at sigs (s ∷ ss) cur t x is e there =
     ∙ ap (λ k. at (init_at k cur (slice_get sigs k)) t) here ∙ ap (λ o. at (init_at t cur o) t) is ∙ get_or-set_same cur t x.init (pos 0) there)
     (cases_Bool (is_among ss t))
 
-module _ (c : Circuit) (flat : c.memories ≡ []) (rules : IsPool c.pool) (design : IsDesign c) (count : ℕ) (few : count ≤ length c.pool.exprs) (plan : Plan) (is : IsPlan c count plan) where
+module _ (c : Circuit) (rules : IsPool c.pool) (design : IsDesign c) (count : ℕ) (few : count ≤ length c.pool.exprs) (plan : Plan) (is : IsPlan c count plan) where
   -- ---- what a delta leaves in a signal of a task
 
   begun_long : (st : State) → length (starts c st 0 c.pool.signals) ≡ length c.pool.signals
@@ -131,12 +131,12 @@ module _ (c : Circuit) (flat : c.memories ≡ []) (rules : IsPool c.pool) (desig
     drives = task.task.drives s out
 
     free : is_held c s ≡ false
-    free = not_held c flat design t.process task.p s task.task.process task.comb drives
+    free = not_held c design t.process task.p s task.task.process task.comb drives
 
     -- a delta leaves in it what the task does
     pub task_at : (st : State) (env : List ℤ) → at (delta c st env) s ≡ at (put c.pool env body (starts c st 0 c.pool.signals)) s
     task_at st env =
-        delta_at c flat design st env t.process task.p s task.task.process task.comb drives
+        delta_at c design st env t.process task.p s task.task.process task.comb drives
         ∙ task.task.same env (starts c st 0 c.pool.signals) s out
 
     there : AllByRecursion (λ (e : ExprId). e.0 < length c.pool.exprs) (block_exprs body)
@@ -146,7 +146,7 @@ module _ (c : Circuit) (flat : c.memories ≡ []) (rules : IsPool c.pool) (desig
     same_start : (st other : State) → s < length c.pool.signals → at (starts c st 0 c.pool.signals) s ≡ at (starts c other 0 c.pool.signals) s
     same_start st other inside =
         let x = element c.pool.signals s inside in
-        starts_init c flat design st s x.0 x.1 free ∙ sym (starts_init c flat design other s x.0 x.1 free)
+        starts_init c design st s x.0 x.1 free ∙ sym (starts_init c design other s x.0 x.1 free)
 
     -- where nothing that it reads has another number, a delta leaves the same in it
     pub task_kept : (st other : State) (old new : List ℤ) → s < length c.pool.signals → (is : List Bool) (was : List Bool) → Wakes plan.readers old new was is → slice_index_or is j false ≡ false
@@ -165,7 +165,7 @@ module _ (c : Circuit) (flat : c.memories ≡ []) (rules : IsPool c.pool) (desig
         let x = element c.pool.signals s inside in
         ap (λ xs. at xs s) e
         ∙ put_frame c.pool s env body (begun c.pool.signals cur (numbers_of t.outs)) (starts c st 0 c.pool.signals)
-        (begun_length c.pool.signals cur (numbers_of t.outs) ∙ long ∙ sym (begun_long st), begun_at c.pool.signals (numbers_of t.outs) cur s x.0 x.1 out (subst (λ n. s < n) (sym long) inside) ∙ sym (starts_init c flat design st s x.0 x.1 free))
+        (begun_length c.pool.signals cur (numbers_of t.outs) ∙ long ∙ sym (begun_long st), begun_at c.pool.signals (numbers_of t.outs) cur s x.0 x.1 out (subst (λ n. s < n) (sym long) inside) ∙ sym (starts_init c design st s x.0 x.1 free))
         ∙ sym (task_at st env)
 
   -- a run of a task changes nothing else
@@ -182,9 +182,9 @@ module _ (c : Circuit) (flat : c.memories ≡ []) (rules : IsPool c.pool) (desig
       ⊎_elim h (λ (past : length c.pool.signals ≤ s). get_or_past E s (pos 0) (omega (arith, past, long)) ∙ sym (get_or_past F s (pos 0) (omega (arith, past, long')))) (cases_lt s (length c.pool.signals))
 
   -- what the next delta leaves in a combinational signal that no waiting task drives, where another state may have come
-  kept_comb : (st other : State) (old new : List ℤ) (was marks : List Bool) → Wakes plan.readers old new was marks → (s : ℕ) → s < length c.pool.signals → is_comb c s ≡ true → IsUntouched plan.tasks marks s → at (delta c other new) s ≡ at (delta c st old) s
-  kept_comb st other old new was marks wakes s inside comb untouched =
-      let o = comb_signal c flat s comb in
+  kept_comb : (ports : AreReadsClocked c) (st other : State) (old new : List ℤ) (was marks : List Bool) → Wakes plan.readers old new was marks → (s : ℕ) → s < length c.pool.signals → is_comb c s ≡ true → IsUntouched plan.tasks marks s → at (delta c other new) s ≡ at (delta c st old) s
+  kept_comb ports st other old new was marks wakes s inside comb untouched =
+      let o = comb_signal c ports s comb in
       let v = is.covered o.k o.p s o.stands o.comb o.drives in
       ⊎_elim
       (λ (w : slice_index_or marks v.j false ≡ true). absurd (false≢true (sym (untouched v.j v.t v.stands w) ∙ v.drives)))
@@ -192,22 +192,22 @@ module _ (c : Circuit) (flat : c.memories ≡ []) (rules : IsPool c.pool) (desig
       (cases_Bool (slice_index_or marks v.j false))
 
   -- behind a delta, what no waiting task drives rests
-  pub rests_next : (st : State) (E F : List ℤ) (was marks : List Bool) → FitsState c st → F ≡ delta c st E → length F ≡ length c.pool.signals → length (delta c st F) ≡ length c.pool.signals → Wakes plan.readers E F was marks → Rests c st plan.tasks marks F
-  rests_next st E F was marks fit e long long' wakes s untouched =
+  pub rests_next : (ports : AreReadsClocked c) (st : State) (E F : List ℤ) (was marks : List Bool) → FitsState c st → F ≡ delta c st E → length F ≡ length c.pool.signals → length (delta c st F) ≡ length c.pool.signals → Wakes plan.readers E F was marks → Rests c st plan.tasks marks F
+  rests_next ports st E F was marks fit e long long' wakes s untouched =
       inside_or_past s (delta c st F) F long' long (λ inside.
       ⊎_elim
-      (λ (comb : is_comb c s ≡ true). kept_comb st st E F was marks wakes s inside comb untouched ∙ ap (λ xs. at xs s) (sym e))
+      (λ (comb : is_comb c s ≡ true). kept_comb ports st st E F was marks wakes s inside comb untouched ∙ ap (λ xs. at xs s) (sym e))
       (λ (comb : is_comb c s ≡ false). delta_other c st rules design F E s comb ∙ ap (λ xs. at xs s) (sym e))
       (cases_Bool (is_comb c s)))
 
   -- behind an event, what no waiting task drives rests
-  pub rests_first : (st other : State) (E F : List ℤ) (was marks : List Bool) → Settled c st E → ((s : ℕ) → is_comb c s ≡ false → at F s ≡ at (delta c other F) s) → ((s : ℕ) → is_held c s ≡ false → at F s ≡ at E s)
+  pub rests_first : (ports : AreReadsClocked c) (st other : State) (E F : List ℤ) (was marks : List Bool) → Settled c st E → ((s : ℕ) → is_comb c s ≡ false → at F s ≡ at (delta c other F) s) → ((s : ℕ) → is_held c s ≡ false → at F s ≡ at E s)
       → length F ≡ length c.pool.signals → length (delta c other F) ≡ length c.pool.signals → Wakes plan.readers E F was marks → Rests c other plan.tasks marks F
-  rests_first st other E F was marks settled ready kept long long' wakes s untouched =
+  rests_first ports st other E F was marks settled ready kept long long' wakes s untouched =
       inside_or_past s (delta c other F) F long' long (λ inside.
       ⊎_elim
       (λ (comb : is_comb c s ≡ true).
-      let o = comb_signal c flat s comb in
-      kept_comb st other E F was marks wakes s inside comb untouched ∙ ap (λ xs. at xs s) settled ∙ sym (kept s (not_held c flat design o.k o.p s o.stands o.comb o.drives)))
+      let o = comb_signal c ports s comb in
+      kept_comb ports st other E F was marks wakes s inside comb untouched ∙ ap (λ xs. at xs s) settled ∙ sym (kept s (not_held c design o.k o.p s o.stands o.comb o.drives)))
       (λ (comb : is_comb c s ≡ false). sym (ready s comb))
       (cases_Bool (is_comb c s)))

@@ -13,6 +13,7 @@ use Rattle.comb_graph.proofs.DeltaLaws.{delta_length}
 use Rattle.delta_sim.specs.declared.plan.Plan.{Plan}
 use Rattle.delta_sim.specs.declared.task.Task.{Task}
 use Rattle.delta_sim.specs.Plans.{IsPlan, Rests, Wakes, readers_of}
+use Rattle.delta_sim.specs.Ports.{AreReadsClocked}
 use Rattle.delta_sim.specs.Settling.{EndsIn}
 use Rattle.delta_sim.specs.Waiting.{Waiting, IsWaiting}
 use Rattle.delta_sim.specs.Woken.{woken, one_if_some, deltas_from, runs_from, deltas_of, runs_of}
@@ -80,38 +81,40 @@ module _ (c : Circuit) (st : State) where
 module _ (c : Circuit) (st : State) where
   -- so many deltas and runs were counted, and behind these environments come all others
   pub record Counted (table : List (List ℕ)) (env : List ℤ) (marks : List Bool) (deltas runs all_deltas all_runs : ℕ) : Type 0 where
+    pub rows : List (List ℤ)
     pub old : List ℤ
     pub rest : List (List ℤ)
     pub are : DeltasFrom c st env rest
     pub wakes : Wakes table old env (replicate (length c.processes) false) marks
-    pub many_deltas : deltas + deltas_of c [] [] old (env ∷ rest) ≡ all_deltas
-    pub many_runs : runs + runs_of c [] [] old (env ∷ rest) ≡ all_runs
+    pub many_deltas : deltas + deltas_of c rows st.rows old (env ∷ rest) ≡ all_deltas
+    pub many_runs : runs + runs_of c rows st.rows old (env ∷ rest) ≡ all_runs
 
   -- the same once those that are marked have been counted
   pub record CountedHere (env : List ℤ) (deltas runs all_deltas all_runs : ℕ) : Type 0 where
     pub rest : List (List ℤ)
     pub are : DeltasFrom c st env rest
-    pub many_deltas : deltas + deltas_from c [] env rest ≡ all_deltas
-    pub many_runs : runs + runs_from c [] env rest ≡ all_runs
+    pub many_deltas : deltas + deltas_from c st.rows env rest ≡ all_deltas
+    pub many_runs : runs + runs_from c st.rows env rest ≡ all_runs
 
-  pub count_here : (flat : c.memories ≡ []) (count : ℕ) (plan : Plan) (is : IsPlan c count plan) (env : List ℤ) (marks : List Bool) (n deltas runs all_deltas all_runs : ℕ) → length marks ≡ length c.processes → n ≡ count_by (λ b. b) marks → Counted plan.processes env marks deltas runs all_deltas all_runs → CountedHere env (deltas + one_if_some n) (runs + n) all_deltas all_runs
-  count_here flat count plan is env marks n deltas runs all_deltas all_runs long some h =
-      let many : n ≡ woken c [] [] h.old env = some ∙ woken_count c flat count plan is h.old env marks h.wakes long in
+  pub count_here : (free : AreReadsClocked c) (count : ℕ) (plan : Plan) (is : IsPlan c count plan) (env : List ℤ) (marks : List Bool) (n deltas runs all_deltas all_runs : ℕ) → length marks ≡ length c.processes → n ≡ count_by (λ b. b) marks → Counted plan.processes env marks deltas runs all_deltas all_runs → CountedHere env (deltas + one_if_some n) (runs + n) all_deltas all_runs
+  count_here free count plan is env marks n deltas runs all_deltas all_runs long some h =
+      let many : n ≡ woken c h.rows st.rows h.old env = some ∙ woken_count c free h.rows st.rows count plan is h.old env marks h.wakes long in
       record {
         rest = h.rest;
         are = h.are;
-        many_deltas = ap (λ k. deltas + one_if_some k + deltas_from c [] env h.rest) many ∙ omega (arith, h.many_deltas);
+        many_deltas = ap (λ k. deltas + one_if_some k + deltas_from c st.rows env h.rest) many ∙ omega (arith, h.many_deltas);
         many_runs = omega (arith, h.many_runs, many);
       }
 
-  pub count_next : (flat : c.memories ≡ []) (table : List (List ℕ)) (env new : List ℤ) (marks : List Bool) (deltas runs all_deltas all_runs : ℕ) → new ≡ delta c st env → Wakes table env new (replicate (length c.processes) false) marks → CountedHere env deltas runs all_deltas all_runs → Counted table new marks deltas runs all_deltas all_runs
-  count_next flat table env new marks deltas runs all_deltas all_runs e wakes h = next h.rest h.are h.many_deltas h.many_runs
+  pub count_next : (free : AreReadsClocked c) (table : List (List ℕ)) (env new : List ℤ) (marks : List Bool) (deltas runs all_deltas all_runs : ℕ) → new ≡ delta c st env → Wakes table env new (replicate (length c.processes) false) marks → CountedHere env deltas runs all_deltas all_runs → Counted table new marks deltas runs all_deltas all_runs
+  count_next free table env new marks deltas runs all_deltas all_runs e wakes h = next h.rest h.are h.many_deltas h.many_runs
     where
-      next : (rest : List (List ℤ)) → DeltasFrom c st env rest → deltas + deltas_from c [] env rest ≡ all_deltas → runs + runs_from c [] env rest ≡ all_runs → Counted table new marks deltas runs all_deltas all_runs
+      next : (rest : List (List ℤ)) → DeltasFrom c st env rest → deltas + deltas_from c st.rows env rest ≡ all_deltas → runs + runs_from c st.rows env rest ≡ all_runs → Counted table new marks deltas runs all_deltas all_runs
       next [] are d r =
           let same : new ≡ env = e ∙ are in
-          let none : woken c [] [] env new ≡ 0 = ap (woken c [] [] env) same ∙ woken_same c flat env in
+          let none : woken c st.rows st.rows env new ≡ 0 = ap (woken c st.rows st.rows env) same ∙ woken_same c free st.rows st.rows env in
           record {
+            rows = st.rows;
             old = env;
             rest = [];
             are = subst (Settled c st) (sym same) are;
@@ -122,19 +125,20 @@ module _ (c : Circuit) (st : State) where
       next (x ∷ more) are d r =
           let same : x ≡ new = sym are.0 ∙ sym e in
           record {
+            rows = st.rows;
             old = env;
             rest = more;
             are = subst (λ y. DeltasFrom c st y more) same are.2;
             wakes = wakes;
-            many_deltas = ap (λ y. deltas + (one_if_some (woken c [] [] env y) + deltas_from c [] y more)) (sym same) ∙ d;
-            many_runs = ap (λ y. runs + (woken c [] [] env y + runs_from c [] y more)) (sym same) ∙ r;
+            many_deltas = ap (λ y. deltas + (one_if_some (woken c st.rows st.rows env y) + deltas_from c st.rows y more)) (sym same) ∙ d;
+            many_runs = ap (λ y. runs + (woken c st.rows st.rows env y + runs_from c st.rows y more)) (sym same) ∙ r;
           }
 
   -- where it is settled, all is counted
   pub count_end : (env : List ℤ) (deltas runs all_deltas all_runs : ℕ) → Settled c st env → CountedHere env deltas runs all_deltas all_runs → (deltas ≡ all_deltas) × (runs ≡ all_runs)
   count_end env deltas runs all_deltas all_runs settled h = ends h.rest h.are h.many_deltas h.many_runs
     where
-      ends : (rest : List (List ℤ)) → DeltasFrom c st env rest → deltas + deltas_from c [] env rest ≡ all_deltas → runs + runs_from c [] env rest ≡ all_runs → (deltas ≡ all_deltas) × (runs ≡ all_runs)
+      ends : (rest : List (List ℤ)) → DeltasFrom c st env rest → deltas + deltas_from c st.rows env rest ≡ all_deltas → runs + runs_from c st.rows env rest ≡ all_runs → (deltas ≡ all_deltas) × (runs ≡ all_runs)
       ends [] are d r = (omega (arith, d), omega (arith, r))
       ends (x ∷ more) are d r = absurd (are.1 (sym are.0 ∙ settled))
 

@@ -18,8 +18,9 @@ use Rattle.design_ir.specs.Put.{put}
 use Rattle.design_ir.specs.Settled.{starts, comb_process, delta}
 use Rattle.design_ir.proofs.PutLaws.{put_length, put_other}
 use Rattle.comb_graph.proofs.DeltaBits.{processes_other}
+use Rattle.comb_graph.proofs.ReadBits.{reads_other}
 use Rattle.delta_sim.proofs.Frames.{put_frame}
-use Rattle.delta_sim.proofs.SweepsFit.{flat_delta}
+use Rattle.delta_sim.proofs.Walks.{all_parts}
 
 -- ---- tests
 
@@ -116,7 +117,7 @@ module _ (pool : Pooled) (env : List ℤ) (s : ℕ) where
 
 -- ---- a signal that a combinational process drives
 
-module _ (c : Circuit) (flat : c.memories ≡ []) (design : IsDesign c) where
+module _ (c : Circuit) (design : IsDesign c) where
   abbrev own : DesignProcess → List ℕ
   own p = driven c.pool p.body
 
@@ -138,6 +139,30 @@ module _ (c : Circuit) (flat : c.memories ≡ []) (design : IsDesign c) where
       right : (a b : Bool) → b ≡ true → (a || b) ≡ true
       right true b e = refl
       right false b e = e
+
+  -- it is no data of a read port
+  no_port : (q : DesignProcess) (s : ℕ) (f : MemRead → Bool) → is_among (own q) s ≡ true → (rs : List MemRead) → AllByRecursion (λ y. share (own q) y ≡ false) (map (λ (r : MemRead). r.word.0 ∷ []) rs) → list_any (λ (r : MemRead). f r && (r.word.0 == s)) rs ≡ false
+  no_port q s f here [] h = refl
+  no_port q s f here (r ∷ rs) h =
+      let other = (or_parts (r.word.0 == s) false (share_none (own q) (r.word.0 ∷ []) s h.0 here)).0 in
+      none_or (f r && (r.word.0 == s)) _ (and_none (f r) (r.word.0 == s) other) (no_port q s f here rs h.1)
+
+  no_ports : (q : DesignProcess) (s : ℕ) (f : MemRead → Bool) → is_among (own q) s ≡ true → (ms : List Memory) → AllByRecursion (λ y. share (own q) y ≡ false) (flat_map (λ (m : Memory). map (λ (r : MemRead). r.word.0 ∷ []) m.reads) ms)
+      → list_any (λ (m : Memory). list_any (λ (r : MemRead). f r && (r.word.0 == s)) m.reads) ms ≡ false
+  no_ports q s f here [] h = refl
+  no_ports q s f here (m ∷ ms) h =
+      let parts = all_parts (λ y. share (own q) y ≡ false) (map (λ (r : MemRead). r.word.0 ∷ []) m.reads) (flat_map (λ (x : Memory). map (λ (r : MemRead). r.word.0 ∷ []) x.reads) ms) h in
+      none_or (list_any (λ (r : MemRead). f r && (r.word.0 == s)) m.reads) _ (no_port q s f here m.reads parts.0) (no_ports q s f here ms parts.1)
+
+  shared_none : (ps : List DesignProcess) (more : List (List ℕ)) (k : ℕ) (q : DesignProcess) → IsDistinct share (map own ps ++ more) → slice_get ps k ≡ Some q → AllByRecursion (λ y. share (own q) y ≡ false) more
+  shared_none [] more k q d is = cc
+  shared_none (p ∷ ps) more zero q d is =
+      let same : p ≡ q = cc in
+      subst (λ x. AllByRecursion (λ y. share (own x) y ≡ false) more) same (all_parts (λ y. share (own p) y ≡ false) (map own ps) more (IsDistinct-head share (own p) (map own ps ++ more) d)).1
+  shared_none (p ∷ ps) more (suc k) q d is = shared_none ps more k q (IsDistinct-tail share (own p) (map own ps ++ more) d) is
+
+  pub no_word : (k : ℕ) (q : DesignProcess) (s : ℕ) (f : MemRead → Bool) → slice_get c.processes k ≡ Some q → is_among (driven c.pool q.body) s ≡ true → list_any (λ (m : Memory). list_any (λ (r : MemRead). f r && (r.word.0 == s)) m.reads) c.memories ≡ false
+  no_word k q s f is here = no_ports q s f here c.memories (shared_none c.processes words k q design.one_driver is)
 
   -- it is no input
   not_input : (k : ℕ) (q : DesignProcess) (s : ℕ) → slice_get c.processes k ≡ Some q → is_among (driven c.pool q.body) s ≡ true → is_input c s ≡ false
@@ -175,7 +200,7 @@ module _ (c : Circuit) (flat : c.memories ≡ []) (design : IsDesign c) where
       none_and (is_some r.domain) (is_among (driven c.pool r.body) s) (ap (λ (x : DesignProcess). is_some x.domain) same ∙ ap is_some comb))
       (λ (e : j ≢ k). and_none (is_some r.domain) (is_among (driven c.pool r.body) s) (no_other k q s is here j r there e))
       (cases_eq j k)))
-      (ap (λ ms. list_any (λ (m : Memory). list_any (λ (r : MemRead). is_some r.domain && (r.word.0 == s)) m.reads) ms) flat)
+      (no_word k q s (λ (r : MemRead). is_some r.domain) is here)
 
   pub not_held : (k : ℕ) (q : DesignProcess) (s : ℕ) → slice_get c.processes k ≡ Some q → q.domain ≡ None → is_among (driven c.pool q.body) s ≡ true → is_held c s ≡ false
   not_held k q s is comb here = none_or (is_input c s) (is_register c s) (not_input k q s is here) (not_register k q s is comb here)
@@ -200,5 +225,5 @@ module _ (c : Circuit) (flat : c.memories ≡ []) (design : IsDesign c) where
   pub delta_at : (st : State) (env : List ℤ) (k : ℕ) (q : DesignProcess) (s : ℕ) → slice_get c.processes k ≡ Some q → q.domain ≡ None → is_among (driven c.pool q.body) s ≡ true
       → at (delta c st env) s ≡ at (put c.pool env q.body (starts c st 0 c.pool.signals)) s
   delta_at st env k q s is comb here =
-      ap (λ xs. at xs s) (flat_delta c st flat env)
+      reads_other c.pool env s c.memories st.rows (fold (comb_process c.pool env) (starts c st 0 c.pool.signals) c.processes) (no_word k q s (λ (r : MemRead). is_none r.domain) is here)
       ∙ combs_at c.pool env s c.processes k q (starts c st 0 c.pool.signals) is comb (no_other k q s is here)

@@ -2,10 +2,10 @@ pub mod Standing
 pub mod Reading
 pub mod Driven
 pub mod Given
-pub mod After
 pub mod Reads
 pub mod Woken
 pub mod Tasks
+pub mod Ports
 pub mod Groups
 pub mod Waiting
 pub mod Walked

@@ -2,6 +2,7 @@
 use Rattle.std.specs.Prelude.{◌≡◌, ◌≢◌, ℕ, ◌<◌, ◌&&◌, ◌⊎◌, Bool, true, false, List, [], ◌∷◌, length, is_none, slice_get, slice_set, slice_index_or, ℤ, Option, Some, None}
 use Rattle.std.specs.List.{AllByRecursion}
 use Rattle.design_ir.specs.declared.ids.DomainId.{DomainId}
+use Rattle.design_ir.specs.declared.memory.Memory.{Memory}
 use Rattle.design_ir.specs.declared.process.DesignProcess.{DesignProcess}
 use Rattle.design_ir.specs.declared.signal.Sig.{Sig}
 use Rattle.design_ir.specs.Circuits.{Circuit, State, at, is_among, is_held}
@@ -10,6 +11,7 @@ use Rattle.design_ir.specs.Settled.{delta}
 use Rattle.delta_sim.specs.declared.task.Task.{Task}
 use Rattle.delta_sim.specs.declared.plan.Plan.{Plan}
 use Rattle.delta_sim.specs.Driven.{numbers_of, IsLike}
+use Rattle.delta_sim.specs.Ports.{HasPorts}
 use Rattle.delta_sim.specs.Reads.{block_reads}
 use Rattle.delta_sim.specs.Tasks.{IsTask, picked}
 
@@ -59,6 +61,7 @@ pub record IsPlan (c : Circuit) (count : ℕ) (plan : Plan) : Type 0 where
   pub tasks : (j : ℕ) (t : Task) → slice_get plan.tasks j ≡ Some t → IsCombTask c count t
   pub covered : (k : ℕ) (p : DesignProcess) (s : ℕ) → slice_get c.processes k ≡ Some p → p.domain ≡ None → is_among (driven c.pool p.body) s ≡ true → IsCovered plan.tasks k s
   pub apart : (i j : ℕ) (a b : Task) (s : ℕ) → slice_get plan.tasks i ≡ Some a → slice_get plan.tasks j ≡ Some b → i ≢ j → is_among (numbers_of a.outs) s ≡ true → is_among (numbers_of b.outs) s ≡ false
+  pub ports : (k : ℕ) (m : Memory) → slice_get c.memories k ≡ Some m → HasPorts c count plan.ports k m
   pub readers : IsTable (length c.pool.signals) (length plan.tasks) plan.readers
   pub awake : (s j : ℕ) (t : Task) (p : DesignProcess) → slice_get plan.tasks j ≡ Some t → slice_get c.processes t.process ≡ Some p → block_reads c.pool s (picked p.body t.statements) ≡ true → is_among (readers_of plan.readers s) j ≡ true
   pub processes : IsTable (length c.pool.signals) (length c.processes) plan.processes

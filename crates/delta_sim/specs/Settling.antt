@@ -16,7 +16,7 @@ abbrev pub nobody : ℕ → Waiting
 nobody bound = record { marks = replicate bound false; list = [] }
 
 -- from an environment with the first, second and further deltas behind it, so many deltas in which a process runs, and
--- so many runs, in a design without memories
-pub record AreCounts (c : Circuit) (old : List ℤ) (envs : List (List ℤ)) (deltas runs : ℕ) : Type 0 where
-  pub many_deltas : deltas ≡ deltas_of c [] [] old envs
-  pub many_runs : runs ≡ runs_of c [] [] old envs
+-- so many runs; the rows were these before the event, and are those after it
+pub record AreCounts (c : Circuit) (rows after : List (List ℤ)) (old : List ℤ) (envs : List (List ℤ)) (deltas runs : ℕ) : Type 0 where
+  pub many_deltas : deltas ≡ deltas_of c rows after old envs
+  pub many_runs : runs ≡ runs_of c rows after old envs

@@ -1,12 +1,14 @@
 -- What a simulator stands for: the events that a design has had.
-use Rattle.std.specs.Prelude.{◌≡◌, ℕ, false, List, [], map, length, ℤ, fold}
+use Rattle.std.specs.Prelude.{◌≡◌, ℕ, false, List, map, length, ℤ, fold}
 use Rattle.design_ir.specs.declared.event.Event.{Event}
+use Rattle.design_ir.specs.declared.memory.Memory.{Memory}
 use Rattle.design_ir.specs.declared.signal.Sig.{Sig}
 use Rattle.design_ir.specs.Circuits.{Circuit, State, at}
 use Rattle.design_ir.specs.Histories.{Reaches, Deltas}
 use Rattle.design_ir.specs.Settled.{Settled}
 use Rattle.design_ir.specs.Steps.{clock_low}
 use Rattle.design_ir.proofs.NumbersFit.{FitsSignals}
+use Rattle.comb_graph.specs.Laws.{FitsRows}
 use Rattle.comb_graph.specs.Orders.{is_comb, IsLongest}
 use Rattle.delta_sim.specs.declared.settle.Counts.{Counts}
 use Rattle.delta_sim.specs.declared.plan.Plan.{Plan}
@@ -15,10 +17,11 @@ use Rattle.delta_sim.specs.Settling.{AreCounts, nobody}
 use Rattle.delta_sim.specs.Tasks.{AreFitting}
 use Rattle.delta_sim.specs.Waiting.{Waiting}
 
--- the numbers of all signals, those that the state holds and those of the settled environment; how many deltas and runs
--- the last event took; and what the simulator works with, which only `IsSimOf` speaks of
+-- the numbers of all signals, those that the state holds and those of the settled environment; the rows of each memory;
+-- how many deltas and runs the last event took; and what the simulator works with, which only `IsSimOf` speaks of
 pub record Simulated : Type 0 where
   pub held : List ℤ
+  pub rows : List (List ℤ)
   pub env : List ℤ
   pub counts : Counts
   pub longest : ℕ
@@ -29,9 +32,13 @@ pub record Simulated : Type 0 where
   pub then : Waiting
   pub woken : Waiting
 
--- a state of a design without memories
-abbrev pub state_of : List ℤ → State
-state_of held = record { held = held; rows = [] }
+abbrev pub state_of : List ℤ → List (List ℤ) → State
+state_of held rows = record { held = held; rows = rows }
+
+-- rows of their shape for each memory
+pub record AreRowsOf (c : Circuit) (rows : List (List ℤ)) : Type 0 where
+  pub count : length rows ≡ length c.memories
+  pub fits : FitsRows c.memories rows
 
 -- a number for each signal, of its shape
 pub record AreNumbersOf (c : Circuit) (numbers : List ℤ) : Type 0 where
@@ -42,7 +49,8 @@ pub record AreNumbersOf (c : Circuit) (numbers : List ℤ) : Type 0 where
 pub record IsSimOf (c : Circuit) (s : Simulated) : Type 0 where
   pub held : AreNumbersOf c s.held
   pub env : AreNumbersOf c s.env
-  pub settled : Settled c (state_of s.held) s.env
+  pub rows : AreRowsOf c s.rows
+  pub settled : Settled c (state_of s.held s.rows) s.env
   pub longest : IsLongest c s.longest
   pub plan : IsPlan c (length s.numbers) s.plan
   pub numbers : AreFitting c.pool s.numbers
@@ -54,6 +62,7 @@ pub record IsSimOf (c : Circuit) (s : Simulated) : Type 0 where
 -- a simulator of this design before any event, not yet settled: it is known what the state gives, and what nothing drives
 pub record IsFresh (c : Circuit) (s : Simulated) : Type 0 where
   pub held : s.held ≡ fold clock_low (map (λ (x : Sig). x.init) c.pool.signals) c.domains
+  pub rows : s.rows ≡ map (λ (m : Memory). m.rows) c.memories
   pub env : AreNumbersOf c s.env
   pub same : (i : ℕ) → is_comb c i ≡ false → at s.env i ≡ at s.held i
   pub longest : IsLongest c s.longest
@@ -67,11 +76,11 @@ pub record IsFresh (c : Circuit) (s : Simulated) : Type 0 where
 -- the design has had these events, and is settled behind them
 pub record Stands (c : Circuit) (events : List Event) (s : Simulated) : Type 0 where
   pub of_design : IsSimOf c s
-  pub reaches : Reaches c events (state_of s.held) s.env
+  pub reaches : Reaches c events (state_of s.held s.rows) s.env
 
 -- the numbers of the simulator are those of an event's last delta, and it counted the deltas in which processes ran,
 -- and their runs
 pub record Settles (c : Circuit) (old new : Simulated) : Type 0 where
   pub deltas : List (List ℤ)
-  pub are : Deltas c (state_of new.held) old.env deltas
-  pub counts : AreCounts c old.env deltas new.counts.deltas new.counts.runs
+  pub are : Deltas c (state_of new.held new.rows) old.env deltas
+  pub counts : AreCounts c old.rows new.rows old.env deltas new.counts.deltas new.counts.runs

@@ -2,7 +2,6 @@
 ghost use Rattle.std.specs.Prelude.{◌≡◌, ◌<◌, ℕ, length, fold, slice_get, Some};
 ghost use Rattle.design_ir.specs.declared.process.DesignProcess.{DesignProcess};
 ghost use Rattle.design_ir.specs.Steps.{is_cleared, cleared};
-ghost use Rattle.delta_sim.specs.After.{all_cleared};
 ghost use Rattle.delta_sim.specs.Plans.{IsPlan};
 
 use crate::clocks::{is_reset, reset_all};
@@ -14,7 +13,7 @@ use design_ir::{Design, DomainId, Exprs};
 pub fn clear_all(design: &Design, plan: &Plan, held: &mut [Int])
     requires plan { (count : ℕ) × IsPlan design.now count plan.now }
     requires signals { length held.old ≡ length design.now.pool.signals }
-    ensures { held.new ≡ all_cleared design.now held.old }
+    ensures { held.new ≡ fold (cleared design.now held.old) held.old design.now.processes }
 {
     let all = design.processes();
     for k in 0..all.len() {

@@ -6,19 +6,22 @@ ghost use Rattle.design_ir.specs.declared.ids.DomainId.{DomainId};
 ghost use Rattle.design_ir.specs.declared.process.DesignProcess.{DesignProcess};
 ghost use Rattle.design_ir.specs.Circuits.{at};
 ghost use Rattle.design_ir.specs.Put.{put};
-ghost use Rattle.design_ir.specs.Steps.{is_before_edge, is_active, is_reset, reset_to, reset_all, clocked, toggle};
+ghost use Rattle.design_ir.specs.Steps.{is_before_edge, is_active, is_reset, reset_to, reset_all, clocked, clocked_reads, rows_after, toggle};
 ghost use Rattle.design_ir.proofs.NumbersFit.{FitsSignals};
 ghost use Rattle.delta_sim.specs.Driven.{numbers_of};
 ghost use Rattle.delta_sim.specs.Plans.{IsPlan, HasClocked};
+ghost use Rattle.delta_sim.specs.Standing.{AreRowsOf};
 ghost use Rattle.delta_sim.specs.Tasks.{AreFitting};
 
 use crate::compute::compute;
 use crate::plan::Plan;
+use crate::ports::clock_memories;
+use crate::rows::Rows;
 use crate::statements::{is_zero, put_task};
 use amh_bits::Int;
 use design_ir::{Design, DesignProcess, Domain, DomainId, Exprs, SigId};
 
-/// What is held after an edge of these domains, all read before it, in place of what was held.
+/// What is held after an edge of these domains, and the rows then, in place of those before it, by which all is read.
 pub fn after_edge(
     design: &Design,
     plan: &Plan,
@@ -26,19 +29,24 @@ pub fn after_edge(
     nums: &mut Vec<Int>,
     listed: &[DomainId],
     held: &mut [Int],
+    rows: &mut Vec<Rows>,
 )
     requires plan { IsPlan design.now (length nums.old.items) plan.now }
     requires env { length env.now ≡ length design.now.pool.signals }
     requires env_fits { FitsSignals design.now.pool env.now }
     requires numbers { AreFitting design.now.pool nums.old.items }
+    requires rows { AreRowsOf design.now rows.old.items }
     requires listed { AllByRecursion (λ (d : DomainId). d.0 < length design.now.domains) listed.now }
     requires signals { length held.old ≡ length design.now.pool.signals }
     requires fits { FitsSignals design.now.pool held.old }
-    ensures held { held.new ≡ fold (toggle design.now.domains) (fold (clocked design.now env.now listed.now) held.old design.now.processes) listed.now }
+    ensures held { held.new ≡ fold (toggle design.now.domains) (clocked_reads design.now env.now listed.now design.now.memories rows.old.items (fold (clocked design.now env.now listed.now) held.old design.now.processes)) listed.now }
+    ensures rows { rows.new.items ≡ rows_after design.now env.now listed.now design.now.memories rows.old.items }
     ensures count { length nums.new.items ≡ length nums.old.items }
     ensures numbers { AreFitting design.now.pool nums.new.items }
 {
+    let _ = design.processes();
     clock_all(design, plan, env, nums, listed, held);
+    clock_memories(design, plan, env, nums, listed, rows, held);
     toggle_all(design, listed, held);
 }
 
@@ -153,8 +161,8 @@ fn reset(design: &Design, s: SigId, cur: &mut [Int])
     }
 }
 
-// Whether a domain is listed and its clock stands before its active edge.
-fn is_active(design: &Design, env: &[Int], listed: &[DomainId], d: DomainId) -> bool
+/// Whether a domain is listed and its clock stands before its active edge.
+pub fn is_active(design: &Design, env: &[Int], listed: &[DomainId], d: DomainId) -> bool
     requires { d.0 < length design.now.domains }
     ensures { result ≡ is_active design.now env.now listed.now d.0 }
 {

@@ -11,6 +11,7 @@ ghost use Rattle.delta_sim.specs.Compiled.{IsCompiled, HoldsSignal, own_signal};
 ghost use Rattle.delta_sim.specs.Driven.{AreTargets, numbers_of};
 ghost use Rattle.delta_sim.specs.Marks.{is_marked};
 ghost use Rattle.delta_sim.specs.Settling.{nobody};
+ghost use Rattle.delta_sim.specs.Tables.{AreNoMarks};
 ghost use Rattle.delta_sim.specs.Tasks.{places_of};
 ghost use Rattle.delta_sim.specs.Waiting.{IsWaiting};
 
@@ -36,6 +37,19 @@ pub struct Compiled {
 pub struct Marks {
     pub aims: Agenda,
     pub values: Agenda,
+}
+
+impl Marks {
+    /// No marks of the expressions of a design.
+    pub fn new(alloc: Global, design: &Design) -> Result<Marks, NoMemory>
+        ensures { IfOk result (AreNoMarks design.now) }
+    {
+        let count = design.count() as usize;
+        Ok(Marks {
+            aims: Agenda::new(alloc, count)?,
+            values: Agenda::new(alloc, count)?,
+        })
+    }
 }
 
 /// The task of the statements of process k at these places. It costs what they read, and no walk through all expressions.
@@ -87,8 +101,8 @@ fn copied(alloc: Global, places: &[usize]) -> Result<Items<usize>, NoMemory>
     Ok(list)
 }
 
-// The marked expressions, in order.
-fn program(alloc: Global, aims: &Agenda, values: &Agenda) -> Result<Ids, NoMemory>
+/// The marked expressions, in order.
+pub fn program(alloc: Global, aims: &Agenda, values: &Agenda) -> Result<Ids, NoMemory>
     requires aims { length aims.now.marks < 2 ^ 32 }
     requires values { length values.now.marks < 2 ^ 32 }
     ensures order { IfOk result (λ list. IsNonDecreasing (places_of list)) }

@@ -9,6 +9,7 @@ ghost use Rattle.delta_sim.specs.declared.task.Task.{Task};
 ghost use Rattle.delta_sim.specs.Driven.{numbers_of};
 ghost use Rattle.delta_sim.specs.Plans.{IsPlan, IsTable, Rests, Wakes, IsUntouched};
 ghost use Rattle.delta_sim.specs.Tasks.{AreFitting};
+ghost use Rattle.delta_sim.specs.Ports.{AreReadsClocked};
 
 use crate::agenda::Agenda;
 use crate::plan::Plan;
@@ -29,7 +30,7 @@ pub fn delta(
     then: &mut Agenda,
     woken: &mut Agenda,
 )
-    requires flat { design.now.memories ≡ [] }
+    requires ports { AreReadsClocked design.now }
     requires plan { IsPlan design.now (length nums.old.items) plan.now }
     requires signals { length env.old.items ≡ length design.now.pool.signals }
     requires fits { FitsSignals design.now.pool env.old.items }
@@ -65,7 +66,6 @@ fn run_all(
     nums: &mut Vec<Int>,
     next: &mut [Int],
 )
-    requires flat { design.now.memories ≡ [] }
     requires plan { IsPlan design.now (length nums.old.items) plan.now }
     requires signals { length env.now ≡ length design.now.pool.signals }
     requires fits { FitsSignals design.now.pool env.now }

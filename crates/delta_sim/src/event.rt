@@ -1,18 +1,20 @@
-// What an event does to what is held.
+// What an event does to what a state has.
 ghost use Rattle.std.specs.Prelude.{◌≡◌, ◌<◌, [], length, slice_set};
 ghost use Rattle.design_ir.specs.Legal.{IsLegal};
+ghost use Rattle.design_ir.specs.Steps.{moved, step};
 ghost use Rattle.design_ir.proofs.NumbersFit.{FitsSignals};
-ghost use Rattle.delta_sim.specs.After.{after, held_before};
 ghost use Rattle.delta_sim.specs.Plans.{IsPlan};
+ghost use Rattle.delta_sim.specs.Standing.{AreRowsOf, state_of};
 ghost use Rattle.delta_sim.specs.Tasks.{AreFitting};
 
 use crate::clears::clear_all;
 use crate::clocks::after_edge;
 use crate::plan::Plan;
+use crate::rows::Rows;
 use amh_bits::Int;
 use design_ir::{Design, Event, Exprs};
 
-/// Puts what is held after an event in place of what was held.
+/// Puts what is held after an event, and the rows then, in place of those before it.
 pub fn hold(
     design: &Design,
     plan: &Plan,
@@ -20,6 +22,7 @@ pub fn hold(
     env: &[Int],
     nums: &mut Vec<Int>,
     held: &mut Vec<Int>,
+    rows: &mut Vec<Rows>,
 )
     requires legal { IsLegal design.now event.now }
     requires plan { IsPlan design.now (length nums.old.items) plan.now }
@@ -28,11 +31,13 @@ pub fn hold(
     requires numbers { AreFitting design.now.pool nums.old.items }
     requires signals { length held.old.items ≡ length design.now.pool.signals }
     requires fits { FitsSignals design.now.pool held.old.items }
-    ensures held { held.new.items ≡ after design.now held.old.items env.now event.now }
+    requires rows { AreRowsOf design.now rows.old.items }
+    ensures held { held.new.items ≡ (step design.now (state_of held.old.items rows.old.items) env.now event.now).held }
+    ensures rows { rows.new.items ≡ (step design.now (state_of held.old.items rows.old.items) env.now event.now).rows }
     ensures count { length nums.new.items ≡ length nums.old.items }
     ensures numbers { AreFitting design.now.pool nums.new.items }
 {
-    change(design, plan, event, env, nums, held);
+    change(design, plan, event, env, nums, held, rows);
     clear_all(design, plan, held);
 }
 
@@ -44,6 +49,7 @@ fn change(
     env: &[Int],
     nums: &mut Vec<Int>,
     held: &mut Vec<Int>,
+    rows: &mut Vec<Rows>,
 )
     requires legal { IsLegal design.now event.now }
     requires plan { IsPlan design.now (length nums.old.items) plan.now }
@@ -52,7 +58,9 @@ fn change(
     requires numbers { AreFitting design.now.pool nums.old.items }
     requires signals { length held.old.items ≡ length design.now.pool.signals }
     requires fits { FitsSignals design.now.pool held.old.items }
-    ensures held { held.new.items ≡ held_before design.now held.old.items env.now event.now }
+    requires rows { AreRowsOf design.now rows.old.items }
+    ensures held { held.new.items ≡ (moved design.now (state_of held.old.items rows.old.items) env.now event.now).held }
+    ensures rows { rows.new.items ≡ (moved design.now (state_of held.old.items rows.old.items) env.now event.now).rows }
     ensures signals { length held.new.items ≡ length design.now.pool.signals }
     ensures count { length nums.new.items ≡ length nums.old.items }
     ensures numbers { AreFitting design.now.pool nums.new.items }
@@ -64,6 +72,8 @@ fn change(
                 held[s] = *value;
             }
         }
-        Event::Edge(clocks) => after_edge(design, plan, env, nums, clocks.as_slice(), held),
+        Event::Edge(clocks) => {
+            after_edge(design, plan, env, nums, clocks.as_slice(), held, rows)
+        }
     }
 }

@@ -29,7 +29,6 @@ pub fn run_in_order(
     nums: &mut Vec<Int>,
     next: &mut [Int],
 ) -> Result<(), NoMemory>
-    requires flat { design.now.memories ≡ [] }
     requires plan { IsPlan design.now (length nums.old.items) plan.now }
     requires env { AreNumbersOf design.now env.old.items }
     requires numbers { AreFitting design.now.pool nums.old.items }
@@ -53,7 +52,6 @@ pub fn run_in_order(
 
 // Runs a task, and gives its signals what it comes to.
 fn run_now(design: &Design, task: &Task, env: &mut Vec<Int>, nums: &mut Vec<Int>, next: &mut [Int])
-    requires flat { design.now.memories ≡ [] }
     requires task { IsCombTask design.now (length nums.old.items) task.now }
     requires env { AreNumbersOf design.now env.old.items }
     requires numbers { AreFitting design.now.pool nums.old.items }

@@ -6,12 +6,12 @@ ghost use Rattle.design_ir.specs.Designs.{IsProcess};
 ghost use Rattle.design_ir.specs.Guards.{driven};
 ghost use Rattle.delta_sim.specs.Driven.{AreTargets, numbers_of};
 ghost use Rattle.delta_sim.specs.Reading.{AreFirst, AreThere};
-ghost use Rattle.delta_sim.specs.Given.{marked, drives};
+ghost use Rattle.delta_sim.specs.Given.{marked, drives, gives};
 
 use crate::driven::driven;
 use crate::targets::SigIds;
 use amh_host::NoMemory;
-use design_ir::{Design, DesignProcess, SigId};
+use design_ir::{Design, DesignProcess, Memory, SigId};
 use std::alloc::Global;
 
 /// For each signal, whether it is an input or a register.
@@ -20,13 +20,15 @@ pub fn given_signals(
     design: &Design,
     targets: &[SigIds],
 ) -> Result<Vec<bool>, NoMemory>
-    requires flat { design.now.memories ≡ [] }
     requires targets { AreTargets design.now.pool (length design.now.pool.exprs) targets.now }
     ensures { IfOk result (λ v. AreFirst false (is_held design.now) (length design.now.pool.signals) v.items) }
 {
     let mut given = inputs(alloc, design)?;
     for p in design.processes().as_slice() {
         mark_registers(alloc, design, targets, p, &mut given)?;
+    }
+    for m in design.memories().as_slice() {
+        mark_words(m, &mut given);
     }
     Ok(given)
 }
@@ -62,6 +64,18 @@ fn mark_registers(
     let signals = driven(alloc, targets, &p.body)?;
     mark(signals.as_slice(), given);
     Ok(())
+}
+
+// Marks the data of the clocked read ports of a memory.
+fn mark_words(m: &Memory, given: &mut [bool])
+    ensures count { length given.new ≡ length given.old }
+    ensures marks { (s : ℕ) → s < length given.old → slice_index_or given.new s false ≡ (slice_index_or given.old s false || gives m.now s) }
+{
+    for r in m.reads.as_slice() {
+        if r.domain.is_some() {
+            mark(&[r.word], given);
+        }
+    }
 }
 
 // Marks these signals.

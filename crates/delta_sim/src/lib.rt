@@ -1,11 +1,13 @@
-//! The simulator of a design without memories: the numbers of its signals, from event to event.
+//! The simulator of a design whose memories are read at clocks: the numbers of its signals and the rows of its memories,
+//! from event to event.
 //!
 //! A `Sim` stands for a list of legal events (specs/Standing.antt): its numbers are those of the settled environment
-//! behind them, as design_ir defines it. What is needed again and again is worked out once (specs/Plans.antt): tasks,
-//! each some statements of a process with the expressions that stand in them in order (specs/Tasks.antt), and who reads
-//! each signal (specs/Reads.antt). An event changes what is held; the tasks that read what changed wait, and run in the
-//! next delta, all from the numbers before it; what they change wakes others, until none waits. How many deltas there
-//! were in which a process ran, and how often one ran, is counted (specs/Woken.antt). No event takes memory.
+//! behind them, and its rows those of the state, as design_ir defines both. What is needed again and again is worked out
+//! once (specs/Plans.antt): tasks, each some statements of a process with the expressions that stand in them in order
+//! (specs/Tasks.antt), the expressions of memory ports (specs/Ports.antt), and who reads each signal (specs/Reads.antt).
+//! An event changes what is held; the tasks that read what changed wait, and run in the next delta, all from the numbers
+//! before it; what they change wakes others, until none waits. How many deltas there were in which a process ran, and how
+//! often one ran, is counted (specs/Woken.antt). No event takes memory, and none copies rows.
 #![tactic(auto)]
 
 mod agenda;
@@ -23,7 +25,10 @@ mod given;
 mod group;
 mod place;
 mod plan;
+mod port_exprs;
+mod ports;
 mod roots;
+mod rows;
 mod run;
 mod settle;
 mod sim;
@@ -34,6 +39,7 @@ mod targets;
 mod task;
 mod wake;
 mod write;
+mod written;
 
 pub use settle::Counts;
 pub use sim::Sim;

@@ -9,10 +9,12 @@ ghost use Rattle.delta_sim.specs.Settling.{EndsIn, AreCounts, nobody};
 ghost use Rattle.delta_sim.specs.Standing.{state_of};
 ghost use Rattle.delta_sim.specs.Tasks.{AreFitting};
 ghost use Rattle.delta_sim.specs.Woken.{one_if_some};
+ghost use Rattle.delta_sim.specs.Ports.{AreReadsClocked};
 
 use crate::agenda::Agenda;
 use crate::delta::delta;
 use crate::plan::Plan;
+use crate::rows::Rows;
 use amh_bits::Int;
 use amh_host::Steps;
 use design_ir::{Design, Exprs};
@@ -31,6 +33,7 @@ pub fn settle<L: Ledger>(
     plan: &Plan,
     most: u64,
     held: &[Int],
+    rows: &[Rows],
     env: &mut Vec<Int>,
     nums: &mut Vec<Int>,
     next: &mut [Int],
@@ -39,9 +42,9 @@ pub fn settle<L: Ledger>(
     woken: &mut Agenda,
     steps: &mut Steps<L>,
 ) -> Counts
-    requires flat { design.now.memories ≡ [] }
+    requires ports { AreReadsClocked design.now }
     requires plan { IsPlan design.now (length nums.old.items) plan.now }
-    requires state { FitsState design.now (state_of held.now) }
+    requires state { FitsState design.now (state_of held.now rows.now) }
     requires signals { length env.old.items ≡ length design.now.pool.signals }
     requires fits { FitsSignals design.now.pool env.old.items }
     requires numbers { AreFitting design.now.pool nums.old.items }
@@ -50,10 +53,10 @@ pub fn settle<L: Ledger>(
     requires waits { length waits.old.marks ≡ length plan.now.tasks }
     requires then { then.old ≡ nobody (length plan.now.tasks) }
     requires woken { length woken.old.marks ≡ length design.now.processes }
-    requires rests { Rests design.now (state_of held.now) plan.now.tasks waits.old.marks env.old.items }
-    requires ends { EndsIn design.now (state_of held.now) env.old.items most }
+    requires rests { Rests design.now (state_of held.now rows.now) plan.now.tasks waits.old.marks env.old.items }
+    requires ends { EndsIn design.now (state_of held.now rows.now) env.old.items most }
     requires most { most ≤ 2 ^ 32 + 1 }
-    ensures settled { Settled design.now (state_of held.now) env.new.items }
+    ensures settled { Settled design.now (state_of held.now rows.now) env.new.items }
     ensures signals { length env.new.items ≡ length design.now.pool.signals }
     ensures fits { FitsSignals design.now.pool env.new.items }
     ensures count { length nums.new.items ≡ length nums.old.items }
@@ -63,12 +66,13 @@ pub fn settle<L: Ledger>(
     ensures waits { waits.new ≡ nobody (length plan.now.tasks) }
     ensures then { then.new ≡ nobody (length plan.now.tasks) }
     ensures woken { woken.new ≡ nobody (length design.now.processes) }
-    ensures counts { (old : List ℤ) (rest : List (List ℤ)) → Wakes plan.now.processes old env.old.items (replicate (length design.now.processes) false) woken.old.marks → DeltasFrom design.now (state_of held.now) env.old.items rest → AreCounts design.now old (env.old.items ∷ rest) result.deltas result.runs }
+    ensures counts { (before : List (List ℤ)) (old : List ℤ) (rest : List (List ℤ)) → Wakes plan.now.processes old env.old.items (replicate (length design.now.processes) false) woken.old.marks → DeltasFrom design.now (state_of held.now rows.now) env.old.items rest → AreCounts design.now before rows.now old (env.old.items ∷ rest) result.deltas result.runs }
     ensures steps { steps.new ≡ steps.old + result.runs }
 {
     let _ = design.count();
     let _ = design.processes();
     let _ = held;
+    let _ = rows;
     let mut counts = Counts { deltas: 0, runs: 0 };
     for _ in 0..most {
         let count = woken.len();

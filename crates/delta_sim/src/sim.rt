@@ -6,11 +6,13 @@ ghost use Rattle.design_ir.specs.Legal.{IsLegal};
 ghost use Rattle.design_ir.specs.Steps.{clock_low};
 ghost use Rattle.comb_graph.specs.Rankings.{IsRanking};
 ghost use Rattle.delta_sim.specs.Standing.{IsFresh, IsSimOf, Settles, Stands};
+ghost use Rattle.delta_sim.specs.Ports.{AreReadsClocked};
 
 use crate::agenda::Agenda;
 use crate::event::hold;
 use crate::first::run_in_order;
 use crate::plan::Plan;
+use crate::rows::Rows;
 use crate::settle::{Counts, settle};
 use crate::tables::plan_of;
 use crate::wake::take_given;
@@ -22,11 +24,13 @@ use std::alloc::Global;
 use std::marker::{Brand, Model};
 use std::sync::ledger::{Blank, Ledger};
 
-/// The numbers of a design's signals behind a list of events: those that its state holds, and those of the settled
-/// environment. Beside them stands what is worked out of the design once, and the room in which events are carried out.
+/// The numbers of a design's signals behind a list of events, those that its state holds and those of the settled
+/// environment, and the rows of its memories. Beside them stands what is worked out of the design once, and the room in
+/// which events are carried out.
 #[derive(Drop)]
 pub struct Sim {
     held: Vec<Int>,
+    rows: Vec<Rows>,
     env: Vec<Int>,
     counts: Counts,
     longest: u32,
@@ -43,14 +47,14 @@ impl Model for Sim {
 
     ghost Value = { Simulated };
 
-    ghost view = { λ s. record { held = s.held.items; env = s.env.items; counts = s.counts; longest = s.longest; plan = s.plan; numbers = s.numbers.items; next = s.next.items; waits = s.waits; then = s.then; woken = s.woken } };
+    ghost view = { λ s. record { held = s.held.items; rows = s.rows.items; env = s.env.items; counts = s.counts; longest = s.longest; plan = s.plan; numbers = s.numbers.items; next = s.next.items; waits = s.waits; then = s.then; woken = s.woken } };
 }
 
 impl Sim {
     /// The design before any event, settled. Each task runs once in the order of the ranks first, so that a long chain is
     /// not gone along signal by signal.
     pub fn start(alloc: Global, design: &Design, ranks: &Ranks) -> Result<Sim, NoMemory>
-        requires flat { design.now.memories ≡ [] }
+        requires ports { AreReadsClocked design.now }
         requires ranked { IsRanking design.now ranks.now }
         ensures { IfOk result (Stands design.now []) }
     {
@@ -61,6 +65,7 @@ impl Sim {
         let tasks = plan.tasks.len();
         let mut sim = Sim {
             held,
+            rows: first_rows(alloc, design)?,
             env,
             counts: Counts { deltas: 0, runs: 0 },
             longest: ranks.longest(),
@@ -91,7 +96,7 @@ impl Sim {
         event: &Event,
         steps: &mut Steps<L>,
     ) -> Result<(), NoMemory>
-        requires flat { design.now.memories ≡ [] }
+        requires ports { AreReadsClocked design.now }
         requires legal { IsLegal design.now event.now }
         requires of_design { IsSimOf design.now self.old }
         ensures ok { result ≡ Ok tt }
@@ -110,6 +115,7 @@ impl Sim {
             self.env.as_slice(),
             &mut self.numbers,
             &mut self.held,
+            &mut self.rows,
         );
         take_given(
             &self.plan,
@@ -123,6 +129,7 @@ impl Sim {
             &self.plan,
             self.longest as u64 + 2,
             self.held.as_slice(),
+            self.rows.as_slice(),
             &mut self.env,
             &mut self.numbers,
             &mut self.next,
@@ -159,11 +166,12 @@ impl Sim {
 
 // Settles a simulator that has had no event, with a counter of steps of its own.
 fn first_settled<L: Ledger>(sim: &mut Sim, design: &Design, blank: Blank)
-    requires flat { design.now.memories ≡ [] }
+    requires ports { AreReadsClocked design.now }
     requires fresh { IsFresh design.now sim.old }
     requires blank { (blank.name ≡ L.name) × (blank.parts ≡ L.parts) × (0 < L.parts) }
     ensures of_design { IsSimOf design.now sim.new }
     ensures held { sim.new.held ≡ sim.old.held }
+    ensures rows { sim.new.rows ≡ sim.old.rows }
 {
     let _ = design.count();
     let _ = design.processes();
@@ -174,6 +182,7 @@ fn first_settled<L: Ledger>(sim: &mut Sim, design: &Design, blank: Blank)
         &sim.plan,
         sim.longest as u64 + 2,
         sim.held.as_slice(),
+        sim.rows.as_slice(),
         &mut sim.env,
         &mut sim.numbers,
         &mut sim.next,
@@ -182,6 +191,17 @@ fn first_settled<L: Ledger>(sim: &mut Sim, design: &Design, blank: Blank)
         &mut sim.woken,
         &mut steps,
     );
+}
+
+// The rows of each memory before any event.
+fn first_rows(alloc: Global, design: &Design) -> Result<Vec<Rows>, NoMemory>
+    ensures { IfOk result (λ all. all.items ≡ map (λ m. m.rows) design.now.memories) }
+{
+    let mut all = Vec::new(alloc);
+    for m in design.memories().as_slice() {
+        all.push(Rows::copied(alloc, &m.rows)?)?;
+    }
+    Ok(all)
 }
 
 // Lets all of so many wait.

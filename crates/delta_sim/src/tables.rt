@@ -8,12 +8,12 @@ ghost use Rattle.delta_sim.specs.Marks.{is_marked};
 ghost use Rattle.delta_sim.specs.Plans.{IsPlan};
 ghost use Rattle.delta_sim.specs.Tables.{AreNoMarks, ArePartial, AreTables, IsAdded, IsRoom};
 
-use crate::agenda::Agenda;
 use crate::compile::{Marks, compile};
 use crate::driven::driven_each;
 use crate::given::given_signals;
 use crate::group::groups;
 use crate::plan::Plan;
+use crate::port_exprs::all_ports;
 use crate::targets::{SigIds, all_targets};
 use crate::task::Task;
 use amh_host::{Items, NoMemory};
@@ -22,7 +22,6 @@ use std::alloc::Global;
 
 /// The plan of a design.
 pub fn plan_of(alloc: Global, design: &Design) -> Result<Plan, NoMemory>
-    requires { design.now.memories ≡ [] }
     ensures { IfOk result (IsPlan design.now (length design.now.pool.exprs)) }
 {
     let _ = design.count();
@@ -35,6 +34,7 @@ pub fn plan_of(alloc: Global, design: &Design) -> Result<Plan, NoMemory>
         given,
         clocked: tables.clocked,
         tasks: tables.tasks,
+        ports: all_ports(alloc, design)?,
         readers: all_items(alloc, tables.readers)?,
         processes: all_items(alloc, tables.processes)?,
     })
@@ -42,7 +42,6 @@ pub fn plan_of(alloc: Global, design: &Design) -> Result<Plan, NoMemory>
 
 // What is known of all processes.
 fn all_tables(alloc: Global, design: &Design, targets: &[SigIds]) -> Result<Tables, NoMemory>
-    requires flat { design.now.memories ≡ [] }
     requires targets { AreTargets design.now.pool (length design.now.pool.exprs) targets.now }
     ensures { IfOk result (λ t. AreTables design.now (length design.now.processes) t.clocked t.tasks t.readers.items t.processes.items) }
 {
@@ -70,16 +69,12 @@ impl Tables {
         ensures tables { IfOk result (λ t. AreTables design.now 0 t.clocked t.tasks t.readers.items t.processes.items) }
         ensures room { IfOk result (λ t. IsRoom design.now t.marks t.noted.items) }
     {
-        let count = design.count() as usize;
         Ok(Tables {
             clocked: Items::new(alloc),
             tasks: Items::new(alloc),
             readers: no_readers(alloc, design.signals())?,
             processes: no_readers(alloc, design.signals())?,
-            marks: Marks {
-                aims: Agenda::new(alloc, count)?,
-                values: Agenda::new(alloc, count)?,
-            },
+            marks: Marks::new(alloc, design)?,
             noted: vec![in alloc; 0; design.signals() as usize]?,
         })
     }
@@ -92,7 +87,6 @@ impl Tables {
         targets: &[SigIds],
         k: usize,
     ) -> Result<(), NoMemory>
-        requires flat { design.now.memories ≡ [] }
         requires there { k < length design.now.processes }
         requires targets { AreTargets design.now.pool (length design.now.pool.exprs) targets.now }
         requires room { IsRoom design.now self.old.marks self.old.noted.items }
@@ -117,7 +111,6 @@ impl Tables {
         k: usize,
         p: &DesignProcess,
     ) -> Result<(), NoMemory>
-        requires flat { design.now.memories ≡ [] }
         requires there { slice_get design.now.processes k ≡ Some p.now }
         requires clocked { is_some p.now.domain ≡ true }
         requires targets { AreTargets design.now.pool (length design.now.pool.exprs) targets.now }
@@ -150,7 +143,6 @@ impl Tables {
         k: usize,
         p: &DesignProcess,
     ) -> Result<(), NoMemory>
-        requires flat { design.now.memories ≡ [] }
         requires there { slice_get design.now.processes k ≡ Some p.now }
         requires comb { p.now.domain ≡ None }
         requires targets { AreTargets design.now.pool (length design.now.pool.exprs) targets.now }
@@ -179,7 +171,6 @@ impl Tables {
         p: &DesignProcess,
         group: &[usize],
     ) -> Result<(), NoMemory>
-        requires flat { design.now.memories ≡ [] }
         requires there { slice_get design.now.processes k ≡ Some p.now }
         requires comb { p.now.domain ≡ None }
         requires targets { AreTargets design.now.pool (length design.now.pool.exprs) targets.now }

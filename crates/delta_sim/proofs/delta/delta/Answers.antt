@@ -21,4 +21,4 @@ returns-clause-env c = λ st fit rests.
     let long = delta_length d st c.count.ensures.rules c.processes.ensures.rules env in
     let ran : (j s : ℕ) (t : Task) → slice_get plan.tasks j ≡ Some t → slice_index_or marks j false ≡ true → is_among (numbers_of t.outs) s ≡ true → at c.run_all.new.next s ≡ at (delta d st env) s =
     λ j s t a b o. c.run_all.ensures.ran st j s t a b o ∙ ap (λ xs. at (delta d st xs) s) c.as_slice.ensures.value in
-    delta_is d c.requires.flat c.count.ensures.rules c.processes.ensures.rules (length c.args.nums.now.items) c.requires.numbers.few plan c.requires.plan st marks env c.run_all.new.next c.take_all.new.env.items c.requires.signals c.take_all.ensures.count long rests ran c.take_all.ensures.kept c.take_all.ensures.taken
+    delta_is d c.count.ensures.rules c.processes.ensures.rules (length c.args.nums.now.items) c.requires.numbers.few plan c.requires.plan c.requires.ports st marks env c.run_all.new.next c.take_all.new.env.items c.requires.signals c.take_all.ensures.count long rests ran c.take_all.ensures.kept c.take_all.ensures.taken

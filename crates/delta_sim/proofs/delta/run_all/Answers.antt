@@ -8,7 +8,7 @@ loop-i-preserved c =
     let tasks = c.args.plan.now.tasks in
     let stands = ap (slice_get tasks) (sym c.get.ensures) ∙ c.get-task.ensures.lookup in
     record {
-      ran = run_turn c.args.design.now c.requires.flat c.count.ensures.rules c.processes.ensures.rules (length c.args.nums.now.items) c.requires.numbers.few c.args.plan.now c.requires.plan list c.loop-i.i c.get-task.result.now c.args.env.now c.loop-i.next c.run.new.next stands c.loop-i.invariant.next c.run.ensures.next c.loop-i.invariant.ran;
+      ran = run_turn c.args.design.now c.count.ensures.rules c.processes.ensures.rules (length c.args.nums.now.items) c.requires.numbers.few c.args.plan.now c.requires.plan list c.loop-i.i c.get-task.result.now c.args.env.now c.loop-i.next c.run.new.next stands c.loop-i.invariant.next c.run.ensures.next c.loop-i.invariant.ran;
       count = c.run.ensures.count ∙ c.loop-i.invariant.count;
       numbers = c.run.ensures.numbers;
       next = c.run.ensures.next_count;

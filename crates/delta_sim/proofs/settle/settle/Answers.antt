@@ -13,7 +13,7 @@ use Rattle.delta_sim.proofs.settle.settle.Goals as goal
 pub loop-init : goal.loop-init
 loop-init g c =
     let d = c.args.design.now in
-    let st = state_of c.args.held.now in
+    let st = state_of c.args.held.now c.args.rows.now in
     record {
       signals = c.requires.signals;
       fits = c.requires.fits;
@@ -26,7 +26,7 @@ loop-init g c =
       woken = c.requires.woken;
       rests = c.requires.rests;
       left = left_first d st c.args.env.now.items c.args.waits.now.marks c.args.most c.requires.ends;
-      counts = λ old rest wakes are. record { old = old; rest = rest; are = are; wakes = wakes; many_deltas = omega arith; many_runs = omega arith };
+      counts = λ before old rest wakes are. record { rows = before; old = old; rest = rest; are = are; wakes = wakes; many_deltas = omega arith; many_runs = omega arith };
       few_deltas = omega arith;
       few_runs = omega arith;
       steps = omega arith;
@@ -43,7 +43,7 @@ counted-counts-requires-clause-runs g c =
 pub returns-then-len-eq0 : goal.returns-then-len-eq0
 returns-then-len-eq0 g c =
     let d = c.args.design.now in
-    let st = state_of c.args.held.now in
+    let st = state_of c.args.held.now c.args.rows.now in
     let idle = idle_of c.loop.waits c.len.ensures.rules (sym c.len.ensures.count ∙ c.if-len-eq0.true) in
     let settled = idle_settles d st c.count.ensures.rules c.processes.ensures.rules c.args.plan.now.tasks c.loop.waits.marks c.loop.env.items c.loop.invariant.signals c.loop.invariant.rests idle in
     let plan = subst (λ n. IsPlan d n c.args.plan.now) (sym c.loop.invariant.count) c.requires.plan in
@@ -58,8 +58,8 @@ returns-then-len-eq0 g c =
       waits = c.clear-then-len-eq0.ensures ∙ ap nobody c.loop.invariant.waits;
       then = c.loop.invariant.then;
       woken = c.clear.ensures ∙ ap nobody c.loop.invariant.woken;
-      counts = λ old rest wakes are.
-          let here = count_here d st c.requires.flat (length c.loop.nums.items) c.args.plan.now plan c.loop.env.items c.loop.woken.marks c.len-count.result c.loop.counts.deltas c.loop.counts.runs _ _ c.loop.invariant.woken (c.len-count.ensures.count ∙ c.len-count.ensures.rules.count) (c.loop.invariant.counts old rest wakes are) in
+      counts = λ before old rest wakes are.
+          let here = count_here d st c.requires.ports (length c.loop.nums.items) c.args.plan.now plan c.loop.env.items c.loop.woken.marks c.len-count.result c.loop.counts.deltas c.loop.counts.runs _ _ c.loop.invariant.woken (c.len-count.ensures.count ∙ c.len-count.ensures.rules.count) (c.loop.invariant.counts before old rest wakes are) in
           let all = count_end d st c.loop.env.items _ _ _ _ settled here in
           record { many_deltas = c.counted-counts.ensures.deltas ∙ all.0; many_runs = c.counted-counts.ensures.runs ∙ all.1 };
       steps = omega (arith, c.tick.ensures, c.loop.invariant.steps, c.counted-counts.ensures.runs);
@@ -69,7 +69,7 @@ pub delta-requires : goal.delta-requires
 delta-requires g c =
     let d = c.args.design.now in
     record {
-      flat = c.requires.flat;
+      ports = c.requires.ports;
       plan = subst (λ n. IsPlan d n c.args.plan.now) (sym c.loop.invariant.count) c.requires.plan;
       signals = c.loop.invariant.signals;
       fits = c.loop.invariant.fits;
@@ -84,7 +84,7 @@ delta-requires g c =
 pub loop-preserved : goal.loop-preserved
 loop-preserved g c =
     let d = c.args.design.now in
-    let st = state_of c.args.held.now in
+    let st = state_of c.args.held.now c.args.rows.now in
     let rules = c.count.ensures.rules in
     let design = c.processes.ensures.rules in
     let env = c.loop.env.items in
@@ -109,12 +109,12 @@ loop-preserved g c =
       waits = c.delta.ensures.waits.count ∙ replicate_length false (length c.args.plan.now.tasks);
       then = c.delta.ensures.then;
       woken = woken.count ∙ replicate_length false n;
-      rests = rests_next d c.requires.flat rules design (length c.loop.nums.items) c.loop.invariant.numbers.few c.args.plan.now plan st env new (replicate (length c.args.plan.now.tasks) false) c.delta.new.waits.marks c.requires.state e long (delta_length d st rules design new) c.delta.ensures.waits;
+      rests = rests_next d rules design (length c.loop.nums.items) c.loop.invariant.numbers.few c.args.plan.now plan c.requires.ports st env new (replicate (length c.args.plan.now.tasks) false) c.delta.new.waits.marks c.requires.state e long (delta_length d st rules design new) c.delta.ensures.waits;
       left = left_next d st c.args.plan.now.readers (length c.args.plan.now.tasks) env new c.loop.waits.marks c.delta.new.waits.marks c.args.most c.loop.counter c.loop.invariant.left some e c.delta.ensures.waits;
-      counts = λ old rest wakes are.
-          let here = count_here d st c.requires.flat (length c.loop.nums.items) c.args.plan.now plan env c.loop.woken.marks c.len-count.result c.loop.counts.deltas c.loop.counts.runs _ _ c.loop.invariant.woken (c.len-count.ensures.count ∙ c.len-count.ensures.rules.count) (c.loop.invariant.counts old rest wakes are) in
+      counts = λ before old rest wakes are.
+          let here = count_here d st c.requires.ports (length c.loop.nums.items) c.args.plan.now plan env c.loop.woken.marks c.len-count.result c.loop.counts.deltas c.loop.counts.runs _ _ c.loop.invariant.woken (c.len-count.ensures.count ∙ c.len-count.ensures.rules.count) (c.loop.invariant.counts before old rest wakes are) in
           let same = rw (← c.counted-counts.ensures.deltas, ← c.counted-counts.ensures.runs) at here in
-          count_next d st c.requires.flat c.args.plan.now.processes env new c.delta.new.woken.marks c.counted-counts.result.deltas c.counted-counts.result.runs _ _ e woken same;
+          count_next d st c.requires.ports c.args.plan.now.processes env new c.delta.new.woken.marks c.counted-counts.result.deltas c.counted-counts.result.runs _ _ e woken same;
       few_deltas = omega (arith, c.counted-counts.ensures.deltas, c.loop.invariant.few_deltas, most_one);
       few_runs = subst (λ k. k ≤ (c.loop.counter + 1) * n) (sym c.counted-counts.ensures.runs) (runs_next c.loop.counter n c.len-count.result c.loop.counts.runs c.loop.invariant.few_runs few);
       steps = omega (arith, c.tick.ensures, c.loop.invariant.steps, c.counted-counts.ensures.runs);
@@ -122,5 +122,5 @@ loop-preserved g c =
 
 pub returns : goal.returns
 returns g c =
-    let turn = left_turn c.args.design.now (state_of c.args.held.now) c.loop.env.items c.loop.waits.marks c.args.most c.loop.counter c.loop.invariant.left in
+    let turn = left_turn c.args.design.now (state_of c.args.held.now c.args.rows.now) c.loop.env.items c.loop.waits.marks c.args.most c.loop.counter c.loop.invariant.left in
     absurd (omega (arith, turn, c.loop-test.false))

@@ -1,4 +1,4 @@
-use Rattle.std.proofs.Common.{◌≡◌, ◌+◌, ◌*◌, ◌≤◌, [], ◌∷◌, List, ℤ, false, length, replicate}
+use Rattle.std.proofs.Common.{◌≡◌, ◌+◌, ◌*◌, ◌≤◌, ◌∷◌, List, ℤ, false, length, replicate}
 use Rattle.design_ir.specs.Histories.{DeltasFrom}
 use Rattle.design_ir.proofs.NumbersFit.{FitsSignals}
 use Rattle.delta_sim.specs.Plans.{Rests, Wakes}
@@ -20,10 +20,10 @@ invariant-loop g l = record {
   waits : length l.waits.marks ≡ length l.plan.tasks;
   then : l.then ≡ nobody (length l.plan.tasks);
   woken : length l.woken.marks ≡ length l.design.processes;
-  rests : Rests l.design (state_of l.held) l.plan.tasks l.waits.marks l.env.items;
-  left : Left l.design (state_of l.held) l.env.items l.waits.marks l.most l.counter;
-  counts : (old : List ℤ) (rest : List (List ℤ)) → Wakes l.plan.processes old l.initial.env.items (replicate (length l.design.processes) false) l.initial.woken.marks → DeltasFrom l.design (state_of l.held) l.initial.env.items rest
-      → Counted l.design (state_of l.held) l.plan.processes l.env.items l.woken.marks l.counts.deltas l.counts.runs (deltas_of l.design [] [] old (l.initial.env.items ∷ rest)) (runs_of l.design [] [] old (l.initial.env.items ∷ rest));
+  rests : Rests l.design (state_of l.held l.rows) l.plan.tasks l.waits.marks l.env.items;
+  left : Left l.design (state_of l.held l.rows) l.env.items l.waits.marks l.most l.counter;
+  counts : (before : List (List ℤ)) (old : List ℤ) (rest : List (List ℤ)) → Wakes l.plan.processes old l.initial.env.items (replicate (length l.design.processes) false) l.initial.woken.marks → DeltasFrom l.design (state_of l.held l.rows) l.initial.env.items rest
+      → Counted l.design (state_of l.held l.rows) l.plan.processes l.env.items l.woken.marks l.counts.deltas l.counts.runs (deltas_of l.design before l.rows old (l.initial.env.items ∷ rest)) (runs_of l.design before l.rows old (l.initial.env.items ∷ rest));
   few_deltas : l.counts.deltas ≤ l.counter;
   few_runs : l.counts.runs ≤ l.counter * length l.design.processes;
   steps : l.steps ≡ l.initial.steps + l.counts.runs;

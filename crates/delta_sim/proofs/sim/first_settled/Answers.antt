@@ -4,16 +4,18 @@ use Rattle.design_ir.specs.Settled.{Settled}
 use Rattle.design_ir.proofs.NumbersFit.{FitsSignals}
 use Rattle.delta_sim.specs.Plans.{IsPlan, Rests}
 use Rattle.delta_sim.specs.Settling.{EndsIn}
-use Rattle.delta_sim.specs.Standing.{IsFresh, AreNumbersOf, state_of}
+use Rattle.delta_sim.specs.Standing.{IsFresh, AreNumbersOf}
 use Rattle.delta_sim.proofs.Applying.{vec_whole}
 use Rattle.delta_sim.proofs.Beginning.{numbers, fit, first_ends, first_rests}
+use Rattle.delta_sim.proofs.Lives.{first_rows, move_state}
 use Rattle.delta_sim.proofs.sim.first_settled.Goals as goal
 
 pub settle-requires-clause-state : goal.settle-requires-clause-state
 settle-requires-clause-state g c =
     let d = c.args.design.now in
     let fresh = subst (IsFresh d) (sym c.sim.view_is) c.requires.fresh in
-    subst (λ xs. FitsState d (state_of xs)) (sym c.as_slice.ensures.value) (fit d c.requires.flat c.count.ensures.rules c.processes.ensures.rules c.sim.inside.held.items fresh.held)
+    let i = c.sim.inside in
+    move_state (FitsState d) i.held.items c.as_slice.result.now i.rows.items c.as_slice-2.result.now c.as_slice.ensures.value c.as_slice-2.ensures.value (fit d c.count.ensures.rules c.processes.ensures.rules i.held.items fresh.held i.rows.items fresh.rows)
 
 pub settle-requires-clause-signals : goal.settle-requires-clause-signals
 settle-requires-clause-signals g c =
@@ -45,28 +47,29 @@ settle-requires-clause-rests g c =
     let i = c.sim.inside in
     let fresh = subst (IsFresh d) (sym c.sim.view_is) c.requires.fresh in
     let all = subst (λ n. (k : ℕ) → k < n → slice_index_or c.wake_all.new.waits.marks k false ≡ true) c.len.ensures c.wake_all.ensures.all in
-    let rests = first_rests d c.requires.flat c.count.ensures.rules c.processes.ensures.rules i.held.items fresh.held i.env.items fresh.env fresh.same (length i.numbers.items) i.plan c.wake_all.new.waits.marks fresh.plan all in
-    subst (λ xs. Rests d (state_of xs) i.plan.tasks c.wake_all.new.waits.marks i.env.items) (sym c.as_slice.ensures.value) rests
+    let rests = first_rests d c.count.ensures.rules c.processes.ensures.rules i.held.items fresh.held i.rows.items fresh.rows i.env.items fresh.env fresh.same c.requires.ports (length i.numbers.items) i.plan c.wake_all.new.waits.marks fresh.plan all in
+    move_state (λ st. Rests d st i.plan.tasks c.wake_all.new.waits.marks i.env.items) i.held.items c.as_slice.result.now i.rows.items c.as_slice-2.result.now c.as_slice.ensures.value c.as_slice-2.ensures.value rests
 
 pub settle-requires-clause-ends : goal.settle-requires-clause-ends
 settle-requires-clause-ends g c =
     let d = c.args.design.now in
     let i = c.sim.inside in
     let fresh = subst (IsFresh d) (sym c.sim.view_is) c.requires.fresh in
-    let ends = first_ends d c.requires.flat c.count.ensures.rules c.processes.ensures.rules i.held.items fresh.held i.env.items fresh.env fresh.same i.longest fresh.longest in
-    subst (λ xs. EndsIn d (state_of xs) i.env.items (i.longest + 2)) (sym c.as_slice.ensures.value) ends
+    let ends = first_ends d c.count.ensures.rules c.processes.ensures.rules i.held.items fresh.held i.rows.items fresh.rows i.env.items fresh.env fresh.same i.longest fresh.longest in
+    move_state (λ st. EndsIn d st i.env.items (i.longest + 2)) i.held.items c.as_slice.result.now i.rows.items c.as_slice-2.result.now c.as_slice.ensures.value c.as_slice-2.ensures.value ends
 
 pub returns-clause-of_design : goal.returns-clause-of_design
 returns-clause-of_design g c =
     let d = c.args.design.now in
     let i = c.sim.inside in
     let fresh = subst (IsFresh d) (sym c.sim.view_is) c.requires.fresh in
-    let held = numbers d c.requires.flat c.count.ensures.rules c.processes.ensures.rules i.held.items fresh.held in
+    let held = numbers d c.count.ensures.rules c.processes.ensures.rules i.held.items fresh.held in
     let next_long = c.settle.ensures.next ∙ sym (ap length c.deref_mut.ensures.value ∙ fresh.next.count) ∙ c.deref_mut.ensures.len in
     record {
       held = held;
+      rows = first_rows d i.rows.items c.count.ensures.rules c.processes.ensures.rules fresh.rows;
       env = record { count = c.settle.ensures.signals; fits = c.settle.ensures.fits };
-      settled = subst (λ xs. Settled d (state_of xs) c.settle.new.env.items) c.as_slice.ensures.value c.settle.ensures.settled;
+      settled = move_state (λ st. Settled d st c.settle.new.env.items) c.as_slice.result.now i.held.items c.as_slice-2.result.now i.rows.items (sym c.as_slice.ensures.value) (sym c.as_slice-2.ensures.value) c.settle.ensures.settled;
       longest = fresh.longest;
       plan = subst (λ n. IsPlan d n i.plan) (sym c.settle.ensures.count) fresh.plan;
       numbers = c.settle.ensures.numbers;

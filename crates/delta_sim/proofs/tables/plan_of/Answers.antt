@@ -14,4 +14,4 @@ returns c =
     let given = subst (λ list. (s : ℕ) → is_among (numbers_of list) s ≡ is_marked c.in_ok-given.given.items s) (sym c.given.view_is) listed in
     let tables = subst (λ readers. AreTables d (length d.processes) t.clocked t.tasks readers c.in_ok-all_items-2.field-0) (sym c.in_ok-all_items.ensures)
     (subst (λ processes. AreTables d (length d.processes) t.clocked t.tasks t.readers.items processes) (sym c.in_ok-all_items-2.ensures) c.in_ok-tables.ensures) in
-    planned d c.processes.ensures.rules _ c.in_ok-given.given.items c.in_ok-given.ensures given tables
+    planned d c.processes.ensures.rules _ c.in_ok-given.given.items c.in_ok-given.ensures given tables c.in_ok-all_ports.ensures

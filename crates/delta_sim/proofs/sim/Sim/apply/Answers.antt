@@ -3,15 +3,15 @@ use Rattle.std.specs.List.{AllByRecursion}
 use Rattle.design_ir.specs.Histories.{DeltasFrom}
 use Rattle.comb_graph.specs.Laws.{FitsState}
 use Rattle.design_ir.specs.Settled.{Settled}
+use Rattle.design_ir.specs.Steps.{step}
 use Rattle.design_ir.proofs.NumbersFit.{FitsSignals}
-use Rattle.delta_sim.specs.After.{after}
 use Rattle.delta_sim.specs.Driven.{numbers_of}
 use Rattle.delta_sim.specs.Plans.{taken, Rests, IsTable, IsPlan, Wakes}
-use Rattle.delta_sim.specs.Settling.{EndsIn}
+use Rattle.delta_sim.specs.Settling.{AreCounts, EndsIn}
 use Rattle.delta_sim.specs.Standing.{Simulated, IsSimOf, Settles, Stands, state_of, AreNumbersOf}
 use Rattle.delta_sim.specs.Waiting.{Waiting}
 use Rattle.delta_sim.proofs.Applying.{begins, vec_whole}
-use Rattle.delta_sim.proofs.Lives.{happened, after_numbers}
+use Rattle.delta_sim.proofs.Lives.{happened, move_state, same_state, step_numbers}
 use Rattle.delta_sim.proofs.Waits.{replicate_length}
 use Rattle.delta_sim.proofs.sim.Sim.apply.Goals as goal
 
@@ -27,6 +27,7 @@ hold-requires g c =
       numbers = of.numbers;
       signals = of.held.count;
       fits = of.held.fits;
+      rows = of.rows;
     }
 
 pub take_given-requires : goal.take_given-requires
@@ -36,12 +37,12 @@ take_given-requires g c =
     let of = subst (IsSimOf d) (sym c.self.view_is) c.requires.of_design in
     let marks_long : length i.waits.marks ≡ length i.plan.tasks = ap (λ (w : Waiting). length w.marks) of.waits ∙ replicate_length false (length i.plan.tasks) in
     let woken_long : length i.woken.marks ≡ length d.processes = ap (λ (w : Waiting). length w.marks) of.woken ∙ replicate_length false (length d.processes) in
-    let held_long = ap length (c.hold.ensures.held ∙ ap (λ xs. after d i.held.items xs c.args.event.now) c.as_slice.ensures.value) in
+    let held_long = ap length (c.hold.ensures.held ∙ ap (λ xs. (step d (state_of i.held.items i.rows.items) xs c.args.event.now).held) c.as_slice.ensures.value) in
     record {
       tasks = subst (λ n. IsTable n (length i.waits.marks) i.plan.readers) (sym of.env.count) (subst (λ b. IsTable (length d.pool.signals) b i.plan.readers) (sym marks_long) of.plan.readers);
       processes = subst (λ n. IsTable n (length i.woken.marks) i.plan.processes) (sym of.env.count) (subst (λ b. IsTable (length d.pool.signals) b i.plan.processes) (sym woken_long) of.plan.processes);
       below = subst (λ n. AllByRecursion (λ s. s < n) (numbers_of i.plan.given)) (sym of.env.count) of.plan.given_below;
-      long = ap length c.as_slice-2.ensures.value ∙ held_long ∙ (after_numbers d c.requires.flat i.held.items i.env.items c.args.event.now c.count.ensures.rules c.processes.ensures.rules c.requires.legal of.held).count ∙ sym of.env.count;
+      long = ap length c.as_slice-2.ensures.value ∙ held_long ∙ (step_numbers d c.count.ensures.rules c.processes.ensures.rules i.held.items i.rows.items i.env.items c.args.event.now c.requires.legal of.held of.rows).count ∙ sym of.env.count;
     }
 
 pub settle-self-inside-requires-clause-state : goal.settle-self-inside-requires-clause-state
@@ -50,12 +51,14 @@ settle-self-inside-requires-clause-state g c =
     let i = c.self.inside in
     let of = subst (IsSimOf d) (sym c.self.view_is) c.requires.of_design in
     let held = c.hold.new.held.items in
+    let rows = c.hold.new.rows.items in
     let first = c.take_given.new.env.items in
     let marks = c.take_given.new.waits.marks in
-    let held_is = c.hold.ensures.held ∙ ap (λ xs. after d i.held.items xs c.args.event.now) c.as_slice.ensures.value in
+    let held_is = c.hold.ensures.held ∙ ap (λ xs. (step d (state_of i.held.items i.rows.items) xs c.args.event.now).held) c.as_slice.ensures.value in
+    let rows_is = c.hold.ensures.rows ∙ ap (λ xs. (step d (state_of i.held.items i.rows.items) xs c.args.event.now).rows) c.as_slice.ensures.value in
     let first_is = c.take_given.ensures.env ∙ ap (λ xs. taken xs (numbers_of i.plan.given) i.env.items) c.as_slice-2.ensures.value in
-    let begun = begins d c.requires.flat c.count.ensures.rules c.processes.ensures.rules _ of c.args.event.now c.requires.legal c.deltas_are_few.ensures held first i.waits.marks marks held_is first_is c.take_given.ensures.waits in
-    subst (λ xs. FitsState d (state_of xs)) (sym c.as_slice-3.ensures.value) begun.fit
+    let begun = begins d c.requires.ports c.count.ensures.rules c.processes.ensures.rules _ of c.args.event.now c.requires.legal c.deltas_are_few.ensures held rows first i.waits.marks marks held_is rows_is first_is c.take_given.ensures.waits in
+    move_state (FitsState d) held c.as_slice-3.result.now rows c.as_slice-4.result.now c.as_slice-3.ensures.value c.as_slice-4.ensures.value begun.fit
 
 pub settle-self-inside-requires-clause-signals : goal.settle-self-inside-requires-clause-signals
 settle-self-inside-requires-clause-signals g c =
@@ -63,11 +66,13 @@ settle-self-inside-requires-clause-signals g c =
     let i = c.self.inside in
     let of = subst (IsSimOf d) (sym c.self.view_is) c.requires.of_design in
     let held = c.hold.new.held.items in
+    let rows = c.hold.new.rows.items in
     let first = c.take_given.new.env.items in
     let marks = c.take_given.new.waits.marks in
-    let held_is = c.hold.ensures.held ∙ ap (λ xs. after d i.held.items xs c.args.event.now) c.as_slice.ensures.value in
+    let held_is = c.hold.ensures.held ∙ ap (λ xs. (step d (state_of i.held.items i.rows.items) xs c.args.event.now).held) c.as_slice.ensures.value in
+    let rows_is = c.hold.ensures.rows ∙ ap (λ xs. (step d (state_of i.held.items i.rows.items) xs c.args.event.now).rows) c.as_slice.ensures.value in
     let first_is = c.take_given.ensures.env ∙ ap (λ xs. taken xs (numbers_of i.plan.given) i.env.items) c.as_slice-2.ensures.value in
-    let begun = begins d c.requires.flat c.count.ensures.rules c.processes.ensures.rules _ of c.args.event.now c.requires.legal c.deltas_are_few.ensures held first i.waits.marks marks held_is first_is c.take_given.ensures.waits in
+    let begun = begins d c.requires.ports c.count.ensures.rules c.processes.ensures.rules _ of c.args.event.now c.requires.legal c.deltas_are_few.ensures held rows first i.waits.marks marks held_is rows_is first_is c.take_given.ensures.waits in
     begun.numbers.count
 
 pub settle-self-inside-requires-clause-fits : goal.settle-self-inside-requires-clause-fits
@@ -76,11 +81,13 @@ settle-self-inside-requires-clause-fits g c =
     let i = c.self.inside in
     let of = subst (IsSimOf d) (sym c.self.view_is) c.requires.of_design in
     let held = c.hold.new.held.items in
+    let rows = c.hold.new.rows.items in
     let first = c.take_given.new.env.items in
     let marks = c.take_given.new.waits.marks in
-    let held_is = c.hold.ensures.held ∙ ap (λ xs. after d i.held.items xs c.args.event.now) c.as_slice.ensures.value in
+    let held_is = c.hold.ensures.held ∙ ap (λ xs. (step d (state_of i.held.items i.rows.items) xs c.args.event.now).held) c.as_slice.ensures.value in
+    let rows_is = c.hold.ensures.rows ∙ ap (λ xs. (step d (state_of i.held.items i.rows.items) xs c.args.event.now).rows) c.as_slice.ensures.value in
     let first_is = c.take_given.ensures.env ∙ ap (λ xs. taken xs (numbers_of i.plan.given) i.env.items) c.as_slice-2.ensures.value in
-    let begun = begins d c.requires.flat c.count.ensures.rules c.processes.ensures.rules _ of c.args.event.now c.requires.legal c.deltas_are_few.ensures held first i.waits.marks marks held_is first_is c.take_given.ensures.waits in
+    let begun = begins d c.requires.ports c.count.ensures.rules c.processes.ensures.rules _ of c.args.event.now c.requires.legal c.deltas_are_few.ensures held rows first i.waits.marks marks held_is rows_is first_is c.take_given.ensures.waits in
     begun.numbers.fits
 
 pub settle-self-inside-requires-clause-rests : goal.settle-self-inside-requires-clause-rests
@@ -89,12 +96,14 @@ settle-self-inside-requires-clause-rests g c =
     let i = c.self.inside in
     let of = subst (IsSimOf d) (sym c.self.view_is) c.requires.of_design in
     let held = c.hold.new.held.items in
+    let rows = c.hold.new.rows.items in
     let first = c.take_given.new.env.items in
     let marks = c.take_given.new.waits.marks in
-    let held_is = c.hold.ensures.held ∙ ap (λ xs. after d i.held.items xs c.args.event.now) c.as_slice.ensures.value in
+    let held_is = c.hold.ensures.held ∙ ap (λ xs. (step d (state_of i.held.items i.rows.items) xs c.args.event.now).held) c.as_slice.ensures.value in
+    let rows_is = c.hold.ensures.rows ∙ ap (λ xs. (step d (state_of i.held.items i.rows.items) xs c.args.event.now).rows) c.as_slice.ensures.value in
     let first_is = c.take_given.ensures.env ∙ ap (λ xs. taken xs (numbers_of i.plan.given) i.env.items) c.as_slice-2.ensures.value in
-    let begun = begins d c.requires.flat c.count.ensures.rules c.processes.ensures.rules _ of c.args.event.now c.requires.legal c.deltas_are_few.ensures held first i.waits.marks marks held_is first_is c.take_given.ensures.waits in
-    subst (λ xs. Rests d (state_of xs) i.plan.tasks marks first) (sym c.as_slice-3.ensures.value) begun.rests
+    let begun = begins d c.requires.ports c.count.ensures.rules c.processes.ensures.rules _ of c.args.event.now c.requires.legal c.deltas_are_few.ensures held rows first i.waits.marks marks held_is rows_is first_is c.take_given.ensures.waits in
+    move_state (λ st. Rests d st i.plan.tasks marks first) held c.as_slice-3.result.now rows c.as_slice-4.result.now c.as_slice-3.ensures.value c.as_slice-4.ensures.value begun.rests
 
 pub settle-self-inside-requires-clause-ends : goal.settle-self-inside-requires-clause-ends
 settle-self-inside-requires-clause-ends g c =
@@ -102,12 +111,14 @@ settle-self-inside-requires-clause-ends g c =
     let i = c.self.inside in
     let of = subst (IsSimOf d) (sym c.self.view_is) c.requires.of_design in
     let held = c.hold.new.held.items in
+    let rows = c.hold.new.rows.items in
     let first = c.take_given.new.env.items in
     let marks = c.take_given.new.waits.marks in
-    let held_is = c.hold.ensures.held ∙ ap (λ xs. after d i.held.items xs c.args.event.now) c.as_slice.ensures.value in
+    let held_is = c.hold.ensures.held ∙ ap (λ xs. (step d (state_of i.held.items i.rows.items) xs c.args.event.now).held) c.as_slice.ensures.value in
+    let rows_is = c.hold.ensures.rows ∙ ap (λ xs. (step d (state_of i.held.items i.rows.items) xs c.args.event.now).rows) c.as_slice.ensures.value in
     let first_is = c.take_given.ensures.env ∙ ap (λ xs. taken xs (numbers_of i.plan.given) i.env.items) c.as_slice-2.ensures.value in
-    let begun = begins d c.requires.flat c.count.ensures.rules c.processes.ensures.rules _ of c.args.event.now c.requires.legal c.deltas_are_few.ensures held first i.waits.marks marks held_is first_is c.take_given.ensures.waits in
-    subst (λ xs. EndsIn d (state_of xs) first (i.longest + 2)) (sym c.as_slice-3.ensures.value) begun.ends
+    let begun = begins d c.requires.ports c.count.ensures.rules c.processes.ensures.rules _ of c.args.event.now c.requires.legal c.deltas_are_few.ensures held rows first i.waits.marks marks held_is rows_is first_is c.take_given.ensures.waits in
+    move_state (λ st. EndsIn d st first (i.longest + 2)) held c.as_slice-3.result.now rows c.as_slice-4.result.now c.as_slice-3.ensures.value c.as_slice-4.ensures.value begun.ends
 
 pub returns-clause-of_design : goal.returns-clause-of_design
 returns-clause-of_design g c =
@@ -115,15 +126,18 @@ returns-clause-of_design g c =
     let i = c.self.inside in
     let of = subst (IsSimOf d) (sym c.self.view_is) c.requires.of_design in
     let held = c.hold.new.held.items in
+    let rows = c.hold.new.rows.items in
     let first = c.take_given.new.env.items in
     let marks = c.take_given.new.waits.marks in
-    let held_is = c.hold.ensures.held ∙ ap (λ xs. after d i.held.items xs c.args.event.now) c.as_slice.ensures.value in
+    let held_is = c.hold.ensures.held ∙ ap (λ xs. (step d (state_of i.held.items i.rows.items) xs c.args.event.now).held) c.as_slice.ensures.value in
+    let rows_is = c.hold.ensures.rows ∙ ap (λ xs. (step d (state_of i.held.items i.rows.items) xs c.args.event.now).rows) c.as_slice.ensures.value in
     let first_is = c.take_given.ensures.env ∙ ap (λ xs. taken xs (numbers_of i.plan.given) i.env.items) c.as_slice-2.ensures.value in
-    let begun = begins d c.requires.flat c.count.ensures.rules c.processes.ensures.rules _ of c.args.event.now c.requires.legal c.deltas_are_few.ensures held first i.waits.marks marks held_is first_is c.take_given.ensures.waits in
+    let begun = begins d c.requires.ports c.count.ensures.rules c.processes.ensures.rules _ of c.args.event.now c.requires.legal c.deltas_are_few.ensures held rows first i.waits.marks marks held_is rows_is first_is c.take_given.ensures.waits in
     let next_long = c.settle-self-inside.ensures.next ∙ sym of.next.count ∙ sym (ap length c.deref_mut.ensures.value) ∙ c.deref_mut.ensures.len in
-    let settled = subst (λ xs. Settled d (state_of xs) c.settle-self-inside.new.env.items) c.as_slice-3.ensures.value c.settle-self-inside.ensures.settled in
+    let settled = move_state (λ st. Settled d st c.settle-self-inside.new.env.items) c.as_slice-3.result.now held c.as_slice-4.result.now rows (sym c.as_slice-3.ensures.value) (sym c.as_slice-4.ensures.value) c.settle-self-inside.ensures.settled in
     record {
       held = begun.held_of;
+      rows = begun.rows_of;
       env = record { count = c.settle-self-inside.ensures.signals; fits = c.settle-self-inside.ensures.fits };
       settled = settled;
       longest = of.longest;
@@ -141,15 +155,18 @@ returns-clause-lives g c = λ events stands.
     let i = c.self.inside in
     let of = subst (IsSimOf d) (sym c.self.view_is) c.requires.of_design in
     let held = c.hold.new.held.items in
+    let rows = c.hold.new.rows.items in
     let first = c.take_given.new.env.items in
     let marks = c.take_given.new.waits.marks in
-    let held_is = c.hold.ensures.held ∙ ap (λ xs. after d i.held.items xs c.args.event.now) c.as_slice.ensures.value in
+    let held_is = c.hold.ensures.held ∙ ap (λ xs. (step d (state_of i.held.items i.rows.items) xs c.args.event.now).held) c.as_slice.ensures.value in
+    let rows_is = c.hold.ensures.rows ∙ ap (λ xs. (step d (state_of i.held.items i.rows.items) xs c.args.event.now).rows) c.as_slice.ensures.value in
     let first_is = c.take_given.ensures.env ∙ ap (λ xs. taken xs (numbers_of i.plan.given) i.env.items) c.as_slice-2.ensures.value in
-    let begun = begins d c.requires.flat c.count.ensures.rules c.processes.ensures.rules _ of c.args.event.now c.requires.legal c.deltas_are_few.ensures held first i.waits.marks marks held_is first_is c.take_given.ensures.waits in
+    let begun = begins d c.requires.ports c.count.ensures.rules c.processes.ensures.rules _ of c.args.event.now c.requires.legal c.deltas_are_few.ensures held rows first i.waits.marks marks held_is rows_is first_is c.take_given.ensures.waits in
     let next_long = c.settle-self-inside.ensures.next ∙ sym of.next.count ∙ sym (ap length c.deref_mut.ensures.value) ∙ c.deref_mut.ensures.len in
-    let settled = subst (λ xs. Settled d (state_of xs) c.settle-self-inside.new.env.items) c.as_slice-3.ensures.value c.settle-self-inside.ensures.settled in
+    let settled = move_state (λ st. Settled d st c.settle-self-inside.new.env.items) c.as_slice-3.result.now held c.as_slice-4.result.now rows (sym c.as_slice-3.ensures.value) (sym c.as_slice-4.ensures.value) c.settle-self-inside.ensures.settled in
     let new : Simulated = record {
       held = c.hold.new.held.items;
+      rows = c.hold.new.rows.items;
       env = c.settle-self-inside.new.env.items;
       counts = c.settle-self-inside.result;
       longest = c.self.inside.longest;
@@ -162,6 +179,7 @@ returns-clause-lives g c = λ events stands.
     } in
     let is_sim : IsSimOf d new = record {
       held = begun.held_of;
+      rows = begun.rows_of;
       env = record { count = c.settle-self-inside.ensures.signals; fits = c.settle-self-inside.ensures.fits };
       settled = settled;
       longest = of.longest;
@@ -172,8 +190,8 @@ returns-clause-lives g c = λ events stands.
       then = c.settle-self-inside.ensures.then;
       woken = c.settle-self-inside.ensures.woken;
     } in
-    let was : Simulated = record { held = i.held.items; env = i.env.items; counts = i.counts; longest = i.longest; plan = i.plan; numbers = i.numbers.items; next = i.next.items; waits = i.waits; then = i.then; woken = i.woken } in
-    happened d c.requires.flat events c.args.event.now was new is_sim held_is settled (subst (Stands d events) (sym c.self.view_is) stands)
+    let was : Simulated = record { held = i.held.items; rows = i.rows.items; env = i.env.items; counts = i.counts; longest = i.longest; plan = i.plan; numbers = i.numbers.items; next = i.next.items; waits = i.waits; then = i.then; woken = i.woken } in
+    happened d events c.args.event.now was new is_sim (same_state (step d (state_of i.held.items i.rows.items) i.env.items c.args.event.now) held rows held_is rows_is) settled (subst (Stands d events) (sym c.self.view_is) stands)
 
 pub returns-clause-counts : goal.returns-clause-counts
 returns-clause-counts g c =
@@ -181,17 +199,22 @@ returns-clause-counts g c =
     let i = c.self.inside in
     let of = subst (IsSimOf d) (sym c.self.view_is) c.requires.of_design in
     let held = c.hold.new.held.items in
+    let rows = c.hold.new.rows.items in
     let first = c.take_given.new.env.items in
     let marks = c.take_given.new.waits.marks in
-    let held_is = c.hold.ensures.held ∙ ap (λ xs. after d i.held.items xs c.args.event.now) c.as_slice.ensures.value in
+    let held_is = c.hold.ensures.held ∙ ap (λ xs. (step d (state_of i.held.items i.rows.items) xs c.args.event.now).held) c.as_slice.ensures.value in
+    let rows_is = c.hold.ensures.rows ∙ ap (λ xs. (step d (state_of i.held.items i.rows.items) xs c.args.event.now).rows) c.as_slice.ensures.value in
     let first_is = c.take_given.ensures.env ∙ ap (λ xs. taken xs (numbers_of i.plan.given) i.env.items) c.as_slice-2.ensures.value in
-    let begun = begins d c.requires.flat c.count.ensures.rules c.processes.ensures.rules _ of c.args.event.now c.requires.legal c.deltas_are_few.ensures held first i.waits.marks marks held_is first_is c.take_given.ensures.waits in
+    let begun = begins d c.requires.ports c.count.ensures.rules c.processes.ensures.rules _ of c.args.event.now c.requires.legal c.deltas_are_few.ensures held rows first i.waits.marks marks held_is rows_is first_is c.take_given.ensures.waits in
     let rest = begun.ends.rest in
     let none = ap (λ (w : Waiting). w.marks) of.woken in
     let wakes = subst (λ was. Wakes i.plan.processes i.env.items first was c.take_given.new.woken.marks) none c.take_given.ensures.woken in
-    let are = subst (λ xs. DeltasFrom d (state_of xs) first rest) (sym c.as_slice-3.ensures.value) begun.ends.are in
+    let are = move_state (λ st. DeltasFrom d st first rest) held c.as_slice-3.result.now rows c.as_slice-4.result.now c.as_slice-3.ensures.value c.as_slice-4.ensures.value begun.ends.are in
+    let counts = c.settle-self-inside.ensures.counts i.rows.items i.env.items rest wakes are in
+    let counted = subst (λ ys. AreCounts d i.rows.items ys i.env.items (first ∷ rest) c.settle-self-inside.result.deltas c.settle-self-inside.result.runs) c.as_slice-4.ensures.value counts in
     let new : Simulated = record {
       held = c.hold.new.held.items;
+      rows = c.hold.new.rows.items;
       env = c.settle-self-inside.new.env.items;
       counts = c.settle-self-inside.result;
       longest = c.self.inside.longest;
@@ -202,6 +225,6 @@ returns-clause-counts g c =
       then = c.settle-self-inside.new.then;
       woken = c.settle-self-inside.new.woken;
     } in
-    let was : Simulated = record { held = i.held.items; env = i.env.items; counts = i.counts; longest = i.longest; plan = i.plan; numbers = i.numbers.items; next = i.next.items; waits = i.waits; then = i.then; woken = i.woken } in
-    let here : Settles d was new = record { deltas = first ∷ rest; are = begun.deltas rest begun.ends.are; counts = c.settle-self-inside.ensures.counts i.env.items rest wakes are } in
+    let was : Simulated = record { held = i.held.items; rows = i.rows.items; env = i.env.items; counts = i.counts; longest = i.longest; plan = i.plan; numbers = i.numbers.items; next = i.next.items; waits = i.waits; then = i.then; woken = i.woken } in
+    let here : Settles d was new = record { deltas = first ∷ rest; are = begun.deltas rest begun.ends.are; counts = counted } in
     subst (λ (s : Simulated). Settles d s new) c.self.view_is here

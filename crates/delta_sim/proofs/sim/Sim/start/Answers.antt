@@ -18,7 +18,7 @@ run_in_order-requires-clause-plan c =
 pub run_in_order-requires-clause-env : goal.run_in_order-requires-clause-env
 run_in_order-requires-clause-env c =
     let d = c.args.design.now in
-    subst (AreNumbersOf d) (sym (c.in_ok-env.ensures.items ∙ c.as_slice.ensures.value)) (numbers d c.requires.flat c.count.ensures.rules c.processes.ensures.rules c.in_ok-held.held.items c.in_ok-held.ensures)
+    subst (AreNumbersOf d) (sym (c.in_ok-env.ensures.items ∙ c.as_slice.ensures.value)) (numbers d c.count.ensures.rules c.processes.ensures.rules c.in_ok-held.held.items c.in_ok-held.ensures)
 
 pub run_in_order-requires-clause-numbers : goal.run_in_order-requires-clause-numbers
 run_in_order-requires-clause-numbers c =
@@ -28,17 +28,18 @@ run_in_order-requires-clause-numbers c =
 pub run_in_order-requires-clause-next : goal.run_in_order-requires-clause-next
 run_in_order-requires-clause-next c =
     let d = c.args.design.now in
-    subst (AreNumbersOf d) (sym (c.deref_mut.ensures.value ∙ c.in_ok-next.ensures.items ∙ c.as_slice-2.ensures.value)) (numbers d c.requires.flat c.count.ensures.rules c.processes.ensures.rules c.in_ok-held.held.items c.in_ok-held.ensures)
+    subst (AreNumbersOf d) (sym (c.deref_mut.ensures.value ∙ c.in_ok-next.ensures.items ∙ c.as_slice-2.ensures.value)) (numbers d c.count.ensures.rules c.processes.ensures.rules c.in_ok-held.held.items c.in_ok-held.ensures)
 
 pub first_settled-requires-clause-fresh : goal.first_settled-requires-clause-fresh
 first_settled-requires-clause-fresh c =
     let d = c.args.design.now in
     let ran = c.run_in_order.ensures in
     let zeros = c.in_ok-vec.ensures.items_if_clones_equal (λ y h. h) ∙ ap (replicate c.count.result) c.of_u128.ensures in
-    let held = numbers d c.requires.flat c.count.ensures.rules c.processes.ensures.rules c.in_ok-held.held.items c.in_ok-held.ensures in
+    let held = numbers d c.count.ensures.rules c.processes.ensures.rules c.in_ok-held.held.items c.in_ok-held.ensures in
     let long = ran.next.count ∙ sym (ap length (c.deref_mut.ensures.value ∙ c.in_ok-next.ensures.items ∙ c.as_slice-2.ensures.value) ∙ held.count) ∙ c.deref_mut.ensures.len in
     record {
       held = c.in_ok-held.ensures;
+      rows = c.in_ok-first_rows.ensures;
       env = ran.env;
       same = λ i none. ran.others i none ∙ ap (λ xs. at xs i) (c.in_ok-env.ensures.items ∙ c.as_slice.ensures.value);
       longest = rw (← c.longest.ensures) at c.requires.ranked.longest;
@@ -55,4 +56,4 @@ returns c =
     let d = c.args.design.now in
     let s = c.first_settled.new.sim in
     let of = c.first_settled.ensures.of_design in
-    started d c.requires.flat s of (c.first_settled.ensures.held ∙ c.in_ok-held.ensures) of.settled
+    started d s of (c.first_settled.ensures.held ∙ c.in_ok-held.ensures) (c.first_settled.ensures.rows ∙ c.in_ok-first_rows.ensures) of.settled

@@ -16,7 +16,7 @@ returns-clause-tables c =
     let p = c.args.p.now in
     let x = c.in_ok-compiled.compiled in
     let of = subst (λ is. IsCompiled d c.args.k p is x) (c.as_slice.ensures ∙ c.in_ok-all.ensures ∙ ap (range_with_len 0) c.len.ensures) c.in_ok-compiled.ensures.compiled in
-    let more = clocked_more d c.requires.flat c.processes.ensures.rules c.args.k p c.requires.there t.clocked t.tasks t.readers.items t.processes.items c.requires.earlier x.task c.requires.clocked (task_whole d c.args.k p c.requires.there x of) in
+    let more = clocked_more d c.processes.ensures.rules c.args.k p c.requires.there t.clocked t.tasks t.readers.items t.processes.items c.requires.earlier x.task c.requires.clocked (task_whole d c.args.k p c.requires.there x of) in
     on_ok c.push.result (λ e. subst (λ list. AreTables d (c.args.k + 1) list t.tasks t.readers.items t.processes.items) (sym e) more) c.push.ensures.ok
 
 pub returns-clause-room : goal.returns-clause-room

@@ -34,7 +34,7 @@ loop-group-init c =
       clocked = refl;
       noted = ap length (front_taken t.noted.len c.groups.new.noted _ same) ∙ c.in_ok-groups.ensures.count ∙ ap length c.deref_mut.ensures.value ∙ c.requires.room.long;
       marks = c.requires.room.unmarked;
-      partial = partial_first c.args.design.now c.requires.flat c.processes.ensures.rules c.args.k c.args.p.now c.requires.there t.clocked t.tasks t.readers.items t.processes.items c.requires.earlier;
+      partial = partial_first c.args.design.now c.processes.ensures.rules c.args.k c.args.p.now c.requires.there t.clocked t.tasks t.readers.items t.processes.items c.requires.earlier;
     }
 
 pub add_group-requires-clause-apart : goal.add_group-requires-clause-apart
@@ -90,7 +90,7 @@ returns-clause-tables c =
     let t = c.args.self.now in
     let now = c.loop-group.self in
     let all : (j : ℕ) → j < length (statements p.body) → is_among (joined (take i gs)) j ≡ true = λ j lt. ap (λ xs. is_among (joined xs) j) (taken_all gs i c.loop-group-test.false) ∙ group_all d.pool p.body drives many is gs of j lt in
-    let last = partial_last d c.requires.flat c.processes.ensures.rules c.args.k p c.requires.there t.clocked t.tasks t.readers.items t.processes.items c.requires.earlier c.requires.comb c.no_task.result (joined (take i gs)) now.tasks now.readers.items now.processes.items all v.partial in
+    let last = partial_last d c.processes.ensures.rules c.args.k p c.requires.there t.clocked t.tasks t.readers.items t.processes.items c.requires.earlier c.requires.comb c.no_task.result (joined (take i gs)) now.tasks now.readers.items now.processes.items all v.partial in
     on_ok c.push.result (λ e. subst (λ list. AreTables d (c.args.k + 1) list now.tasks now.readers.items now.processes.items) (sym (e ∙ ap (λ l. l ++ c.no_task.result ∷ []) v.clocked)) last) c.push.ensures.ok
 
 pub returns-clause-room : goal.returns-clause-room

@@ -33,5 +33,5 @@ returns-clause-tables c =
     let added' = subst (λ rs. IsAdded (numbers_of rs) c.args.k t.processes.items processes) c.as_slice-reads.ensures c.in_ok-add_reader-2.ensures in
     on_ok c.push.result (λ grown gone was other.
     subst (λ list. ArePartial d c.args.k c.args.p.now (gone ++ c.args.group.now) list readers processes) (sym grown)
-    (partial_turn d c.requires.flat c.processes.ensures.rules c.args.k c.args.p.now c.requires.there c.requires.comb gone c.args.group.now t.tasks t.readers.items t.processes.items was other c.requires.apart x c.in_ok-compiled.ensures.compiled readers processes added added'))
+    (partial_turn d c.processes.ensures.rules c.args.k c.args.p.now c.requires.there c.requires.comb gone c.args.group.now t.tasks t.readers.items t.processes.items was other c.requires.apart x c.in_ok-compiled.ensures.compiled readers processes added added'))
     c.push.ensures.ok
