@@ -43,6 +43,7 @@ pub mod WritesFit
 pub mod ClockedReads
 pub mod PortsFit
 pub mod PortTurns
+pub mod PortValues
 pub mod Granules
 pub mod PortPrograms
 pub mod Starts

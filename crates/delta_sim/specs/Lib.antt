@@ -6,6 +6,7 @@ pub mod Reads
 pub mod Woken
 pub mod Tasks
 pub mod Ports
+pub mod PortValues
 pub mod Groups
 pub mod Waiting
 pub mod Walked

@@ -23,6 +23,7 @@ mod expressions;
 mod first;
 mod given;
 mod group;
+mod laws;
 mod place;
 mod plan;
 mod port_exprs;
@@ -41,5 +42,6 @@ mod wake;
 mod write;
 mod written;
 
+pub use laws::words_are_rows;
 pub use settle::Counts;
 pub use sim::Sim;
