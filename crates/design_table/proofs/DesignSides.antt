@@ -11,7 +11,7 @@ use Rattle.design_table.proofs.TargetSides.{AreOwn}
 use Rattle.design_table.proofs.Statements.{all_imp}
 use Rattle.design_table.proofs.Ports.{is_input_of}
 
-none_of : (b c : Bool) → b ≡ false → c ≡ false → (b || c) ≡ false
+pub none_of : (b c : Bool) → b ≡ false → c ≡ false → (b || c) ≡ false
 none_of false false e f = refl
 none_of false true e f = f
 none_of true c e f = absurd (false≢true (sym e))

@@ -5,3 +5,4 @@ mod NoResets
 mod Ports
 mod Statements
 mod TargetSides
+pub mod Widths

@@ -19,7 +19,7 @@ all_of_test test (x ∷ xs) e =
     let r = and_parts (test x) (list_all test xs) e in
     All-cons (λ b. IsTrue (test b)) x xs r.0 (all_of_test test xs r.1)
 
-name_is : (name : List ℕ) → is_name name ≡ true → IsName name
+pub name_is : (name : List ℕ) → is_name name ≡ true → IsName name
 name_is [] e = absurd (false≢true e)
 name_is (b ∷ bs) e =
     let r = and_parts (starts_name b) (list_all continues_name bs) e in

@@ -11,6 +11,7 @@ use Rattle.design_ir.specs.declared.expr.Expr.TheVariants.{Const, Unary, Binary,
 use Rattle.design_ir.specs.declared.port.Port.{Port}
 use Rattle.design_ir.specs.declared.port.Column.{Column}
 use Rattle.design_ir.specs.declared.domain.Domain.{Domain}
+use Rattle.design_ir.specs.declared.memory.Memory.{Memory}
 use Rattle.design_ir.specs.declared.process.DesignProcess.{DesignProcess}
 use Rattle.design_ir.specs.Trees.{Statement, assign, choose, Choices, none, arm, Block, done, next}
 use Rattle.design_ir.specs.Pools.{Pooled, answers}
@@ -100,6 +101,11 @@ abbrev pub IsSide : Pooled → List Port → List Bool → Bool → Block → Ty
 IsSide pool ports clocked side body =
     block_fits (is_at (answers false (side_step (is_own ports clocked side)) [] pool.exprs)) (length pool.exprs) body ≡ true
 
+-- statements of both sides
+pub record AreSides (pool : Pooled) (ports : List Port) (clocked : List Bool) (comb sync : Block) : Type 0 where
+  pub of_comb : IsSide pool ports clocked false comb
+  pub of_sync : IsSide pool ports clocked true sync
+
 -- ---- the design
 
 abbrev pub column_of : Port → Column
@@ -111,12 +117,12 @@ sync_domain = record { name = codes "sync"; clk = record { 0 = 0 }; rst = None; 
 abbrev pub processes_of : Block → Block → List DesignProcess
 processes_of comb sync = record { domain = None; body = comb } ∷ record { domain = Some (record { 0 = 0 }); body = sync } ∷ []
 
--- every signal a port, one domain, and the statements of both sides
-abbrev pub circuit_of : Pooled → List Port → Block → Block → Circuit
-circuit_of pool ports comb sync = record {
+-- every signal a port, one domain, the statements of both sides, and memories
+abbrev pub circuit_of : Pooled → List Port → Block → Block → List Memory → Circuit
+circuit_of pool ports comb sync memories = record {
   pool = pool;
   processes = processes_of comb sync;
-  memories = [];
+  memories = memories;
   domains = sync_domain ∷ [];
   ports = ports;
   columns = map column_of ports;

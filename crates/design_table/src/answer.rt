@@ -1,5 +1,4 @@
 // What is said of a design.
-ghost use Rattle.std.specs.Prelude.{◌≡◌, []};
 ghost use Rattle.comb_graph.specs.Rankings.{IsRanking};
 
 use crate::events::played;
@@ -39,9 +38,7 @@ pub fn name_of(alloc: Global, lines: &[String]) -> Result<String, Stop> {
     }
 }
 
-fn design_said(alloc: Global, design: &Design, lines: &[String]) -> Result<String, Stop>
-    requires { design.now.memories ≡ [] }
-{
+fn design_said(alloc: Global, design: &Design, lines: &[String]) -> Result<String, Stop> {
     match rank(alloc, design) {
         Ok(ranks) => accepted_said(alloc, design, &ranks, lines),
         Err(GraphStop::Loop { sig, bit, place }) => loop_said(alloc, design, sig, bit, place),
@@ -70,8 +67,7 @@ fn accepted_said(
     ranks: &Ranks,
     lines: &[String],
 ) -> Result<String, Stop>
-    requires flat { design.now.memories ≡ [] }
-    requires ranked { IsRanking design.now ranks.now }
+    requires { IsRanking design.now ranks.now }
 {
     let mut said = format!(in alloc; "accepted {} {}", ranks.longest(), ranks.order().len())?;
     for line in lines {
@@ -82,8 +78,23 @@ fn accepted_said(
             _ => {}
         }
     }
-    said.push_str(played(alloc, design, ranks, lines)?.as_str())?;
+    said.push_str(numbers_said(alloc, design, ranks, lines)?.as_str())?;
     Ok(said)
+}
+
+// The numbers that the lines ask for, which are of designs without memories.
+fn numbers_said(
+    alloc: Global,
+    design: &Design,
+    ranks: &Ranks,
+    lines: &[String],
+) -> Result<String, Stop>
+    requires { IsRanking design.now ranks.now }
+{
+    match design.memories().as_slice() {
+        [] => played(alloc, design, ranks, lines),
+        _ => Ok(String::new(alloc)),
+    }
 }
 
 // All bits in their order.

@@ -11,6 +11,8 @@
 //! - `signal NAME WIDTH u|s comb|sync|input [INIT]` is a signal that combinational statements drive, or clocked ones, or
 //!   nothing; signals come in order of their lines, behind the clock `clk`, which every design has;
 //! - `assign TARGET VALUE`, `choose`, `arm CONDITION`, `end` are statements; the clocked ones stand behind a line `sync`;
+//! - `memory NAME DEPTH ADDRESS` is 2 or 4 rows, all 0, of which the signal shows the one at the address at once; there is one
+//!   at most, and no statement drives the signal;
 //! - `chain NAME.BIT ..` asks whether these bits stand in the order of the ranks, each behind the one before it, and
 //!   `order` asks for the whole order, where the needs leave only one;
 //! - `set NAME NUMBER`, `edge` are events, and `show` asks for the numbers of all signals behind those before it.
@@ -23,7 +25,8 @@
 //!
 //! The answer is `accepted`, the number of bits on the longest chain and the number of bits in the order, for each `chain`
 //! line `chained` or `apart`, for each `order` line the bits, and for each `show` line the numbers; or `loop NAME.BIT LINE:COL`; or `no case` for lines
-//! that are no design. Left out are memories, resets and more than one domain. What `rank`, `Sim` and `lower` say is
+//! that are no design. Left out are ports at edges, the numbers of a design
+//! with a memory, resets and more than one domain. What `rank`, `Sim` and `lower` say is
 //! what they promise; that a design keeps the rules that `Design::new` asks for is tested and proved in sound.rt.
 #![tactic(auto)]
 
@@ -36,6 +39,7 @@ mod lines;
 mod numbers;
 mod pool;
 mod reader;
+mod rows;
 mod shown;
 mod signals;
 mod sound;

@@ -1,9 +1,10 @@
 // A design of the table from its lines.
-ghost use Rattle.std.specs.Prelude.{◌≡◌, [], IfOk};
+ghost use Rattle.std.specs.Prelude.{IfOk};
 ghost use Rattle.design_ir.specs.Rising.{AllRisingSync};
 
 use crate::expressions::{expression, expressions};
 use crate::lines::{place_of, split_first, words_of};
+use crate::rows::{Rows, rows_of};
 use crate::signals::Signals;
 use crate::sound::design_of;
 use crate::stop::Stop;
@@ -26,11 +27,11 @@ struct Reader {
     comb: Option<Stmts>,
     body: Stmts,
     open: Vec<Open>,
+    rows: Option<Rows>,
 }
 
 /// The design that lines stand for.
 pub fn read_design(alloc: Global, lines: &[String]) -> Result<Design, Stop>
-    ensures flat { IfOk result (λ d. d.memories ≡ []) }
     ensures rising { IfOk result AllRisingSync }
 {
     let mut reader = Reader {
@@ -38,6 +39,7 @@ pub fn read_design(alloc: Global, lines: &[String]) -> Result<Design, Stop>
         comb: None,
         body: Stmts::new(alloc),
         open: Vec::new(alloc),
+        rows: None,
     };
     for k in 0..lines.len() {
         let line = lines[k].as_str();
@@ -61,6 +63,7 @@ impl Reader {
             "arm" => self.arm(alloc, rest),
             "end" => self.close(alloc),
             "sync" => self.turn(alloc),
+            "memory" => self.memory(alloc, rest),
             "chain" | "order" | "set" | "edge" | "show" => Ok(()),
             _ => Err(Stop::NoCase),
         }
@@ -136,9 +139,17 @@ impl Reader {
         Ok(())
     }
 
+    // The memory, of which there is one at most.
+    fn memory(&mut self, alloc: Global, words: &[&str]) -> Result<(), Stop> {
+        if self.rows.is_some() {
+            return Err(Stop::NoCase);
+        }
+        self.rows = Some(rows_of(alloc, &mut self.signals, words)?);
+        Ok(())
+    }
+
     // The design, once all lines are read.
     fn end(self, alloc: Global) -> Result<Design, Stop>
-        ensures flat { IfOk result (λ d. d.memories ≡ []) }
         ensures rising { IfOk result AllRisingSync }
     {
         let Reader {
@@ -146,13 +157,14 @@ impl Reader {
             comb,
             body,
             open,
+            rows,
         } = self;
         if !open.is_empty() {
             return Err(Stop::NoCase);
         }
         match comb {
-            Some(comb) => design_of(alloc, signals, comb, body),
-            None => design_of(alloc, signals, body, Stmts::new(alloc)),
+            Some(comb) => design_of(alloc, signals, comb, body, rows),
+            None => design_of(alloc, signals, body, Stmts::new(alloc), rows),
         }
     }
 }

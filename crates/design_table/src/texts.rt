@@ -27,7 +27,10 @@ pub fn text(alloc: Global, lines: &[String]) -> Result<String, Stop> {
 fn design_text(alloc: Global, lines: &[String]) -> Result<String, Stop> {
     let design = read_design(alloc, lines)?;
     match rank(alloc, &design) {
-        Ok(ranks) => lowered(alloc, &design, &ranks),
+        Ok(ranks) => match design.memories().as_slice() {
+            [] => lowered(alloc, &design, &ranks),
+            _ => Err(Stop::NoCase),
+        },
         Err(GraphStop::Loop { .. }) => Err(Stop::NoCase),
         Err(GraphStop::NoMemory) => Err(Stop::NoMemory),
     }
