@@ -204,7 +204,7 @@ module _ (pool : Pooled) (ports : List Port) (clocked : List Bool) (comb sync : 
       row_shapes = all_imp (λ n e. zero_is m.shape.signed m.shape.width n e) m.rows is.zeros;
       few_ports = rw (is.writes, is.reads) (omega arith);
       writes = rw is.writes tt;
-      reads = rw is.reads (read_sound m r fit is, tt);
+      reads = subst (AllByRecursion (IsReadPort d m)) (sym is.reads) (read_sound m r fit is, tt);
       one_domain = rw is.writes tt;
     }
 
