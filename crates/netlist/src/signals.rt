@@ -1,5 +1,5 @@
 // What drives the wire of each signal.
-ghost use Rattle.std.specs.Prelude.{◌≡◌, ◌<◌, ◌+◌, ◌*◌, ◌^◌, true, map, length, option_map, is_some, Some, None, IfOk, OnOk};
+ghost use Rattle.std.specs.Prelude.{◌≡◌, ◌<◌, ◌+◌, ◌*◌, ◌^◌, [], true, map, length, option_map, is_some, Some, None, IfOk, OnOk};
 ghost use Rattle.std.specs.List.{range_with_len};
 ghost use Rattle.design_ir.specs.declared.process.DesignProcess.{DesignProcess};
 ghost use Rattle.design_ir.specs.PoolRules.{IsPool};
@@ -274,6 +274,7 @@ fn driven_drawing(
 fn wired_drawing(alloc: Global, design: &Design, t: &Tables, s: SigId) -> Result<Drawing, NoMemory>
     requires pool { IsPool design.now.pool }
     requires rules { IsDesign design.now }
+    requires flat { design.now.memories ≡ [] }
     requires plain { IsPlain design.now }
     requires tables { AreTables design.now t.now }
     requires there { s.0 < length design.now.pool.signals }
@@ -300,6 +301,7 @@ pub(crate) fn signal_drawing(
 ) -> Result<Drawing, NoMemory>
     requires pool { IsPool design.now.pool }
     requires rules { IsDesign design.now }
+    requires flat { design.now.memories ≡ [] }
     requires plain { IsPlain design.now }
     requires tables { AreTables design.now t.now }
     requires there { s.0 < length design.now.pool.signals }
@@ -320,6 +322,7 @@ pub(crate) fn push_signals(
 ) -> Result<(), NoMemory>
     requires pool { IsPool design.now.pool }
     requires rules { IsDesign design.now }
+    requires flat { design.now.memories ≡ [] }
     requires plain { IsPlain design.now }
     requires tables { AreTables design.now t.now }
     ensures { OnOk result (drawing.new ≡ and_also drawing.old (together (map (signal_drawing design.now) (range_with_len 0 (length design.now.pool.signals))))) }
