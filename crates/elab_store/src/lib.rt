@@ -2,7 +2,7 @@
 //!
 //! `Store` has the things that a program may hold, modules with their statements, classes over `Component`, state machines and the top;
 //! `Elaboration` has the pool beside it. What they are is specs/Stores.antt, and what they keep to is specs/Sound.antt. The acts that change
-//! them are a family each in elab_machines and elab_eval.
+//! them are a family each in elab_machines and elab_acts.
 #![tactic(auto)]
 
 pub mod calls;

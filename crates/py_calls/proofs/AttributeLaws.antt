@@ -27,7 +27,7 @@ use Rattle.py_frames.specs.declared.going.Going.{Going}
 use Rattle.py_frames.specs.Doing.{Doing, World, Known, give, stop, making, made, heap_seen, choose, then_do}
 use Rattle.py_frames.specs.Asking.{request, ask}
 use Rattle.py_frames.specs.Statements.{known}
-use Rattle.py_frames.specs.Values.{method_of, is_plain_code, as_method, from_class, bound_builtin, builtin_method, list_method, dict_method, on_through, attribute_by, attribute_in_rounds, of_func, func_attribute, super_attribute, found_in, of_class, of_object, head_of, found_above, above, above_class}
+use Rattle.py_frames.specs.Values.{method_of, is_plain_code, as_method, from_class, bound_builtin, builtin_made, builtin_method, list_method, dict_method, on_through, attribute_by, attribute_in_rounds, of_func, func_attribute, super_attribute, found_in, of_class, of_object, head_of, found_above, above, above_class}
 use Rattle.py_frames.specs.Calling.{told_attribute, bound_func, bound_method, is_super}
 use Rattle.py_frames.specs.Frames.{GoesOn, within}
 use Rattle.py_frames.proofs.CallLaws.{looked, same_goes, same_runs, made_ok}
@@ -57,14 +57,14 @@ told_asked fns frozen r x y budget n v name told place q e1 e2 h =
     same_goes fns frozen r x y budget (λ z k. told_attribute n k z place v) told name e1
     (same_goes fns frozen r x y budget (λ z k. then_do (ask k z) (λ got. on_through got (λ v. attribute_in_rounds n k v told place))) q (request Attribute (v ∷ []) (told ∷ []) place) (e2 ∙ ap (λ (z : List ℕ). request Attribute (v ∷ []) (z ∷ []) place) (sym e1)) h)
 
-pub builtin_method_made : (fns : Functions) (frozen : Made) (r : Result Now Halt) (x y : Going) (budget : ℕ) (b : Builtin) (this : Val) (place : Place) (f : Func) → f ≡ bound_builtin b this → GoesOn fns frozen r x y budget (λ k. making (λ s. new_func (heap_seen k s) f) place give) → GoesOn fns frozen r x y budget (λ k. builtin_method k (Some b) this place)
-builtin_method_made fns frozen r x y budget b this place f e1 h = same_goes fns frozen r x y budget (λ z k. making (λ s. new_func (heap_seen k s) z) place give) f (bound_builtin b this) e1 h
+pub builtin_made_by : (fns : Functions) (frozen : Made) (r : Result Now Halt) (x y : Going) (budget : ℕ) (b : Builtin) (this : Option Val) (place : Place) (f : Func) → f ≡ bound_builtin b this → GoesOn fns frozen r x y budget (λ k. making (λ s. new_func (heap_seen k s) f) place give) → GoesOn fns frozen r x y budget (λ k. builtin_made k b this place)
+builtin_made_by fns frozen r x y budget b this place f e1 h = same_goes fns frozen r x y budget (λ z k. making (λ s. new_func (heap_seen k s) z) place give) f (bound_builtin b this) e1 h
 
-pub of_class_read : (fns : Functions) (frozen : Made) (r : Result Now Halt) (x y : Going) (budget : ℕ) (n : ℕ) (v : Val) (o : ℕ) (name : List ℕ) (place : Place) (i : Inherited) → i ≡ inherits (seen frozen x.state.heap) name (record { 0 = o }) → GoesOn fns frozen r x y budget (λ k. found_in k (told_attribute n k name place) v (Some v) place i) → GoesOn fns frozen r x y budget (λ k. of_class k (told_attribute n k name place) v name place (val.Class (record { 0 = o })))
-of_class_read fns frozen r x y budget n v o name place i e1 h = looked fns frozen r x y budget (λ s. inherits s name (record { 0 = o })) (λ z k. found_in k (told_attribute n k name place) v (Some v) place z) i e1 h
+pub of_class_read : (fns : Functions) (frozen : Made) (r : Result Now Halt) (x y : Going) (budget : ℕ) (n : ℕ) (v : Val) (o : ℕ) (name : List ℕ) (place : Place) (i : Inherited) → i ≡ inherits (seen frozen x.state.heap) name (record { 0 = o }) → GoesOn fns frozen r x y budget (λ k. found_in k (told_attribute n k name place) v (Some v) name place i) → GoesOn fns frozen r x y budget (λ k. of_class k (told_attribute n k name place) v name place (val.Class (record { 0 = o })))
+of_class_read fns frozen r x y budget n v o name place i e1 h = looked fns frozen r x y budget (λ s. inherits s name (record { 0 = o })) (λ z k. found_in k (told_attribute n k name place) v (Some v) name place z) i e1 h
 
-pub class_read : (fns : Functions) (frozen : Made) (r : Result Now Halt) (x y : Going) (budget : ℕ) (n : ℕ) (o : ℕ) (name : List ℕ) (place : Place) (i : Inherited) → i ≡ inherits (seen frozen x.state.heap) name (record { 0 = o }) → GoesOn fns frozen r x y budget (λ k. found_in k (told_attribute n k name place) (val.Class (record { 0 = o })) None place i) → GoesOn fns frozen r x y budget (λ k. attribute_by k (told_attribute n k name place) (val.Class (record { 0 = o })) name place)
-class_read fns frozen r x y budget n o name place i e1 h = looked fns frozen r x y budget (λ s. inherits s name (record { 0 = o })) (λ z k. found_in k (told_attribute n k name place) (val.Class (record { 0 = o })) None place z) i e1 h
+pub class_read : (fns : Functions) (frozen : Made) (r : Result Now Halt) (x y : Going) (budget : ℕ) (n : ℕ) (o : ℕ) (name : List ℕ) (place : Place) (i : Inherited) → i ≡ inherits (seen frozen x.state.heap) name (record { 0 = o }) → GoesOn fns frozen r x y budget (λ k. found_in k (told_attribute n k name place) (val.Class (record { 0 = o })) None name place i) → GoesOn fns frozen r x y budget (λ k. attribute_by k (told_attribute n k name place) (val.Class (record { 0 = o })) name place)
+class_read fns frozen r x y budget n o name place i e1 h = looked fns frozen r x y budget (λ s. inherits s name (record { 0 = o })) (λ z k. found_in k (told_attribute n k name place) (val.Class (record { 0 = o })) None name place z) i e1 h
 
 pub object_has : (fns : Functions) (frozen : Made) (r : Result Now Halt) (x y : Going) (budget : ℕ) (n : ℕ) (o : ℕ) (name : List ℕ) (place : Place) (v : Val) → Some v ≡ attribute_in (seen frozen x.state.heap) name (attributes (row_at (seen frozen x.state.heap) o)) → GoesOn fns frozen r x y budget (λ k. give v) → GoesOn fns frozen r x y budget (λ k. attribute_by k (told_attribute n k name place) (val.Object (record { 0 = o })) name place)
 object_has fns frozen r x y budget n o name place v e1 h = looked fns frozen r x y budget (λ s. attribute_in s name (attributes (row_at s o))) (λ z k. of_object k (told_attribute n k name place) (record { 0 = o }) z name place) (Some v) e1 h

@@ -38,9 +38,9 @@ use Rattle.py_frames.specs.Functions.{function_at}
 use Rattle.py_frames.specs.Statements.{known}
 use Rattle.py_values.specs.Names.{look_up}
 use Rattle.py_frames.specs.Async.{is_async_body}
-use Rattle.py_frames.specs.Values.{method_called, func_called, builtin_called, init_thing, on_names, attributes_bound, named_vals, named_names, class_word, super_of, super_called, with_func, without_arguments, without_keywords, length_called, magnitude_called, built, gone_over, initialised, code_called, made_object, object_made, class_called}
+use Rattle.py_frames.specs.Values.{method_called, func_called, builtin_called, init_thing, on_names, attributes_bound, named_vals, named_names, class_word, super_of, super_called, with_func, without_arguments, without_keywords, nothing_begun, length_called, magnitude_called, built, gone_over, initialised, code_called, made_object, object_made, class_called}
 use Rattle.py_frames.specs.Calling.{bound_method}
-use Rattle.py_calls.specs.Called.{kind_of, called_by_kind, callable_of, callable_code, callable_body, called_as, no_arguments, no_keywords, one_thing}
+use Rattle.py_calls.specs.Called.{kind_of, called_by_kind, callable_of, callable_code, callable_body, called_as, no_arguments, no_keywords, is_one, one_thing}
 use Rattle.py_frames.specs.Frames.{GoesOn, within, told}
 use Rattle.py_frames.proofs.CallLaws.{looked, same_goes, same_runs, made_ok, made_err}
 use Rattle.py_calls.proofs.AttributeLaws.{from_class-made}
@@ -87,6 +87,27 @@ pub keyword_some : (fns : Functions) (frozen : Made) (r : Result Now Halt) (x y 
 keyword_some fns frozen r x y budget keywords place m e1 h = same_runs fns frozen r x y budget (λ k. stop Raised place) (λ k. without_keywords keywords place (m k)) (λ w. ap (λ (z : Doing). z w x.state) (unnamed-some keywords place (m (known (steps_of fns.program) frozen x.state.here.room)) e1)) h
 
 pub ruleset keyword_rules = (keyword_none, keyword_some)
+
+begun-one : (args : List Val) (place : Place) → is_one args ≡ true → nothing_begun args place ≡ give val.None
+begun-one [] place e = cc
+begun-one (v ∷ []) place e = refl
+begun-one (v ∷ u ∷ vs) place e = cc
+
+begun-other : (args : List Val) (place : Place) → is_one args ≡ false → nothing_begun args place ≡ stop Raised place
+begun-other [] place e = refl
+begun-other (v ∷ []) place e = cc
+begun-other (v ∷ u ∷ vs) place e = refl
+
+pub begun_one : (fns : Functions) (frozen : Made) (r : Result Now Halt) (x y : Going) (budget : ℕ) (args : List Val) (place : Place) → is_one args ≡ true → GoesOn fns frozen r x y budget (λ k. give val.None) → GoesOn fns frozen r x y budget (λ k. nothing_begun args place)
+begun_one fns frozen r x y budget args place e1 h = same_runs fns frozen r x y budget (λ k. give val.None) (λ k. nothing_begun args place) (λ w. ap (λ (z : Doing). z w x.state) (begun-one args place e1)) h
+
+pub begun_other : (fns : Functions) (frozen : Made) (r : Result Now Halt) (x y : Going) (budget : ℕ) (args : List Val) (place : Place) → is_one args ≡ false → GoesOn fns frozen r x y budget (λ k. stop Raised place) → GoesOn fns frozen r x y budget (λ k. nothing_begun args place)
+begun_other fns frozen r x y budget args place e1 h = same_runs fns frozen r x y budget (λ k. stop Raised place) (λ k. nothing_begun args place) (λ w. ap (λ (z : Doing). z w x.state) (begun-other args place e1)) h
+
+pub ruleset begun_rules = (begun_one, begun_other)
+
+pub begun_same : (fns : Functions) (frozen : Made) (r : Result Now Halt) (x y : Going) (budget : ℕ) (us vs : List Val) (place : Place) → vs ≡ us → GoesOn fns frozen r x y budget (λ k. nothing_begun vs place) → GoesOn fns frozen r x y budget (λ k. nothing_begun us place)
+begun_same fns frozen r x y budget us vs place e1 h = same_goes fns frozen r x y budget (λ z k. nothing_begun z place) vs us e1 h
 
 pub len_same : (fns : Functions) (frozen : Made) (r : Result Now Halt) (x y : Going) (budget : ℕ) (us vs : List Val) (place : Place) → vs ≡ us → GoesOn fns frozen r x y budget (λ k. length_called k vs place) → GoesOn fns frozen r x y budget (λ k. length_called k us place)
 len_same fns frozen r x y budget us vs place e1 h = same_goes fns frozen r x y budget (λ z k. length_called k z place) vs us e1 h

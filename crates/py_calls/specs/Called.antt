@@ -21,7 +21,7 @@ use Rattle.py_calls.specs.declared.call_kind.Callable.TheVariants as callable
 use Rattle.py_frames.specs.Doing.{Doing, Known, give, stop}
 use Rattle.py_frames.specs.Functions.{function_at}
 use Rattle.py_frames.specs.Async.{is_async_body}
-use Rattle.py_frames.specs.Values.{without_arguments, without_keywords, super_called, init_this, length_called, magnitude_called, gone_over, with_this, builtin_called}
+use Rattle.py_frames.specs.Values.{without_arguments, without_keywords, super_called, init_this, length_called, magnitude_called, gone_over, with_this, nothing_begun, builtin_called}
 
 -- how a builtin is called
 abbrev pub kind_of : Builtin → CallKind
@@ -36,7 +36,7 @@ kind_of b = kind.Plain
 abbrev pub called_by_kind : Known → CallKind → Builtin → Option Val → List Val → List NamedVal → Place → Doing
 called_by_kind k kind.Super b this args keywords place = without_arguments args keywords place (super_called k this place)
 called_by_kind k kind.InitThing b this args keywords place = init_this k this args keywords place
-called_by_kind k kind.InitNothing b this args keywords place = without_arguments args keywords place (give val.None)
+called_by_kind k kind.InitNothing b this args keywords place = without_keywords keywords place (nothing_begun (with_this this args) place)
 called_by_kind k kind.Print b this args keywords place = give val.None
 called_by_kind k kind.Len b this args keywords place = without_keywords keywords place (length_called k (with_this this args) place)
 called_by_kind k kind.Abs b this args keywords place = without_keywords keywords place (magnitude_called k (with_this this args) place)
@@ -69,6 +69,11 @@ no_keywords (x ∷ xs) = false
 abbrev pub no_arguments : List Val → List NamedVal → Bool
 no_arguments [] keywords = no_keywords keywords
 no_arguments (v ∷ vs) keywords = false
+
+-- one argument in order
+abbrev pub is_one : List Val → Bool
+is_one (v ∷ []) = true
+is_one vs = false
 
 -- the thing that is the one argument
 abbrev pub one_thing : List Val → Option Hw

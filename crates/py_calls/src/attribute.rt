@@ -1,10 +1,10 @@
 // Attributes: what a value has under a name.
 ghost use Rattle.std.specs.Prelude.{◌≡◌, Some};
-ghost use Rattle.py_frames.specs.Values.{from_class, builtin_method, attribute_by, attribute_in_rounds, attribute, found_in, of_class};
+ghost use Rattle.py_frames.specs.Values.{from_class, builtin_made, builtin_method, nowhere, attribute_by, attribute_in_rounds, attribute, found_in, of_class};
 ghost use Rattle.py_frames.specs.Calling.{told_attribute};
 ghost use Rattle.py_frames.specs.Frames.{GoesOn};
 
-use crate::attribute_leaf::{dict_method, first_of_row, list_method, method_val};
+use crate::attribute_leaf::{dict_method, first_of_row, is_init, list_method, method_val};
 use crate::attribute_super::func_attribute;
 use amh_host::Place;
 use py_frames::call_leaf::{about_name, ask_under, give, new_func, raise, run_out};
@@ -36,8 +36,31 @@ pub fn from_class(
     give(going, functions, frozen, v, budget)
 }
 
+/// A builtin function of its own, bound to a value where there is one.
+#[tactic(auto, using(crate::proofs::AttributeLaws::builtin_made_by))]
+fn builtin_made(
+    going: &mut Going,
+    functions: &Functions,
+    frozen: &Frozen,
+    b: Builtin,
+    this: Option<Val>,
+    place: Place,
+    budget: u64,
+) -> Result<Now, Halt>
+    ensures moves { GoesOn functions.now frozen.now result going.old going.new budget (λ k. builtin_made k b this place) }
+    ensures used { going.new.state.used ≡ going.old.state.used }
+{
+    let f = Func {
+        code: Code::Builtin(b),
+        this,
+        home: None,
+        defaults: Vals::new(going.alloc),
+        scope: None,
+    };
+    new_func(going, functions, frozen, f, place, budget)
+}
+
 /// A method of a list or of a dict, or that of a builtin.
-#[tactic(auto, using(crate::proofs::AttributeLaws::builtin_method_made))]
 pub fn builtin_method(
     going: &mut Going,
     functions: &Functions,
@@ -50,17 +73,39 @@ pub fn builtin_method(
     ensures moves { GoesOn functions.now frozen.now result going.old going.new budget (λ k. builtin_method k method this place) }
     ensures used { going.new.state.used ≡ going.old.state.used }
 {
-    let Some(b) = method else {
-        return raise(going, functions, frozen, place, budget);
-    };
-    let f = Func {
-        code: Code::Builtin(b),
-        this: Some(this),
-        home: None,
-        defaults: Vals::new(going.alloc),
-        scope: None,
-    };
-    new_func(going, functions, frozen, f, place, budget)
+    match method {
+        Some(b) => builtin_made(going, functions, frozen, b, Some(this), place, budget),
+        None => raise(going, functions, frozen, place, budget),
+    }
+}
+
+/// An attribute that no class has: `__init__` is then that of every object.
+#[tactic(auto, using(py_frames::proofs::CallLaws::choose_rules))]
+pub fn nowhere(
+    going: &mut Going,
+    functions: &Functions,
+    frozen: &Frozen,
+    this: Option<Val>,
+    name: &Name,
+    place: Place,
+    budget: u64,
+) -> Result<Now, Halt>
+    ensures moves { GoesOn functions.now frozen.now result going.old going.new budget (λ k. nowhere k this name.now place) }
+    ensures used { going.new.state.used ≡ going.old.state.used }
+{
+    if is_init(name.as_str()) {
+        builtin_made(
+            going,
+            functions,
+            frozen,
+            Builtin::InitNothing,
+            this,
+            place,
+            budget,
+        )
+    } else {
+        raise(going, functions, frozen, place, budget)
+    }
 }
 
 /// The store is asked for an attribute.
@@ -105,7 +150,7 @@ fn found_in(
     rounds: u64,
     budget: u64,
 ) -> Result<Now, Halt>
-    ensures moves { GoesOn functions.now frozen.now result going.old going.new budget (λ k. found_in k (told_attribute rounds k name.now place) x this place found) }
+    ensures moves { GoesOn functions.now frozen.now result going.old going.new budget (λ k. found_in k (told_attribute rounds k name.now place) x this name.now place found) }
     ensures used { going.new.state.used ≡ going.old.state.used }
 {
     match found {
@@ -113,7 +158,7 @@ fn found_in(
         Inherited::Thing(_) => told_attribute(
             going, functions, frozen, x, name, place, rounds, budget,
         ),
-        Inherited::Nowhere => raise(going, functions, frozen, place, budget),
+        Inherited::Nowhere => nowhere(going, functions, frozen, this, name, place, budget),
     }
 }
 
@@ -129,7 +174,7 @@ fn found_of_object(
     rounds: u64,
     budget: u64,
 ) -> Result<Now, Halt>
-    ensures moves { GoesOn functions.now frozen.now result going.old going.new budget (λ k. found_in k (told_attribute rounds k name.now place) x (Some x) place found) }
+    ensures moves { GoesOn functions.now frozen.now result going.old going.new budget (λ k. found_in k (told_attribute rounds k name.now place) x (Some x) name.now place found) }
     ensures used { going.new.state.used ≡ going.old.state.used }
 {
     match found {
@@ -137,7 +182,7 @@ fn found_of_object(
         Inherited::Thing(_) => told_attribute(
             going, functions, frozen, x, name, place, rounds, budget,
         ),
-        Inherited::Nowhere => raise(going, functions, frozen, place, budget),
+        Inherited::Nowhere => nowhere(going, functions, frozen, Some(x), name, place, budget),
     }
 }
 

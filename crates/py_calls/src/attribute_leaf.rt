@@ -10,12 +10,13 @@ use py_frames::going::Going;
 use py_values::{Builtin, Code, Frozen, Func, FuncId, Heap, ObjId, Val};
 use std::alloc::Global;
 
-// Whether a function stands for itself: it was neither bound nor is it a builtin.
+// Whether reading a function from a class binds it.
 fn is_plain_code(code: Code, this: Option<Val>) -> bool
     ensures { result ≡ is_plain_code code this }
 {
     match (code, this) {
         (Code::Def(_), None) => true,
+        (Code::Builtin(Builtin::InitNothing), None) => true,
         _ => false,
     }
 }

@@ -1,10 +1,10 @@
 // `super()`: attributes above a class.
 ghost use Rattle.std.specs.Prelude.{◌≡◌};
-ghost use Rattle.py_frames.specs.Values.{attribute_by, super_thing, super_nothing, found_above, above, above_class, super_attribute};
+ghost use Rattle.py_frames.specs.Values.{attribute_by, super_thing, found_above, above, above_class, super_attribute};
 ghost use Rattle.py_frames.specs.Calling.{told_attribute};
 ghost use Rattle.py_frames.specs.Frames.{GoesOn};
 
-use crate::attribute::{builtin_method, from_class, told_attribute};
+use crate::attribute::{builtin_method, from_class, nowhere, told_attribute};
 use crate::attribute_leaf::{first_of_row, is_init, is_super};
 use amh_host::Place;
 use py_frames::call_leaf::raise;
@@ -45,35 +45,6 @@ fn super_thing(
     }
 }
 
-// `super().name` that reaches nothing.
-#[tactic(auto, using(py_frames::proofs::CallLaws::choose_rules))]
-fn super_nothing(
-    going: &mut Going,
-    functions: &Functions,
-    frozen: &Frozen,
-    this: Val,
-    name: &Name,
-    place: Place,
-    budget: u64,
-) -> Result<Now, Halt>
-    ensures moves { GoesOn functions.now frozen.now result going.old going.new budget (λ k. super_nothing k this name.now place) }
-    ensures used { going.new.state.used ≡ going.old.state.used }
-{
-    if is_init(name.as_str()) {
-        builtin_method(
-            going,
-            functions,
-            frozen,
-            Some(Builtin::InitNothing),
-            this,
-            place,
-            budget,
-        )
-    } else {
-        raise(going, functions, frozen, place, budget)
-    }
-}
-
 // What was found above a class.
 fn found_above(
     going: &mut Going,
@@ -102,7 +73,7 @@ fn found_above(
         Inherited::Thing(_) => super_thing(
             going, functions, frozen, this, name, place, rounds, budget,
         ),
-        Inherited::Nowhere => super_nothing(going, functions, frozen, this, name, place, budget),
+        Inherited::Nowhere => nowhere(going, functions, frozen, Some(this), name, place, budget),
     }
 }
 
@@ -147,7 +118,7 @@ fn above(
             going, functions, frozen, this, o, name, place, rounds, budget,
         ),
         Val::Hw(_) => super_thing(going, functions, frozen, this, name, place, rounds, budget),
-        _ => super_nothing(going, functions, frozen, this, name, place, budget),
+        _ => nowhere(going, functions, frozen, Some(this), name, place, budget),
     }
 }
 

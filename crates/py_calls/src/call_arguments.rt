@@ -13,14 +13,14 @@ ghost use Rattle.py_frames.specs.Frames.{GoesOn};
 
 use crate::call_frame::call_for;
 use crate::call_part::{argument_at, argument_expr, named_val};
+use py_frames::at_once::{at_once, wait_or_come};
 use py_frames::attribute_store::as_row;
 use py_frames::call_leaf::raise;
 use py_frames::frame::{CallFrame, Frame, Now, Purpose};
 use py_frames::functions::Functions;
-use py_frames::going::{Going, spend, told, wait_for};
+use py_frames::going::{Going, told};
 use py_frames::keyword::is_given;
 use py_frames::leaf::following;
-use py_frames::leaf_value::leaf_value;
 use py_frames::request::NamedVals;
 use py_frames::state::Halt;
 use py_frames::trail_leaf::{place_at, share_purpose};
@@ -69,7 +69,7 @@ fn arguments_waited(
         keywords,
         purpose,
     });
-    wait_for(
+    wait_or_come(
         going,
         functions,
         frozen,
@@ -136,17 +136,16 @@ fn positional_begun(
     ensures left { OnOk result (going.new.state.used < budget) }
     ensures grows { going.old.state.used ≤ going.new.state.used }
 {
-    let Some(v) = leaf_value(going, frozen, part) else {
+    let Some(found) = at_once(going, frozen, part, budget) else {
         return arguments_waited(
             going, functions, frozen, node, trailer, at, callee, vals, keywords, purpose, budget,
         );
     };
-    match spend(going, 1, place_at(part), budget) {
-        Err(halt) => Err(halt),
-        Ok(()) => positional_given(
-            going, functions, frozen, node, trailer, at, callee, vals, keywords, purpose, v, budget,
-        ),
-    }
+    going.state.used += found.cost;
+    positional_given(
+        going, functions, frozen, node, trailer, at, callee, vals, keywords, purpose, found.val,
+        budget,
+    )
 }
 
 /// On with the argument of this number.

@@ -1,14 +1,14 @@
 // Calls of builtins and of things.
 ghost use Rattle.std.specs.Prelude.{◌≡◌, ◌<◌, ◌≤◌, [], ◌∷◌, length, OnOk};
 ghost use Rattle.py_frames.specs.Doing.{give};
-ghost use Rattle.py_frames.specs.Values.{called, builtin_called, init_this, init_thing, length_called, magnitude_called, super_called, with_func, without_arguments, without_keywords, gone_over, with_this};
+ghost use Rattle.py_frames.specs.Values.{called, builtin_called, init_this, init_thing, length_called, magnitude_called, super_called, with_func, without_arguments, without_keywords, gone_over, with_this, nothing_begun};
 ghost use Rattle.py_calls.specs.Called.{called_by_kind};
 ghost use Rattle.py_frames.specs.Frames.{GoesOn};
 
 use crate::call_gone::gone_over;
 use crate::call_kind::{
-    CallKind, call_request, init_request, kind_of, no_arguments, no_keywords, one_thing, super_of,
-    with_this,
+    CallKind, call_request, init_request, is_one, kind_of, no_arguments, no_keywords, one_thing,
+    super_of, with_this,
 };
 use amh_host::Place;
 use py_frames::attribute_store::ask_about;
@@ -199,6 +199,51 @@ pub fn give_bare(
     }
 }
 
+// The `__init__` of every object.
+#[tactic(auto, using(crate::proofs::CalledLaws::begun_rules))]
+fn nothing_begun(
+    going: &mut Going,
+    functions: &Functions,
+    frozen: &Frozen,
+    args: Vals,
+    place: Place,
+    budget: u64,
+) -> Result<Now, Halt>
+    ensures moves { GoesOn functions.now frozen.now result going.old going.new budget (λ k. nothing_begun args place) }
+    ensures used { going.new.state.used ≡ going.old.state.used }
+{
+    let alone = is_one(args.as_slice());
+    if alone {
+        give(going, functions, frozen, Val::None, budget)
+    } else {
+        raise(going, functions, frozen, place, budget)
+    }
+}
+
+// The same, without keywords.
+#[tactic(auto, using(crate::proofs::CalledLaws::keyword_rules, crate::proofs::CalledLaws::begun_same, py_frames::proofs::BeginLaws::turn_rules))]
+fn init_bare(
+    going: &mut Going,
+    functions: &Functions,
+    frozen: &Frozen,
+    this: Option<Val>,
+    args: Vals,
+    keywords: NamedVals,
+    place: Place,
+    budget: u64,
+) -> Result<Now, Halt>
+    ensures moves { GoesOn functions.now frozen.now result going.old going.new budget (λ k. without_keywords keywords place (nothing_begun (with_this this args) place)) }
+    ensures used { going.new.state.used ≡ going.old.state.used }
+{
+    if !no_keywords(&keywords) {
+        return raise(going, functions, frozen, place, budget);
+    }
+    let Ok(vals) = with_this(going.alloc, this, args) else {
+        return Err(Halt::NoMemory);
+    };
+    nothing_begun(going, functions, frozen, vals, place, budget)
+}
+
 // `len`.
 #[tactic(auto, using(crate::proofs::CalledLaws::length_rules))]
 fn length_called(
@@ -383,15 +428,8 @@ fn called_by_kind(
         CallKind::InitThing => init_this(
             going, functions, frozen, this, args, keywords, place, budget,
         ),
-        CallKind::InitNothing => give_bare(
-            going,
-            functions,
-            frozen,
-            Val::None,
-            args,
-            keywords,
-            place,
-            budget,
+        CallKind::InitNothing => init_bare(
+            going, functions, frozen, this, args, keywords, place, budget,
         ),
         CallKind::Print => give(going, functions, frozen, Val::None, budget),
         CallKind::Len => len_bare(

@@ -8,7 +8,7 @@ ghost use Rattle.py_frames.specs.Async.{is_async_body};
 ghost use Rattle.py_frames.specs.Functions.{function_at};
 ghost use Rattle.py_frames.specs.Tables.{IsTable};
 ghost use Rattle.py_frames.specs.Values.{named_vals, named_names, with_this, stands_over, is_instance, super_func, super_of};
-ghost use Rattle.py_calls.specs.Called.{kind_of, no_arguments, no_keywords, one_thing};
+ghost use Rattle.py_calls.specs.Called.{kind_of, no_arguments, no_keywords, is_one, one_thing};
 
 use crate::attribute_leaf::first_of_row;
 use amh_host::{Names, NoMemory, Place};
@@ -100,6 +100,16 @@ pub fn no_keywords(keywords: &NamedVals) -> bool
     ensures { result ≡ no_keywords keywords.now }
 {
     is_unnamed(keywords.as_slice())
+}
+
+/// Whether there is one argument.
+pub fn is_one(args: &[Val]) -> bool
+    ensures { result ≡ is_one args.now }
+{
+    match args {
+        [_] => true,
+        _ => false,
+    }
 }
 
 fn thing_in(args: &[Val]) -> Option<Hw>

@@ -21,13 +21,13 @@ use crate::trail_augment::augmented_along;
 use crate::trail_slice::slice_begun;
 use crate::trail_store::{reach_along, store_along};
 use amh_host::Place;
+use py_frames::at_once::at_once;
 use py_frames::attribute_store::indexed;
 use py_frames::call_leaf::give;
 use py_frames::frame::{Along, CallFrame, Frame, Now, Purpose};
 use py_frames::functions::Functions;
-use py_frames::going::{Going, spend, wait_for};
+use py_frames::going::{Going, wait_for};
 use py_frames::leaf::following;
-use py_frames::leaf_value::leaf_value;
 use py_frames::state::Halt;
 use py_frames::trail_leaf::{ends_in_call, place_at, purpose_before, share_purpose, trailer_at};
 use py_tree::{Expr, Trailer};
@@ -49,14 +49,12 @@ fn index_begun(
     ensures left { OnOk result (going.new.state.used < budget) }
     ensures grows { going.old.state.used ≤ going.new.state.used }
 {
-    let Some(index) = leaf_value(going, frozen, part) else {
+    let Some(index) = at_once(going, frozen, part, budget) else {
         let frame = Frame::Call(CallFrame::Indexed { over: v, place });
         return wait_for(going, functions, frozen, part, frame, budget);
     };
-    match spend(going, 1, place_at(part), budget) {
-        Err(halt) => Err(halt),
-        Ok(()) => indexed(going, functions, frozen, v, index, place, budget),
-    }
+    going.state.used += index.cost;
+    indexed(going, functions, frozen, v, index.val, place, budget)
 }
 
 // One of what trails, behind a value.
@@ -214,15 +212,15 @@ fn primary_begun(
     ensures left { OnOk result (going.new.state.used < budget) }
     ensures grows { going.old.state.used ≤ going.new.state.used }
 {
-    let Some(v) = leaf_value(going, frozen, first) else {
+    let Some(found) = at_once(going, frozen, first, budget) else {
         let along = Along::Value(purpose);
         let frame = Frame::Call(CallFrame::Trail { node, at: 0, along });
         return wait_for(going, functions, frozen, first, frame, budget);
     };
-    match spend(going, 1, place_at(first), budget) {
-        Err(halt) => Err(halt),
-        Ok(()) => trail(going, functions, frozen, &node, 0, purpose, v, budget),
-    }
+    going.state.used += found.cost;
+    trail(
+        going, functions, frozen, &node, 0, purpose, found.val, budget,
+    )
 }
 
 /// The first part of what trails begins.

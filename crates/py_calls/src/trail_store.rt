@@ -10,13 +10,13 @@ ghost use Rattle.py_frames.specs.Frames.{GoesOn};
 
 use crate::trail::trailed_one;
 use amh_host::Place;
+use py_frames::at_once::at_once;
 use py_frames::attribute_store::{store_attribute, store_index};
 use py_frames::call_leaf::raise;
 use py_frames::frame::{Along, CallFrame, Frame, Now, Purpose, StmtFrame, WalkFrame};
 use py_frames::functions::Functions;
 use py_frames::going::{Going, spend, wait_for};
 use py_frames::leaf::following;
-use py_frames::leaf_value::leaf_value;
 use py_frames::state::{Got, Halt};
 use py_frames::stmt_plain::comes;
 use py_frames::trail_leaf::{place_at, trailer_at};
@@ -40,14 +40,14 @@ fn item_stored(
     ensures left { OnOk result (going.new.state.used < budget) }
     ensures grows { going.old.state.used ≤ going.new.state.used }
 {
-    let Some(index) = leaf_value(going, frozen, part) else {
+    let Some(index) = at_once(going, frozen, part, budget) else {
         let frame = Frame::Walk(WalkFrame::StoredAt { over, val, place });
         return wait_for(going, functions, frozen, part, frame, budget);
     };
-    match spend(going, 1, place_at(part), budget) {
-        Err(halt) => Err(halt),
-        Ok(()) => store_index(going, functions, frozen, over, index, val, place, budget),
-    }
+    going.state.used += index.cost;
+    store_index(
+        going, functions, frozen, over, index.val, val, place, budget,
+    )
 }
 
 // A value is stored in the last of what trails.

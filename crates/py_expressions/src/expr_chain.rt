@@ -15,6 +15,7 @@ ghost use Rattle.py_frames.specs.Frames.{GoesOn, within};
 
 use crate::seek::related;
 use amh_host::Place;
+use py_frames::at_once::at_once;
 use py_frames::expr_values::truth_of;
 use py_frames::frame::{ExprFrame, Frame, Now};
 use py_frames::functions::Functions;
@@ -22,7 +23,6 @@ use py_frames::going::{Going, spend, wait_for};
 use py_frames::leaf::{
     PartAt, copied, following, goes_on, link_at, operand_place, operator_of, place_of,
 };
-use py_frames::leaf_value::leaf_value;
 use py_frames::operators::operated;
 use py_frames::state::{Got, Halt};
 use py_tree::{Expr, Link};
@@ -43,14 +43,12 @@ pub fn first_operand(
     ensures left { OnOk result (going.new.state.used < budget) }
     ensures grows { going.old.state.used ≤ going.new.state.used }
 {
-    let Some(left) = leaf_value(going, frozen, first) else {
+    let Some(left) = at_once(going, frozen, first, budget) else {
         let linked = Frame::Expr(ExprFrame::Linked { node, at: 0 });
         return wait_for(going, functions, frozen, first, linked, budget);
     };
-    match spend(going, 1, place_of(first), budget) {
-        Err(halt) => Err(halt),
-        Ok(()) => next_link(going, functions, frozen, node, 0, left, budget),
-    }
+    going.state.used += left.cost;
+    next_link(going, functions, frozen, node, 0, left.val, budget)
 }
 
 // The right operand of an operator begins, and then the operator is carried out.
@@ -70,14 +68,14 @@ fn right_operand(
     ensures left { OnOk result (going.new.state.used < budget) }
     ensures grows { going.old.state.used ≤ going.new.state.used }
 {
-    let Some(right) = leaf_value(going, frozen, operand) else {
+    let Some(right) = at_once(going, frozen, operand, budget) else {
         let waits = Frame::Expr(ExprFrame::Right { op, left, place });
         return wait_for(going, functions, frozen, operand, waits, budget);
     };
-    match spend(going, 1, place_of(operand), budget) {
-        Err(halt) => Err(halt),
-        Ok(()) => operated(going, functions, frozen, op, &left, &right, place, budget),
-    }
+    going.state.used += right.cost;
+    operated(
+        going, functions, frozen, op, &left, &right.val, place, budget,
+    )
 }
 
 // The same, where operators stand behind it: a frame waits for what it gives.

@@ -29,7 +29,7 @@ use Rattle.py_frames.proofs.BeginLaws.{value_of-begun}
 use Rattle.py_frames.proofs.ExprLaws.{same_total, spent_goes, spent_stops}
 use Rattle.py_frames.proofs.ExprKinds.{read_by}
 
-leaf_cost : (heap : Seen) (scope : ℕ) (t : Tree) (v : Val) → Some v ≡ leaf_value heap scope t → 1 ≡ cost_of t
+pub leaf_cost : (heap : Seen) (scope : ℕ) (t : Tree) (v : Val) → Some v ≡ leaf_value heap scope t → 1 ≡ cost_of t
 leaf_cost heap scope (Name p n) v e = refl
 leaf_cost heap scope (Number p n) v e = refl
 leaf_cost heap scope (Constant_value p c) v e = refl
@@ -52,7 +52,7 @@ leaf_cost heap scope (Compare p a ls) v e = refl
 leaf_cost heap scope (Boolean p a ls) v e = cc
 leaf_cost heap scope (Choice p a b c) v e = refl
 
-leaf_after : (k : Known) (w : World) (s : State) (t : Tree) (v : Val) → Some v ≡ leaf_value (heap_seen k s) s.here.scope.0 t → Done (Value v) s ≡ value_after k Plain t w s
+pub leaf_after : (k : Known) (w : World) (s : State) (t : Tree) (v : Val) → Some v ≡ leaf_value (heap_seen k s) s.here.scope.0 t → Done (Value v) s ≡ value_after k Plain t w s
 leaf_after k w s (Name p n) v e =
     ap (λ (z : Option Val). with_value z p give w s) e ∙ ap (λ (d : Doing). d w s) (sym (read_by (look_up (heap_seen k s) s.here.scope.0 n) n p))
 leaf_after k w s (Number p n) v e = let q : v ≡ val.Int (pos n) = cc in ap (λ (z : Val). Done (Value z) s) q

@@ -9,6 +9,7 @@ pub mod ExprCharged
 pub mod ExprGoes
 pub mod ExprKinds
 pub mod LeafLaws
+pub mod AtOnceLaws
 pub mod ExprNames
 pub mod CallLaws
 pub mod KeywordLaws

@@ -1,6 +1,11 @@
 -- The functions of statements, as those of each part one after the other; and the first at a place.
-use Rattle.std.proofs.Common.{◌≡◌, ℕ, refl, ap, sym, ◌∙◌, List, [], ◌∷◌, ◌++◌, map, Option, Some, option_map, Bool, true, false, if◌then◌else◌}
-use Rattle.std.specs.List.{flat_map, find}
+use Rattle.std.proofs.Common.{◌≡◌, ℕ, ◌+◌, ◌<◌, ◌≤◌, inl, inr, refl, ap, sym, subst, ◌∙◌, List, [], ◌∷◌, ◌++◌, length, take, get_or, map, Option, Some, None, option_map, Bool, true, false, cond, nat_lt, if◌then◌else◌, arith}
+use Rattle.std.specs.Prelude.{◌⊎◌, position, not, slice_get}
+use Rattle.std.proofs.lemmas.Bool.Decides.{nat_tests}
+use Rattle.std.proofs.lemmas.List.{length-append, length-map, map-append, take_more, take_all}
+use Rattle.std.proofs.lemmas.List.Folds.{find_at}
+use Rattle.std.proofs.lemmas.Option.{slice_get_past}
+use Rattle.std.specs.List.{flat_map, find, position_or_len}
 use Rattle.amh_host.specs.declared.place.Place.{Place}
 use Rattle.py_tree.specs.declared.stmt.Stmt.{Stmt}
 use Rattle.py_tree.specs.declared.stmt.Branch.{Branch}
@@ -8,7 +13,8 @@ use Rattle.py_tree.specs.Steps.{Step, Pass, Break, Continue, Return, Assert, Rai
 use Rattle.py_tree.specs.Programs.{step_of, branch_of}
 use Rattle.py_frames.specs.declared.functions.KnownFunction.{KnownFunction}
 use Rattle.py_frames.specs.Functions.{same_place, body_place, or_else, function_in, function_or_inner, function_at, function_in_branches, function_in_else}
-use Rattle.py_frames.specs.Tables.{functions_in, functions_in_step, functions_in_body, functions_in_branches, functions_in_else, described, known_body}
+use Rattle.py_frames.specs.Tables.{functions_in, functions_in_step, functions_in_body, functions_in_branches, functions_in_else, described, known_body, spot_of, spot_at, AreSpots, AddsAtMost}
+use Rattle.py_frames.specs.declared.spots.Spot.{Spot}
 
 abbrev pub Row : Type 0
 Row = Body × List (List ℕ)
@@ -106,3 +112,59 @@ find_function place xs program e = find-known place xs ∙ ap (find (row_at plac
 
 pub found_function : (place : Place) (xs : List KnownFunction) (program : Steps) (found : Option KnownFunction) → map known_body xs ≡ map described (functions_in program) → found ≡ find (λ x. same_place place (body_place (known_body x).0)) xs → option_map known_body found ≡ option_map described (function_at place program)
 found_function place xs program found e q = ap (option_map known_body) q ∙ find_function place xs program e
+
+-- ---- the index of places
+
+-- so many keys at most; and as many as functions are the places of these
+pub record AreFirst (spots : List Spot) (n : ℕ) (xs : List KnownFunction) : Type 0 where
+  pub few : length spots ≤ n
+  pub each : length spots ≡ n → spots ≡ map spot_at xs
+
+pub spots_begin : AreFirst [] 0 []
+spots_begin = record { few = omega arith; each = λ h. refl }
+
+pub spots_more : (old new : List Spot) (spot : Spot) (xs : List KnownFunction) (i : ℕ) (x : KnownFunction) → i < length xs → x ≡ get_or xs i x → spot ≡ spot_at x → AreFirst old i (take i xs) → AddsAtMost spot old new → AreFirst new (i + 1) (take (i + 1) xs)
+spots_more old new spot xs i x h g e a (inl same) = record {
+  few = let l : length new ≡ length old = ap (λ (z : List Spot). length z) same in let m = a.few in omega arith;
+  each = λ q. let l : length new ≡ length old = ap (λ (z : List Spot). length z) same in let m = a.few in absurd (omega arith);
+}
+spots_more old new spot xs i x h g e a (inr added) = record {
+  few = let l : length new ≡ length old + 1 = ap (λ (z : List Spot). length z) added ∙ length-append old (spot ∷ []) in let m = a.few in omega arith;
+  each = λ q.
+      let l : length new ≡ length old + 1 = ap (λ (z : List Spot). length z) added ∙ length-append old (spot ∷ []) in
+      let n : length old ≡ i = omega arith in
+      added ∙ ap (λ (z : List Spot). z ++ spot ∷ []) (a.each n) ∙ ap (λ (z : Spot). map spot_at (take i xs) ++ z ∷ []) e
+      ∙ sym (map-append spot_at (take i xs) (x ∷ []))
+      ∙ ap (λ (z : KnownFunction). map spot_at (take i xs ++ z ∷ [])) g
+      ∙ ap (λ (z : List KnownFunction). map spot_at z) (sym (take_more xs i x h));
+}
+
+pub spots_all : (spots : List Spot) (xs : List KnownFunction) (i : ℕ) → length xs ≤ i → i ≤ length xs → AreFirst spots i (take i xs) → AreSpots spots xs
+spots_all spots xs i h g a = λ q. a.each (omega arith) ∙ ap (λ (z : List KnownFunction). map spot_at z) (take_all i xs h)
+
+-- the first key that is equal stands where the first function does
+module _ (test : Spot → Bool) (p : KnownFunction → Bool) (same : (x : KnownFunction) → p x ≡ test (spot_at x)) where
+  same_position : (xs : List KnownFunction) → position_or_len test (map spot_at xs) ≡ position_or_len p xs
+  same_position [] = refl
+  same_position (x ∷ xs) =
+      ap (λ (b : Bool). cond (not b) (1 + position_or_len test (map spot_at xs)) 0) (sym (same x))
+      ∙ ap (λ (n : ℕ). cond (not (p x)) (1 + n) 0) (same_position xs)
+
+  found_some : (xs : List KnownFunction) (n i : ℕ) (b : Bool) → n ≡ position_or_len p xs → Some i ≡ cond b (Some n) None → find p xs ≡ slice_get xs i
+  found_some xs n i true e h = let q : n ≡ i = cc in find_at p xs ∙ ap (slice_get xs) (sym e ∙ q)
+  found_some xs n i false e h = cc
+
+  found_none : (xs : List KnownFunction) (n : ℕ) (b : Bool) → nat_lt n (length xs) ≡ b → n ≡ position_or_len p xs → None ≡ cond b (Some n) None → find p xs ≡ None
+  found_none xs n true g e h = cc
+  found_none xs n false g e h = find_at p xs ∙ ap (slice_get xs) (sym e) ∙ slice_get_past xs n (grind (arith, nat_tests))
+
+  pub indexed_some : (spots : List Spot) (xs : List KnownFunction) (i : ℕ) → spots ≡ map spot_at xs → Some i ≡ position test spots → slice_get xs i ≡ find p xs
+  indexed_some spots xs i e h =
+      sym (found_some xs (position_or_len test (map spot_at xs)) i (nat_lt (position_or_len test (map spot_at xs)) (length (map spot_at xs))) (same_position xs) (h ∙ ap (λ (z : List Spot). position test z) e))
+
+  pub indexed_none : (spots : List Spot) (xs : List KnownFunction) → spots ≡ map spot_at xs → None ≡ position test spots → None ≡ find p xs
+  indexed_none spots xs e h =
+      let l : length (map spot_at xs) ≡ length xs = length-map xs spot_at in
+      sym (found_none xs (position_or_len test (map spot_at xs)) (nat_lt (position_or_len test (map spot_at xs)) (length xs)) refl (same_position xs) (h ∙ ap (λ (z : List Spot). position test z) e ∙ ap (λ (z : ℕ). cond (nat_lt (position_or_len test (map spot_at xs)) z) (Some (position_or_len test (map spot_at xs))) None) l))
+
+pub ruleset spot_rules = (spots_begin, spots_more, spots_all)

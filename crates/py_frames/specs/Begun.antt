@@ -38,7 +38,7 @@ value_after k u (Tuple p ts) = values_then k [] ts (λ vs. making (λ s. new_tup
 value_after k u (Display p ts) = values_then k [] ts (list_made k p)
 value_after k u (Dict p ps) = pairs_then k [] ps (dict_made k p)
 value_after k u (ListOf p t c) = made_of k p c (one_more (value_of k Plain t)) (list_made k p)
-value_after k u (DictOf p a b c) = made_of k p c (two_more (value_of k Plain a) (value_of k Plain b)) (dict_made k p)
+value_after k u (DictOf p a b c) = made_of k p c (two_more p (value_of k Plain a) (value_of k Plain b)) (dict_made k p)
 value_after k u (Trailed p t ts) = do
   x ← value_of k Plain t
   trailed k u p ts x

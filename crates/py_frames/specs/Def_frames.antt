@@ -1,6 +1,6 @@
 -- How the frames of definitions go on.
 -- Internal: no rule of the language.
-use Rattle.std.specs.Prelude.{ℕ, zero, suc, List, [], ◌∷◌, ◌++◌}
+use Rattle.std.specs.Prelude.{ℕ, zero, suc, List, [], ◌∷◌, ◌++◌, Option}
 use Rattle.amh_host.specs.declared.place.Place.{Place}
 use Rattle.py_tree.specs.Programs.{step_of}
 use Rattle.py_tree.specs.Tree.{Call, Arguments, no_argument}
@@ -73,7 +73,7 @@ abbrev pub class_given : Known → Step → List Val → List NamedVal → Doing
 class_given k (Class p name b body) vs keywords = class_begun k (base_of vs) name keywords (steps_names body) (run_all k body) p
 class_given k step vs keywords = came Next
 
-abbrev pub class_left : Known → Step → Val → List NamedVal → Here → Got → Doing
+abbrev pub class_left : Known → Step → Option Val → List NamedVal → Here → Got → Doing
 class_left k (Class p name b body) base keywords outer got = class_ended k outer base name keywords p got
 class_left k step base keywords outer got = came Next
 

@@ -1,7 +1,7 @@
 -- What an expression means. Each node spends its units where it begins, before its parts; a chain of operators or of
 -- what trails a primary begins all its nodes at its first token.
 -- Source: Python reference 6, Expressions, with 6.16, Evaluation order; units: own rule (docs/RULES.md).
-use Rattle.std.specs.Prelude.{ℕ, zero, suc, ◌+◌, ◌-◌, Bool, true, false, if◌then◌else◌, List, [], ◌∷◌, ◌++◌, pos, Option, Some, None, option_map, Result, Ok, Err}
+use Rattle.std.specs.Prelude.{ℕ, zero, suc, ◌+◌, ◌-◌, Bool, true, false, if◌then◌else◌, List, [], ◌∷◌, ◌++◌, ◌==◌, length, pos, Option, Some, None, option_map, Result, Ok, Err}
 use Rattle.amh_host.specs.declared.place.Place.{Place}
 use Rattle.py_tree.specs.declared.name.Piece.{Piece}
 use Rattle.py_tree.specs.declared.name.Piece.TheVariants as piece
@@ -14,10 +14,11 @@ use Rattle.py_values.specs.declared.val.Val.{Val}
 use Rattle.py_values.specs.declared.val.Val.TheVariants as val
 use Rattle.py_values.specs.declared.val.ScopeId.{ScopeId}
 use Rattle.py_values.specs.declared.op.PyOp.TheVariants as op
-use Rattle.py_values.specs.Heaps.{Seen}
+use Rattle.py_values.specs.Heaps.{Seen, row_at}
 use Rattle.py_values.specs.Places.{new_text, new_tuple, new_list}
 use Rattle.py_values.specs.Names.{literal, new_scope, scope_at}
 use Rattle.py_values.specs.Dicts.{new_dict}
+use Rattle.py_values.specs.Members.{is_key}
 use Rattle.py_values.specs.Scalars.{shown_text}
 use Rattle.py_values.specs.Elements.{elements, element, counts_to}
 use Rattle.py_values.specs.declared.func.Scope.{Scope}
@@ -140,6 +141,14 @@ is_row v = false
 abbrev pub if_row : Val → Place → Doing → Doing
 if_row v place m = choose (is_row v) m (stop Raised place)
 
+-- a dict that changes its size while it is gone over raises
+abbrev pub row_size : Seen → Val → ℕ
+row_size s (val.Dict o) = length (row_at s o.0)
+row_size s v = 0
+
+abbrev pub of_size : Known → Val → ℕ → Place → Doing → Doing
+of_size k v size p m = λ w s. choose (row_size (heap_seen k s) v == size) m (stop Raised p) w s
+
 -- what a turn does with an element: it goes on with what was made so far
 abbrev pub Making : Type 0
 Making = Val → List Val → (List Val → Doing) → Doing
@@ -148,16 +157,16 @@ abbrev pub on_element : Option Val → Doing → (Val → Doing) → Doing
 on_element None end_of turn = end_of
 on_element (Some x) end_of turn = turn x
 
-unfoldable pub elements_made : ℕ → Known → Val → ℕ → Place → Making → List Val → (List Val → Doing) → Doing
-elements_made zero k v i place turn done f = stop Spent place
-elements_made (suc n) k v i place turn done f = λ w s.
+unfoldable pub elements_made : ℕ → Known → Val → (i size : ℕ) → Place → Making → List Val → (List Val → Doing) → Doing
+elements_made zero k v i size place turn done f = stop Spent place
+elements_made (suc n) k v i size place turn done f = of_size k v size place (λ w s.
     on_element (element (heap_seen k s) v i) (f done)
-    (λ x. spend place (turn x done (λ more. elements_made n k v (i + 1) place turn more f))) w s
+    (λ x. spend place (turn x done (λ more. elements_made n k v (i + 1) size place turn more f))) w s)
 
 -- over a value, in a scope of its own
 abbrev pub made_over : Known → List (List ℕ) → Val → Place → Making → (List Val → Doing) → Doing
 made_over k own v place turn f = if_row v place (λ w s.
-    in_scope k own place (elements_made most k v 0 place turn [] (λ done. back_in s.here.scope (f done))) w s)
+    in_scope k own place (elements_made most k v 0 (row_size (heap_seen k s) v) place turn [] (λ done. back_in s.here.scope (f done))) w s)
 
 -- one element more, or one key and its value
 abbrev pub Element : Type 0
@@ -168,11 +177,15 @@ one_more m done more = do
   x ← m
   more (done ++ x ∷ [])
 
-abbrev pub two_more : Doing → Doing → Element
-two_more m n done more = do
+-- a key that may be none raises in its turn
+abbrev pub pair_more : Place → List Val → Val → Val → (List Val → Doing) → Doing
+pair_more p done x y more = choose (is_key x) (more (done ++ x ∷ y ∷ [])) (stop Raised p)
+
+abbrev pub two_more : Place → Doing → Doing → Element
+two_more p m n done more = do
   x ← m
   y ← n
-  more (done ++ x ∷ y ∷ [])
+  pair_more p done x y more
 
 -- what the elements become
 abbrev pub list_made : Known → Place → List Val → Doing
@@ -229,7 +242,7 @@ abbrev mutual
   value_of k u (Display p ts) = spend p (values_then k [] ts (list_made k p))
   value_of k u (Dict p ps) = spend p (pairs_then k [] ps (dict_made k p))
   value_of k u (ListOf p t c) = spend p (made_of k p c (one_more (value_of k Plain t)) (list_made k p))
-  value_of k u (DictOf p a b c) = spend p (made_of k p c (two_more (value_of k Plain a) (value_of k Plain b)) (dict_made k p))
+  value_of k u (DictOf p a b c) = spend p (made_of k p c (two_more p (value_of k Plain a) (value_of k Plain b)) (dict_made k p))
   value_of k u (Trailed p t ts) = spend_each (trailer_count ts) p (do
     x ← value_of k Plain t
     trailed k u p ts x)

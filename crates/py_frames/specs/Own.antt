@@ -1,8 +1,10 @@
 -- The names that are a function's, a class body's or a comprehension's own: those that its code binds.
--- Source: Python reference 4.2.1, Binding of names.
-use Rattle.std.specs.Prelude.{ℕ, List, [], ◌∷◌, ◌++◌, map, Option, Some, None}
+-- Source: Python reference 4.2.1, Binding of names; 7.2.2, Annotated assignment statements.
+use Rattle.std.specs.Prelude.{ℕ, Bool, false, if◌then◌else◌, List, [], ◌∷◌, ◌++◌, map, Option, Some, None}
+use Rattle.amh_host.specs.declared.place.Place.{Place}
 use Rattle.py_tree.specs.Tree.{Tree, Name, Tuple, Trees, none, some, Perhaps, absent, present}
 use Rattle.py_tree.specs.Steps.{Step, Pass, Break, Continue, Return, Assert, Raise, ImportAll, Import, Assign, Annotate, Augment, Evaluate, If, While, For, With, Def, Class, Steps, last, next, Branches, no_branch, branch, Otherwise, nothing_else, otherwise, Body, Fun, Import_name, Parameter, Named, Star}
+use Rattle.py_frames.specs.Functions.{same_place}
 
 -- the names that a target binds, from left to right
 abbrev mutual
@@ -18,6 +20,16 @@ abbrev mutual
 abbrev pub perhaps_names : Perhaps → List (List ℕ)
 perhaps_names absent = []
 perhaps_names (present t) = target_names t
+
+-- whether an annotated target is a name without brackets: it stands where the statement begins
+abbrev pub is_simple : Place → Tree → Bool
+is_simple p (Name q n) = same_place p q
+is_simple p t = false
+
+-- what an annotation binds: without a value it makes only a name without brackets one of the body's own
+abbrev pub annotated_names : Place → Tree → Perhaps → List (List ℕ)
+annotated_names p t absent = if is_simple p t then target_names t else []
+annotated_names p t (present e) = target_names t
 
 -- an imported name is bound as what `as` says
 abbrev pub imported_as : List ℕ → Option (List ℕ) → List ℕ
@@ -42,7 +54,7 @@ abbrev mutual
   step_names (ImportAll p path) = []
   step_names (Import p path names) = map import_bound names
   step_names (Assign p ts e) = targets_names ts
-  step_names (Annotate p t a e) = target_names t
+  step_names (Annotate p t a e) = annotated_names p t e
   step_names (Augment p t o e) = target_names t
   step_names (Evaluate p e) = []
   step_names (If p bs b) = branches_names bs ++ else_names b

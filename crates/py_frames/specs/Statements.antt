@@ -1,6 +1,6 @@
 -- What statements mean, and what a call of a function does.
 -- Source: Python reference 7, Simple statements, and 8, Compound statements; units and requests: own rules (docs/RULES.md).
-use Rattle.std.specs.Prelude.{ℕ, zero, suc, ◌+◌, ◌==◌, ◌&&◌, ◌||◌, not, Bool, true, false, List, [], ◌∷◌, ◌++◌, map, length, Option, Some, None, Result, Ok, Err, codes}
+use Rattle.std.specs.Prelude.{ℕ, zero, suc, ◌+◌, ◌&&◌, ◌||◌, not, Bool, true, false, List, [], ◌∷◌, ◌++◌, map, Option, Some, None, Result, Ok, Err, codes}
 use Rattle.amh_host.specs.declared.place.Place.{Place}
 use Rattle.py_tree.specs.Tree.{Tree, Name, Trailed, Trees, none, some, Perhaps, absent, present, Trailers, no_trailer, trailer, Trailer, Attribute, Call, CallOf, Index, Slice}
 use Rattle.py_tree.specs.Steps.{Step, Pass, Break, Continue, Return, Assert, Raise, ImportAll, Import, Assign, Annotate, Augment, Evaluate, If, While, For, With, Def, Class, Steps, last, next, Branches, no_branch, branch, Otherwise, nothing_else, otherwise, Body, Fun, Import_name, Parameter, Named, Star, Bases, no_bases, bases}
@@ -10,6 +10,7 @@ use Rattle.py_values.specs.declared.val.ScopeId.{ScopeId}
 use Rattle.py_values.specs.declared.val.ValueStop.{ValueStop}
 use Rattle.py_values.specs.declared.op.PyOp.{PyOp}
 use Rattle.py_values.specs.declared.op.PyOp.TheVariants as op
+use Rattle.py_values.specs.declared.op.Builtin.{Builtin}
 use Rattle.py_values.specs.declared.op.Builtin.TheVariants as builtins
 use Rattle.py_values.specs.declared.func.Func.{Func}
 use Rattle.py_values.specs.declared.func.Code.{Code}
@@ -17,7 +18,7 @@ use Rattle.py_values.specs.declared.func.Code.TheVariants as code
 use Rattle.py_values.specs.declared.func.Scope.{Scope}
 use Rattle.py_values.specs.declared.objects.Inherited.{Inherited}
 use Rattle.py_values.specs.declared.objects.Inherited.TheVariants as inherited
-use Rattle.py_values.specs.Heaps.{Made, Seen, seen, row_at, func_at}
+use Rattle.py_values.specs.Heaps.{Made, Seen, seen, func_at}
 use Rattle.py_values.specs.Bindings.{Binding}
 use Rattle.py_values.specs.Names.{new_func, new_scope, scope_at, scope_bound}
 use Rattle.py_values.specs.Objects.{inherited as inherits, new_class}
@@ -33,11 +34,11 @@ use Rattle.py_frames.specs.declared.frame.Purpose.{Purpose}
 use Rattle.py_frames.specs.declared.frame.Purpose.TheVariants.{Plain, Named as Named_by}
 use Rattle.py_frames.specs.Doing.{Doing, Callee, Known, heap_seen, ◌>>=◌, and_then, then_do, came, give, stop, choose, spend, spend_each, making}
 use Rattle.py_frames.specs.Asking.{request, ask, most}
-use Rattle.py_frames.specs.Own.{steps_names, function_names, imported_as}
+use Rattle.py_frames.specs.Own.{is_simple, steps_names, function_names, imported_as}
 use Rattle.py_frames.specs.Functions.{function_at, parameters_met, named_val}
 use Rattle.py_frames.specs.Parts.{operator_of, place_of, trailer_count}
 use Rattle.py_frames.specs.Values.{class_word, bind, bind_all, read, truth_of, is_thing, operated, built, attribute, store_attribute, indexed, store_index, as_row, on_names, named_vals, with_this, sign_of}
-use Rattle.py_frames.specs.Expressions.{value_of, perhaps_value, arguments_then, assign, trailed_one, list_of, on_element, if_row, seen_from, where_last, reach}
+use Rattle.py_frames.specs.Expressions.{value_of, perhaps_value, arguments_then, assign, trailed_one, list_of, on_element, if_row, row_size, of_size, seen_from, where_last, reach}
 
 -- ---- imports
 
@@ -56,9 +57,25 @@ imported k path p (x ∷ xs) = do
   v ← ask k (request act.Import [] (path ∷ x.name ∷ []) p)
   bind k (imported_as x.name x.bound) v p (imported k path p xs)
 
-abbrev pub all_imported : Known → List ℕ → Place → Doing
-all_imported k path p =
+abbrev pub all_asked : Known → List ℕ → Place → Doing
+all_asked k path p =
     then_do (ask k (request act.Import [] (path ∷ codes "*" ∷ []) p)) (λ got. on_names got (λ names. bind_all k names p (came Next)))
+
+-- whether a scope is the module's, which nothing encloses
+abbrev pub is_outermost : Option ScopeId → Bool
+is_outermost None = true
+is_outermost (Some id) = false
+
+abbrev pub is_module : Option Scope → Bool
+is_module None = false
+is_module (Some scope) = is_outermost scope.enclosing
+
+abbrev pub stands_in_module : Seen → ScopeId → Bool
+stands_in_module s here = is_module (scope_at s here.0)
+
+-- all names of a module: in a function or a class body it raises, where Python takes no file with it
+abbrev pub all_imported : Known → List ℕ → Place → Doing
+all_imported k path p = λ w s. choose (stands_in_module (heap_seen k s) s.here.scope) (all_asked k path p) (stop Raised p) w s
 
 -- ---- assignments
 
@@ -86,13 +103,16 @@ abbrev pub assigned : Known → Trees → Val → Doing
 assigned k none v = came Next
 assigned k (some t ts) v = and_then (assign k t v) (assigned k ts v)
 
--- an annotation of a class body is kept, where its target is a name
+-- an annotation of a class body is kept, where its target is a name without brackets
 abbrev pub noted : Tree → Val → List NamedVal → List NamedVal
 noted (Name p n) v notes = notes ++ named_val n v ∷ []
 noted t v notes = notes
 
-abbrev pub note : Tree → Val → Doing
-note t v = λ w s. came Next w (record s { here = record s.here { notes = noted t v s.here.notes } })
+abbrev pub note_of : Tree → Val → Doing
+note_of t v = λ w s. came Next w (record s { here = record s.here { notes = noted t v s.here.notes } })
+
+abbrev pub note : Place → Tree → Val → Doing
+note p t v = choose (is_simple p t) (note_of t v) (came Next)
 
 -- ---- augmented assignments
 
@@ -100,19 +120,30 @@ note t v = λ w s. came Next w (record s { here = record s.here { notes = noted 
 abbrev pub augmented_sign : PyOp → List ℕ
 augmented_sign o = sign_of o ++ codes "="
 
--- `+=` of a list extends it in place
-abbrev pub grows_in_place : PyOp → Val → Bool
-grows_in_place op.Add (val.List o) = true
-grows_in_place o x = false
+-- what changes a list in place: `+=` extends it, and `*=` repeats it
+abbrev pub list_change : PyOp → Option Builtin
+list_change op.Add = Some builtins.Extend
+list_change op.Mul = Some builtins.Repeat
+list_change o = None
+
+abbrev pub in_place : PyOp → Val → Option Builtin
+in_place o (val.List i) = list_change o
+in_place o x = None
+
+-- a list that was changed in place is what comes
+abbrev pub list_changed : Known → Builtin → Val → Val → Place → Doing
+list_changed k b x y p = do
+  _ ← built k b (x ∷ y ∷ []) p
+  give x
+
+abbrev pub changed_or : Known → Option Builtin → PyOp → Val → Val → Place → Doing
+changed_or k None o x y p = operated k o x y p
+changed_or k (Some b) o x y p = list_changed k b x y p
 
 abbrev pub augmented : Known → PyOp → Val → Val → Place → Doing
 augmented k o x y p =
     choose (is_thing x || is_thing y) (ask k (request act.Operator (x ∷ y ∷ []) (augmented_sign o ∷ []) p))
-    (choose (grows_in_place o x)
-    (do
-      _ ← built k builtins.Extend (x ∷ y ∷ []) p
-      give x)
-    (operated k o x y p))
+    (changed_or k (in_place o x) o x y p)
 
 abbrev pub augment_name : Known → Place → List ℕ → Place → PyOp → Tree → Doing
 augment_name k q n p o t = do
@@ -163,14 +194,6 @@ while_turns zero k t body p = stop Spent p
 while_turns (suc n) k t body p = do
   x ← value_of k Plain t
   truth_of k x (place_of t) (λ b. choose b (spend p (then_do body (λ got. turn_on got (while_turns n k t body p)))) (came Next))
-
--- a dict that changes its size while it is gone over raises
-abbrev pub row_size : Seen → Val → ℕ
-row_size s (val.Dict o) = length (row_at s o.0)
-row_size s v = 0
-
-abbrev pub of_size : Known → Val → ℕ → Place → Doing → Doing
-of_size k v size p m = λ w s. choose (row_size (heap_seen k s) v == size) m (stop Raised p) w s
 
 unfoldable pub for_turns : ℕ → Known → Val → (i size : ℕ) → Tree → Doing → Place → Doing
 for_turns zero k v i size targets body p = stop Spent p
@@ -234,7 +257,7 @@ defined k p (Fun q name is_async params result body) = defaults_then k [] params
 
 -- ---- classes
 
--- a class has one base at most: a class or a thing
+-- a class has one base at most: a class or a thing; None where it may not have what is given
 abbrev pub base_of : List Val → Option Val
 base_of [] = Some val.None
 base_of (val.Class o ∷ []) = Some (val.Class o)
@@ -296,14 +319,24 @@ made_known s round (Err e) = Err e
 abbrev pub known_class : Seen → Option Val → ScopeId → Result (Val × Made) ValueStop
 known_class s base scope = made_known s (seen_from s scope) (new_class s base scope.0)
 
-abbrev pub class_made : Known → Here → Val → List ℕ → List NamedVal → Place → Doing
+-- a class of what a body bound in a scope
+abbrev pub class_built : Known → ScopeId → Val → List ℕ → (keywords notes bindings : List NamedVal) → Place → Doing
+class_built k scope base name keywords notes bindings p = λ w s.
+    making (λ t. known_class (heap_seen k t) (as_base base) scope) p
+    (λ c. class_bound k (over_thing (heap_seen k s) base) c base name keywords notes bindings p) w s
+
+-- once its body has run, what may be no base raises, and so do keywords over what is no thing
+abbrev pub class_checked : Known → ScopeId → Option Val → List ℕ → (keywords notes bindings : List NamedVal) → Place → Doing
+class_checked k scope None name keywords notes bindings p = stop Raised p
+class_checked k scope (Some base) name keywords notes bindings p = λ w s.
+    choose (are_keywords keywords && not (over_thing (heap_seen k s) base)) (stop Raised p) (class_built k scope base name keywords notes bindings p) w s
+
+abbrev pub class_made : Known → Here → Option Val → List ℕ → List NamedVal → Place → Doing
 class_made k outer base name keywords p = λ w s.
-    making (λ t. known_class (heap_seen k t) (as_base base) s.here.scope) p
-    (λ c. class_bound k (over_thing (heap_seen k s) base) c base name keywords s.here.notes (kept_bindings s.here.body) p)
-    w (record s { here = outer })
+    class_checked k s.here.scope base name keywords s.here.notes (kept_bindings s.here.body) p w (record s { here = outer })
 
 -- what a class body leaves
-abbrev pub class_ended : Known → Here → Val → List ℕ → List NamedVal → Place → Got → Doing
+abbrev pub class_ended : Known → Here → Option Val → List ℕ → List NamedVal → Place → Got → Doing
 class_ended k outer base name keywords p Next = class_made k outer base name keywords p
 class_ended k outer base name keywords p got = λ w s. came got w (record s { here = outer })
 
@@ -311,21 +344,16 @@ class_ended k outer base name keywords p got = λ w s. came got w (record s { he
 abbrev pub class_here : Here → ScopeId → Here
 class_here outer scope = record { scope = scope; first = None; body = Some (record { scope = scope; bindings = [] }); notes = []; room = outer.room }
 
-abbrev pub class_within : Known → ScopeId → Val → List ℕ → List NamedVal → List (List ℕ) → Doing → Place → Doing
+abbrev pub class_within : Known → ScopeId → Option Val → List ℕ → List NamedVal → List (List ℕ) → Doing → Place → Doing
 class_within k round base name keywords own body p = λ w s.
     making (λ t. new_scope (heap_seen k t) (Some round) true own) p
     (λ scope w2 t. then_do body (class_ended k s.here base name keywords p) w2 (record t { here = class_here s.here scope })) w s
 
 -- round the scope of the body stands one for the class alone
-abbrev pub class_body : Known → Val → List ℕ → List NamedVal → List (List ℕ) → Doing → Place → Doing
-class_body k base name keywords own body p =
+abbrev pub class_begun : Known → Option Val → List ℕ → List NamedVal → List (List ℕ) → Doing → Place → Doing
+class_begun k base name keywords own body p =
     making (λ s. new_scope (heap_seen k s) (seen_from (heap_seen k s) s.here.scope) false (class_word ∷ [])) p
     (λ round. class_within k round base name keywords own body p)
-
-abbrev pub class_begun : Known → Option Val → List ℕ → List NamedVal → List (List ℕ) → Doing → Place → Doing
-class_begun k None name keywords own body p = stop Raised p
-class_begun k (Some base) name keywords own body p = λ w s.
-    choose (are_keywords keywords && not (over_thing (heap_seen k s) base)) (stop Raised p) (class_body k base name keywords own body p) w s
 
 -- the arguments of a class, as those of a call
 abbrev pub bases_then : Known → Place → Bases → (List Val → List NamedVal → Doing) → Doing
@@ -338,11 +366,7 @@ bases_then k p (bases t) f = f [] []
 
 -- ---- statements
 
--- whether an evaluation stands in a class body or in the module, where annotations of names are evaluated
-abbrev pub is_outermost : Option ScopeId → Bool
-is_outermost None = true
-is_outermost (Some id) = false
-
+-- whether an evaluation stands in a class body or in the module, where annotations are evaluated
 abbrev pub is_open : Option Scope → Bool
 is_open None = false
 is_open (Some scope) = scope.is_class || is_outermost scope.enclosing
@@ -350,11 +374,11 @@ is_open (Some scope) = scope.is_class || is_outermost scope.enclosing
 abbrev pub evaluates_annotations : Seen → ScopeId → Bool
 evaluates_annotations s here = is_open (scope_at s here.0)
 
-abbrev pub annotated : Known → Tree → Tree → Doing
-annotated k target t = λ w s. choose (evaluates_annotations (heap_seen k s) s.here.scope)
+abbrev pub annotated : Known → Place → Tree → Tree → Doing
+annotated k p target t = λ w s. choose (evaluates_annotations (heap_seen k s) s.here.scope)
     (do
       v ← value_of k Plain t
-      note target v)
+      note p target v)
     (came Next) w s
 
 abbrev pub assign_annotated : Known → Tree → Perhaps → Doing
@@ -384,7 +408,7 @@ abbrev mutual
   run k (Assign p ts t) = spend p (do
     v ← value_of k (purpose_of ts) t
     assigned k ts v)
-  run k (Annotate p target t e) = spend p (and_then (assign_annotated k target e) (annotated k target t))
+  run k (Annotate p target t e) = spend p (and_then (assign_annotated k target e) (annotated k p target t))
   run k (Augment p target o t) = spend_each 2 p (augment k target p (operator_of o) t)
   run k (Evaluate p t) = spend p (do
     _ ← value_of k Plain t

@@ -67,7 +67,7 @@ run_after k (Import p path names) = imported k (dotted path) p names
 run_after k (Assign p ts t) = do
   v ← value_of k (purpose_of ts) t
   assigned k ts v
-run_after k (Annotate p target t e) = and_then (assign_annotated k target e) (annotated k target t)
+run_after k (Annotate p target t e) = and_then (assign_annotated k target e) (annotated k p target t)
 run_after k (Augment p target o t) = augment k target p (operator_of o) t
 run_after k (Evaluate p t) = do
   _ ← value_of k Plain t

@@ -53,11 +53,11 @@ annotate_stored k (Annotate p target t e) v = assign k target v
 annotate_stored k step v = came Next
 
 abbrev pub annotates : Known → Step → Doing
-annotates k (Annotate p target t e) = annotated k target t
+annotates k (Annotate p target t e) = annotated k p target t
 annotates k step = came Next
 
 abbrev pub notes : Step → Val → Doing
-notes (Annotate p target t e) v = note target v
+notes (Annotate p target t e) v = note p target v
 notes step v = came Next
 
 -- ---- augmented assignments

@@ -1,11 +1,14 @@
 -- The table of a program's functions, with the names that are their own.
 -- Internal: no rule of the language.
-use Rattle.std.specs.Prelude.{◌≡◌, ℕ, List, [], ◌∷◌, ◌++◌, map}
+use Rattle.std.specs.Prelude.{◌≡◌, ◌⊎◌, ℕ, List, [], ◌∷◌, ◌++◌, map, length}
+use Rattle.amh_host.specs.declared.place.Place.{Place}
 use Rattle.py_tree.specs.Programs.{steps_of, body_of}
 use Rattle.py_tree.specs.Steps.{Step, If, While, For, With, Def, Class, Steps, last, next, Branches, no_branch, branch, Otherwise, nothing_else, otherwise, Body, Fun}
 use Rattle.py_frames.specs.declared.functions.Functions.{Functions}
 use Rattle.py_frames.specs.declared.functions.KnownFunction.{KnownFunction}
+use Rattle.py_frames.specs.declared.spots.Spot.{Spot}
 use Rattle.py_frames.specs.Own.{function_names}
+use Rattle.py_frames.specs.Functions.{body_place}
 
 -- all functions of a program, in the order of the text, each before those in its body
 abbrev mutual
@@ -40,6 +43,23 @@ described b = (b, function_names b)
 abbrev pub known_body : KnownFunction → Body × List (List ℕ)
 known_body x = (body_of x.function.value, x.own)
 
--- a table has the functions of its program
+-- ---- an index of the places
+
+-- a place, as a key
+abbrev pub spot_of : Place → Spot
+spot_of p = record { line = p.line; col = p.col }
+
+abbrev pub spot_at : KnownFunction → Spot
+spot_at x = spot_of (body_place (known_body x).0)
+
+-- as many keys as there are functions are the places of these, in order
+abbrev pub AreSpots : List Spot → List KnownFunction → Type 0
+AreSpots spots xs = length spots ≡ length xs → spots ≡ map spot_at xs
+
+-- a key goes last, or all stay
+abbrev pub AddsAtMost : Spot → List Spot → List Spot → Type 0
+AddsAtMost spot old new = (new ≡ old) ⊎ (new ≡ old ++ spot ∷ [])
+
+-- a table has the functions of its program, and an index finds them
 abbrev pub IsTable : Functions → Type 0
-IsTable f = map known_body f.table.items ≡ map described (functions_in (steps_of f.program))
+IsTable f = (map known_body f.table.items ≡ map described (functions_in (steps_of f.program))) × AreSpots f.spots.keys f.table.items

@@ -1,6 +1,6 @@
 -- What is done with values, once they are there: operators, truth, indices, attributes and calls.
 -- Source: Python reference 6.3, Primaries, 6.4, 3.2 (methods), 3.3.1 (__init__), 3.3.3.6 (the class cell that `super()` reads), library reference, Built-in
--- Functions (sum, super); requests for things: own rule (docs/RULES.md).
+-- Functions (object, sum, super); requests for things: own rule (docs/RULES.md).
 use Rattle.std.specs.Prelude.{ℕ, zero, suc, ◌+◌, ◌==◌, ◌&&◌, ◌||◌, not, Bool, true, false, if◌then◌else◌, List, [], ◌∷◌, ◌++◌, map, length, pos, Option, Some, None, option_map, Result, Ok, Err, codes}
 use Rattle.std.specs.List.{list_any}
 use Rattle.lists.specs.Texts.{text_eq}
@@ -272,9 +272,14 @@ gone_over k b n done (v ∷ vs) place = choose (is_thing v && goes_over b n (len
 abbrev pub method_of : Func → Option Val → Func
 method_of f this = record f { this = this }
 
+abbrev pub is_unbound : Option Val → Bool
+is_unbound None = true
+is_unbound (Some v) = false
+
+-- whether reading a function from a class binds it: functions of the program, and the `__init__` of every object
 abbrev pub is_plain_code : Code → Option Val → Bool
-is_plain_code (code.Def p) None = true
-is_plain_code (code.Def p) (Some v) = false
+is_plain_code (code.Def p) this = is_unbound this
+is_plain_code (code.Builtin builtins.InitNothing) this = is_unbound this
 is_plain_code (code.Builtin b) this = false
 
 abbrev pub as_method : Known → Option Func → Val → Option Val → Place → Doing
@@ -287,12 +292,15 @@ abbrev pub from_class : Known → Val → Option Val → Place → Doing
 from_class k (val.Func f) this place = λ w s. as_method k (func_at (heap_seen k s) f.0) (val.Func f) this place w s
 from_class k v this place = give v
 
-abbrev pub bound_builtin : Builtin → Val → Func
-bound_builtin b this = record { code = code.Builtin b; this = Some this; home = None; defaults = []; scope = None }
+abbrev pub bound_builtin : Builtin → Option Val → Func
+bound_builtin b this = record { code = code.Builtin b; this = this; home = None; defaults = []; scope = None }
+
+abbrev pub builtin_made : Known → Builtin → Option Val → Place → Doing
+builtin_made k b this place = making (λ s. new_func (heap_seen k s) (bound_builtin b this)) place give
 
 abbrev pub builtin_method : Known → Option Builtin → Val → Place → Doing
 builtin_method k None this place = stop Raised place
-builtin_method k (Some b) this place = making (λ s. new_func (heap_seen k s) (bound_builtin b this)) place give
+builtin_method k (Some b) this place = builtin_made k b (Some this) place
 
 abbrev pub list_method : List ℕ → Option Builtin
 list_method name =
@@ -321,23 +329,24 @@ head_of (v ∷ row) = v
 abbrev pub is_init : List ℕ → Bool
 is_init name = text_eq (codes "__init__") name
 
--- `super().name` that reaches a thing, and that reaches nothing
+-- an attribute that no class has: `__init__` is then that of every object, bound where it is read through one
+abbrev pub nowhere : Known → Option Val → List ℕ → Place → Doing
+nowhere k this name place = choose (is_init name) (builtin_made k builtins.InitNothing this place) (stop Raised place)
+
+-- `super().name` that reaches a thing
 abbrev pub super_thing : Known → (Val → Doing) → Val → List ℕ → Place → Doing
 super_thing k ask_for this name place = choose (is_init name) (builtin_method k (Some builtins.InitThing) this place) (ask_for this)
-
-abbrev pub super_nothing : Known → Val → List ℕ → Place → Doing
-super_nothing k this name place = choose (is_init name) (builtin_method k (Some builtins.InitNothing) this place) (stop Raised place)
 
 abbrev pub found_above : Known → (Val → Doing) → Val → List ℕ → Place → Inherited → Doing
 found_above k ask_for this name place (inherited.Found v c) = from_class k v (Some this) place
 found_above k ask_for this name place (inherited.Thing h) = super_thing k ask_for this name place
-found_above k ask_for this name place inherited.Nowhere = super_nothing k this name place
+found_above k ask_for this name place inherited.Nowhere = nowhere k (Some this) name place
 
 -- above a class, from its base on
 abbrev pub above : Known → (Val → Doing) → Val → List ℕ → Place → Val → Doing
 above k ask_for this name place (val.Class o) = λ w s. found_above k ask_for this name place (inherits (heap_seen k s) name o) w s
 above k ask_for this name place (val.Hw h) = super_thing k ask_for this name place
-above k ask_for this name place _ = super_nothing k this name place
+above k ask_for this name place _ = nowhere k (Some this) name place
 
 abbrev pub above_class : Known → (Val → Doing) → Val → List ℕ → Place → Val → Doing
 above_class k ask_for this name place (val.Class o) = λ w s. above k ask_for this name place (head_of (row_at (heap_seen k s) o.0)) w s
@@ -356,14 +365,14 @@ abbrev pub of_func : Known → (Val → Doing) → Option Func → List ℕ → 
 of_func k ask_for None name place = stop Raised place
 of_func k ask_for (Some f) name place = func_attribute k ask_for f.code f name place
 
-abbrev pub found_in : Known → (Val → Doing) → Val → Option Val → Place → Inherited → Doing
-found_in k ask_for x this place (inherited.Found v c) = from_class k v this place
-found_in k ask_for x this place (inherited.Thing h) = ask_for x
-found_in k ask_for x this place inherited.Nowhere = stop Raised place
+abbrev pub found_in : Known → (Val → Doing) → Val → Option Val → List ℕ → Place → Inherited → Doing
+found_in k ask_for x this name place (inherited.Found v c) = from_class k v this place
+found_in k ask_for x this name place (inherited.Thing h) = ask_for x
+found_in k ask_for x this name place inherited.Nowhere = nowhere k this name place
 
 -- in the class of an object
 abbrev pub of_class : Known → (Val → Doing) → Val → List ℕ → Place → Val → Doing
-of_class k ask_for x name place (val.Class o) = λ w s. found_in k ask_for x (Some x) place (inherits (heap_seen k s) name o) w s
+of_class k ask_for x name place (val.Class o) = λ w s. found_in k ask_for x (Some x) name place (inherits (heap_seen k s) name o) w s
 of_class k ask_for x name place _ = stop Raised place
 
 abbrev pub of_object : Known → (Val → Doing) → ObjId → Option Val → List ℕ → Place → Doing
@@ -374,7 +383,7 @@ of_object k ask_for o None name place = λ w s. of_class k ask_for (val.Object o
 abbrev pub attribute_by : Known → (Val → Doing) → Val → List ℕ → Place → Doing
 attribute_by k ask_for (val.Hw h) name place = ask_for (val.Hw h)
 attribute_by k ask_for (val.Object o) name place = λ w s. of_object k ask_for o (attribute_in (heap_seen k s) name (attributes (row_at (heap_seen k s) o.0))) name place w s
-attribute_by k ask_for (val.Class o) name place = λ w s. found_in k ask_for (val.Class o) None place (inherits (heap_seen k s) name o) w s
+attribute_by k ask_for (val.Class o) name place = λ w s. found_in k ask_for (val.Class o) None name place (inherits (heap_seen k s) name o) w s
 attribute_by k ask_for (val.Func f) name place = λ w s. of_func k ask_for (func_at (heap_seen k s) f.0) name place w s
 attribute_by k ask_for (val.List o) name place = builtin_method k (list_method name) (val.List o) place
 attribute_by k ask_for (val.Dict o) name place = builtin_method k (dict_method name) (val.Dict o) place
@@ -492,6 +501,11 @@ plain_called k builtins.Len args place = length_called k args place
 plain_called k builtins.Abs args place = magnitude_called k args place
 plain_called k b args place = gone_over k b (length args) [] args place
 
+-- the `__init__` of every object takes the object alone
+abbrev pub nothing_begun : List Val → Place → Doing
+nothing_begun (this ∷ []) place = give val.None
+nothing_begun args place = stop Raised place
+
 abbrev pub without_keywords : List NamedVal → Place → Doing → Doing
 without_keywords [] place m = m
 without_keywords (x ∷ xs) place m = stop Raised place
@@ -500,7 +514,7 @@ without_keywords (x ∷ xs) place m = stop Raised place
 abbrev pub builtin_called : Known → Builtin → Option Val → List Val → List NamedVal → Place → Doing
 builtin_called k builtins.Super this args keywords place = without_arguments args keywords place (super_called k this place)
 builtin_called k builtins.InitThing this args keywords place = init_this k this args keywords place
-builtin_called k builtins.InitNothing this args keywords place = without_arguments args keywords place (give val.None)
+builtin_called k builtins.InitNothing this args keywords place = without_keywords keywords place (nothing_begun (with_this this args) place)
 builtin_called k builtins.Print this args keywords place = give val.None
 builtin_called k b this args keywords place = without_keywords keywords place (plain_called k b (with_this this args) place)
 

@@ -446,7 +446,7 @@ pub enum DefFrame {
     /// What a class body leaves.
     ClassBody {
         stmt: Stmt,
-        base: Val,
+        base: Option<Val>,
         keywords: NamedVals,
         outer: Boxed<Here>,
     },

@@ -1,14 +1,16 @@
 // The functions of a program, by the places of their statements, with the names that are their own.
-ghost use Rattle.std.specs.Prelude.{◌≡◌, ◌++◌, map, OnOk, IfOk, option_map};
+ghost use Rattle.std.specs.Prelude.{◌≡◌, ◌++◌, map, slice_get, OnOk, IfOk, option_map};
 ghost use Rattle.std.specs.List.{find};
 ghost use Rattle.std.specs.Option.{option_copied};
 ghost use Rattle.py_tree.specs.Programs.{step_of, steps_of, branch_of, body_of};
 ghost use Rattle.py_tree.specs.Steps.{steps, branches, else_of};
 ghost use Rattle.py_frames.specs.Functions.{same_place, function_at, body_place};
-ghost use Rattle.py_frames.specs.Tables.{functions_in, functions_in_step, functions_in_branches, functions_in_else, functions_in_body, described, known_body, IsTable};
+ghost use Rattle.py_frames.specs.Tables.{functions_in, functions_in_step, functions_in_branches, functions_in_else, functions_in_body, described, known_body, spot_at, AreSpots, IsTable};
 
 use crate::own::function_names;
+use crate::spots::{Spot, spot_of, spots_of};
 use amh_host::{NoMemory, Place};
+use indexmap::IndexSet;
 use py_tree::{Block, Branch, Function, Stmt, StmtKind};
 use py_values::OwnNames;
 use std::alloc::Global;
@@ -21,11 +23,12 @@ pub struct KnownFunction {
     pub own: OwnNames,
 }
 
-/// The functions of a program.
+/// The functions of a program, and an index of the places at which they stand.
 #[derive(Drop)]
 pub struct Functions {
     pub program: Block,
     pub table: Vec<KnownFunction>,
+    pub spots: IndexSet<Spot>,
 }
 
 impl Functions {
@@ -41,6 +44,7 @@ impl Functions {
         match add_block(program, alloc, &mut table) {
             Ok(()) => Ok(Functions {
                 program: kept,
+                spots: spots_of(alloc, table.as_slice()),
                 table,
             }),
             Err(_) => Err(NoMemory),
@@ -58,9 +62,32 @@ impl Functions {
 
     // The first of the table that stands at a place.
     fn first_at(&self, place: Place) -> Option<&KnownFunction>
+        requires { AreSpots self.now.spots.keys self.now.table.items }
         ensures { option_copied result ≡ find (λ x. same_place place (body_place (known_body x).0)) self.now.table.items }
     {
-        self.table.iter().find(|known| is_at(known, place))
+        if self.spots.len() == self.table.len() {
+            self.indexed(place)
+        } else {
+            self.table.iter().find(|known| is_at(known, place))
+        }
+    }
+
+    // The same, where each function stands at a place of its own.
+    fn indexed(&self, place: Place) -> Option<&KnownFunction>
+        requires { self.now.spots.keys ≡ map spot_at self.now.table.items }
+        ensures { option_copied result ≡ find (λ x. same_place place (body_place (known_body x).0)) self.now.table.items }
+    {
+        match self.spots.get_index_of(&spot_of(place)) {
+            Some(number) => self.at(number),
+            None => None,
+        }
+    }
+
+    // The function of a number.
+    fn at(&self, number: usize) -> Option<&KnownFunction>
+        ensures { option_copied result ≡ slice_get self.now.table.items number }
+    {
+        self.table.get(number)
     }
 }
 

@@ -11,6 +11,7 @@
 #![tactic(auto)]
 
 pub mod asks;
+pub mod at_once;
 pub mod attribute_store;
 pub mod binds;
 pub mod block;
@@ -28,6 +29,7 @@ pub mod operators;
 pub mod own;
 pub mod request;
 pub mod scopes;
+pub mod spots;
 pub mod start;
 pub mod state;
 pub mod stmt_plain;

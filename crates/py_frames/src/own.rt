@@ -1,12 +1,12 @@
 // The names that are a function's or a class body's own: those that its code binds, in the order of the text.
 ghost use Rattle.std.specs.Prelude.{◌≡◌, ◌++◌, ◌∷◌, [], map, OnOk, IfOk, option_map};
 ghost use Rattle.py_tree.specs.Seen.{tree};
-ghost use Rattle.py_tree.specs.Tree.{trees, perhaps};
+ghost use Rattle.py_tree.specs.Tree.{trees, perhaps, absent};
 ghost use Rattle.py_tree.specs.Steps.{steps, branches, else_of};
 ghost use Rattle.py_tree.specs.Programs.{import_of, parameter_of, step_of, steps_of, branch_of, body_of};
-ghost use Rattle.py_frames.specs.Own.{target_names, targets_names, perhaps_names, import_bound, step_names, steps_names, branches_names, else_names, parameter_names, function_names};
+ghost use Rattle.py_frames.specs.Own.{is_simple, annotated_names, target_names, targets_names, perhaps_names, import_bound, step_names, steps_names, branches_names, else_names, parameter_names, function_names};
 
-use amh_host::{Names, NoMemory};
+use amh_host::{Names, NoMemory, Place};
 use py_tree::{Block, Branch, Expr, ExprKind, Function, Imported, Param, Stmt, StmtKind};
 use std::alloc::Global;
 
@@ -83,7 +83,9 @@ fn add_stmt(names: &mut Names, stmt: &Stmt) -> Result<(), NoMemory>
     match &*stmt.kind {
         StmtKind::Import(_, imported) => add_imported(names, imported.as_slice()),
         StmtKind::Assign(targets, _) => add_targets(names, targets.as_slice()),
-        StmtKind::Annotate { target, .. } => add_target(names, target),
+        StmtKind::Annotate { target, value, .. } => {
+            add_annotated(names, stmt.place, target, value)
+        }
         StmtKind::Augment(target, _, _) => add_target(names, target),
         StmtKind::If(all, other) => match add_branches(names, all.as_slice()) {
             Ok(()) => add_other(names, other),
@@ -125,6 +127,41 @@ fn add_branches(names: &mut Names, all: &[Branch]) -> Result<(), NoMemory>
         };
     }
     Ok(())
+}
+
+// What an annotation binds.
+fn add_annotated(
+    names: &mut Names,
+    place: Place,
+    target: &Expr,
+    value: &Option<Expr>,
+) -> Result<(), NoMemory>
+    ensures { OnOk result (names.new ≡ names.old ++ annotated_names place (tree target.now) (perhaps (option_map tree value.now))) }
+{
+    match value {
+        Some(_) => add_target(names, target),
+        None => add_simple(names, place, target),
+    }
+}
+
+fn add_simple(names: &mut Names, place: Place, target: &Expr) -> Result<(), NoMemory>
+    ensures { OnOk result (names.new ≡ names.old ++ annotated_names place (tree target.now) absent) }
+{
+    if is_simple(place, target) {
+        add_target(names, target)
+    } else {
+        Ok(())
+    }
+}
+
+/// Whether the target of an annotation at a place is a name without brackets.
+pub fn is_simple(place: Place, target: &Expr) -> bool
+    ensures { result ≡ is_simple place (tree target.now) }
+{
+    match &*target.kind {
+        ExprKind::Name(_) => place == target.place,
+        _ => false,
+    }
 }
 
 fn add_perhaps(names: &mut Names, target: &Option<Expr>) -> Result<(), NoMemory>

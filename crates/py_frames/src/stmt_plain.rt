@@ -1,5 +1,5 @@
 // Statements that evaluate one expression: how they begin.
-ghost use Rattle.std.specs.Prelude.{◌≡◌, ◌<◌, option_map};
+ghost use Rattle.std.specs.Prelude.{◌≡◌, ◌<◌, ◌≤◌, OnOk, option_map};
 ghost use Rattle.py_tree.specs.Seen.{tree};
 ghost use Rattle.py_tree.specs.Programs.{step_of};
 ghost use Rattle.py_tree.specs.Tree.{perhaps};
@@ -9,8 +9,13 @@ ghost use Rattle.py_frames.specs.Doing.{came, stop};
 ghost use Rattle.py_frames.specs.Statements.{asserted};
 ghost use Rattle.py_frames.specs.Stmt_frames.{asserts};
 ghost use Rattle.py_frames.specs.Stmt_begun.{return_value, run_after};
-ghost use Rattle.py_frames.specs.Frames.{GoesOn};
+ghost use Rattle.py_frames.specs.Frames.{GoesOn, within};
+ghost use Rattle.py_frames.specs.declared.frame.Frame.TheVariants as frame;
+ghost use Rattle.py_frames.specs.declared.frame.StmtFrame.TheVariants as stmt;
+ghost use Rattle.py_frames.specs.declared.frame.Purpose.TheVariants.{Plain};
+ghost use Rattle.py_frames.specs.Expressions.{value_of};
 
+use crate::at_once::at_once;
 use crate::frame::{Frame, Now, StmtFrame};
 use crate::functions::Functions;
 use crate::going::{Going, stopped, wait_for};
@@ -59,20 +64,36 @@ pub fn begun_return(
     value: &Option<Expr>,
     budget: u64,
 ) -> Result<Now, Halt>
+    requires { going.old.state.used < budget }
     ensures moves { GoesOn functions.now frozen.now result going.old going.new budget (λ k. return_value k (perhaps (option_map tree value.now))) }
-    ensures state { going.new.state ≡ going.old.state }
+    ensures left { OnOk result (going.new.state.used < budget) }
+    ensures grows { going.old.state.used ≤ going.new.state.used }
 {
     match value {
-        Some(e) => wait_for(
-            going,
-            functions,
-            frozen,
-            e,
-            Frame::Stmt(StmtFrame::Return),
-            budget,
-        ),
+        Some(e) => returned(going, functions, frozen, e, budget),
         None => comes(going, functions, frozen, Got::Returned(Val::None), budget),
     }
+}
+
+// The value of a `return` begins; where it is there at once, no frame waits for it.
+fn returned(
+    going: &mut Going,
+    functions: &Functions,
+    frozen: &Frozen,
+    e: &Expr,
+    budget: u64,
+) -> Result<Now, Halt>
+    requires { going.old.state.used < budget }
+    ensures moves { GoesOn functions.now frozen.now result going.old going.new budget (within (frame.Stmt stmt.Return) (λ k. value_of k Plain (tree e.now))) }
+    ensures left { OnOk result (going.new.state.used < budget) }
+    ensures grows { going.old.state.used ≤ going.new.state.used }
+{
+    let Some(found) = at_once(going, frozen, e, budget) else {
+        let waits = Frame::Stmt(StmtFrame::Return);
+        return wait_for(going, functions, frozen, e, waits, budget);
+    };
+    going.state.used += found.cost;
+    comes(going, functions, frozen, Got::Returned(found.val), budget)
 }
 
 // `assert`: its test.

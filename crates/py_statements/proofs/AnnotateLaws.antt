@@ -22,8 +22,9 @@ use Rattle.py_frames.specs.declared.functions.Functions.{Functions}
 use Rattle.py_frames.specs.declared.going.Going.{Going}
 use Rattle.py_frames.specs.Doing.{Doing, Known, after, on_value, on_next, came, choose, ◌>>=◌}
 use Rattle.py_frames.specs.Functions.{named_val}
+use Rattle.py_frames.specs.Own.{is_simple}
 use Rattle.py_frames.specs.Expressions.{value_of, reach}
-use Rattle.py_frames.specs.Statements.{known, annotated, evaluates_annotations, note, target_purpose}
+use Rattle.py_frames.specs.Statements.{known, annotated, evaluates_annotations, note, note_of, target_purpose}
 use Rattle.py_frames.specs.Stmt_begun.{run_after, leaves, note_named}
 use Rattle.py_frames.specs.Stmt_frames.{annotate_stored, annotates, notes}
 use Rattle.py_frames.specs.Frames.{GoesOn, within}
@@ -54,14 +55,14 @@ annotate_begins fns frozen r x z budget p a b c t u outer node fs e1 e2 e3 e4 e5
     subst N (sym e1) (subst U e4 (subst O (e2 ∙ e1) (subst S (e3 ∙ e1) g)))
 
 -- an annotation that is evaluated, and one that is not
-pub annotation_waits : (fns : Functions) (frozen : Made) (r : Result Now Halt) (x y : Going) (budget : ℕ) (p : Place) (a b : Tree) (o : Perhaps) (t : Step) (node : Stmt) (e : Bool) → t ≡ Annotate p a b o → step_of node ≡ t → e ≡ evaluates_annotations (seen frozen x.state.heap) x.state.here.scope → e ≡ true → GoesOn fns frozen r x y budget (within (frame.Stmt (stmt.Noted node)) (λ k. value_of k Plain b)) → GoesOn fns frozen r x y budget (λ k. annotated k a b)
+pub annotation_waits : (fns : Functions) (frozen : Made) (r : Result Now Halt) (x y : Going) (budget : ℕ) (p : Place) (a b : Tree) (o : Perhaps) (t : Step) (node : Stmt) (e : Bool) → t ≡ Annotate p a b o → step_of node ≡ t → e ≡ evaluates_annotations (seen frozen x.state.heap) x.state.here.scope → e ≡ true → GoesOn fns frozen r x y budget (within (frame.Stmt (stmt.Noted node)) (λ k. value_of k Plain b)) → GoesOn fns frozen r x y budget (λ k. annotated k p a b)
 annotation_waits fns frozen r x y budget p a b o t node e e1 e2 e3 e4 h =
     let S : Step → Type 0 = λ z. GoesOn fns frozen r x y budget (λ k w s. after (value_of k Plain b w s) (λ got. on_value got (notes z) w)) in
-    here_same fns frozen r x y budget (λ k. value_of k Plain b >>= note a) (λ k. annotated k a b) (λ w. ap (λ c. choose c (value_of (known (steps_of fns.program) frozen x.state.here.room) Plain b >>= note a) (came Next) w x.state) (sym e3 ∙ e4)) (subst S (e2 ∙ e1) h)
+    here_same fns frozen r x y budget (λ k. value_of k Plain b >>= note p a) (λ k. annotated k p a b) (λ w. ap (λ c. choose c (value_of (known (steps_of fns.program) frozen x.state.here.room) Plain b >>= note p a) (came Next) w x.state) (sym e3 ∙ e4)) (subst S (e2 ∙ e1) h)
 
-pub annotation_lacks : (fns : Functions) (frozen : Made) (r : Result Now Halt) (x y : Going) (budget : ℕ) (a b : Tree) (e : Bool) → e ≡ evaluates_annotations (seen frozen x.state.heap) x.state.here.scope → e ≡ false → GoesOn fns frozen r x y budget (λ k. came Next) → GoesOn fns frozen r x y budget (λ k. annotated k a b)
-annotation_lacks fns frozen r x y budget a b e e3 e4 h =
-    here_same fns frozen r x y budget (λ k. came Next) (λ k. annotated k a b) (λ w. ap (λ c. choose c (value_of (known (steps_of fns.program) frozen x.state.here.room) Plain b >>= note a) (came Next) w x.state) (sym e3 ∙ e4)) h
+pub annotation_lacks : (fns : Functions) (frozen : Made) (r : Result Now Halt) (x y : Going) (budget : ℕ) (p : Place) (a b : Tree) (e : Bool) → e ≡ evaluates_annotations (seen frozen x.state.heap) x.state.here.scope → e ≡ false → GoesOn fns frozen r x y budget (λ k. came Next) → GoesOn fns frozen r x y budget (λ k. annotated k p a b)
+annotation_lacks fns frozen r x y budget p a b e e3 e4 h =
+    here_same fns frozen r x y budget (λ k. came Next) (λ k. annotated k p a b) (λ w. ap (λ c. choose c (value_of (known (steps_of fns.program) frozen x.state.here.room) Plain b >>= note p a) (came Next) w x.state) (sym e3 ∙ e4)) h
 
 pub stored_leaves : (fns : Functions) (frozen : Made) (r : Result Now Halt) (x y : Going) (budget : ℕ) (t : Step) (got : Got) → leaves got ≡ true → GoesOn fns frozen r x y budget (λ k. came got) → GoesOn fns frozen r x y budget (λ k. on_next got (annotates k t))
 stored_leaves fns frozen r x y budget t got e h =
@@ -83,6 +84,19 @@ pub note_kept : (fns : Functions) (frozen : Made) (r : Result Now Halt) (x z : G
 note_kept fns frozen r x z budget name v n ns e1 e2 h =
     let P : List NamedVal → Type 0 = λ l. GoesOn fns frozen r (record x { state = record x.state { here = record x.state.here { notes = l } } }) z budget (λ k. came Next) in
     note_goes fns frozen r x z budget name v (subst P (e2 ∙ ap (λ i. x.state.here.notes ++ i ∷ []) e1) h)
+
+-- whether the name has brackets decides
+simple_as : (fns : Functions) (frozen : Made) (r : Result Now Halt) (x y : Going) (budget : ℕ) (p : Place) (t : Tree) (v : Val) (b c : Bool) → b ≡ is_simple p t → b ≡ c → GoesOn fns frozen r x y budget (λ k. choose c (note_of t v) (came Next)) → GoesOn fns frozen r x y budget (λ k. note p t v)
+simple_as fns frozen r x y budget p t v b c e1 e2 h =
+    meant_same fns frozen r x y budget (λ k. choose c (note_of t v) (came Next)) (λ k. note p t v) (λ k. ap (λ (d : Bool). choose d (note_of t v) (came Next)) (sym e1 ∙ e2)) h
+
+pub simple_kept : (fns : Functions) (frozen : Made) (r : Result Now Halt) (x y : Going) (budget : ℕ) (p : Place) (t : Tree) (v : Val) (b : Bool) → b ≡ is_simple p t → b ≡ true → GoesOn fns frozen r x y budget (λ k. note_of t v) → GoesOn fns frozen r x y budget (λ k. note p t v)
+simple_kept fns frozen r x y budget p t v b e1 e2 h = simple_as fns frozen r x y budget p t v b true e1 e2 h
+
+pub simple_lacks : (fns : Functions) (frozen : Made) (r : Result Now Halt) (x y : Going) (budget : ℕ) (p : Place) (t : Tree) (v : Val) (b : Bool) → b ≡ is_simple p t → b ≡ false → GoesOn fns frozen r x y budget (λ k. came Next) → GoesOn fns frozen r x y budget (λ k. note p t v)
+simple_lacks fns frozen r x y budget p t v b e1 e2 h = simple_as fns frozen r x y budget p t v b false e1 e2 h
+
+pub ruleset simple_rules = (simple_kept, simple_lacks)
 
 pub ruleset value_rules = (annotate_begins, no_memory)
 

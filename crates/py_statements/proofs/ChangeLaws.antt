@@ -13,7 +13,7 @@ use Rattle.py_values.specs.declared.val.Val.{Val}
 use Rattle.py_values.specs.declared.val.ValueStop.{ValueStop}
 use Rattle.py_values.specs.declared.val.ValueStop.TheVariants as refusal
 use Rattle.py_values.specs.declared.op.PyOp.{PyOp}
-use Rattle.py_values.specs.declared.op.Builtin.TheVariants as builtins
+use Rattle.py_values.specs.declared.op.Builtin.{Builtin}
 use Rattle.py_frames.specs.declared.request.Act.TheVariants as act
 use Rattle.py_frames.specs.declared.state.Halt.{Halt}
 use Rattle.py_frames.specs.declared.state.State.{State}
@@ -28,16 +28,16 @@ use Rattle.py_frames.specs.declared.frame.StmtFrame.TheVariants as stmt
 use Rattle.py_frames.specs.declared.frame.Frame.TheVariants as frame
 use Rattle.py_frames.specs.declared.functions.Functions.{Functions}
 use Rattle.py_frames.specs.declared.going.Going.{Going}
-use Rattle.py_frames.specs.Statements.{known, augmented, augmented_sign, grows_in_place}
+use Rattle.py_frames.specs.Statements.{known, augmented, augmented_sign, in_place, list_changed, changed_or}
 use Rattle.py_frames.specs.Doing.{World, Doing, Known, after, on_value, ◌>>=◌, came, give, made, charging, spend_each, spent_all, choose}
 use Rattle.py_frames.specs.Asking.{request, ask}
 use Rattle.py_frames.specs.Parts.{place_of}
-use Rattle.py_frames.specs.Values.{is_thing, operated, built, bind, indexed, store_attribute, store_index}
+use Rattle.py_frames.specs.Values.{is_thing, operated, bind, indexed, store_attribute, store_index}
 use Rattle.py_frames.specs.Expressions.{value_of}
 use Rattle.py_frames.specs.Stmt_frames.{Change, change_of, with_change, index_came, old_came, right_came, new_stored, name_stored}
 use Rattle.py_frames.specs.Functions.{named_val}
 use Rattle.py_frames.specs.Told.{Binds}
-use Rattle.py_statements.specs.Augmented.{grown, instead, is_a_name}
+use Rattle.py_statements.specs.Augmented.{instead, is_a_name}
 use Rattle.py_frames.specs.Frames.{told, GoesOn, within}
 use Rattle.py_frames.proofs.ExprGoes.{true_not_false}
 use Rattle.py_frames.proofs.BeginLaws.{pushed}
@@ -53,22 +53,22 @@ came_goes fns frozen x budget g = λ w h. refl
 
 pub augmented_asks : (fns : Functions) (frozen : Made) (r : Result Now Halt) (x y : Going) (budget : ℕ) (o : PyOp) (a b : Val) (place : Place) → (is_thing a || is_thing b) ≡ true → GoesOn fns frozen r x y budget (λ k. ask k (request act.Operator (a ∷ b ∷ []) (augmented_sign o ∷ []) place)) → GoesOn fns frozen r x y budget (λ k. augmented k o a b place)
 augmented_asks fns frozen r x y budget o a b place e h =
-    let P : Bool → Type 0 = λ z. GoesOn fns frozen r x y budget (λ k. choose z (ask k (request act.Operator (a ∷ b ∷ []) (augmented_sign o ∷ []) place)) (choose (grows_in_place o a) (built k builtins.Extend (a ∷ b ∷ []) place >>= (λ _. give a)) (operated k o a b place))) in
+    let P : Bool → Type 0 = λ z. GoesOn fns frozen r x y budget (λ k. choose z (ask k (request act.Operator (a ∷ b ∷ []) (augmented_sign o ∷ []) place)) (changed_or k (in_place o a) o a b place)) in
     subst P (sym e) h
 
-augmented_beside : (fns : Functions) (frozen : Made) (r : Result Now Halt) (x y : Going) (budget : ℕ) (o : PyOp) (a b : Val) (place : Place) (c : Bool) → (is_thing a || is_thing b) ≡ false → grows_in_place o a ≡ c → GoesOn fns frozen r x y budget (λ k. choose c (built k builtins.Extend (a ∷ b ∷ []) place >>= (λ _. give a)) (operated k o a b place)) → GoesOn fns frozen r x y budget (λ k. augmented k o a b place)
+augmented_beside : (fns : Functions) (frozen : Made) (r : Result Now Halt) (x y : Going) (budget : ℕ) (o : PyOp) (a b : Val) (place : Place) (c : Option Builtin) → (is_thing a || is_thing b) ≡ false → c ≡ in_place o a → GoesOn fns frozen r x y budget (λ k. changed_or k c o a b place) → GoesOn fns frozen r x y budget (λ k. augmented k o a b place)
 augmented_beside fns frozen r x y budget o a b place c e f h =
-    let P : Bool → Type 0 = λ z. GoesOn fns frozen r x y budget (λ k. choose z (ask k (request act.Operator (a ∷ b ∷ []) (augmented_sign o ∷ []) place)) (choose (grows_in_place o a) (built k builtins.Extend (a ∷ b ∷ []) place >>= (λ _. give a)) (operated k o a b place))) in
-    let Q : Bool → Type 0 = λ z. GoesOn fns frozen r x y budget (λ k. choose z (built k builtins.Extend (a ∷ b ∷ []) place >>= (λ _. give a)) (operated k o a b place)) in
-    subst P (sym e) (subst Q (sym f) h)
+    let P : Bool → Type 0 = λ z. GoesOn fns frozen r x y budget (λ k. choose z (ask k (request act.Operator (a ∷ b ∷ []) (augmented_sign o ∷ []) place)) (changed_or k (in_place o a) o a b place)) in
+    let Q : Option Builtin → Type 0 = λ z. GoesOn fns frozen r x y budget (λ k. changed_or k z o a b place) in
+    subst P (sym e) (subst Q f h)
 
-pub augmented_grows : (fns : Functions) (frozen : Made) (r : Result Now Halt) (x y : Going) (budget : ℕ) (o : PyOp) (a b : Val) (place : Place) → (is_thing a || is_thing b) ≡ false → grows_in_place o a ≡ true → GoesOn fns frozen r x y budget (λ k. built k builtins.Extend (a ∷ b ∷ []) place >>= (λ _. give a)) → GoesOn fns frozen r x y budget (λ k. augmented k o a b place)
-augmented_grows fns frozen r x y budget o a b place e f h = augmented_beside fns frozen r x y budget o a b place true e f h
+pub augmented_changes : (fns : Functions) (frozen : Made) (r : Result Now Halt) (x y : Going) (budget : ℕ) (o : PyOp) (a b : Val) (place : Place) (i : Builtin) → (is_thing a || is_thing b) ≡ false → Some i ≡ in_place o a → GoesOn fns frozen r x y budget (λ k. list_changed k i a b place) → GoesOn fns frozen r x y budget (λ k. augmented k o a b place)
+augmented_changes fns frozen r x y budget o a b place i e f h = augmented_beside fns frozen r x y budget o a b place (Some i) e f h
 
-pub augmented_made : (fns : Functions) (frozen : Made) (r : Result Now Halt) (x y : Going) (budget : ℕ) (o : PyOp) (a b : Val) (place : Place) → (is_thing a || is_thing b) ≡ false → grows_in_place o a ≡ false → GoesOn fns frozen r x y budget (λ k. operated k o a b place) → GoesOn fns frozen r x y budget (λ k. augmented k o a b place)
-augmented_made fns frozen r x y budget o a b place e f h = augmented_beside fns frozen r x y budget o a b place false e f h
+pub augmented_made : (fns : Functions) (frozen : Made) (r : Result Now Halt) (x y : Going) (budget : ℕ) (o : PyOp) (a b : Val) (place : Place) → (is_thing a || is_thing b) ≡ false → None ≡ in_place o a → GoesOn fns frozen r x y budget (λ k. operated k o a b place) → GoesOn fns frozen r x y budget (λ k. augmented k o a b place)
+augmented_made fns frozen r x y budget o a b place e f h = augmented_beside fns frozen r x y budget o a b place None e f h
 
--- ---- a list that grows is what comes
+-- ---- a list that was changed is what comes
 
 abbrev replaced : Val → Result (Val × Made) ValueStop → Result (Val × Made) ValueStop
 replaced a (Ok p) = Ok (a, p.1)
@@ -93,17 +93,17 @@ replaced_spent a r place w s false = refl
 replaced_each : (a : Val) (r : Result (Val × Made) ValueStop) (place : Place) (w : World) (s : State) → spend_each 0 place (made (replaced a r) place give) w s ≡ after (spend_each 0 place (made r place give) w s) (λ g. on_value g (λ _. give a) w)
 replaced_each a r place w s = replaced_spent a r place w s (nat_lt (s.used + 0) w.budget)
 
-pub extended_told : (fns : Functions) (frozen : Made) (given : Result Val ValueStop) (x : Going) (heap : Made) (place : Place) (budget left used : ℕ) (a b : Val) → x.state.used < budget → (x.state.used ≤ budget - left → used ≡ budget - left) → Charged (paired given heap) (budget - x.state.used) left (free (builtin frozen x.state.heap builtins.Extend (a ∷ b ∷ []))) → GoesOn fns frozen (told (instead a given) place) x (record x { state = record x.state { heap = heap; used = used } }) budget (λ k. built k builtins.Extend (a ∷ b ∷ []) place >>= (λ _. give a))
-extended_told fns frozen given x heap place budget left used a b lt f h =
-    let r : Result (Val × Made) ValueStop = builtin frozen x.state.heap builtins.Extend (a ∷ b ∷ []) in
-    same_total fns frozen (told (instead a given) place) x (record x { state = record x.state { heap = heap; used = used } }) budget (λ k. charging (λ s. free (replaced a (builtin k.frozen s.heap builtins.Extend (a ∷ b ∷ [])))) place give) (λ k. built k builtins.Extend (a ∷ b ∷ []) place >>= (λ _. give a))
+pub changed_told : (fns : Functions) (frozen : Made) (given : Result Val ValueStop) (x : Going) (heap : Made) (place : Place) (budget left used : ℕ) (i : Builtin) (a b : Val) → x.state.used < budget → (x.state.used ≤ budget - left → used ≡ budget - left) → Charged (paired given heap) (budget - x.state.used) left (free (builtin frozen x.state.heap i (a ∷ b ∷ []))) → GoesOn fns frozen (told (instead a given) place) x (record x { state = record x.state { heap = heap; used = used } }) budget (λ k. list_changed k i a b place)
+changed_told fns frozen given x heap place budget left used i a b lt f h =
+    let r : Result (Val × Made) ValueStop = builtin frozen x.state.heap i (a ∷ b ∷ []) in
+    same_total fns frozen (told (instead a given) place) x (record x { state = record x.state { heap = heap; used = used } }) budget (λ k. charging (λ s. free (replaced a (builtin k.frozen s.heap i (a ∷ b ∷ [])))) place give) (λ k. list_changed k i a b place)
     (λ w. replaced_each a r place w x.state)
-    (charged_told fns frozen (instead a given) x heap place budget left used (λ k s. free (replaced a (builtin k.frozen s.heap builtins.Extend (a ∷ b ∷ [])))) lt f (replaced_charged given heap (budget - x.state.used) left a r h))
+    (charged_told fns frozen (instead a given) x heap place budget left used (λ k s. free (replaced a (builtin k.frozen s.heap i (a ∷ b ∷ [])))) lt f (replaced_charged given heap (budget - x.state.used) left a r h))
 
-pub extended_by : (fns : Functions) (frozen : Made) (given : Result Val ValueStop) (x : Going) (heap : Made) (place : Place) (budget left used : ℕ) (a b : Val) (vals : List Val) → vals ≡ a ∷ b ∷ [] → x.state.used < budget → (x.state.used ≤ budget - left → used ≡ budget - left) → Charged (paired given heap) (budget - x.state.used) left (free (builtin frozen x.state.heap builtins.Extend vals)) → GoesOn fns frozen (told (instead a given) place) x (record x { state = record x.state { heap = heap; used = used } }) budget (λ k. grown k a b place)
-extended_by fns frozen given x heap place budget left used a b vals e lt f h =
-    let P : List Val → Type 0 = λ z. Charged (paired given heap) (budget - x.state.used) left (free (builtin frozen x.state.heap builtins.Extend z)) in
-    extended_told fns frozen given x heap place budget left used a b lt f (subst P e h)
+pub changed_by : (fns : Functions) (frozen : Made) (given : Result Val ValueStop) (x : Going) (heap : Made) (place : Place) (budget left used : ℕ) (i : Builtin) (a b : Val) (vals : List Val) → vals ≡ a ∷ b ∷ [] → x.state.used < budget → (x.state.used ≤ budget - left → used ≡ budget - left) → Charged (paired given heap) (budget - x.state.used) left (free (builtin frozen x.state.heap i vals)) → GoesOn fns frozen (told (instead a given) place) x (record x { state = record x.state { heap = heap; used = used } }) budget (λ k. list_changed k i a b place)
+changed_by fns frozen given x heap place budget left used i a b vals e lt f h =
+    let P : List Val → Type 0 = λ z. Charged (paired given heap) (budget - x.state.used) left (free (builtin frozen x.state.heap i z)) in
+    changed_told fns frozen given x heap place budget left used i a b lt f (subst P e h)
 
 -- ---- what is stored
 

@@ -1,5 +1,5 @@
 -- How classes end: what their bodies leave, the class, and its name.
-use Rattle.std.proofs.Common.{◌≡◌, ℕ, refl, ap, ◌∙◌, sym, subst, Bool, true, false, List, ◌∷◌, ◌++◌, Option, Some, Result, Ok, Err, codes}
+use Rattle.std.proofs.Common.{◌≡◌, ℕ, refl, ap, ◌∙◌, sym, subst, Bool, true, false, ◌&&◌, not, List, ◌∷◌, ◌++◌, Option, Some, Result, Ok, Err, codes}
 use Rattle.amh_host.specs.declared.place.Place.{Place}
 use Rattle.py_tree.specs.declared.stmt.Stmt.{Stmt}
 use Rattle.py_tree.specs.Programs.{step_of, steps_of}
@@ -15,6 +15,7 @@ use Rattle.py_values.specs.Runs.{Answers, paired}
 use Rattle.py_frames.specs.declared.request.NamedVal.{NamedVal}
 use Rattle.py_frames.specs.declared.request.Request.{Request}
 use Rattle.py_frames.specs.declared.request.Act.TheVariants as act
+use Rattle.py_frames.specs.declared.request.Cause.TheVariants as cause
 use Rattle.py_frames.specs.declared.state.State.{State}
 use Rattle.py_frames.specs.declared.state.Here.{Here}
 use Rattle.py_frames.specs.declared.state.Halt.{Halt}
@@ -26,14 +27,14 @@ use Rattle.py_frames.specs.declared.frame.DefFrame.TheVariants as def
 use Rattle.py_frames.specs.declared.frame.Frame.TheVariants as frame
 use Rattle.py_frames.specs.declared.functions.Functions.{Functions}
 use Rattle.py_frames.specs.declared.going.Going.{Going}
-use Rattle.py_frames.specs.Doing.{Doing, Known, after, on_value, came, stop, made, making, heap_seen, cause_of}
+use Rattle.py_frames.specs.Doing.{Doing, Known, after, on_value, came, stop, choose, made, making, heap_seen, cause_of}
 use Rattle.py_frames.specs.Asking.{request, ask}
 use Rattle.py_frames.specs.Values.{bind, named_vals, class_word}
 use Rattle.py_frames.specs.Expressions.{seen_from}
 use Rattle.py_frames.specs.Binding.{refused}
-use Rattle.py_frames.specs.Statements.{known, as_base, over_thing, known_as, class_known, made_known, known_class, kept_bindings, with_mark, class_bound, class_ended}
+use Rattle.py_frames.specs.Statements.{known, as_base, over_thing, known_as, class_known, made_known, known_class, kept_bindings, with_mark, are_keywords, class_bound, class_built, class_checked, class_ended}
 use Rattle.py_frames.specs.Def_frames.{class_left, class_told}
-use Rattle.py_statements.specs.Def_begun.{GoesUnder, class_built, class_over, is_next}
+use Rattle.py_statements.specs.Def_begun.{GoesUnder, class_over, is_next}
 use Rattle.py_frames.specs.Frames.{finish, stops_as, GoesOn, within}
 use Rattle.py_frames.proofs.BeginLaws.{no_memory, stops_as-finish}
 use Rattle.py_frames.proofs.IfLaws.{here_same}
@@ -87,7 +88,7 @@ class_stands frozen heap more last base scope round c r e1 e2 h =
 
 -- ---- what a body leaves
 
-left_next : (fns : Functions) (frozen : Made) (r : Result Now Halt) (x z : Going) (budget : ℕ) (p : Place) (name : List ℕ) (b : Bases) (ss : Steps) (base : Val) (kw : List NamedVal) (outer : Here) → GoesOn fns frozen r (record x { state = record x.state { here = outer } }) z budget (λ k. class_built k x.state.here.scope base name kw x.state.here.notes (kept_bindings x.state.here.body) p) → GoesUnder outer.room fns frozen r x z budget (λ k. class_left k (Class p name b ss) base kw outer Next)
+left_next : (fns : Functions) (frozen : Made) (r : Result Now Halt) (x z : Going) (budget : ℕ) (p : Place) (name : List ℕ) (b : Bases) (ss : Steps) (base : Option Val) (kw : List NamedVal) (outer : Here) → GoesOn fns frozen r (record x { state = record x.state { here = outer } }) z budget (λ k. class_checked k x.state.here.scope base name kw x.state.here.notes (kept_bindings x.state.here.body) p) → GoesUnder outer.room fns frozen r x z budget (λ k. class_left k (Class p name b ss) base kw outer Next)
 unfolding GoesOn GoesUnder
 left_next fns frozen (Ok now) x z budget p name b ss base kw outer h = h
 left_next fns frozen (Err (Stopped stop)) x z budget p name b ss base kw outer h = h
@@ -102,7 +103,7 @@ left_back fns frozen (Err (Stopped stop)) x z budget outer got h = h
 left_back fns frozen (Err (Asks a)) x z budget outer got h = h
 left_back fns frozen (Err NoMemory) x z budget outer got h = h
 
-ended_here : (fns : Functions) (frozen : Made) (r : Result Now Halt) (x z : Going) (budget : ℕ) (p : Place) (name : List ℕ) (b : Bases) (ss : Steps) (t : Step) (base : Val) (kw : List NamedVal) (outer : Here) (got : Got) → t ≡ Class p name b ss → is_next got ≡ true → GoesOn fns frozen r (record x { state = record x.state { here = outer } }) z budget (λ k. class_built k x.state.here.scope base name kw x.state.here.notes (kept_bindings x.state.here.body) p) → GoesUnder outer.room fns frozen r x z budget (λ k. class_left k t base kw outer got)
+ended_here : (fns : Functions) (frozen : Made) (r : Result Now Halt) (x z : Going) (budget : ℕ) (p : Place) (name : List ℕ) (b : Bases) (ss : Steps) (t : Step) (base : Option Val) (kw : List NamedVal) (outer : Here) (got : Got) → t ≡ Class p name b ss → is_next got ≡ true → GoesOn fns frozen r (record x { state = record x.state { here = outer } }) z budget (λ k. class_checked k x.state.here.scope base name kw x.state.here.notes (kept_bindings x.state.here.body) p) → GoesUnder outer.room fns frozen r x z budget (λ k. class_left k t base kw outer got)
 ended_here fns frozen r x z budget p name b ss t base kw outer Next e1 e2 h =
     let N : Step → Type 0 = λ j. GoesUnder outer.room fns frozen r x z budget (λ k. class_left k j base kw outer Next) in
     subst N (sym e1) (left_next fns frozen r x z budget p name b ss base kw outer h)
@@ -113,14 +114,14 @@ ended_here fns frozen r x z budget p name b ss t base kw outer Broke e1 e2 h = c
 ended_here fns frozen r x z budget p name b ss t base kw outer Continued e1 e2 h = cc
 ended_here fns frozen r x z budget p name b ss t base kw outer (Returned v) e1 e2 h = cc
 
-pub ended_next : (fns : Functions) (frozen : Made) (r : Result Now Halt) (x z : Going) (budget : ℕ) (p : Place) (name : List ℕ) (b : Bases) (ss : Steps) (t : Step) (base : Val) (kw : List NamedVal) (outer inner here : Here) (got : Got) (bs : List NamedVal) → t ≡ Class p name b ss → is_next got ≡ true → inner ≡ x.state.here → here ≡ outer → bs ≡ kept_bindings inner.body → GoesOn fns frozen r (record x { state = record x.state { here = here } }) z budget (λ k. class_built k inner.scope base name kw inner.notes bs p) → GoesUnder outer.room fns frozen r x z budget (λ k. class_left k t base kw outer got)
+pub ended_next : (fns : Functions) (frozen : Made) (r : Result Now Halt) (x z : Going) (budget : ℕ) (p : Place) (name : List ℕ) (b : Bases) (ss : Steps) (t : Step) (base : Option Val) (kw : List NamedVal) (outer inner here : Here) (got : Got) (bs : List NamedVal) → t ≡ Class p name b ss → is_next got ≡ true → inner ≡ x.state.here → here ≡ outer → bs ≡ kept_bindings inner.body → GoesOn fns frozen r (record x { state = record x.state { here = here } }) z budget (λ k. class_checked k inner.scope base name kw inner.notes bs p) → GoesUnder outer.room fns frozen r x z budget (λ k. class_left k t base kw outer got)
 ended_next fns frozen r x z budget p name b ss t base kw outer inner here got bs e1 e2 e3 e4 e5 h =
-    let I : Here → Type 0 = λ g. GoesOn fns frozen r (record x { state = record x.state { here = here } }) z budget (λ k. class_built k g.scope base name kw g.notes (kept_bindings g.body) p) in
-    let B : List NamedVal → Type 0 = λ g. GoesOn fns frozen r (record x { state = record x.state { here = here } }) z budget (λ k. class_built k inner.scope base name kw inner.notes g p) in
-    let H : Here → Type 0 = λ g. GoesOn fns frozen r (record x { state = record x.state { here = g } }) z budget (λ k. class_built k x.state.here.scope base name kw x.state.here.notes (kept_bindings x.state.here.body) p) in
+    let I : Here → Type 0 = λ g. GoesOn fns frozen r (record x { state = record x.state { here = here } }) z budget (λ k. class_checked k g.scope base name kw g.notes (kept_bindings g.body) p) in
+    let B : List NamedVal → Type 0 = λ g. GoesOn fns frozen r (record x { state = record x.state { here = here } }) z budget (λ k. class_checked k inner.scope base name kw inner.notes g p) in
+    let H : Here → Type 0 = λ g. GoesOn fns frozen r (record x { state = record x.state { here = g } }) z budget (λ k. class_checked k x.state.here.scope base name kw x.state.here.notes (kept_bindings x.state.here.body) p) in
     ended_here fns frozen r x z budget p name b ss t base kw outer got e1 e2 (subst H e4 (subst I e3 (subst B e5 h)))
 
-ended_back : (k : Known) (outer : Here) (base : Val) (name : List ℕ) (kw : List NamedVal) (p : Place) (got : Got) → is_next got ≡ false → class_ended k outer base name kw p got ≡ (λ w s. came got w (record s { here = outer }))
+ended_back : (k : Known) (outer : Here) (base : Option Val) (name : List ℕ) (kw : List NamedVal) (p : Place) (got : Got) → is_next got ≡ false → class_ended k outer base name kw p got ≡ (λ w s. came got w (record s { here = outer }))
 ended_back k outer base name kw p Next e = cc
 ended_back k outer base name kw p (Value v) e = refl
 ended_back k outer base name kw p (Bound v) e = refl
@@ -136,7 +137,7 @@ under_same room fns frozen (Err (Stopped stop)) x z budget m n e h = λ w q. ap 
 under_same room fns frozen (Err (Asks a)) x z budget m n e h = h
 under_same room fns frozen (Err NoMemory) x z budget m n e h = tt
 
-pub ended_other : (fns : Functions) (frozen : Made) (r : Result Now Halt) (x z : Going) (budget : ℕ) (p : Place) (name : List ℕ) (b : Bases) (ss : Steps) (t : Step) (base : Val) (kw : List NamedVal) (outer here : Here) (got : Got) → t ≡ Class p name b ss → is_next got ≡ false → here ≡ outer → GoesOn fns frozen r (record x { state = record x.state { here = here } }) z budget (λ k. came got) → GoesUnder outer.room fns frozen r x z budget (λ k. class_left k t base kw outer got)
+pub ended_other : (fns : Functions) (frozen : Made) (r : Result Now Halt) (x z : Going) (budget : ℕ) (p : Place) (name : List ℕ) (b : Bases) (ss : Steps) (t : Step) (base : Option Val) (kw : List NamedVal) (outer here : Here) (got : Got) → t ≡ Class p name b ss → is_next got ≡ false → here ≡ outer → GoesOn fns frozen r (record x { state = record x.state { here = here } }) z budget (λ k. came got) → GoesUnder outer.room fns frozen r x z budget (λ k. class_left k t base kw outer got)
 ended_other fns frozen r x z budget p name b ss t base kw outer here got e1 e2 e3 h =
     let N : Step → Type 0 = λ j. GoesUnder outer.room fns frozen r x z budget (λ k. class_left k j base kw outer got) in
     let H : Here → Type 0 = λ g. GoesOn fns frozen r (record x { state = record x.state { here = g } }) z budget (λ k. came got) in
@@ -147,6 +148,22 @@ ended_other fns frozen r x z budget p name b ss t base kw outer here got e1 e2 e
 pub under_no_memory : (room : ℕ) (fns : Functions) (frozen : Made) (x y : Going) (budget : ℕ) (m : Known → Doing) → GoesUnder room fns frozen (Err NoMemory) x y budget m
 unfolding GoesUnder
 under_no_memory room fns frozen x y budget m = tt
+
+-- ---- what may be no base, and keywords
+
+checked_as : (fns : Functions) (frozen : Made) (r : Result Now Halt) (x y : Going) (budget : ℕ) (p : Place) (name : List ℕ) (scope : ScopeId) (base : Val) (kw notes bs : List NamedVal) (c : Bool) → c ≡ (are_keywords kw && not (over_thing (seen frozen x.state.heap) base)) → GoesOn fns frozen r x y budget (λ k. choose c (stop cause.Raised p) (class_built k scope base name kw notes bs p)) → GoesOn fns frozen r x y budget (λ k. class_checked k scope (Some base) name kw notes bs p)
+checked_as fns frozen r x y budget p name scope base kw notes bs c e h =
+    let K : Known = known (steps_of fns.program) frozen x.state.here.room in
+    here_same fns frozen r x y budget (λ k. choose c (stop cause.Raised p) (class_built k scope base name kw notes bs p)) (λ k. class_checked k scope (Some base) name kw notes bs p)
+    (λ w. ap (λ z. choose z (stop cause.Raised p) (class_built K scope base name kw notes bs p) w x.state) (sym e)) h
+
+-- keywords, and no thing
+pub checked_lacks : (fns : Functions) (frozen : Made) (r : Result Now Halt) (x y : Going) (budget : ℕ) (p : Place) (name : List ℕ) (scope : ScopeId) (base : Val) (kw notes bs : List NamedVal) → are_keywords kw ≡ true → over_thing (seen frozen x.state.heap) base ≡ false → GoesOn fns frozen r x y budget (λ k. stop cause.Raised p) → GoesOn fns frozen r x y budget (λ k. class_checked k scope (Some base) name kw notes bs p)
+checked_lacks fns frozen r x y budget p name scope base kw notes bs e1 e2 h =
+    checked_as fns frozen r x y budget p name scope base kw notes bs true (sym (ap (λ z. z && not (over_thing (seen frozen x.state.heap) base)) e1 ∙ ap not e2)) h
+
+pub checked_on : (fns : Functions) (frozen : Made) (r : Result Now Halt) (x y : Going) (budget : ℕ) (p : Place) (name : List ℕ) (scope : ScopeId) (base : Val) (kw notes bs : List NamedVal) (c : Bool) → c ≡ (are_keywords kw && not (over_thing (seen frozen x.state.heap) base)) → c ≡ false → GoesOn fns frozen r x y budget (λ k. class_built k scope base name kw notes bs p) → GoesOn fns frozen r x y budget (λ k. class_checked k scope (Some base) name kw notes bs p)
+checked_on fns frozen r x y budget p name scope base kw notes bs c e1 e2 h = checked_as fns frozen r x y budget p name scope base kw notes bs false (sym e2 ∙ e1) h
 
 -- ---- the class
 
@@ -198,6 +215,8 @@ over_refused fns frozen x y budget p name scope base kw notes bs o e heap e2 a u
 pub ruleset known_rules = (bound_refused, class_refused, class_stands)
 
 pub ruleset ended_rules = (ended_next, ended_other)
+
+pub ruleset checked_rules = (checked_on)
 
 pub ruleset built_rules = (built_over, built_plain, built_refused)
 

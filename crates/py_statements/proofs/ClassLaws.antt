@@ -39,7 +39,7 @@ use Rattle.py_frames.specs.Parts.{arguments_from, place_of}
 use Rattle.py_frames.specs.Values.{as_row, class_word}
 use Rattle.py_frames.specs.Expressions.{value_of, arguments_then, on_elements, seen_from, once_named}
 use Rattle.py_frames.specs.Binding.{refused}
-use Rattle.py_frames.specs.Statements.{known, run_all, base_of, over_thing, are_keywords, class_begun, class_body, class_within, class_ended, class_here}
+use Rattle.py_frames.specs.Statements.{known, run_all, base_of, over_thing, are_keywords, class_begun, class_within, class_ended, class_here}
 use Rattle.py_frames.specs.Stmt_begun.{run_after}
 use Rattle.py_frames.specs.Call_frames.{argument_came, elements_came}
 use Rattle.py_frames.specs.Def_frames.{class_arguments, class_place, class_given, class_left}
@@ -255,35 +255,15 @@ base_many (u ∷ v ∷ vs) h = base_several u v vs
 
 -- ---- the base and the body
 
-pub base_lacks : (fns : Functions) (frozen : Made) (r : Result Now Halt) (x y : Going) (budget : ℕ) (p : Place) (name : List ℕ) (b : Bases) (ss : Steps) (t : Step) (vs : List Val) (kw : List NamedVal) → t ≡ Class p name b ss → None ≡ base_of vs → GoesOn fns frozen r x y budget (λ k. stop cause.Raised p) → GoesOn fns frozen r x y budget (λ k. class_given k t vs kw)
-base_lacks fns frozen r x y budget p name b ss t vs kw e1 e2 h =
+pub base_given : (fns : Functions) (frozen : Made) (r : Result Now Halt) (x y : Going) (budget : ℕ) (p : Place) (name : List ℕ) (b : Bases) (ss : Steps) (t : Step) (vs : List Val) (kw : List NamedVal) (base : Option Val) → t ≡ Class p name b ss → base ≡ base_of vs → GoesOn fns frozen r x y budget (λ k. class_begun k base name kw (steps_names ss) (run_all k ss) p) → GoesOn fns frozen r x y budget (λ k. class_given k t vs kw)
+base_given fns frozen r x y budget p name b ss t vs kw base e1 e2 h =
     let N : Step → Type 0 = λ z. GoesOn fns frozen r x y budget (λ k. class_given k z vs kw) in
     let B : Option Val → Type 0 = λ z. GoesOn fns frozen r x y budget (λ k. class_begun k z name kw (steps_names ss) (run_all k ss) p) in
     subst N (sym e1) (subst B e2 h)
-
-pub base_is : (fns : Functions) (frozen : Made) (r : Result Now Halt) (x y : Going) (budget : ℕ) (p : Place) (name : List ℕ) (b : Bases) (ss : Steps) (t : Step) (vs : List Val) (kw : List NamedVal) (base : Val) → t ≡ Class p name b ss → Some base ≡ base_of vs → GoesOn fns frozen r x y budget (λ k. class_begun k (Some base) name kw (steps_names ss) (run_all k ss) p) → GoesOn fns frozen r x y budget (λ k. class_given k t vs kw)
-base_is fns frozen r x y budget p name b ss t vs kw base e1 e2 h =
-    let N : Step → Type 0 = λ z. GoesOn fns frozen r x y budget (λ k. class_given k z vs kw) in
-    let B : Option Val → Type 0 = λ z. GoesOn fns frozen r x y budget (λ k. class_begun k z name kw (steps_names ss) (run_all k ss) p) in
-    subst N (sym e1) (subst B e2 h)
-
-begun_as : (fns : Functions) (frozen : Made) (r : Result Now Halt) (x y : Going) (budget : ℕ) (p : Place) (name : List ℕ) (ss : Steps) (kw : List NamedVal) (base : Val) (c : Bool) → c ≡ (are_keywords kw && not (over_thing (seen frozen x.state.heap) base)) → GoesOn fns frozen r x y budget (λ k. choose c (stop cause.Raised p) (class_body k base name kw (steps_names ss) (run_all k ss) p)) → GoesOn fns frozen r x y budget (λ k. class_begun k (Some base) name kw (steps_names ss) (run_all k ss) p)
-begun_as fns frozen r x y budget p name ss kw base c e h =
-    let K : Known = known (steps_of fns.program) frozen x.state.here.room in
-    here_same fns frozen r x y budget (λ k. choose c (stop cause.Raised p) (class_body k base name kw (steps_names ss) (run_all k ss) p)) (λ k. class_begun k (Some base) name kw (steps_names ss) (run_all k ss) p)
-    (λ w. ap (λ z. choose z (stop cause.Raised p) (class_body K base name kw (steps_names ss) (run_all K ss) p) w x.state) (sym e)) h
-
--- keywords, and no thing
-pub begun_lacks : (fns : Functions) (frozen : Made) (r : Result Now Halt) (x y : Going) (budget : ℕ) (p : Place) (name : List ℕ) (ss : Steps) (kw : List NamedVal) (base : Val) → are_keywords kw ≡ true → over_thing (seen frozen x.state.heap) base ≡ false → GoesOn fns frozen r x y budget (λ k. stop cause.Raised p) → GoesOn fns frozen r x y budget (λ k. class_begun k (Some base) name kw (steps_names ss) (run_all k ss) p)
-begun_lacks fns frozen r x y budget p name ss kw base e1 e2 h =
-    begun_as fns frozen r x y budget p name ss kw base true (sym (ap (λ z. z && not (over_thing (seen frozen x.state.heap) base)) e1 ∙ ap not e2)) h
-
-pub begun_on : (fns : Functions) (frozen : Made) (r : Result Now Halt) (x y : Going) (budget : ℕ) (p : Place) (name : List ℕ) (ss : Steps) (kw : List NamedVal) (base : Val) (c : Bool) → c ≡ (are_keywords kw && not (over_thing (seen frozen x.state.heap) base)) → c ≡ false → GoesOn fns frozen r x y budget (λ k. class_body k base name kw (steps_names ss) (run_all k ss) p) → GoesOn fns frozen r x y budget (λ k. class_begun k (Some base) name kw (steps_names ss) (run_all k ss) p)
-begun_on fns frozen r x y budget p name ss kw base c e1 e2 h = begun_as fns frozen r x y budget p name ss kw base false (sym e2 ∙ e1) h
 
 -- the scope round the body is made
-pub body_makes : (fns : Functions) (frozen : Made) (r : Result Now Halt) (x z : Going) (budget : ℕ) (p : Place) (name : List ℕ) (ss : Steps) (kw : List NamedVal) (base : Val) (own : List (List ℕ)) (outside : Option ScopeId) (round : ScopeId) (heap : Made) → own ≡ class_word ∷ [] → outside ≡ seen_from (seen frozen x.state.heap) x.state.here.scope → new_scope (seen frozen x.state.heap) outside false own ≡ Ok (round, heap) → GoesOn fns frozen r (record x { state = record x.state { heap = heap } }) z budget (λ k. class_within k round base name kw (steps_names ss) (run_all k ss) p) → GoesOn fns frozen r x z budget (λ k. class_body k base name kw (steps_names ss) (run_all k ss) p)
-body_makes fns frozen r x z budget p name ss kw base own outside round heap e1 e2 e3 h =
+pub begun_makes : (fns : Functions) (frozen : Made) (r : Result Now Halt) (x z : Going) (budget : ℕ) (p : Place) (name : List ℕ) (ss : Steps) (kw : List NamedVal) (base : Option Val) (own : List (List ℕ)) (outside : Option ScopeId) (round : ScopeId) (heap : Made) → own ≡ class_word ∷ [] → outside ≡ seen_from (seen frozen x.state.heap) x.state.here.scope → new_scope (seen frozen x.state.heap) outside false own ≡ Ok (round, heap) → GoesOn fns frozen r (record x { state = record x.state { heap = heap } }) z budget (λ k. class_within k round base name kw (steps_names ss) (run_all k ss) p) → GoesOn fns frozen r x z budget (λ k. class_begun k base name kw (steps_names ss) (run_all k ss) p)
+begun_makes fns frozen r x z budget p name ss kw base own outside round heap e1 e2 e3 h =
     let m : Known → State → Result (ScopeId × Made) ValueStop = λ k t. new_scope (heap_seen k t) (seen_from (heap_seen k t) t.here.scope) false (class_word ∷ []) in
     let f : Known → ScopeId → Doing = λ k id. class_within k id base name kw (steps_names ss) (run_all k ss) p in
     let q : m (known (steps_of fns.program) frozen x.state.here.room) x.state ≡ Ok (round, heap) =
@@ -291,7 +271,7 @@ body_makes fns frozen r x z budget p name ss kw base own outside round heap e1 e
     making_goes fns frozen r x z budget heap round p m f q h
 
 -- the scope of the body is made
-pub within_makes : (fns : Functions) (frozen : Made) (r : Result Now Halt) (x z : Going) (budget : ℕ) (p : Place) (name : List ℕ) (ss : Steps) (kw : List NamedVal) (base : Val) (own : List (List ℕ)) (round id : ScopeId) (heap : Made) → own ≡ steps_names ss → new_scope (seen frozen x.state.heap) (Some round) true own ≡ Ok (id, heap) → GoesOn fns frozen r (record x { state = record x.state { heap = heap } }) z budget (λ k. class_inside k id base name kw (run_all k ss) p) → GoesOn fns frozen r x z budget (λ k. class_within k round base name kw (steps_names ss) (run_all k ss) p)
+pub within_makes : (fns : Functions) (frozen : Made) (r : Result Now Halt) (x z : Going) (budget : ℕ) (p : Place) (name : List ℕ) (ss : Steps) (kw : List NamedVal) (base : Option Val) (own : List (List ℕ)) (round id : ScopeId) (heap : Made) → own ≡ steps_names ss → new_scope (seen frozen x.state.heap) (Some round) true own ≡ Ok (id, heap) → GoesOn fns frozen r (record x { state = record x.state { heap = heap } }) z budget (λ k. class_inside k id base name kw (run_all k ss) p) → GoesOn fns frozen r x z budget (λ k. class_within k round base name kw (steps_names ss) (run_all k ss) p)
 within_makes fns frozen r x z budget p name ss kw base own round id heap e1 e3 h =
     let m : Known → State → Result (ScopeId × Made) ValueStop = λ k t. new_scope (heap_seen k t) (Some round) true (steps_names ss) in
     let f : Known → ScopeId → Doing = λ k scope w2 t. then_do (run_all k ss) (class_ended k x.state.here base name kw p) w2 (record t { here = class_here x.state.here scope }) in
@@ -303,14 +283,14 @@ within_makes fns frozen r x z budget p name ss kw base own round id heap e1 e3 h
     (here_same fns frozen r y z budget (λ k. class_inside k id base name kw (run_all k ss) p) (λ k. f k id) (λ w. refl) h))
 
 -- the body runs in it
-runs_inside : (fns : Functions) (frozen : Made) (r : Result Now Halt) (x z : Going) (budget : ℕ) (p : Place) (name : List ℕ) (ss : Steps) (kw : List NamedVal) (base : Val) (scope : ScopeId) → GoesOn fns frozen r (record x { state = record x.state { here = class_here x.state.here scope } }) z budget (λ k w s. after (run_all k ss w s) (λ got. class_ended k x.state.here base name kw p got w)) → GoesOn fns frozen r x z budget (λ k. class_inside k scope base name kw (run_all k ss) p)
+runs_inside : (fns : Functions) (frozen : Made) (r : Result Now Halt) (x z : Going) (budget : ℕ) (p : Place) (name : List ℕ) (ss : Steps) (kw : List NamedVal) (base : Option Val) (scope : ScopeId) → GoesOn fns frozen r (record x { state = record x.state { here = class_here x.state.here scope } }) z budget (λ k w s. after (run_all k ss w s) (λ got. class_ended k x.state.here base name kw p got w)) → GoesOn fns frozen r x z budget (λ k. class_inside k scope base name kw (run_all k ss) p)
 unfolding GoesOn
 runs_inside fns frozen (Ok now) x z budget p name ss kw base scope h = h
 runs_inside fns frozen (Err (Stopped stop)) x z budget p name ss kw base scope h = h
 runs_inside fns frozen (Err (Asks a)) x z budget p name ss kw base scope h = h
 runs_inside fns frozen (Err NoMemory) x z budget p name ss kw base scope h = h
 
-pub class_runs : (fns : Functions) (frozen : Made) (r : Result Now Halt) (x z : Going) (budget : ℕ) (p : Place) (name : List ℕ) (b : Bases) (ss : Steps) (t : Step) (node : Stmt) (kw : List NamedVal) (base : Val) (scope : ScopeId) (here outer : Here) → t ≡ Class p name b ss → step_of node ≡ t → here ≡ class_here x.state.here scope → outer ≡ x.state.here → GoesOn fns frozen r (record x { state = record x.state { here = here } }) z budget (within (frame.Def (def.ClassBody node base kw outer)) (λ k. run_all k ss)) → GoesOn fns frozen r x z budget (λ k. class_inside k scope base name kw (run_all k ss) p)
+pub class_runs : (fns : Functions) (frozen : Made) (r : Result Now Halt) (x z : Going) (budget : ℕ) (p : Place) (name : List ℕ) (b : Bases) (ss : Steps) (t : Step) (node : Stmt) (kw : List NamedVal) (base : Option Val) (scope : ScopeId) (here outer : Here) → t ≡ Class p name b ss → step_of node ≡ t → here ≡ class_here x.state.here scope → outer ≡ x.state.here → GoesOn fns frozen r (record x { state = record x.state { here = here } }) z budget (within (frame.Def (def.ClassBody node base kw outer)) (λ k. run_all k ss)) → GoesOn fns frozen r x z budget (λ k. class_inside k scope base name kw (run_all k ss) p)
 class_runs fns frozen r x z budget p name b ss t node kw base scope here outer e1 e2 e3 e4 h =
     let O : Here → Type 0 = λ g. GoesOn fns frozen r (record x { state = record x.state { here = here } }) z budget (within (frame.Def (def.ClassBody node base kw g)) (λ k. run_all k ss)) in
     let H : Here → Type 0 = λ g. GoesOn fns frozen r (record x { state = record x.state { here = g } }) z budget (within (frame.Def (def.ClassBody node base kw x.state.here)) (λ k. run_all k ss)) in
@@ -339,11 +319,9 @@ pub ruleset next_rules = (arguments_same, no_memory)
 
 pub ruleset base_rules = (base_none, base_one, base_many)
 
-pub ruleset based_rules = (base_lacks, base_is)
+pub ruleset based_rules = (base_given)
 
-pub ruleset begun_rules = (begun_on)
-
-pub ruleset body_rules = (body_makes, no_memory)
+pub ruleset begun_rules = (begun_makes, no_memory)
 
 pub ruleset within_rules = (within_makes, no_memory)
 

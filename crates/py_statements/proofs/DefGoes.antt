@@ -1,5 +1,5 @@
 -- How frames of definitions go on with a value, and with what else may come.
-use Rattle.std.proofs.Common.{◌≡◌, ℕ, suc, refl, ap, ◌∙◌, sym, subst, true, false, List, [], ◌∷◌, ◌++◌, Some, None, Result}
+use Rattle.std.proofs.Common.{◌≡◌, ℕ, suc, refl, ap, ◌∙◌, sym, subst, true, false, List, [], ◌∷◌, ◌++◌, Option, Some, None, Result}
 use Rattle.py_tree.specs.Steps.{Step}
 use Rattle.py_tree.specs.declared.stmt.Stmt.{Stmt}
 use Rattle.py_tree.specs.Programs.{step_of}
@@ -87,7 +87,7 @@ default_as fns frozen r x y budget f s n vs us v e1 e2 h =
     value_as fns frozen r x y budget f (def.Default s n vs) v e1 (subst V e2 h)
 
 -- the body of a class
-pub class_goes : (fns : Functions) (frozen : Made) (r : Result Now Halt) (x y : Going) (budget room : ℕ) (f : DefFrame) (s : Stmt) (base : Val) (kw : List NamedVal) (outer out : Here) (got : Got) → f ≡ def.ClassBody s base kw outer → out ≡ outer → GoesUnder out.room fns frozen r x y budget (λ k. class_left k (step_of s) base kw out got) → GoesUnder (def_room room f) fns frozen r x y budget (λ k. def_goes k f got)
+pub class_goes : (fns : Functions) (frozen : Made) (r : Result Now Halt) (x y : Going) (budget room : ℕ) (f : DefFrame) (s : Stmt) (base : Option Val) (kw : List NamedVal) (outer out : Here) (got : Got) → f ≡ def.ClassBody s base kw outer → out ≡ outer → GoesUnder out.room fns frozen r x y budget (λ k. class_left k (step_of s) base kw out got) → GoesUnder (def_room room f) fns frozen r x y budget (λ k. def_goes k f got)
 class_goes fns frozen r x y budget room f s base kw outer out got e q h =
     let F : DefFrame → Type 0 = λ z. GoesUnder (def_room room z) fns frozen r x y budget (λ k. def_goes k z got) in
     let O : Here → Type 0 = λ z. GoesUnder z.room fns frozen r x y budget (λ k. class_left k (step_of s) base kw z got) in

@@ -1,18 +1,19 @@
 -- Imported names by their number, and how imports go on.
-use Rattle.std.proofs.Common.{◌≡◌, ℕ, zero, suc, ◌+◌, ◌<◌, ◌≤◌, refl, ap, ◌∙◌, sym, subst, List, [], ◌∷◌, ◌++◌, map, length, drop, get_or, Some, None, Result, Ok, Err, codes, arith, add-one}
+use Rattle.std.proofs.Common.{◌≡◌, ℕ, zero, suc, ◌+◌, ◌<◌, ◌≤◌, refl, ap, ◌∙◌, sym, subst, List, [], ◌∷◌, ◌++◌, map, length, drop, get_or, Some, None, Result, Ok, Err, Bool, true, false, codes, arith, add-one}
 use Rattle.std.specs.List.{slice_get}
 use Rattle.std.proofs.lemmas.Option.{slice_get_read, slice_get_past}
 use Rattle.std.proofs.lemmas.List.{append_assoc, append-nil, drop_more, drop_all}
 use Rattle.amh_host.specs.declared.place.Place.{Place}
 use Rattle.py_tree.specs.declared.stmt.Stmt.{Stmt}
 use Rattle.py_tree.specs.declared.stmt.Imported.{Imported}
-use Rattle.py_tree.specs.Programs.{step_of, import_of}
+use Rattle.py_tree.specs.Programs.{step_of, steps_of, import_of}
 use Rattle.py_tree.specs.Steps.{Step, Import, ImportAll, Import_name}
 use Rattle.py_values.specs.Heaps.{Made, seen}
 use Rattle.py_values.specs.Names.{scope_bound}
 use Rattle.py_values.specs.declared.val.Val.{Val}
 use Rattle.py_frames.specs.declared.request.Act.TheVariants as act
 use Rattle.py_frames.specs.declared.request.Request.{Request}
+use Rattle.py_frames.specs.declared.request.Cause.TheVariants as cause
 use Rattle.py_frames.specs.declared.state.Halt.{Halt}
 use Rattle.py_frames.specs.declared.state.Got.TheVariants.{Next}
 use Rattle.py_frames.specs.declared.frame.Now.{Now}
@@ -20,11 +21,11 @@ use Rattle.py_frames.specs.declared.frame.StmtFrame.TheVariants as stmt
 use Rattle.py_frames.specs.declared.frame.Frame.TheVariants as frame
 use Rattle.py_frames.specs.declared.functions.Functions.{Functions}
 use Rattle.py_frames.specs.declared.going.Going.{Going}
-use Rattle.py_frames.specs.Doing.{after, on_value, came}
+use Rattle.py_frames.specs.Doing.{Known, after, on_value, came, stop, choose}
 use Rattle.py_frames.specs.Asking.{request, ask}
 use Rattle.py_frames.specs.Own.{imported_as}
 use Rattle.py_frames.specs.Values.{bind, bind_all, on_names}
-use Rattle.py_frames.specs.Statements.{imported, dotted, with_dots}
+use Rattle.py_frames.specs.Statements.{known, imported, dotted, with_dots, all_imported, all_asked, stands_in_module}
 use Rattle.py_frames.specs.Functions.{named_val}
 use Rattle.py_frames.specs.Told.{Binds}
 use Rattle.py_frames.specs.Stmt_begun.{run_after}
@@ -32,6 +33,7 @@ use Rattle.py_frames.specs.Stmt_frames.{imports_from, imported_at, import_came}
 use Rattle.py_frames.specs.Frames.{GoesOn, within}
 use Rattle.py_frames.proofs.BeginLaws.{no_memory}
 use Rattle.py_frames.proofs.ExprLaws.{bind_goes, bind_stops}
+use Rattle.py_frames.proofs.IfLaws.{here_same}
 
 imports_at : (xs : List Imported) (n : ℕ) (x : Imported) → slice_get xs n ≡ Some x → imports_from n (map import_of xs) ≡ import_of x ∷ imports_from (suc n) (map import_of xs)
 imports_at [] n x h = cc
@@ -74,12 +76,23 @@ module_none (i ∷ is) text e h = absurd (omega arith)
 
 pub ruleset module_rules = (module_more, module_none)
 
--- all names of a module
-pub all_begins : (fns : Functions) (frozen : Made) (r : Result Now Halt) (x y : Going) (budget : ℕ) (p : Place) (path : List (List ℕ)) (t : Step) (q : Request) → t ≡ ImportAll p path → q ≡ request act.Import [] (dotted path ∷ codes "*" ∷ []) p → GoesOn fns frozen r x y budget (within (frame.Stmt (stmt.AllImported p)) (λ k. ask k q)) → GoesOn fns frozen r x y budget (λ k. run_after k t)
-all_begins fns frozen r x y budget p path t q e1 e2 h =
+-- all names of a module, in a module and elsewhere
+all_where : (fns : Functions) (frozen : Made) (r : Result Now Halt) (x y : Going) (budget : ℕ) (p : Place) (path : List (List ℕ)) (t : Step) (b c : Bool) → t ≡ ImportAll p path → b ≡ stands_in_module (seen frozen x.state.heap) x.state.here.scope → b ≡ c → GoesOn fns frozen r x y budget (λ k. choose c (all_asked k (dotted path) p) (stop cause.Raised p)) → GoesOn fns frozen r x y budget (λ k. run_after k t)
+all_where fns frozen r x y budget p path t b c e1 e2 e3 h =
     let N : Step → Type 0 = λ z. GoesOn fns frozen r x y budget (λ k. run_after k z) in
+    let K : Known = known (steps_of fns.program) frozen x.state.here.room in
+    subst N (sym e1) (here_same fns frozen r x y budget (λ k. choose c (all_asked k (dotted path) p) (stop cause.Raised p)) (λ k. all_imported k (dotted path) p) (λ w. ap (λ (d : Bool). choose d (all_asked K (dotted path) p) (stop cause.Raised p) w x.state) (sym e2 ∙ e3)) h)
+
+pub all_within : (fns : Functions) (frozen : Made) (r : Result Now Halt) (x y : Going) (budget : ℕ) (p : Place) (path : List (List ℕ)) (t : Step) (b : Bool) → t ≡ ImportAll p path → b ≡ stands_in_module (seen frozen x.state.heap) x.state.here.scope → b ≡ true → GoesOn fns frozen r x y budget (λ k. all_asked k (dotted path) p) → GoesOn fns frozen r x y budget (λ k. run_after k t)
+all_within fns frozen r x y budget p path t b e1 e2 e3 h = all_where fns frozen r x y budget p path t b true e1 e2 e3 h
+
+pub all_outside : (fns : Functions) (frozen : Made) (r : Result Now Halt) (x y : Going) (budget : ℕ) (p : Place) (path : List (List ℕ)) (t : Step) (b : Bool) → t ≡ ImportAll p path → b ≡ stands_in_module (seen frozen x.state.heap) x.state.here.scope → b ≡ false → GoesOn fns frozen r x y budget (λ k. stop cause.Raised p) → GoesOn fns frozen r x y budget (λ k. run_after k t)
+all_outside fns frozen r x y budget p path t b e1 e2 e3 h = all_where fns frozen r x y budget p path t b false e1 e2 e3 h
+
+pub all_begins : (fns : Functions) (frozen : Made) (r : Result Now Halt) (x y : Going) (budget : ℕ) (p : Place) (path : List (List ℕ)) (q : Request) → q ≡ request act.Import [] (dotted path ∷ codes "*" ∷ []) p → GoesOn fns frozen r x y budget (within (frame.Stmt (stmt.AllImported p)) (λ k. ask k q)) → GoesOn fns frozen r x y budget (λ k. all_asked k (dotted path) p)
+all_begins fns frozen r x y budget p path q e2 h =
     let R : Request → Type 0 = λ z. GoesOn fns frozen r x y budget (λ k w s. after (ask k z w s) (λ got. on_names got (λ names. bind_all k names p (came Next)) w)) in
-    subst N (sym e1) (subst R e2 h)
+    subst R e2 h
 
 -- the names of a module, from the first on
 pub import_begins : (fns : Functions) (frozen : Made) (r : Result Now Halt) (x y : Going) (budget : ℕ) (p : Place) (path : List (List ℕ)) (xs : List Import_name) (t : Step) → t ≡ Import p path xs → GoesOn fns frozen r x y budget (λ k. imported k (dotted path) p (imports_from 0 xs)) → GoesOn fns frozen r x y budget (λ k. run_after k t)
@@ -126,6 +139,8 @@ import_refused fns frozen e x y budget n p path xs i t v name e1 e2 e3 b =
 pub ruleset import_rules = (import_found, import_lacks)
 
 pub ruleset begin_rules = (import_begins)
+
+pub ruleset within_rules = (all_within, all_outside)
 
 pub ruleset all_rules = (all_begins, no_memory)
 

@@ -14,9 +14,7 @@ use Rattle.py_frames.specs.declared.leaf.PartAt.TheVariants as no
 use Rattle.py_statements.specs.declared.augment.Changing.{Changing}
 use Rattle.py_values.specs.declared.op.PyOp.{PyOp}
 use Rattle.py_frames.specs.declared.frame.Purpose.TheVariants.{Plain}
-use Rattle.py_values.specs.declared.op.Builtin.TheVariants as builtins
 use Rattle.py_frames.specs.Doing.{Doing, Known, ◌>>=◌, give, stop}
-use Rattle.py_frames.specs.Values.{built}
 use Rattle.py_frames.specs.Parts.{operator_of, place_of}
 use Rattle.py_frames.specs.Expressions.{value_of}
 use Rattle.py_frames.specs.Statements.{augment_name, augment_along, augment_last}
@@ -42,12 +40,6 @@ can_change t = false
 abbrev pub is_a_name : Tree → Bool
 is_a_name (Name p n) = true
 is_a_name t = false
-
--- a list that grows by the elements of another value is what comes
-abbrev pub grown : Known → Val → Val → Place → Doing
-grown k x y place = do
-  _ ← built k builtins.Extend (x ∷ y ∷ []) place
-  give x
 
 -- this value in place of the one that came, or the refusal that came
 abbrev pub instead : Val → Result Val ValueStop → Result Val ValueStop

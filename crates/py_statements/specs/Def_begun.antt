@@ -55,12 +55,6 @@ GoesUnder room functions frozen result before behind budget meant =
     Moves (steps_of functions.program) frozen result behind.frames behind.state budget
     (λ w. finish (steps_of functions.program) frozen room before.frames w (meant (known (steps_of functions.program) frozen room) w before.state))
 
--- a class whose body stood in a scope, where the evaluation stands again outside
-abbrev pub class_built : Known → ScopeId → Val → List ℕ → (keywords notes bindings : List NamedVal) → Place → Doing
-class_built k scope base name keywords notes bindings p = λ w s.
-    making (λ t. known_class (heap_seen k t) (as_base base) scope) p
-    (λ c. class_bound k (over_thing (heap_seen k s) base) c base name keywords notes bindings p) w s
-
 -- the annotation of what a function gives
 abbrev pub result_of : Body → Perhaps
 result_of (Fun q name is_async params result body) = result
@@ -76,7 +70,7 @@ argument_value (Starred t) = t
 argument_value (Keyword name t) = t
 
 -- the body of a class, in the scope that was made for it
-abbrev pub class_inside : Known → ScopeId → Val → List ℕ → List NamedVal → Doing → Place → Doing
+abbrev pub class_inside : Known → ScopeId → Option Val → List ℕ → List NamedVal → Doing → Place → Doing
 class_inside k scope base name keywords body p = λ w s.
     then_do body (class_ended k s.here base name keywords p) w (record s { here = class_here s.here scope })
 
@@ -92,7 +86,7 @@ class_starred k step n vs keywords v = do
   row ← as_row k v (class_place step)
   elements_came k (class_place step) vs keywords (arguments_from n (class_arguments step)) row (class_given k step)
 
--- the same over a thing
+-- the class of a body, over a thing
 abbrev pub class_over : Known → ScopeId → Val → List ℕ → (keywords notes bindings : List NamedVal) → Place → Doing
 class_over k scope base name keywords notes bindings p =
     making (λ s. known_class (heap_seen k s) (as_base base) scope) p

@@ -9,17 +9,19 @@ ghost use Rattle.py_values.specs.Heaps.{seen};
 ghost use Rattle.py_values.specs.Names.{scope_at};
 ghost use Rattle.py_frames.specs.declared.state.Got.TheVariants.{Next};
 ghost use Rattle.py_frames.specs.Doing.{on_next};
-ghost use Rattle.py_frames.specs.Statements.{annotated, evaluates_annotations, is_open, note};
+ghost use Rattle.py_frames.specs.Statements.{annotated, evaluates_annotations, is_open, note, note_of};
 ghost use Rattle.py_frames.specs.Stmt_begun.{run_after, note_named};
 ghost use Rattle.py_frames.specs.Stmt_frames.{annotate_stored, annotates, notes};
 ghost use Rattle.py_frames.specs.Frames.{GoesOn};
 
 use crate::stmt_assign::wait_as;
+use amh_host::Place;
 use py_frames::block::leaves;
 use py_frames::expr_values::named_val;
 use py_frames::frame::{Frame, Now, StmtFrame};
 use py_frames::functions::Functions;
 use py_frames::going::{Going, wait_for};
+use py_frames::own::is_simple;
 use py_frames::state::{Got, Halt};
 use py_frames::stmt_plain::comes;
 use py_frames::stmt_purpose::target_purpose;
@@ -153,7 +155,7 @@ fn begin_annotation(
     budget: u64,
 ) -> Result<Now, Halt>
     requires { step_of s.now ≡ Annotate s.now.place (tree _target.now) (tree annotation.now) (perhaps (option_map tree _value.now)) }
-    ensures moves { GoesOn functions.now frozen.now result going.old going.new budget (λ k. annotated k (tree _target.now) (tree annotation.now)) }
+    ensures moves { GoesOn functions.now frozen.now result going.old going.new budget (λ k. annotated k s.now.place (tree _target.now) (tree annotation.now)) }
     ensures state { going.new.state ≡ going.old.state }
 {
     let evaluated = evaluates_annotations(going, frozen);
@@ -242,7 +244,7 @@ fn annotating_on(
     }
 }
 
-/// The annotation has come: that of a name is kept.
+/// The annotation has come: that of a name without brackets is kept.
 #[tactic(auto)]
 pub fn annotation_came(
     going: &mut Going,
@@ -260,13 +262,33 @@ pub fn annotation_came(
             target,
             annotation: _,
             value: _,
-        } => note(going, functions, frozen, target, v, budget),
+        } => note(going, functions, frozen, s.place, target, v, budget),
         _ => comes(going, functions, frozen, Got::Next, budget),
     }
 }
 
-#[tactic(auto)]
+#[tactic(auto, using(crate::proofs::AnnotateLaws::simple_rules))]
 fn note(
+    going: &mut Going,
+    functions: &Functions,
+    frozen: &Frozen,
+    place: Place,
+    target: &Expr,
+    v: Val,
+    budget: u64,
+) -> Result<Now, Halt>
+    ensures moves { GoesOn functions.now frozen.now result going.old going.new budget (λ k. note place (tree target.now) v) }
+    ensures used { going.new.state.used ≡ going.old.state.used }
+{
+    let simple = is_simple(place, target);
+    if simple {
+        return note_of(going, functions, frozen, target, v, budget);
+    }
+    comes(going, functions, frozen, Got::Next, budget)
+}
+
+#[tactic(auto)]
+fn note_of(
     going: &mut Going,
     functions: &Functions,
     frozen: &Frozen,
@@ -274,7 +296,7 @@ fn note(
     v: Val,
     budget: u64,
 ) -> Result<Now, Halt>
-    ensures moves { GoesOn functions.now frozen.now result going.old going.new budget (λ k. note (tree target.now) v) }
+    ensures moves { GoesOn functions.now frozen.now result going.old going.new budget (λ k. note_of (tree target.now) v) }
     ensures used { going.new.state.used ≡ going.old.state.used }
 {
     match &*target.kind {

@@ -7,9 +7,9 @@ ghost use Rattle.py_frames.specs.Asking.{ask, request};
 ghost use Rattle.py_frames.specs.Doing.{came};
 ghost use Rattle.py_frames.specs.Parts.{operator_of};
 ghost use Rattle.py_frames.specs.Values.{is_thing};
-ghost use Rattle.py_frames.specs.Statements.{augmented, augmented_sign, grows_in_place};
+ghost use Rattle.py_frames.specs.Statements.{augmented, augmented_sign, in_place, list_changed};
 ghost use Rattle.py_frames.specs.Stmt_frames.{Change, change_of, with_change, index_came, old_came, right_came, new_stored, name_stored};
-ghost use Rattle.py_statements.specs.Augmented.{change_seen, FoundChange, grown, instead, is_a_name};
+ghost use Rattle.py_statements.specs.Augmented.{change_seen, FoundChange, instead, is_a_name};
 ghost use Rattle.py_frames.specs.Frames.{GoesOn};
 
 use amh_host::{Budget, NoMemory, Place};
@@ -110,13 +110,14 @@ fn some_thing(x: &Val, y: &Val) -> bool
     is_thing(x) || is_thing(y)
 }
 
-// Whether a value is a list to which something is added.
-fn grows_in_place(op: PyOp, x: &Val) -> bool
-    ensures { result ≡ grows_in_place op x.now }
+// What changes a list in place.
+fn in_place(op: PyOp, x: &Val) -> Option<Builtin>
+    ensures { result ≡ in_place op x.now }
 {
     match (op, x) {
-        (PyOp::Add, Val::List(_)) => true,
-        _ => false,
+        (PyOp::Add, Val::List(_)) => Some(Builtin::Extend),
+        (PyOp::Mul, Val::List(_)) => Some(Builtin::Repeat),
+        _ => None,
     }
 }
 
@@ -130,19 +131,20 @@ fn instead(v: Val, given: Result<Val, ValueStop>) -> Result<Val, ValueStop>
     }
 }
 
-// A list that grows by the elements of another value.
-#[tactic(auto, using(crate::proofs::ChangeLaws::extended_told, py_frames::proofs::ExprCharged::charged_left, py_frames::proofs::BeginLaws::no_memory))]
-fn extended(
+// A list that another value changes in place.
+#[tactic(auto, using(crate::proofs::ChangeLaws::changed_told, py_frames::proofs::ExprCharged::charged_left, py_frames::proofs::BeginLaws::no_memory))]
+fn list_changed(
     going: &mut Going,
     functions: &Functions,
     frozen: &Frozen,
+    b: Builtin,
     x: &Val,
     y: &Val,
     place: Place,
     budget: u64,
 ) -> Result<Now, Halt>
     requires { going.old.state.used < budget }
-    ensures moves { GoesOn functions.now frozen.now result going.old going.new budget (λ k. grown k x.now y.now place) }
+    ensures moves { GoesOn functions.now frozen.now result going.old going.new budget (λ k. list_changed k b x.now y.now place) }
     ensures left { OnOk result (going.new.state.used < budget) }
     ensures grows { going.old.state.used ≤ going.new.state.used }
 {
@@ -152,10 +154,7 @@ fn extended(
     let mut left = Budget {
         left: budget - going.state.used,
     };
-    let given = going
-        .state
-        .heap
-        .builtin(frozen, Builtin::Extend, &vals, &mut left);
+    let given = going.state.heap.builtin(frozen, b, &vals, &mut left);
     going.state.used = used_after(going.state.used, budget, left.left);
     told(instead(*x, given), place)
 }
@@ -185,7 +184,7 @@ fn sign_asked(
 }
 
 // An operator of an augmented assignment.
-#[tactic(auto, using(crate::proofs::ChangeLaws::augmented_asks, crate::proofs::ChangeLaws::augmented_grows, crate::proofs::ChangeLaws::augmented_made))]
+#[tactic(auto, using(crate::proofs::ChangeLaws::augmented_asks, crate::proofs::ChangeLaws::augmented_changes, crate::proofs::ChangeLaws::augmented_made))]
 fn augmented(
     going: &mut Going,
     functions: &Functions,
@@ -204,10 +203,10 @@ fn augmented(
     if some_thing(x, y) {
         return sign_asked(going, functions, frozen, op, x, y, place, budget);
     }
-    if grows_in_place(op, x) {
-        return extended(going, functions, frozen, x, y, place, budget);
+    match in_place(op, x) {
+        Some(b) => list_changed(going, functions, frozen, b, x, y, place, budget),
+        None => operated(going, functions, frozen, op, x, y, place, budget),
     }
-    operated(going, functions, frozen, op, x, y, place, budget)
 }
 
 // The same of a target that is a name.

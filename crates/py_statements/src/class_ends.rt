@@ -1,28 +1,28 @@
 // The end of a class: what its body leaves, the class, and its name.
-ghost use Rattle.std.specs.Prelude.{◌≡◌, option_map};
+ghost use Rattle.std.specs.Prelude.{◌≡◌, option_map, Some};
 ghost use Rattle.py_tree.specs.Seen.{trailer_of};
 ghost use Rattle.py_tree.specs.Programs.{step_of, steps_of};
 ghost use Rattle.py_tree.specs.Steps.{Class, bases_of};
 ghost use Rattle.py_values.specs.Heaps.{seen};
 ghost use Rattle.py_values.specs.Runs.{Answers, paired};
 ghost use Rattle.py_frames.specs.Expressions.{seen_from};
-ghost use Rattle.py_frames.specs.Statements.{as_base, kept_bindings, class_known, known_class};
+ghost use Rattle.py_frames.specs.Statements.{as_base, kept_bindings, class_known, known_class, class_built, class_checked};
 ghost use Rattle.py_frames.specs.Def_frames.{class_left, class_told};
-ghost use Rattle.py_statements.specs.Def_begun.{GoesUnder, class_built, class_over, is_next};
+ghost use Rattle.py_statements.specs.Def_begun.{GoesUnder, class_over, is_next};
 ghost use Rattle.py_frames.specs.Frames.{GoesOn};
 
 use crate::class_words::class_request;
-use crate::classes::over_thing;
+use crate::classes::{are_keywords, over_thing};
 use py_frames::binds::{name_bound, refused};
 use py_frames::call_leaf::ask_under;
 use py_frames::frame::{DefFrame, Frame, Now};
 use py_frames::functions::Functions;
 use py_frames::going::Going;
 use py_frames::leaf::copied;
-use py_frames::request::NamedVals;
+use py_frames::request::{Cause, NamedVals};
 use py_frames::scopes::seen_of;
 use py_frames::state::{ClassBody, Got, Halt, Here};
-use py_frames::stmt_plain::comes;
+use py_frames::stmt_plain::{comes, stops};
 use py_tree::{Block, Name, Stmt, StmtKind, Trailer};
 use py_values::{Frozen, Heap, ScopeId, Val, ValueStop};
 use std::alloc::Global;
@@ -108,7 +108,7 @@ pub fn class_left(
     functions: &Functions,
     frozen: &Frozen,
     s: &Stmt,
-    base: Val,
+    base: Option<Val>,
     keywords: NamedVals,
     outer: Here,
     got: Got,
@@ -139,7 +139,7 @@ fn class_ended(
     name: &Name,
     arguments: &Option<Trailer>,
     body: &Block,
-    base: Val,
+    base: Option<Val>,
     keywords: NamedVals,
     outer: Here,
     got: Got,
@@ -151,7 +151,7 @@ fn class_ended(
 {
     let inner = mem::replace(&mut going.state.here, outer);
     if is_next(&got) {
-        return class_built(
+        return class_checked(
             going,
             functions,
             frozen,
@@ -168,6 +168,65 @@ fn class_ended(
         );
     }
     comes(going, functions, frozen, got, budget)
+}
+
+// What may be no base raises.
+fn class_checked(
+    going: &mut Going,
+    functions: &Functions,
+    frozen: &Frozen,
+    s: &Stmt,
+    name: &Name,
+    arguments: &Option<Trailer>,
+    body: &Block,
+    scope: ScopeId,
+    base: Option<Val>,
+    keywords: NamedVals,
+    notes: NamedVals,
+    bindings: NamedVals,
+    budget: u64,
+) -> Result<Now, Halt>
+    requires { step_of s.now ≡ Class s.now.place name.now (bases_of (option_map trailer_of arguments.now)) (steps_of body.now) }
+    ensures moves { GoesOn functions.now frozen.now result going.old going.new budget (λ k. class_checked k scope base name.now keywords notes bindings s.now.place) }
+    ensures used { going.new.state.used ≡ going.old.state.used }
+{
+    match base {
+        Some(base) => class_over_base(
+            going, functions, frozen, s, name, arguments, body, scope, base, keywords, notes,
+            bindings, budget,
+        ),
+        None => stops(going, functions, frozen, Cause::Raised, s.place, budget),
+    }
+}
+
+// Keywords are for a thing alone.
+#[tactic(auto, using(crate::proofs::ClassEnds::checked_rules))]
+fn class_over_base(
+    going: &mut Going,
+    functions: &Functions,
+    frozen: &Frozen,
+    s: &Stmt,
+    name: &Name,
+    arguments: &Option<Trailer>,
+    body: &Block,
+    scope: ScopeId,
+    base: Val,
+    keywords: NamedVals,
+    notes: NamedVals,
+    bindings: NamedVals,
+    budget: u64,
+) -> Result<Now, Halt>
+    requires { step_of s.now ≡ Class s.now.place name.now (bases_of (option_map trailer_of arguments.now)) (steps_of body.now) }
+    ensures moves { GoesOn functions.now frozen.now result going.old going.new budget (λ k. class_checked k scope (Some base) name.now keywords notes bindings s.now.place) }
+    ensures used { going.new.state.used ≡ going.old.state.used }
+{
+    if are_keywords(&keywords) && !over_thing(&going.state.heap, frozen, &base) {
+        return stops(going, functions, frozen, Cause::Raised, s.place, budget);
+    }
+    class_built(
+        going, functions, frozen, s, name, arguments, body, scope, base, keywords, notes, bindings,
+        budget,
+    )
 }
 
 // The class is made of what its body bound.

@@ -1,11 +1,11 @@
 // A class whose arguments are there: its base, its scope and its body.
-ghost use Rattle.std.specs.Prelude.{◌≡◌, ◌∷◌, [], option_map, Some, IfOk};
+ghost use Rattle.std.specs.Prelude.{◌≡◌, ◌∷◌, [], option_map, IfOk};
 ghost use Rattle.py_tree.specs.Seen.{trailer_of};
 ghost use Rattle.py_tree.specs.Programs.{step_of, steps_of};
 ghost use Rattle.py_tree.specs.Steps.{Class, bases_of};
 ghost use Rattle.py_values.specs.Heaps.{seen};
 ghost use Rattle.py_frames.specs.Own.{steps_names};
-ghost use Rattle.py_frames.specs.Statements.{run_all, base_of, over_thing, ends_at_thing, are_keywords, class_begun, class_body, class_within};
+ghost use Rattle.py_frames.specs.Statements.{run_all, base_of, over_thing, ends_at_thing, are_keywords, class_begun, class_within};
 ghost use Rattle.py_frames.specs.Values.{class_word};
 ghost use Rattle.py_frames.specs.Def_frames.{class_given};
 ghost use Rattle.py_statements.specs.Def_begun.{class_inside};
@@ -18,10 +18,10 @@ use py_frames::frame::{DefFrame, Frame, Now};
 use py_frames::functions::Functions;
 use py_frames::going::Going;
 use py_frames::own::own_names;
-use py_frames::request::{Cause, NamedVals};
+use py_frames::request::NamedVals;
 use py_frames::scopes::seen_from;
 use py_frames::state::{ClassBody, Got, Halt, Here};
-use py_frames::stmt_plain::{comes, stops};
+use py_frames::stmt_plain::comes;
 use py_tree::{Block, Name, Stmt, StmtKind, Trailer};
 use py_values::{Frozen, Heap, Inherited, OwnNames, ScopeId, Val, Vals};
 use std::alloc::Global;
@@ -73,8 +73,8 @@ pub fn over_thing(heap: &Heap, frozen: &Frozen, base: &Val) -> bool
     }
 }
 
-// Whether there are keywords.
-fn are_keywords(keywords: &NamedVals) -> bool
+/// Whether there are keywords.
+pub fn are_keywords(keywords: &NamedVals) -> bool
     ensures { result ≡ are_keywords keywords.now }
 {
     match keywords.as_slice() {
@@ -109,7 +109,7 @@ pub fn class_given(
     }
 }
 
-// Its base is there, or it raises.
+// A class over what may be its base.
 #[tactic(auto, using(crate::proofs::ClassLaws::based_rules))]
 fn class_based(
     going: &mut Going,
@@ -127,15 +127,13 @@ fn class_based(
     ensures moves { GoesOn functions.now frozen.now result going.old going.new budget (λ k. class_given k (step_of s.now) vals keywords) }
     ensures used { going.new.state.used ≡ going.old.state.used }
 {
-    match base_of(vals.as_slice()) {
-        Some(base) => class_begun(
-            going, functions, frozen, s, name, arguments, body, base, keywords, budget,
-        ),
-        None => stops(going, functions, frozen, Cause::Raised, s.place, budget),
-    }
+    let base = base_of(vals.as_slice());
+    class_begun(
+        going, functions, frozen, s, name, arguments, body, base, keywords, budget,
+    )
 }
 
-// A class over this base: keywords are for a thing alone.
+// The scope round its body is made, in which the class will stand.
 #[tactic(auto, using(crate::proofs::ClassLaws::begun_rules))]
 fn class_begun(
     going: &mut Going,
@@ -145,38 +143,12 @@ fn class_begun(
     name: &Name,
     arguments: &Option<Trailer>,
     body: &Block,
-    base: Val,
+    base: Option<Val>,
     keywords: NamedVals,
     budget: u64,
 ) -> Result<Now, Halt>
     requires { step_of s.now ≡ Class s.now.place name.now (bases_of (option_map trailer_of arguments.now)) (steps_of body.now) }
-    ensures moves { GoesOn functions.now frozen.now result going.old going.new budget (λ k. class_begun k (Some base) name.now keywords (steps_names (steps_of body.now)) (run_all k (steps_of body.now)) s.now.place) }
-    ensures used { going.new.state.used ≡ going.old.state.used }
-{
-    if are_keywords(&keywords) && !over_thing(&going.state.heap, frozen, &base) {
-        return stops(going, functions, frozen, Cause::Raised, s.place, budget);
-    }
-    class_body(
-        going, functions, frozen, s, name, arguments, body, base, keywords, budget,
-    )
-}
-
-// The scope round its body is made, in which the class will stand.
-#[tactic(auto, using(crate::proofs::ClassLaws::body_rules))]
-fn class_body(
-    going: &mut Going,
-    functions: &Functions,
-    frozen: &Frozen,
-    s: &Stmt,
-    name: &Name,
-    arguments: &Option<Trailer>,
-    body: &Block,
-    base: Val,
-    keywords: NamedVals,
-    budget: u64,
-) -> Result<Now, Halt>
-    requires { step_of s.now ≡ Class s.now.place name.now (bases_of (option_map trailer_of arguments.now)) (steps_of body.now) }
-    ensures moves { GoesOn functions.now frozen.now result going.old going.new budget (λ k. class_body k base name.now keywords (steps_names (steps_of body.now)) (run_all k (steps_of body.now)) s.now.place) }
+    ensures moves { GoesOn functions.now frozen.now result going.old going.new budget (λ k. class_begun k base name.now keywords (steps_names (steps_of body.now)) (run_all k (steps_of body.now)) s.now.place) }
     ensures used { going.new.state.used ≡ going.old.state.used }
 {
     let Ok(own) = class_alone(going.alloc) else {
@@ -213,7 +185,7 @@ fn class_within(
     arguments: &Option<Trailer>,
     body: &Block,
     round: ScopeId,
-    base: Val,
+    base: Option<Val>,
     keywords: NamedVals,
     budget: u64,
 ) -> Result<Now, Halt>
@@ -246,7 +218,7 @@ fn class_inside(
     _arguments: &Option<Trailer>,
     body: &Block,
     scope: ScopeId,
-    base: Val,
+    base: Option<Val>,
     keywords: NamedVals,
     budget: u64,
 ) -> Result<Now, Halt>

@@ -2,7 +2,9 @@
 ghost use Rattle.std.specs.Prelude.{◌≡◌, map};
 ghost use Rattle.py_tree.specs.Programs.{step_of, import_of};
 ghost use Rattle.py_tree.specs.Steps.{Import, ImportAll};
-ghost use Rattle.py_frames.specs.Statements.{imported, dotted};
+ghost use Rattle.std.specs.Option.{option_copied};
+ghost use Rattle.py_values.specs.Heaps.{seen};
+ghost use Rattle.py_frames.specs.Statements.{imported, dotted, is_module, stands_in_module, all_asked};
 ghost use Rattle.py_frames.specs.Stmt_begun.{run_after};
 ghost use Rattle.py_frames.specs.Stmt_frames.{imports_from, imported_at};
 ghost use Rattle.py_frames.specs.Frames.{GoesOn};
@@ -13,13 +15,31 @@ use py_frames::expr_values::bind;
 use py_frames::frame::{Frame, Now, StmtFrame};
 use py_frames::functions::Functions;
 use py_frames::going::Going;
+use py_frames::request::Cause;
 use py_frames::state::{Got, Halt};
-use py_frames::stmt_plain::comes;
+use py_frames::stmt_plain::{comes, stops};
 use py_tree::{Imported, Name, Stmt, StmtKind};
-use py_values::{Frozen, Val};
+use py_values::{Frozen, Scope, Val};
 
-/// All names of a module.
-#[tactic(auto, using(crate::proofs::ImportLaws::all_rules))]
+// Whether a scope is the module's.
+fn is_module(found: Option<&Scope>) -> bool
+    ensures { result ≡ is_module (option_copied found.entry) }
+{
+    match found {
+        Some(scope) => scope.enclosing.is_none(),
+        None => false,
+    }
+}
+
+// Whether the evaluation stands in the module.
+fn stands_in_module(going: &Going, frozen: &Frozen) -> bool
+    ensures { result ≡ stands_in_module (seen frozen.now going.now.state.heap) going.now.state.here.scope }
+{
+    is_module(going.state.heap.scope_at(frozen, going.state.here.scope))
+}
+
+/// All names of a module, in a module.
+#[tactic(auto, using(crate::proofs::ImportLaws::within_rules))]
 pub fn begun_import_all(
     going: &mut Going,
     functions: &Functions,
@@ -30,6 +50,26 @@ pub fn begun_import_all(
 ) -> Result<Now, Halt>
     requires { step_of s.now ≡ ImportAll s.now.place path.now.items }
     ensures moves { GoesOn functions.now frozen.now result going.old going.new budget (λ k. run_after k (step_of s.now)) }
+    ensures state { going.new.state ≡ going.old.state }
+{
+    let inside = stands_in_module(going, frozen);
+    if inside {
+        return all_asked(going, functions, frozen, s, path, budget);
+    }
+    stops(going, functions, frozen, Cause::Raised, s.place, budget)
+}
+
+// The store is asked for all names.
+#[tactic(auto, using(crate::proofs::ImportLaws::all_rules))]
+fn all_asked(
+    going: &mut Going,
+    functions: &Functions,
+    frozen: &Frozen,
+    s: &Stmt,
+    path: &Vec<Name>,
+    budget: u64,
+) -> Result<Now, Halt>
+    ensures moves { GoesOn functions.now frozen.now result going.old going.new budget (λ k. all_asked k (dotted path.now.items) s.now.place) }
     ensures state { going.new.state ≡ going.old.state }
 {
     let place = s.place;

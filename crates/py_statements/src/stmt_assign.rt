@@ -2,7 +2,7 @@
 ghost use Rattle.std.specs.Prelude.{◌≡◌, ◌<◌, ◌≤◌, ◌+◌, map, true, MatchOption, OnOk};
 ghost use Rattle.py_tree.specs.Seen.{tree};
 ghost use Rattle.py_tree.specs.Programs.{step_of};
-ghost use Rattle.py_tree.specs.Tree.{none, some, trees};
+ghost use Rattle.py_tree.specs.Tree.{Name as Named, none, some, trees};
 ghost use Rattle.py_tree.specs.Steps.{Assign};
 ghost use Rattle.py_frames.specs.Doing.{on_next};
 ghost use Rattle.py_frames.specs.Parts.{trees_from};
@@ -12,6 +12,8 @@ ghost use Rattle.py_frames.specs.Stmt_begun.{run_after, is_assign};
 ghost use Rattle.py_frames.specs.Stmt_frames.{targets_of_step};
 ghost use Rattle.py_frames.specs.Frames.{GoesOn, KeepsRoom, within};
 
+use py_frames::at_once::at_once;
+use py_frames::binds::name_bound;
 use py_frames::block::leaves;
 use py_frames::frame::{Frame, Now, Purpose, StmtFrame};
 use py_frames::functions::Functions;
@@ -20,7 +22,7 @@ use py_frames::leaf::copied;
 use py_frames::state::{Got, Halt};
 use py_frames::stmt_plain::comes;
 use py_frames::stmt_purpose::purpose_of;
-use py_tree::{Expr, Stmt, StmtKind};
+use py_tree::{Expr, ExprKind, Name, Stmt, StmtKind};
 use py_values::{Frozen, Val};
 use py_walks::target_turns::assign_under;
 
@@ -33,6 +35,29 @@ fn target_at(targets: &Vec<Expr>, n: u64) -> Option<&Expr>
         return None;
     }
     Some(&targets[n as usize])
+}
+
+// The name that a target is.
+fn name_in(target: &Expr) -> Option<&Name>
+    ensures { MatchOption result (Unit {0}) (λ name. tree target.now ≡ Named target.now.place name.now) }
+{
+    match &*target.kind {
+        ExprKind::Name(name) => Some(name),
+        _ => None,
+    }
+}
+
+// The name of a target, where it is one and no target stands behind it.
+fn last_name<'a>(targets: &Vec<Expr>, target: &'a Expr, next: u64) -> Option<&'a Name>
+    ensures { MatchOption result (Unit {0}) (λ name. (tree target.now ≡ Named target.now.place name.now) × (trees_from next (trees (map tree targets.now.items)) ≡ none)) }
+{
+    if (targets.len() as u64) > next {
+        return None;
+    }
+    match name_in(target) {
+        Some(name) => Some(name),
+        None => None,
+    }
 }
 
 // Whether a statement is an assignment.
@@ -69,7 +94,7 @@ pub fn wait_as(
     }
 }
 
-// An assignment: its value, which is for its first target.
+// An assignment: its value, which is for its first target; where it is there at once, no frame waits for it.
 #[tactic(auto, using(crate::proofs::AssignLaws::begin_rules))]
 pub fn begun_assign(
     going: &mut Going,
@@ -80,10 +105,18 @@ pub fn begun_assign(
     e: &Expr,
     budget: u64,
 ) -> Result<Now, Halt>
-    requires { step_of s.now ≡ Assign s.now.place (trees (map tree targets.now.items)) (tree e.now) }
+    requires lives { going.old.state.used < budget }
+    requires kind { step_of s.now ≡ Assign s.now.place (trees (map tree targets.now.items)) (tree e.now) }
     ensures moves { GoesOn functions.now frozen.now result going.old going.new budget (λ k. run_after k (step_of s.now)) }
-    ensures state { going.new.state ≡ going.old.state }
+    ensures left { OnOk result (going.new.state.used < budget) }
+    ensures grows { going.old.state.used ≤ going.new.state.used }
 {
+    if let Some(found) = at_once(going, frozen, e, budget) {
+        going.state.used += found.cost;
+        return assign_from(
+            going, functions, frozen, s, targets, e, 0, found.val, budget,
+        );
+    }
     let Ok(stmt) = s.share() else {
         return Err(Halt::NoMemory);
     };
@@ -101,7 +134,7 @@ pub fn begun_assign(
     )
 }
 
-// The targets from this number on, each with the same value.
+// The targets from this number on, each with the same value; where the last is a name, no frame waits for it.
 #[tactic(auto, using(crate::proofs::AssignLaws::from_rules))]
 fn assign_from(
     going: &mut Going,
@@ -123,10 +156,14 @@ fn assign_from(
     let Some(target) = target_at(targets, n) else {
         return comes(going, functions, frozen, Got::Next, budget);
     };
+    let next = n + 1;
+    if let Some(name) = last_name(targets, target, next) {
+        let place = target.place;
+        return name_bound(going, functions, frozen, name.as_str(), v, place, budget);
+    }
     let Ok(stmt) = s.share() else {
         return Err(Halt::NoMemory);
     };
-    let next = n + 1;
     let val = copied(&v);
     assign_under(
         going,

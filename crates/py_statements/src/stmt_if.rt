@@ -1,5 +1,5 @@
 // `if`: its branches one after the other.
-ghost use Rattle.std.specs.Prelude.{◌≡◌, ◌<◌, ◌+◌, map, option_map, true, MatchOption};
+ghost use Rattle.std.specs.Prelude.{◌≡◌, ◌<◌, ◌≤◌, ◌+◌, map, option_map, true, MatchOption, OnOk};
 ghost use Rattle.py_tree.specs.Seen.{tree};
 ghost use Rattle.py_tree.specs.Programs.{step_of, steps_of, branch_of};
 ghost use Rattle.py_tree.specs.Steps.{If, no_branch, branch, branches, else_of};
@@ -9,10 +9,11 @@ ghost use Rattle.py_frames.specs.Stmt_begun.{is_if};
 ghost use Rattle.py_frames.specs.Stmt_frames.{branch_came, branches_of, other_of};
 ghost use Rattle.py_frames.specs.Frames.{GoesOn};
 
+use py_frames::at_once::wait_or_come;
 use py_frames::block::run_block;
 use py_frames::frame::{Frame, Now, StmtFrame};
 use py_frames::functions::Functions;
-use py_frames::going::{Going, wait_for};
+use py_frames::going::Going;
 use py_frames::leaf::place_of;
 use py_frames::request::Cause;
 use py_frames::state::{Got, Halt};
@@ -67,15 +68,17 @@ pub fn branch_turn(
     n: u64,
     budget: u64,
 ) -> Result<Now, Halt>
-    requires { step_of s.now ≡ If s.now.place (branches (map branch_of tests.now.items)) (else_of (option_map steps_of other.now)) }
+    requires lives { going.old.state.used < budget }
+    requires kind { step_of s.now ≡ If s.now.place (branches (map branch_of tests.now.items)) (else_of (option_map steps_of other.now)) }
     ensures moves { GoesOn functions.now frozen.now result going.old going.new budget (λ k. run_branches k (branches_from n (branches_of (step_of s.now))) (other_of k (step_of s.now))) }
-    ensures state { going.new.state ≡ going.old.state }
+    ensures left { OnOk result (going.new.state.used < budget) }
+    ensures grows { going.old.state.used ≤ going.new.state.used }
 {
     if let Some(branch) = branch_at(tests, n) {
         let Ok(stmt) = s.share() else {
             return Err(Halt::NoMemory);
         };
-        return wait_for(
+        return wait_or_come(
             going,
             functions,
             frozen,
@@ -101,8 +104,10 @@ pub fn branch_came(
     x: Val,
     budget: u64,
 ) -> Result<Now, Halt>
+    requires { going.old.state.used < budget }
     ensures moves { GoesOn functions.now frozen.now result going.old going.new budget (λ k. branch_came k (branches_from n (branches_of (step_of s.now))) (other_of k (step_of s.now)) x) }
-    ensures state { going.new.state ≡ going.old.state }
+    ensures left { OnOk result (going.new.state.used < budget) }
+    ensures grows { going.old.state.used ≤ going.new.state.used }
 {
     if is_if(s) {
         return branch_on(going, functions, frozen, s, n, x, budget);
@@ -121,9 +126,11 @@ fn branch_on(
     x: Val,
     budget: u64,
 ) -> Result<Now, Halt>
-    requires { is_if (step_of s.now) ≡ true }
+    requires lives { going.old.state.used < budget }
+    requires kind { is_if (step_of s.now) ≡ true }
     ensures moves { GoesOn functions.now frozen.now result going.old going.new budget (λ k. branch_came k (branches_from n (branches_of (step_of s.now))) (other_of k (step_of s.now)) x) }
-    ensures state { going.new.state ≡ going.old.state }
+    ensures left { OnOk result (going.new.state.used < budget) }
+    ensures grows { going.old.state.used ≤ going.new.state.used }
 {
     match &*s.kind {
         StmtKind::If(tests, other) => {
@@ -145,9 +152,11 @@ fn branch_tested(
     x: Val,
     budget: u64,
 ) -> Result<Now, Halt>
-    requires { step_of s.now ≡ If s.now.place (branches (map branch_of tests.now.items)) (else_of (option_map steps_of other.now)) }
+    requires lives { going.old.state.used < budget }
+    requires kind { step_of s.now ≡ If s.now.place (branches (map branch_of tests.now.items)) (else_of (option_map steps_of other.now)) }
     ensures moves { GoesOn functions.now frozen.now result going.old going.new budget (λ k. branch_came k (branches_from n (branches_of (step_of s.now))) (other_of k (step_of s.now)) x) }
-    ensures state { going.new.state ≡ going.old.state }
+    ensures left { OnOk result (going.new.state.used < budget) }
+    ensures grows { going.old.state.used ≤ going.new.state.used }
 {
     let Some(branch) = branch_at(tests, n) else {
         return branch_turn(going, functions, frozen, s, tests, other, n, budget);

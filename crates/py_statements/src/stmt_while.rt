@@ -8,10 +8,11 @@ ghost use Rattle.py_frames.specs.Stmt_begun.{while_body, loop_left};
 ghost use Rattle.py_frames.specs.Stmt_frames.{while_tested, while_left};
 ghost use Rattle.py_frames.specs.Frames.{GoesOn};
 
+use py_frames::at_once::wait_or_come;
 use py_frames::block::{block_under, loop_left};
 use py_frames::frame::{Frame, Now, StmtFrame};
 use py_frames::functions::Functions;
-use py_frames::going::{Going, spend, wait_for};
+use py_frames::going::{Going, spend};
 use py_frames::leaf::place_of;
 use py_frames::request::Cause;
 use py_frames::state::{Got, Halt};
@@ -31,16 +32,18 @@ pub fn while_turn(
     n: u64,
     budget: u64,
 ) -> Result<Now, Halt>
-    requires { step_of s.now ≡ While s.now.place (tree test.now) (steps_of _body.now) }
+    requires lives { going.old.state.used < budget }
+    requires kind { step_of s.now ≡ While s.now.place (tree test.now) (steps_of _body.now) }
     ensures moves { GoesOn functions.now frozen.now result going.old going.new budget (λ k. while_turns n k (tree test.now) (run_all k (steps_of _body.now)) s.now.place) }
-    ensures state { going.new.state ≡ going.old.state }
+    ensures left { OnOk result (going.new.state.used < budget) }
+    ensures grows { going.old.state.used ≤ going.new.state.used }
 {
     if n > 0 {
         let Ok(stmt) = s.share() else {
             return Err(Halt::NoMemory);
         };
         let turns = n - 1;
-        return wait_for(
+        return wait_or_come(
             going,
             functions,
             frozen,
@@ -157,8 +160,10 @@ pub fn while_left(
     got: Got,
     budget: u64,
 ) -> Result<Now, Halt>
+    requires { going.old.state.used < budget }
     ensures moves { GoesOn functions.now frozen.now result going.old going.new budget (λ k. while_left k n (step_of s.now) got) }
-    ensures state { going.new.state ≡ going.old.state }
+    ensures left { OnOk result (going.new.state.used < budget) }
+    ensures grows { going.old.state.used ≤ going.new.state.used }
 {
     match &*s.kind {
         StmtKind::While(test, body) => {
@@ -180,9 +185,11 @@ fn while_again(
     got: Got,
     budget: u64,
 ) -> Result<Now, Halt>
-    requires { step_of s.now ≡ While s.now.place (tree test.now) (steps_of body.now) }
+    requires lives { going.old.state.used < budget }
+    requires kind { step_of s.now ≡ While s.now.place (tree test.now) (steps_of body.now) }
     ensures moves { GoesOn functions.now frozen.now result going.old going.new budget (λ k. while_left k n (step_of s.now) got) }
-    ensures state { going.new.state ≡ going.old.state }
+    ensures left { OnOk result (going.new.state.used < budget) }
+    ensures grows { going.old.state.used ≤ going.new.state.used }
 {
     match loop_left(&got) {
         Some(left) => comes(going, functions, frozen, left, budget),

@@ -19,3 +19,4 @@ pub mod TupleLaws
 pub mod ElementsAre
 pub mod SamplesSequences
 pub mod KeyLaws
+pub mod AtOnceLaws

@@ -11,7 +11,7 @@ use Rattle.py_values.specs.Heaps.{Made, Seen, seen}
 use Rattle.py_values.specs.Places.{placed}
 use Rattle.py_values.specs.Sequences.{range_of, len_of, list_of, tuple_of, reversed_of, enumerate_of, zip_of}
 use Rattle.py_values.specs.Indices.{index_of, slice_of, index_set}
-use Rattle.py_values.specs.Lists.{append_to, extend_to, insert_to, pop_from}
+use Rattle.py_values.specs.Lists.{append_to, extend_to, repeat_to, insert_to, pop_from}
 use Rattle.py_values.specs.Scalars.{int_of, str_of, bool_of, least_of, greatest_of, sum_of, magnitude_of, nothing_printed, ceil_log2, bits_for}
 use Rattle.py_values.specs.Dicts.{dict_of, items_of, keys_of, values_of, get_of}
 
@@ -55,6 +55,7 @@ built s of.CeilLog2 args = ceil_log2 s args
 built s of.BitsFor args = bits_for s args
 built s of.Append args = append_to s args
 built s of.Extend args = extend_to s args
+built s of.Repeat args = repeat_to s args
 built s of.Insert args = insert_to s args
 built s of.Pop args = pop_from s args
 built s of.Items args = items_of s args

@@ -23,3 +23,4 @@ pub mod Lists
 pub mod Builtins
 pub mod Keys
 pub mod Limbs
+pub mod At_once

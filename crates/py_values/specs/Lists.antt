@@ -10,6 +10,7 @@ use Rattle.py_values.specs.Numbers.{number_of}
 use Rattle.py_values.specs.Changes.{own_number, index_place, item_passes, appended}
 use Rattle.py_values.specs.Elements.{elements}
 use Rattle.py_values.specs.Sequences.{onward}
+use Rattle.py_values.specs.Sums.{repeated}
 use Rattle.py_values.specs.Indices.{nothing_given}
 
 -- ---- `append`
@@ -39,6 +40,28 @@ extended s o xs = extended_at s (own_number (length s.frozen.rows) (length s.own
 abbrev pub extend_to : Seen → List Val → Result (Val × Made) ValueStop
 extend_to s (val.List o ∷ b ∷ []) = nothing_given (extended s o.0 (elements s b))
 extend_to s _ = Err Raised
+
+-- ---- `*=`: the list becomes its items so many times; what it grows by is counted
+
+-- by how many items a row grows where another stands in its place
+abbrev pub growth : List Val → List Val → ℕ
+growth row xs = length xs - length row
+
+abbrev pub replaced_own : Seen → ℕ → List Val → Result (Unit {0} × Made) ValueStop
+replaced_own s i xs =
+    if nat_lt 4194304 (s.frozen.items + s.own.items + growth (row_of s.own.rows i) xs) then Err Limit
+    else Ok (tt, record s.own { rows = slice_set s.own.rows i xs; items = s.own.items + growth (row_of s.own.rows i) xs })
+
+abbrev pub repeated_at : Seen → Option ℕ → Option ℤ → Result (Unit {0} × Made) ValueStop
+repeated_at s None n = Err Raised
+repeated_at s (Some i) n = onward (repeated (row_of s.own.rows i) n) (replaced_own s i)
+
+abbrev pub repeated_in : Seen → ℕ → Option ℤ → Result (Unit {0} × Made) ValueStop
+repeated_in s o n = repeated_at s (own_number (length s.frozen.rows) (length s.own.rows) o) n
+
+abbrev pub repeat_to : Seen → List Val → Result (Val × Made) ValueStop
+repeat_to s (val.List o ∷ n ∷ []) = nothing_given (repeated_in s o.0 (number_of n))
+repeat_to s _ = Err Raised
 
 -- ---- `insert`: past an end is at that end
 

@@ -53,6 +53,7 @@ impl Heap {
             Builtin::Zip => self.zip_of(frozen, args),
             Builtin::Append => self.append_to(frozen, args),
             Builtin::Extend => self.extend_to(frozen, args),
+            Builtin::Repeat => self.repeat_to(frozen, args),
             Builtin::Insert => self.insert_to(frozen, args),
             Builtin::Pop => self.pop_from(frozen, args),
             Builtin::SetIndex => self.index_set(frozen, args),

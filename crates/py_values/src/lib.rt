@@ -9,10 +9,12 @@
 //! means where it is read (specs/Names.antt), and `inherited` what a class has by itself or from its base
 //! (specs/Objects.antt). `builtin` gives exactly what the builtins, methods, indices and slices give (specs/Builtins.antt,
 //! which stands on Elements, Spans, Sequences, Indices, Lists, Scalars and Dicts). `elements` and `element` tell what a loop
-//! or a call goes over, and a law says that they tell the same (proofs/ElementsAre.antt). Samples of the definitions are
-//! worked out in proofs/Samples.antt, SamplesSequences.antt and BuiltinSamples.antt.
+//! or a call goes over, and a law says that they tell the same (proofs/ElementsAre.antt). `integers_operated` and `item_at` give
+//! what operators and indices give where nothing is made and no unit spent (proofs/AtOnceLaws.antt). Samples of the definitions
+//! are worked out in proofs/Samples.antt, SamplesSequences.antt and BuiltinSamples.antt.
 #![tactic(auto)]
 
+mod at_once;
 mod bindings;
 mod builtin;
 mod change;
@@ -47,9 +49,11 @@ mod tuples;
 mod val;
 mod vals;
 
+pub use at_once::integers_operated;
 pub use bindings::{Bindings, OwnNames};
 pub use func::{Code, Func, Scope};
 pub use heap::{Frozen, Heap};
+pub use members::is_key;
 pub use number::Number;
 pub use objects::Inherited;
 pub use op::{Builtin, PyOp};

@@ -39,7 +39,7 @@ fn has_part(part: &[u8], text: &[u8]) -> bool
 }
 
 /// Whether a value may be a key of a dict.
-pub(crate) fn is_key(v: Val) -> bool
+pub fn is_key(v: Val) -> bool
     ensures { result ≡ is_key v }
 {
     match v {

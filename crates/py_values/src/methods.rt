@@ -3,13 +3,15 @@ ghost use Rattle.std.specs.Prelude.{◌≡◌, ◌<◌, ◌≤◌, length, inser
 ghost use Rattle.py_values.specs.Heaps.{seen, row_of};
 ghost use Rattle.py_values.specs.Runs.{Answers, paired};
 ghost use Rattle.py_values.specs.Elements.{elements};
-ghost use Rattle.py_values.specs.Lists.{append_to, items_pass, extended_own, extended, extend_to, insert_place, inserted_own, inserted, insert_to, taken, popped, pop_from};
+ghost use Rattle.py_values.specs.Lists.{append_to, items_pass, extended_own, extended, extend_to, replaced_own, repeated_at, repeated_in, repeat_to, insert_place, inserted_own, inserted, insert_to, taken, popped, pop_from};
 
 use crate::change::{index_place, own_number};
 use crate::heap::{Frozen, Heap};
 use crate::indices::none_given;
 use crate::numbers::number_of;
+use crate::sums::repeated;
 use crate::val::{ObjId, Val, ValueStop};
+use crate::vals::Vals;
 use amh_bits::Int;
 
 // The place before which a value comes.
@@ -83,6 +85,43 @@ impl Heap {
     {
         match args {
             [Val::List(o), b] => none_given(self.extended(frozen, *o, *b)),
+            _ => Err(ValueStop::Raised),
+        }
+    }
+
+    // Puts other values in the place of a row of this heap; what it grows by is counted.
+    fn replace_own(&mut self, frozen: &Frozen, i: usize, xs: Vals) -> Result<(), ValueStop>
+        requires { i < length self.old.rows }
+        ensures { Answers (paired result self.new) (replaced_own (seen frozen.now self.old) i xs) }
+    {
+        let growth = xs.len().saturating_sub(self.own_row(i).len());
+        if frozen.made.items as u128 + self.items as u128 + growth as u128 > 4_194_304 {
+            return Err(ValueStop::Limit);
+        }
+        self.rows[i].replace(xs);
+        self.items += growth as u32;
+        Ok(())
+    }
+
+    // The items of a list so many times, in its place.
+    fn repeat(&mut self, frozen: &Frozen, o: ObjId, n: Option<Int>) -> Result<(), ValueStop>
+        ensures { Answers (paired result self.new) (repeated_in (seen frozen.now self.old) o.0 n) }
+    {
+        let Some(i) = own_number(frozen.made.rows.len(), self.rows.len(), o.0) else {
+            return Err(ValueStop::Raised);
+        };
+        match repeated(self.alloc, self.own_row(i), n) {
+            Ok(xs) => self.replace_own(frozen, i, xs),
+            Err(stop) => Err(stop),
+        }
+    }
+
+    /// `a *= n`.
+    pub(crate) fn repeat_to(&mut self, frozen: &Frozen, args: &[Val]) -> Result<Val, ValueStop>
+        ensures { Answers (paired result self.new) (repeat_to (seen frozen.now self.old) args.now) }
+    {
+        match args {
+            [Val::List(o), n] => none_given(self.repeat(frozen, *o, number_of(*n))),
             _ => Err(ValueStop::Raised),
         }
     }

@@ -57,7 +57,7 @@ pub enum Builtin {
     Super,
     /// `super().__init__` that reaches a thing, which the machine asks for.
     InitThing,
-    /// `super().__init__` that reaches nothing.
+    /// `__init__` where no class has one: of a class, an object or `super()`.
     InitNothing,
     CeilLog2,
     BitsFor,
@@ -65,6 +65,8 @@ pub enum Builtin {
     Append,
     /// `a.extend(b)`, of a list.
     Extend,
+    /// `a *= n`, of a list.
+    Repeat,
     /// `a.insert(i, x)`, of a list.
     Insert,
     /// `a.pop()` and `a.pop(i)`, of a list.

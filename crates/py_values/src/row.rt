@@ -98,6 +98,14 @@ impl Row {
         self.items.push_pair(first, second)
     }
 
+    /// Puts other values in the place of all. No key is indexed any more.
+    pub(crate) fn replace(&mut self, items: Vals)
+        ensures { self.new ≡ items }
+    {
+        self.codes.clear();
+        self.items = items;
+    }
+
     /// Adds values at the end.
     pub(crate) fn extend(&mut self, items: &[Val]) -> Result<(), NoMemory>
         ensures ok { OnOk result (self.new ≡ self.old ++ items.now) }

@@ -68,8 +68,8 @@ fn copies(alloc: Global, n: usize, row: &[Val]) -> Result<Vals, ValueStop>
     Ok(all)
 }
 
-// A row so many times, where that is not too long.
-fn repeated(alloc: Global, row: &[Val], n: Option<Int>) -> Result<Vals, ValueStop>
+/// A row so many times, where that is not too long.
+pub(crate) fn repeated(alloc: Global, row: &[Val], n: Option<Int>) -> Result<Vals, ValueStop>
     ensures { Answers result (repeated row.now n) }
 {
     let Some(n) = n else {

@@ -30,8 +30,8 @@ use Rattle.py_frames.specs.Asking.{most}
 use Rattle.py_frames.specs.Functions.{named_val}
 use Rattle.py_frames.specs.Told.{Binds}
 use Rattle.py_frames.specs.Values.{as_row, bind, with_binding}
-use Rattle.py_frames.specs.Expressions.{value_of, assign, is_row, on_element}
-use Rattle.py_frames.specs.Statements.{known, run_all, row_size, for_turns, for_loop, turn_on}
+use Rattle.py_frames.specs.Expressions.{value_of, assign, is_row, row_size, on_element}
+use Rattle.py_frames.specs.Statements.{known, run_all, for_turns, for_loop, turn_on}
 use Rattle.py_frames.specs.Stmt_begun.{run_after, loop_left}
 use Rattle.py_frames.specs.Stmt_frames.{for_source, for_row, for_walks, for_bound}
 use Rattle.py_frames.specs.Begun.{Spends}
@@ -41,7 +41,7 @@ use Rattle.py_frames.proofs.BeginLaws.{no_memory, stop_goes}
 use Rattle.py_frames.proofs.ExprLaws.{same_total, spent_goes, spent_stops, bind_goes, bind_stops}
 use Rattle.py_frames.proofs.StmtLaws.{meant_same, came_goes}
 use Rattle.py_frames.proofs.StmtGoes.{turn_ends, turn_stays}
-use Rattle.py_walks.proofs.WalkLaws.{under_frame}
+use Rattle.py_walks.proofs.WalkLaws.{under_frame, is_same, is_other}
 
 -- what is there of a statement
 at_step : (fns : Functions) (frozen : Made) (r : Result Now Halt) (x z : Going) (budget : ℕ) (c t : Step) (N : Step → Known → Doing) → t ≡ c → GoesOn fns frozen r x z budget (N c) → GoesOn fns frozen r x z budget (N t)
@@ -104,12 +104,6 @@ at_turns : (fns : Functions) (frozen : Made) (r : Result Now Halt) (x z : Going)
 at_turns fns frozen r x z budget n p ts ss w e h =
     let N : ℕ → Type 0 = λ j. GoesOn fns frozen r x z budget (λ k. for_turns j k w.over w.next w.size ts (run_all k ss) p) in
     subst N e h
-
-is_same : (m n : ℕ) → m ≡ n → (m == n) ≡ true
-is_same m n e = grind arith
-
-is_other : (m n : ℕ) → (m ≡ n → ⊥) → (m == n) ≡ false
-is_other m n e = grind arith
 
 pub for_out : (fns : Functions) (frozen : Made) (x : Going) (budget : ℕ) (p : Place) (ts : Tree) (ss : Steps) (w : Walk) → w.turns ≡ 0 → GoesOn fns frozen (Err (Stopped (record { cause = cause.Spent; place = p }))) x x budget (λ k. for_turns w.turns k w.over w.next w.size ts (run_all k ss) p)
 for_out fns frozen x budget p ts ss w e =

@@ -1,6 +1,6 @@
 -- What turns owe that push a frame, take elements, leave a block or enter a scope: laws that targets, comprehensions and
 -- loops share.
-use Rattle.std.proofs.Common.{◌≡◌, ℕ, ap, sym, subst, List, ◌∷◌, Result, Ok, Err, Bool, true, false}
+use Rattle.std.proofs.Common.{◌≡◌, ℕ, ◌==◌, ap, sym, subst, List, ◌∷◌, Result, Ok, Err, Bool, true, false, arith}
 use Rattle.amh_host.specs.declared.place.Place.{Place}
 use Rattle.py_tree.specs.Programs.{steps_of}
 use Rattle.py_values.specs.Heaps.{Made, seen}
@@ -68,6 +68,14 @@ elements_lack fns frozen (Stopped st) x budget v p f t =
     (stop_goes fns frozen x budget (cause_of t.0) p))
 elements_lack fns frozen (Asks r) x budget v p f t = absurd t
 elements_lack fns frozen NoMemory x budget v p f t = no_memory fns frozen x x budget (λ k. with_elements k v p (f k))
+
+-- ---- sizes
+
+pub is_same : (m n : ℕ) → m ≡ n → (m == n) ≡ true
+is_same m n e = grind arith
+
+pub is_other : (m n : ℕ) → (m ≡ n → ⊥) → (m == n) ≡ false
+is_other m n e = grind arith
 
 -- ---- scopes
 

@@ -78,7 +78,7 @@ element_turn k c w outer done v = spend c.place (comp_turn k c v done (walks_on 
 
 -- an element's targets have it: it is made, where the condition holds
 abbrev pub where_made : Known → Comp → Walk → ScopeId → List Val → Doing
-where_made k c w outer done = where_holds k (condition_of c.source) (element_made k c.element done (walks_on k c w outer)) (walks_on k c w outer done)
+where_made k c w outer done = where_holds k (condition_of c.source) (element_made k c.place c.element done (walks_on k c w outer)) (walks_on k c w outer done)
 
 -- a scope of its own in which a comprehension stands: it is owed with these names, and the evaluation stands there
 abbrev pub Entered : Result ScopeId Halt → Made → List (List ℕ) → Going → Going → Type 0

@@ -8,13 +8,14 @@ ghost use Rattle.py_frames.specs.declared.frame.Purpose.TheVariants.{Plain};
 ghost use Rattle.py_frames.specs.declared.frame.WalkFrame.TheVariants as frame_of;
 ghost use Rattle.py_frames.specs.Doing.{on_next};
 ghost use Rattle.py_frames.specs.Expressions.{back_in, is_row, value_of};
-ghost use Rattle.py_frames.specs.Walk_frames.{comp_of, with_comp, comp_over, walks_on, all_made, tested_by, made_came, condition_of};
+ghost use Rattle.py_frames.specs.Walk_frames.{comp_of, with_comp, comp_over, walks_on, all_made, tested_by, made_came, pair_came, condition_of};
 ghost use Rattle.py_walks.specs.Walk_parts.{comp_seen, element_turn, where_made};
 ghost use Rattle.py_frames.specs.Frames.{GoesOn, within};
 
 use crate::comprehensions::{element_at, element_begun, element_bound, enter_scope};
+use crate::loops::row_size;
 use crate::target_turns::assign_under;
-use crate::walk_parts::{CompItem, CompParts, behind, comp_of, is_row};
+use crate::walk_parts::{CompItem, CompParts, behind, comp_of, is_row, may_be_key};
 use py_frames::block::leaves;
 use py_frames::boxed::Boxed;
 use py_frames::expr_values::{new_dict, truth};
@@ -91,13 +92,14 @@ pub fn comp_over(
     ensures left { OnOk result (going.new.state.used < budget) }
     ensures grows { going.old.state.used ≤ going.new.state.used }
 {
+    let size = row_size(going, frozen, &row);
     let outer = going.state.here.scope;
     match enter_scope(going, frozen, &parts.targets) {
         Ok(_) => {
             let walk = Walk {
                 over: row,
                 next: 0,
-                size: 0,
+                size,
                 turns: MOST,
             };
             let done = Vals::new(going.alloc);
@@ -109,7 +111,7 @@ pub fn comp_over(
     }
 }
 
-// The elements behind those of a walk.
+// The elements behind those of a walk, where the dict that is gone over has kept its size.
 #[tactic(auto, using(crate::proofs::CompLaws::walk_rules))]
 pub fn walks_on(
     going: &mut Going,
@@ -130,6 +132,9 @@ pub fn walks_on(
 {
     if walk.turns == 0 {
         return Err(stopped(Cause::Spent, parts.place));
+    }
+    if row_size(going, frozen, &walk.over) != walk.size {
+        return Err(stopped(Cause::Raised, parts.place));
     }
     match element_at(going, frozen, walk) {
         Some(v) => element_turn(
@@ -416,25 +421,80 @@ pub fn pair_made_came(
     frozen: &Frozen,
     comp: Comprehended,
     walk: Walk,
-    mut done: Vals,
+    done: Vals,
     outer: ScopeId,
     key: Val,
     v: Val,
     budget: u64,
 ) -> Result<Now, Halt>
     requires { going.old.state.used < budget }
-    ensures moves { GoesOn functions.now frozen.now result going.old going.new budget (λ k. with_comp (comp_of comp) (λ x. walks_on k x walk outer (done ++ key ∷ v ∷ []))) }
+    ensures moves { GoesOn functions.now frozen.now result going.old going.new budget (λ k. with_comp (comp_of comp) (λ x. pair_came k x walk outer done key v)) }
     ensures left { OnOk result (going.new.state.used < budget) }
     ensures grows { going.old.state.used ≤ going.new.state.used }
 {
-    let Ok(()) = done.push_pair(key, v) else {
-        return Err(Halt::NoMemory);
-    };
     match comp_of(&comp) {
         PartAt::NoMemory => Err(Halt::NoMemory),
         PartAt::Past => Ok(Now::Came(Got::Next)),
-        PartAt::Part(parts) => walks_on(
-            going, functions, frozen, comp, &parts, &walk, outer, done, budget,
+        PartAt::Part(parts) => one_pair_more(
+            going, functions, frozen, comp, &parts, walk, done, outer, key, v, budget,
         ),
+    }
+}
+
+// One key more with its value, where it may be a key, and on with the walk.
+#[tactic(auto, using(crate::proofs::CompLaws::key_rules))]
+pub fn one_pair_more(
+    going: &mut Going,
+    functions: &Functions,
+    frozen: &Frozen,
+    comp: Comprehended,
+    parts: &CompParts,
+    walk: Walk,
+    done: Vals,
+    outer: ScopeId,
+    key: Val,
+    v: Val,
+    budget: u64,
+) -> Result<Now, Halt>
+    requires lives { going.old.state.used < budget }
+    requires kind { comp_of comp ≡ Some (comp_seen parts.now) }
+    ensures moves { GoesOn functions.now frozen.now result going.old going.new budget (λ k. pair_came k (comp_seen parts.now) walk outer done key v) }
+    ensures left { OnOk result (going.new.state.used < budget) }
+    ensures grows { going.old.state.used ≤ going.new.state.used }
+{
+    let may_be = may_be_key(&key);
+    if may_be {
+        return pair_pushed(
+            going, functions, frozen, comp, parts, walk, done, outer, key, v, budget,
+        );
+    }
+    Err(stopped(Cause::Raised, parts.place))
+}
+
+#[tactic(auto, using(crate::proofs::CompLaws::more_rules))]
+pub fn pair_pushed(
+    going: &mut Going,
+    functions: &Functions,
+    frozen: &Frozen,
+    comp: Comprehended,
+    parts: &CompParts,
+    walk: Walk,
+    mut done: Vals,
+    outer: ScopeId,
+    key: Val,
+    v: Val,
+    budget: u64,
+) -> Result<Now, Halt>
+    requires lives { going.old.state.used < budget }
+    requires kind { comp_of comp ≡ Some (comp_seen parts.now) }
+    ensures moves { GoesOn functions.now frozen.now result going.old going.new budget (λ k. walks_on k (comp_seen parts.now) walk outer (done ++ key ∷ v ∷ [])) }
+    ensures left { OnOk result (going.new.state.used < budget) }
+    ensures grows { going.old.state.used ≤ going.new.state.used }
+{
+    match done.push_pair(key, v) {
+        Ok(()) => walks_on(
+            going, functions, frozen, comp, parts, &walk, outer, done, budget,
+        ),
+        Err(_) => Err(Halt::NoMemory),
     }
 }

@@ -156,7 +156,7 @@ pub fn element_begun(
     budget: u64,
 ) -> Result<Now, Halt>
     requires { comp_of comp ≡ Some (comp_seen parts.now) }
-    ensures moves { GoesOn functions.now frozen.now result going.old going.new budget (λ k. element_made k (comp_seen parts.now).element done (walks_on k (comp_seen parts.now) walk outer)) }
+    ensures moves { GoesOn functions.now frozen.now result going.old going.new budget (λ k. element_made k (comp_seen parts.now).place (comp_seen parts.now).element done (walks_on k (comp_seen parts.now) walk outer)) }
     ensures state { going.new.state ≡ going.old.state }
 {
     let frame = Frame::Walk(WalkFrame::Made {

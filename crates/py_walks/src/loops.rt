@@ -4,7 +4,7 @@ ghost use Rattle.py_tree.specs.Seen.{tree};
 ghost use Rattle.py_tree.specs.Programs.{step_of, steps_of};
 ghost use Rattle.py_tree.specs.Steps.{For};
 ghost use Rattle.py_values.specs.Heaps.{seen};
-ghost use Rattle.py_frames.specs.Statements.{row_size};
+ghost use Rattle.py_frames.specs.Expressions.{row_size};
 ghost use Rattle.py_frames.specs.Stmt_begun.{run_after};
 ghost use Rattle.py_frames.specs.Stmt_frames.{for_source, for_bound};
 ghost use Rattle.py_frames.specs.Frames.{GoesOn};

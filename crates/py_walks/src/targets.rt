@@ -9,6 +9,7 @@ ghost use Rattle.py_walks.specs.Walk_parts.{TellsElements};
 ghost use Rattle.py_frames.specs.Frames.{GoesOn};
 
 use amh_host::Place;
+use py_frames::at_once::wait_or_come;
 use py_frames::attribute_store::as_row;
 use py_frames::expr_values::bind;
 use py_frames::frame::{Along, CallFrame, Frame, Now, WalkFrame};
@@ -91,7 +92,7 @@ pub fn assign_trailed(
         return Err(Halt::NoMemory);
     };
     match spend(going, cost_of(target), target.place, budget) {
-        Ok(()) => wait_for(
+        Ok(()) => wait_or_come(
             going,
             functions,
             frozen,

@@ -3,6 +3,7 @@ ghost use Rattle.std.specs.Prelude.{◌≡◌, ◌++◌, ◌<◌, map, IfOk, OnO
 ghost use Rattle.py_tree.specs.Seen.{tree, each_of, trailer_of};
 ghost use Rattle.py_tree.specs.Tree.{trees, trailers};
 ghost use Rattle.py_tree.specs.Programs.{step_of};
+ghost use Rattle.py_values.specs.Members.{is_key};
 ghost use Rattle.py_frames.specs.Own.{target_names, targets_names};
 ghost use Rattle.py_frames.specs.Parts.{place_of, tree_count, trailers_from};
 ghost use Rattle.py_frames.specs.Expressions.{is_row};
@@ -15,7 +16,7 @@ use amh_host::{Names, NoMemory, Place};
 use py_frames::frame::{Comprehended, Walk};
 use py_frames::leaf::{PartAt, following, part, place_of, shared_at};
 use py_tree::{Comprehension, Expr, ExprKind, Pair, Stmt, StmtKind, Trailer};
-use py_values::{Val, Vals};
+use py_values::{Val, Vals, is_key};
 use std::alloc::Global;
 
 /// What a comprehension makes: an element, or a key with its value.
@@ -167,6 +168,13 @@ pub fn is_row(v: &Val) -> bool
         Val::Range(_) => true,
         _ => false,
     }
+}
+
+/// Whether a value may be a key of a dict.
+pub fn may_be_key(v: &Val) -> bool
+    ensures { result ≡ is_key v.now }
+{
+    is_key(*v)
 }
 
 /// The walk behind its next element.

@@ -1,12 +1,6 @@
-use Rattle.std.proofs.Common.{◌≡◌, true, false}
 use Rattle.py_tree.specs.Programs.{steps_of}
-use Rattle.py_values.specs.Heaps.{seen}
-use Rattle.py_frames.specs.Statements.{are_keywords, over_thing}
-use Rattle.py_statements.proofs.ClassLaws.{begun_lacks}
+use Rattle.py_statements.proofs.ClassLaws.{begun_makes}
 use Rattle.py_statements.proofs.classes.class_begun.Goals as goal
 
-pub returns-then-not-over_thing-clause-moves : goal.returns-then-not-over_thing-clause-moves
-returns-then-not-over_thing-clause-moves c =
-    let e1 : are_keywords c.args.keywords ≡ true = cc in
-    let e2 : over_thing (seen c.args.frozen.now c.args.going.now.state.heap) c.args.base ≡ false = cc in
-    begun_lacks c.args.functions.now c.args.frozen.now c.stops.result c.args.going.now c.args.going.now c.args.budget c.args.s.now.place c.args.name.now (steps_of c.args.body.now) c.args.keywords c.args.base e1 e2 c.stops.ensures
+pub returns-in-Ok-scope-clause-moves : goal.returns-in-Ok-scope-clause-moves
+returns-in-Ok-scope-clause-moves c = begun_makes c.args.functions.now c.args.frozen.now c.class_within.result c.args.going.now c.class_within.new.going c.args.budget c.args.s.now.place c.args.name.now (steps_of c.args.body.now) c.args.keywords c.args.base c.in-Ok.own c.seen_from-enclosing.result c.in-Ok-scope.round c.scope.new.self c.in-Ok.ensures c.seen_from-enclosing.ensures c.in-Ok-scope.ensures c.class_within.ensures.moves
