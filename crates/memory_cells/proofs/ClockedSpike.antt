@@ -16,7 +16,7 @@ use Rattle.rtlil_text.proofs.Builders.{wire, whole, mux, register}
 use Rattle.memory_cells.specs.Plans.{planned}
 use Rattle.memory_cells.specs.Cells.{init_cell, write_cell, clocked_read}
 use Rattle.memory_cells.specs.Carried.{Moment, CarriesRead}
-use Rattle.memory_cells.proofs.Spike.{port, plan, spread, in_range, guard, rise, two, three, none, four, seen}
+use Rattle.memory_cells.proofs.Spike.{port, plan, clock, spread, in_range, guard, rise, two, three, none, four, seen}
 
 -- ---- the design: clk, the write port, the read port's address and enable, and its word
 
@@ -51,13 +51,13 @@ design = record {
 -- ---- the module: the flag is $7, and takes $4 where the port is enabled
 
 abbrev reading : RtlCell
-reading = clocked_read plan (codes "$17") (0 ∷ []) (whole (codes "\\clk") 1) (whole (codes "\\e") 1) (whole (codes "$5") 2) (whole (codes "$6") 4)
+reading = clocked_read plan (codes "$17") (0 ∷ []) clock (whole (codes "\\e") 1) (whole (codes "$5") 2) (whole (codes "$6") 4)
 
 module_cells : List RtlCell
 module_cells =
     in_range (codes "$10") (codes "\\a") (codes "$1") ∷ guard (codes "$11") 2 (whole (codes "\\a") 2) (codes "$1") (codes "$2") ∷ guard (codes "$12") 4 spread (codes "$1") (codes "$3")
     ∷ in_range (codes "$13") (codes "\\r") (codes "$4") ∷ guard (codes "$14") 2 (whole (codes "\\r") 2) (codes "$4") (codes "$5")
-    ∷ init_cell plan (codes "$15") memory.rows ∷ write_cell plan (codes "$16") 0 (whole (codes "\\clk") 1) (whole (codes "$3") 4) (whole (codes "$2") 2) (whole (codes "\\w") 4)
+    ∷ init_cell plan (codes "$15") memory.rows ∷ write_cell plan (codes "$16") 0 clock (whole (codes "$3") 4) (whole (codes "$2") 2) (whole (codes "\\w") 4)
     ∷ reading ∷ mux (codes "$19") 1 (whole (codes "$7") 1) (whole (codes "$4") 1) (whole (codes "\\e") 1) (whole (codes "$8") 1)
     ∷ register (codes "$20") 1 1 (whole (codes "\\clk") 1) (whole (codes "$8") 1) (whole (codes "$7") 1) ∷ guard (codes "$18") 4 (whole (codes "$6") 4) (codes "$7") (codes "\\d") ∷ []
 

@@ -4,6 +4,7 @@ mod WrittenRows
 mod ReadRows
 mod FirstRows
 mod Guards
+pub mod Clocks
 mod Rules
 mod Loops
 pub mod Masks

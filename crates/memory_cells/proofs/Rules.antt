@@ -17,6 +17,7 @@ use Rattle.memory_cells.specs.declared.plan.Plan.{Plan}
 use Rattle.memory_cells.specs.Bits.{row_bits, rows_bits}
 use Rattle.memory_cells.specs.Plans.{planned, mask_bits, through_from}
 use Rattle.memory_cells.specs.Cells.{init_cell, write_cell, comb_read, clocked_read, WritePort, write_cells, constant}
+use Rattle.memory_cells.proofs.Clocks.{polarity-flag}
 use Rattle.memory_cells.specs.Fits.{InitsFit, WritesFit, CombReadsFit, ClockedReadsFit, MemoriesFit}
 
 -- ---- lists
@@ -97,7 +98,7 @@ writes_fit m p id k clock enable address word h c e a w = record {
     row = sym w.wide;
     enable = sym e.wide;
     clocked = refl;
-    edge = omega arith;
+    edge = polarity-flag clock;
     clock = c.wide;
   };
 }
@@ -144,7 +145,7 @@ clocked_reads_fit m p id through clock enable address word h c e a w transparent
         of_memory = record { among = h.among; named = refl; width = refl; address = sym a.wide; wide = h.address };
         row = sym w.wide;
         clocked = omega arith;
-        edge = omega arith;
+        edge = polarity-flag clock;
         clock = c.wide;
         enable = e.wide;
         comb = λ z. cc;

@@ -19,6 +19,7 @@ use Rattle.rtlil_text.specs.declared.module.RtlModule.{RtlModule}
 use Rattle.rtlil_text.specs.Meaning.{Inputs}
 use Rattle.rtlil_text.specs.History.{Wires, wire_bit, rtl_history, first_state}
 use Rattle.rtlil_text.proofs.Builders.{wire, whole, bits, binary, mux}
+use Rattle.memory_cells.specs.declared.clock.Clock.{Clock}
 use Rattle.memory_cells.specs.declared.plan.Plan.{Plan}
 use Rattle.memory_cells.specs.Plans.{planned}
 use Rattle.memory_cells.specs.Cells.{init_cell, write_cell, comb_read}
@@ -57,6 +58,9 @@ design = record {
 abbrev pub plan : Plan
 plan = record { id = codes "\\m"; address = 2; width = 4; depth = 3; writes = 1 }
 
+abbrev pub clock : Clock
+clock = record { bit = whole (codes "\\clk") 1; falling = false }
+
 -- each bit of the enable for a granule of two bits
 abbrev pub spread : List SigPart
 spread = parts.Wire (codes "\\n") 1 1 ∷ parts.Wire (codes "\\n") 1 1 ∷ parts.Wire (codes "\\n") 0 1 ∷ parts.Wire (codes "\\n") 0 1 ∷ []
@@ -72,7 +76,7 @@ module_cells : List RtlCell
 module_cells =
     in_range (codes "$10") (codes "\\a") (codes "$1") ∷ guard (codes "$11") 2 (whole (codes "\\a") 2) (codes "$1") (codes "$2") ∷ guard (codes "$12") 4 spread (codes "$1") (codes "$3")
     ∷ in_range (codes "$13") (codes "\\r") (codes "$4") ∷ guard (codes "$14") 2 (whole (codes "\\r") 2) (codes "$4") (codes "$5")
-    ∷ init_cell plan (codes "$15") memory.rows ∷ write_cell plan (codes "$16") 0 (whole (codes "\\clk") 1) (whole (codes "$3") 4) (whole (codes "$2") 2) (whole (codes "\\w") 4)
+    ∷ init_cell plan (codes "$15") memory.rows ∷ write_cell plan (codes "$16") 0 clock (whole (codes "$3") 4) (whole (codes "$2") 2) (whole (codes "\\w") 4)
     ∷ comb_read plan (codes "$17") (whole (codes "$5") 2) (whole (codes "$6") 4) ∷ guard (codes "$18") 4 (whole (codes "$6") 4) (codes "$4") (codes "\\d") ∷ []
 
 lowered : RtlModule
@@ -139,7 +143,7 @@ moment a wires = record {
 }
 
 abbrev written : RtlCell
-written = write_cell plan (codes "$16") 0 (whole (codes "\\clk") 1) (whole (codes "$3") 4) (whole (codes "$2") 2) (whole (codes "\\w") 4)
+written = write_cell plan (codes "$16") 0 clock (whole (codes "$3") 4) (whole (codes "$2") 2) (whole (codes "\\w") 4)
 
 -- the same for each of four bits
 pub each : (P : ℕ → Type 0) → P 0 → P 1 → P 2 → P 3 → (k : ℕ) → k < 4 → P k

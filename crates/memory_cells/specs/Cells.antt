@@ -10,7 +10,9 @@ use Rattle.rtlil_text.specs.declared.cell.RtlEnd.{RtlEnd}
 use Rattle.rtlil_text.specs.declared.cell.RtlCell.{RtlCell}
 use Rattle.rtlil_text.specs.MemoryRules.{priority_mask}
 use Rattle.memory_cells.specs.Bits.{rows_bits}
+use Rattle.memory_cells.specs.declared.clock.Clock.{Clock}
 use Rattle.memory_cells.specs.declared.plan.Plan.{Plan}
+use Rattle.memory_cells.specs.Clocks.{polarity}
 use Rattle.memory_cells.specs.Plans.{mask_bits, through_mask}
 
 abbrev pub number_at : List ℕ → ℕ → RtlParameter
@@ -38,13 +40,13 @@ init_cell p id rows = record {
   ends = end_at (codes "\\ADDR") (constant (replicate p.address false)) ∷ end_at (codes "\\DATA") (constant (rows_bits p.width rows)) ∷ end_at (codes "\\EN") (constant (replicate p.width true)) ∷ [];
 }
 
--- write port k at the rising edge of a clock
-abbrev pub write_cell : Plan → List ℕ → ℕ → (clock enable address word : List SigPart) → RtlCell
+-- write port k at the edge of a clock
+abbrev pub write_cell : Plan → List ℕ → ℕ → Clock → (enable address word : List SigPart) → RtlCell
 write_cell p id k clock enable address word = record {
   kind = MemoryWrite;
   id = id;
-  parameters = of_memory p ++ number_at (codes "\\CLK_ENABLE") 1 ∷ number_at (codes "\\CLK_POLARITY") 1 ∷ number_at (codes "\\PORTID") k ∷ bits_at (codes "\\PRIORITY_MASK") (priority_mask (mask_bits p) k) ∷ [];
-  ends = end_at (codes "\\CLK") clock ∷ end_at (codes "\\EN") enable ∷ end_at (codes "\\ADDR") address ∷ end_at (codes "\\DATA") word ∷ [];
+  parameters = of_memory p ++ number_at (codes "\\CLK_ENABLE") 1 ∷ number_at (codes "\\CLK_POLARITY") (polarity clock) ∷ number_at (codes "\\PORTID") k ∷ bits_at (codes "\\PRIORITY_MASK") (priority_mask (mask_bits p) k) ∷ [];
+  ends = end_at (codes "\\CLK") clock.bit ∷ end_at (codes "\\EN") enable ∷ end_at (codes "\\ADDR") address ∷ end_at (codes "\\DATA") word ∷ [];
 }
 
 -- an end with one constant bit, and a parameter that is 0 at the width of a row
@@ -54,10 +56,10 @@ bit_end name bit = end_at name (constant (bit ∷ []))
 abbrev pub zero_row : Plan → List ℕ → RtlParameter
 zero_row p name = bits_at name (replicate p.width false)
 
--- of a read port: with a clock or without, and transparent for the write ports of a mask
-abbrev pub read_parameters : Plan → (clocked : ℕ) → List Bool → List RtlParameter
-read_parameters p clocked mask =
-    of_memory p ++ number_at (codes "\\CLK_ENABLE") clocked ∷ number_at (codes "\\CLK_POLARITY") 1
+-- of a read port: with a clock or without, at which edge, and transparent for the write ports of a mask
+abbrev pub read_parameters : Plan → (clocked edge : ℕ) → List Bool → List RtlParameter
+read_parameters p clocked edge mask =
+    of_memory p ++ number_at (codes "\\CLK_ENABLE") clocked ∷ number_at (codes "\\CLK_POLARITY") edge
     ∷ bits_at (codes "\\TRANSPARENCY_MASK") mask ∷ bits_at (codes "\\COLLISION_X_MASK") (replicate (mask_bits p) false)
     ∷ zero_row p (codes "\\ARST_VALUE") ∷ zero_row p (codes "\\SRST_VALUE") ∷ zero_row p (codes "\\INIT_VALUE")
     ∷ number_at (codes "\\CE_OVER_SRST") 0 ∷ []
@@ -73,18 +75,18 @@ read_with id parameters clock enable address word = record {
 
 -- it reads at once
 abbrev pub comb_read : Plan → List ℕ → (address word : List SigPart) → RtlCell
-comb_read p id address word = read_with id (read_parameters p 0 (replicate (mask_bits p) false)) (constant (false ∷ [])) (constant (true ∷ [])) address word
+comb_read p id address word = read_with id (read_parameters p 0 1 (replicate (mask_bits p) false)) (constant (false ∷ [])) (constant (true ∷ [])) address word
 
--- it reads at the rising edge of a clock
-abbrev pub clocked_read : Plan → List ℕ → List ℕ → (clock enable address word : List SigPart) → RtlCell
-clocked_read p id through clock enable address word = read_with id (read_parameters p 1 (through_mask p through)) clock enable address word
+-- it reads at the edge of a clock
+abbrev pub clocked_read : Plan → List ℕ → List ℕ → Clock → (enable address word : List SigPart) → RtlCell
+clocked_read p id through clock enable address word = read_with id (read_parameters p 1 (polarity clock) (through_mask p through)) clock.bit enable address word
 
 -- ---- all write ports
 
 -- a write cell, and what is at its ends
 pub record WritePort : Type 0 where
   pub id : List ℕ
-  pub clock : List SigPart
+  pub clock : Clock
   pub enable : List SigPart
   pub address : List SigPart
   pub word : List SigPart

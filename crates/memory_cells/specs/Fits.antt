@@ -9,6 +9,7 @@ use Rattle.rtlil_text.specs.Sources.{spec_bits}
 use Rattle.rtlil_text.specs.Memories.{writes_of, inits_of}
 use Rattle.rtlil_text.specs.MemoryRules.{HaveOneClock, MemoryFits}
 use Rattle.rtlil_text.specs.Rules.{SpecFits, CellFits}
+use Rattle.memory_cells.specs.declared.clock.Clock.{Clock}
 use Rattle.memory_cells.specs.declared.plan.Plan.{Plan}
 use Rattle.memory_cells.specs.Plans.{planned}
 use Rattle.memory_cells.specs.Cells.{init_cell, write_cell, comb_read, clocked_read, WritePort, write_cells}
@@ -29,16 +30,16 @@ abbrev pub InitsFit : Type 0
 InitsFit = (m : RtlModule) (p : Plan) (id : List ℕ) (rows : List ℤ) → HasPlan m p → length rows ≡ p.depth → CellFits m (init_cell p id rows)
 
 abbrev pub WritesFit : Type 0
-WritesFit = (m : RtlModule) (p : Plan) (id : List ℕ) (k : ℕ) (clock enable address word : List SigPart) → HasPlan m p
-    → IsSpecOf m 1 clock → IsSpecOf m p.width enable → IsSpecOf m p.address address → IsSpecOf m p.width word → CellFits m (write_cell p id k clock enable address word)
+WritesFit = (m : RtlModule) (p : Plan) (id : List ℕ) (k : ℕ) (clock : Clock) (enable address word : List SigPart) → HasPlan m p
+    → IsSpecOf m 1 clock.bit → IsSpecOf m p.width enable → IsSpecOf m p.address address → IsSpecOf m p.width word → CellFits m (write_cell p id k clock enable address word)
 
 abbrev pub CombReadsFit : Type 0
 CombReadsFit = (m : RtlModule) (p : Plan) (id : List ℕ) (address word : List SigPart) → HasPlan m p → IsSpecOf m p.address address → IsSpecOf m p.width word → CellFits m (comb_read p id address word)
 
 -- a read is transparent for write cells of its own clock alone
 abbrev pub ClockedReadsFit : Type 0
-ClockedReadsFit = (m : RtlModule) (p : Plan) (id : List ℕ) (through : List ℕ) (clock enable address word : List SigPart) → HasPlan m p
-    → IsSpecOf m 1 clock → IsSpecOf m 1 enable → IsSpecOf m p.address address → IsSpecOf m p.width word
+ClockedReadsFit = (m : RtlModule) (p : Plan) (id : List ℕ) (through : List ℕ) (clock : Clock) (enable address word : List SigPart) → HasPlan m p
+    → IsSpecOf m 1 clock.bit → IsSpecOf m 1 enable → IsSpecOf m p.address address → IsSpecOf m p.width word
     → ((k : ℕ) → list_any (λ i. i == k) through ≡ true → MatchOption (slice_get (writes_of m p.id) k) ⊥ (HaveOneClock (clocked_read p id through clock enable address word)))
     → CellFits m (clocked_read p id through clock enable address word)
 

@@ -23,6 +23,7 @@ use Rattle.rtlil_text.specs.Memories.{writes_of}
 use Rattle.rtlil_text.specs.Meaning.{State, memory_size, source_value, comb_bit}
 use Rattle.rtlil_text.specs.History.{Wires, wire_bit, acts, data_bit, step, next_bit}
 use Rattle.memory_cells.specs.Bits.{bit_of, is_set}
+use Rattle.memory_cells.specs.declared.clock.Clock.{Clock}
 use Rattle.memory_cells.specs.declared.plan.Plan.{Plan}
 use Rattle.memory_cells.specs.Plans.{guarded, through_from}
 use Rattle.memory_cells.specs.Cells.{init_cell, write_cell, clocked_read, spread_spec}
@@ -103,7 +104,7 @@ SpreadsCarry = (wires : Wires) (id : List ℕ) (granule count enable k : ℕ) �
 
 -- a write cell carries what its port does, where the bits at its ends are the guarded address, the word, and the enable under the guard
 abbrev pub WriteCellsCarry : Type 0
-WriteCellsCarry = (t : Moment) (m : Memory) (w : MemWrite) (p : Plan) (id : List ℕ) (k : ℕ) (clock enable address word : List SigPart)
+WriteCellsCarry = (t : Moment) (m : Memory) (w : MemWrite) (p : Plan) (id : List ℕ) (k : ℕ) (clock : Clock) (enable address word : List SigPart)
     → acts t.rtl t.st t.old t.new (write_cell p id k clock enable address word) ≡ port_active t.design t.env t.listed (Some w.domain)
     → guarded m.depth (address_at t w.addr) < 2 ^ p.address
     → read (source_value (wire_bit t.rtl t.st t.old)) (spec_bits address) ≡ Some (number_bits p.address (guarded m.depth (address_at t w.addr)))
@@ -113,7 +114,7 @@ WriteCellsCarry = (t : Moment) (m : Memory) (w : MemWrite) (p : Plan) (id : List
 
 -- a clocked read cell, likewise
 abbrev pub ReadCellsCarry : Type 0
-ReadCellsCarry = (t : Moment) (m : Memory) (r : MemRead) (p : Plan) (id : List ℕ) (through : List ℕ) (clock enable address word : List SigPart)
+ReadCellsCarry = (t : Moment) (m : Memory) (r : MemRead) (p : Plan) (id : List ℕ) (through : List ℕ) (clock : Clock) (enable address word : List SigPart)
     → acts t.rtl t.st t.old t.new (clocked_read p id through clock enable address word) ≡ port_active t.design t.env t.listed r.domain
     → guarded m.depth (address_at t r.addr) < 2 ^ p.address
     → read (source_value (wire_bit t.rtl t.st t.old)) (spec_bits address) ≡ Some (number_bits p.address (guarded m.depth (address_at t r.addr)))

@@ -4,6 +4,7 @@ ghost use Rattle.memory_cells.specs.Plans.{planned, mask_bits, through_mask};
 ghost use Rattle.memory_cells.specs.Cells as cells;
 
 use crate::bits::{priority_mask, repeated, rows_bits, through_mask};
+use crate::clock::Clock;
 use crate::plan::Plan;
 use amh_bits::Int;
 use amh_host::{Items, NoMemory, Numbers, Text};
@@ -16,7 +17,7 @@ use std::alloc::Global;
 /// What is at the ends of a port's cell.
 #[derive(Drop)]
 pub struct PortEnds {
-    pub clock: SigSpec,
+    pub clock: Clock,
     pub enable: SigSpec,
     pub address: SigSpec,
     pub word: SigSpec,
@@ -133,7 +134,7 @@ pub fn init_cell(alloc: Global, plan: &Plan, id: Text, rows: &[Int]) -> Result<R
     })
 }
 
-/// The cell of write port `k`, at the rising edge of its clock.
+/// The cell of write port `k`, at the edge of its clock.
 pub fn write_cell(
     alloc: Global,
     plan: &Plan,
@@ -146,12 +147,12 @@ pub fn write_cell(
 {
     let mut parameters = of_memory(alloc, plan)?;
     parameters.push(number_at(alloc, "\\CLK_ENABLE", 1)?)?;
-    parameters.push(number_at(alloc, "\\CLK_POLARITY", 1)?)?;
+    parameters.push(number_at(alloc, "\\CLK_POLARITY", port.clock.polarity())?)?;
     parameters.push(number_at(alloc, "\\PORTID", k)?)?;
     let mask = priority_mask(alloc, plan.mask_bits(), k)?;
     parameters.push(bits_at(alloc, "\\PRIORITY_MASK", mask)?)?;
     let mut ends = Items::new(alloc);
-    ends.push(end_at(alloc, "\\CLK", port.clock)?)?;
+    ends.push(end_at(alloc, "\\CLK", port.clock.bit)?)?;
     ends.push(end_at(alloc, "\\EN", port.enable)?)?;
     ends.push(end_at(alloc, "\\ADDR", port.address)?)?;
     ends.push(end_at(alloc, "\\DATA", port.word)?)?;
@@ -168,13 +169,14 @@ fn read_parameters(
     alloc: Global,
     plan: &Plan,
     clocked: u32,
+    edge: u32,
     mask: RtlBits,
 ) -> Result<RtlParameters, NoMemory>
-    ensures { IfOk result (λ ps. ps ≡ cells.read_parameters plan.now clocked mask) }
+    ensures { IfOk result (λ ps. ps ≡ cells.read_parameters plan.now clocked edge mask) }
 {
     let mut parameters = of_memory(alloc, plan)?;
     parameters.push(number_at(alloc, "\\CLK_ENABLE", clocked)?)?;
-    parameters.push(number_at(alloc, "\\CLK_POLARITY", 1)?)?;
+    parameters.push(number_at(alloc, "\\CLK_POLARITY", edge)?)?;
     parameters.push(bits_at(alloc, "\\TRANSPARENCY_MASK", mask)?)?;
     let collisions = repeated(alloc, false, plan.mask_bits())?;
     parameters.push(bits_at(alloc, "\\COLLISION_X_MASK", collisions)?)?;
@@ -192,10 +194,10 @@ fn read_cell(
     parameters: RtlParameters,
     port: PortEnds,
 ) -> Result<RtlCell, NoMemory>
-    ensures { IfOk result (λ c. c ≡ cells.read_with id parameters port.clock port.enable port.address port.word) }
+    ensures { IfOk result (λ c. c ≡ cells.read_with id parameters port.clock.bit port.enable port.address port.word) }
 {
     let mut ends = Items::new(alloc);
-    ends.push(end_at(alloc, "\\CLK", port.clock)?)?;
+    ends.push(end_at(alloc, "\\CLK", port.clock.bit)?)?;
     ends.push(end_at(alloc, "\\EN", port.enable)?)?;
     ends.push(bit_end(alloc, "\\ARST", false)?)?;
     ends.push(bit_end(alloc, "\\SRST", false)?)?;
@@ -220,11 +222,14 @@ pub fn comb_read(
     ensures { IfOk result (λ c. c ≡ cells.comb_read plan.now id address word) }
 {
     let mask = repeated(alloc, false, plan.mask_bits())?;
-    let parameters = read_parameters(alloc, plan, 0, mask)?;
+    let parameters = read_parameters(alloc, plan, 0, 1, mask)?;
     let clock = repeated(alloc, false, 1)?;
     let enable = repeated(alloc, true, 1)?;
     let port = PortEnds {
-        clock: constant(alloc, clock)?,
+        clock: Clock {
+            bit: constant(alloc, clock)?,
+            falling: false,
+        },
         enable: constant(alloc, enable)?,
         address,
         word,
@@ -232,7 +237,7 @@ pub fn comb_read(
     read_cell(alloc, id, parameters, port)
 }
 
-/// The cell of a read port that reads at the rising edge of its clock, and takes at once what the write ports of these
+/// The cell of a read port that reads at the edge of its clock, and takes at once what the write ports of these
 /// numbers write there.
 pub fn clocked_read(
     alloc: Global,
@@ -244,6 +249,6 @@ pub fn clocked_read(
     ensures { IfOk result (λ c. c ≡ cells.clocked_read plan.now id through.now port.clock port.enable port.address port.word) }
 {
     let mask = through_mask(alloc, through, plan.mask_bits())?;
-    let parameters = read_parameters(alloc, plan, 1, mask)?;
+    let parameters = read_parameters(alloc, plan, 1, port.clock.polarity(), mask)?;
     read_cell(alloc, id, parameters, port)
 }

@@ -9,11 +9,13 @@
 
 mod bits;
 mod cells;
+mod clock;
 mod granules;
 mod laws;
 mod plan;
 
 pub use cells::{PortEnds, clocked_read, comb_read, init_cell, memory, write_cell};
+pub use clock::Clock;
 pub use granules::spread;
 pub use laws::{
     cells_keep_the_rules, clocked_reads_follow, enables_spread, ends_carry_the_port,

@@ -10,25 +10,25 @@ use Rattle.shape_rules.specs.Forms.{Form, unsigned}
 use Rattle.shape_rules.specs.Operators.{is_zero}
 use Rattle.design_ir.specs.declared.ids.DomainId.{DomainId}
 use Rattle.design_ir.specs.declared.domain.Domain.{Domain}
-use Rattle.design_ir.specs.declared.memory.Memory.{Memory}
 use Rattle.design_ir.specs.declared.event.Event.TheVariants.{Edge}
 use Rattle.design_ir.specs.Values.{signal_form}
 use Rattle.design_ir.specs.Circuits.{Circuit, State, at, option_test}
 use Rattle.design_ir.specs.Designs.{IsClockDomain, IsDesign}
 use Rattle.design_ir.specs.Legal.{Ascending}
-use Rattle.design_ir.specs.Steps.{is_active, clocked, clocked_reads, toggle_at, toggle, moved}
-use Rattle.design_ir.specs.Rising.{AllRisingSync}
-use Rattle.design_ir.proofs.RisingLaws.{active_is_rising}
+use Rattle.design_ir.specs.Steps.{is_before_edge, is_active, clocked, clocked_reads, toggle_at, toggle, moved}
 use Rattle.rtlil_text.specs.Sources.{spec_bits}
 use Rattle.rtlil_text.specs.Cells.{bit_at}
 use Rattle.rtlil_text.specs.Meaning.{source_value}
 use Rattle.rtlil_text.specs.History.{Wires, is_edge}
+use Rattle.memory_cells.specs.declared.clock.Clock.{Clock}
+use Rattle.memory_cells.specs.Clocks.{polarity}
 use Rattle.netlist.specs.Operators.{whole}
 use Rattle.netlist.specs.Carried.{IsIn, Carries}
-use Rattle.netlist.specs.Module.{signal_value, clock_of}
+use Rattle.netlist.specs.Module.{signal_value, clock_of, clock_at, no_clock}
 use Rattle.netlist.proofs.SignalBits.{bit_at-signal}
 use Rattle.netlist.proofs.OneDriver.{fold_none, length-fold}
-use Rattle.netlist.proofs.Driven.{driven_by, input_none}
+use Rattle.netlist.proofs.Driven.{driven_by, input_none, input_unread}
+use Rattle.netlist.proofs.ReadOnce.{clocked_reads-other, length-clocked_reads}
 use Rattle.netlist.proofs.RegisterSteps.{all_at, clocked_at-other, length-clocked_at}
 
 -- ---- clocks are apart
@@ -88,15 +88,20 @@ module _ (domains : List Domain) (distinct : IsDistinct nat_eq (map (λ (z : Dom
       ∙ ap (λ t. cond (t || list_any (λ (y : DomainId). y.0 == d) ds) (pos 1 -ℤ at cur x.clk.0) (at cur x.clk.0)) (sym (ne_eqb e.0 d apart)))
       (cases_eq e.0 d)
 
--- ---- an edge from 0 to 1
+-- ---- an edge from 0 to 1, or from 1 to 0
 
-edge_bit : (z : ℤ) (b : Bool) → IsOf false 1 z → is_edge 1 (Some (not (is_zero z))) (Some (not (is_zero (cond b (pos 1 -ℤ z) z)))) ≡ (b && is_zero z)
-edge_bit (pos zero) true h = refl
-edge_bit (pos zero) false h = refl
-edge_bit (pos (suc zero)) true h = refl
-edge_bit (pos (suc zero)) false h = refl
-edge_bit (pos (suc (suc n))) b h = absurd (omega arith)
-edge_bit (negsuc n) b h = absurd h
+edge_bit : (falling : Bool) (z : ℤ) (b : Bool) → IsOf false 1 z
+    → is_edge (cond falling 0 1) (Some (not (is_zero z))) (Some (not (is_zero (cond b (pos 1 -ℤ z) z)))) ≡ (b && cond falling (not (is_zero z)) (is_zero z))
+edge_bit true (pos zero) true h = refl
+edge_bit true (pos zero) false h = refl
+edge_bit true (pos (suc zero)) true h = refl
+edge_bit true (pos (suc zero)) false h = refl
+edge_bit false (pos zero) true h = refl
+edge_bit false (pos zero) false h = refl
+edge_bit false (pos (suc zero)) true h = refl
+edge_bit false (pos (suc zero)) false h = refl
+edge_bit falling (pos (suc (suc n))) b h = absurd (omega arith)
+edge_bit falling (negsuc n) b h = absurd h
 
 pub turned : (b : Bool) (z : ℤ) → IsOf false 1 z → IsOf false 1 (cond b (pos 1 -ℤ z) z)
 turned false z h = h
@@ -105,7 +110,7 @@ turned true (pos (suc zero)) h = omega arith
 turned true (pos (suc (suc n))) h = absurd (omega arith)
 turned true (negsuc n) h = absurd h
 
-module _ (c : Circuit) (design : IsDesign c) (flat : c.memories ≡ []) (env : List ℤ) (st : State) (listed : List DomainId) (ordered : Ascending 0 listed) (count : length st.held ≡ length c.pool.signals)
+module _ (c : Circuit) (design : IsDesign c) (env : List ℤ) (st : State) (listed : List DomainId) (ordered : Ascending 0 listed) (count : length st.held ≡ length c.pool.signals)
     (d : DomainId) (x : Domain) (is : slice_get c.domains d.0 ≡ Some x) where
   clock : IsClockDomain c x
   clock = all_at (IsClockDomain c) c.domains d.0 x design.domains is
@@ -117,15 +122,16 @@ module _ (c : Circuit) (design : IsDesign c) (flat : c.memories ≡ []) (env : L
       let still : at after x.clk.0 ≡ at st.held x.clk.0 = fold_none (driven_by c) x.clk.0 (clocked c env listed) (λ cur q. length-clocked_at c env listed x.clk.0 q cur q.domain) (λ cur q h. clocked_at-other c env listed x.clk.0 q cur q.domain h)
       c.processes st.held (input_none c x.clk.0 design clock.clock_input) in
       let long : length after ≡ length st.held = length-fold (driven_by c) x.clk.0 (clocked c env listed) (λ cur q. length-clocked_at c env listed x.clk.0 q cur q.domain) (λ cur q h. clocked_at-other c env listed x.clk.0 q cur q.domain h) c.processes st.held in
-      ap (λ (ms : List Memory). at (fold (toggle c.domains) (clocked_reads c env listed ms st.rows after) listed) x.clk.0) flat
-      ∙ toggles_at c.domains design.clocks d.0 x is listed 0 after (omega (arith, long, count, clock.clock.there)) ordered
-      ∙ ap (λ z. cond (list_any (λ (e : DomainId). e.0 == d.0) listed) (pos 1 -ℤ z) z) still
+      let read : List ℤ = clocked_reads c env listed c.memories st.rows after in
+      let unread : at read x.clk.0 ≡ at after x.clk.0 = clocked_reads-other c env listed x.clk.0 c.memories st.rows after (input_unread c x.clk.0 design clock.clock_input) in
+      toggles_at c.domains design.clocks d.0 x is listed 0 read (omega (arith, length-clocked_reads c env listed c.memories st.rows after, long, count, clock.clock.there)) ordered
+      ∙ ap (λ z. cond (list_any (λ (e : DomainId). e.0 == d.0) listed) (pos 1 -ℤ z) z) (unread ∙ still)
 
-  -- so the clock's bit goes from 0 to 1 where the domain is active, as each domain is active where it rises
-  pub rises_edge : AllRisingSync c → (old new : Wires) → at st.held x.clk.0 ≡ at env x.clk.0 → IsIn (signal_form c.pool.signals x.clk.0) (at env x.clk.0)
+  -- so the clock's bit has the domain's edge where the domain is active
+  pub active_edge : (old new : Wires) → at st.held x.clk.0 ≡ at env x.clk.0 → IsIn (signal_form c.pool.signals x.clk.0) (at env x.clk.0)
       → Carries old (signal_value c x.clk.0) (at env x.clk.0) → Carries new (signal_value c x.clk.0) (at (moved c st env (Edge listed)).held x.clk.0)
-      → is_edge 1 (bit_at (source_value old) (spec_bits (clock_of c d)) 0) (bit_at (source_value new) (spec_bits (clock_of c d)) 0) ≡ is_active c env listed d.0
-  rises_edge rising old new same fits o n =
+      → is_edge (polarity (clock_of c d)) (bit_at (source_value old) (spec_bits (clock_of c d).bit) 0) (bit_at (source_value new) (spec_bits (clock_of c d).bit) 0) ≡ is_active c env listed d.0
+  active_edge old new same fits o n =
       let b : Bool = list_any (λ (e : DomainId). e.0 == d.0) listed in
       let z : ℤ = at env x.clk.0 in
       let shape : signal_form c.pool.signals x.clk.0 ≡ unsigned 1 = clock.clock.shape in
@@ -133,10 +139,9 @@ module _ (c : Circuit) (design : IsDesign c) (flat : c.memories ≡ []) (env : L
       let after : at (moved c st env (Edge listed)).held x.clk.0 ≡ cond b (pos 1 -ℤ z) z = clock_after ∙ ap (λ y. cond b (pos 1 -ℤ y) y) same in
       let fits_after : IsIn (signal_form c.pool.signals x.clk.0) (at (moved c st env (Edge listed)).held x.clk.0) =
       subst (λ (g : Form). IsIn g (at (moved c st env (Edge listed)).held x.clk.0)) (sym shape) (subst (IsOf false 1) (sym after) (turned b z one)) in
-      let spec : clock_of c d ≡ whole (signal_value c x.clk.0) = ap (λ o. unwrap_or (option_map (λ (y : Domain). whole (signal_value c y.clk.0)) o) []) is in
-      ap (λ w. is_edge 1 (bit_at (source_value old) (spec_bits w) 0) (bit_at (source_value new) (spec_bits w) 0)) spec
-      ∙ ap (λ t. is_edge 1 t (bit_at (source_value new) (spec_bits (whole (signal_value c x.clk.0))) 0)) (bit_at-signal old c x.clk.0 z shape fits o)
-      ∙ ap (is_edge 1 (Some (not (is_zero z)))) (bit_at-signal new c x.clk.0 (at (moved c st env (Edge listed)).held x.clk.0) shape fits_after n ∙ ap (λ y. Some (not (is_zero y))) after)
-      ∙ edge_bit z b one
-      ∙ ap (λ o. b && option_test (λ (y : Domain). is_zero (at env y.clk.0)) o) (sym is)
-      ∙ sym (active_is_rising c rising env listed d.0)
+      let up : ℕ = polarity (clock_at c x) in
+      ap (λ (w : Clock). is_edge (polarity w) (bit_at (source_value old) (spec_bits w.bit) 0) (bit_at (source_value new) (spec_bits w.bit) 0)) (ap (λ o. unwrap_or (option_map (clock_at c) o) no_clock) is)
+      ∙ ap (λ t. is_edge up t (bit_at (source_value new) (spec_bits (whole (signal_value c x.clk.0))) 0)) (bit_at-signal old c x.clk.0 z shape fits o)
+      ∙ ap (is_edge up (Some (not (is_zero z)))) (bit_at-signal new c x.clk.0 (at (moved c st env (Edge listed)).held x.clk.0) shape fits_after n ∙ ap (λ y. Some (not (is_zero y))) after)
+      ∙ edge_bit x.falling z b one
+      ∙ ap (λ o. b && option_test (λ (y : Domain). is_before_edge y (at env y.clk.0)) o) (sym is)

@@ -28,11 +28,13 @@ use Rattle.netlist.specs.Operators.{Value, Drawing, nothing, inner_wire}
 use Rattle.netlist.specs.Expressions.{part_count, drawn}
 use Rattle.netlist.specs.Plain.{ArePlain}
 use Rattle.netlist.specs.Histories.{AllDefined}
-use Rattle.netlist.specs.Module.{column_of, signal_value, expr_value, first_value, Driving, ByEvents, ByComb, ByClock, ByNothing, driving, reset_of, register_drawing, driving_drawing, signal_drawing, column_wire, column_wires, signal_wires, expr_wires, drawn_from, drawings, all_drawings, module_of}
+use Rattle.netlist.specs.Module.{column_of, signal_value, expr_value, first_value, Driving, ByEvents, ByComb, ByClock, ByRead, ByNothing, driving, reset_of, register_drawing, driving_drawing, signal_drawing, column_wire, column_wires, signal_wires, expr_wires, drawn_from, drawings, other_drawings, all_drawings, module_of, Heeding, NoReset, AtEdges, AtOnce, heeding, is_async}
+use Rattle.netlist.specs.MemoryDrawings.{memory_drawings}
 use Rattle.netlist.proofs.Reading.{has_carried}
 use Rattle.netlist.proofs.ColumnSignals.{column_at, column_signals, columns_distinct}
 use Rattle.netlist.proofs.ManyDrawn.{drawing_wires}
 use Rattle.netlist.proofs.SettledWires.{Shows}
+use Rattle.netlist.proofs.Heedings.{at_edges}
 use Rattle.netlist.proofs.RegisterSteps.{choice_some}
 use Rattle.netlist.proofs.ModuleHeld.{All-flat_map}
 use Rattle.netlist.proofs.ModuleWires.{other_wires, module_wires}
@@ -63,11 +65,12 @@ none_is : (o : Option Column) → is_none o ≡ true → o ≡ None
 none_is None e = refl
 none_is (Some x) e = absurd (false≢true e)
 
-module _ (c : Circuit) (rules : IsPool c.pool) (design : IsDesign c) (flat : c.memories ≡ []) (plain : ArePlain c) (module_rules : IsModule (module_of c)) (kept : Kept) (inputs : Inputs)
+module _ (c : Circuit) (rules : IsPool c.pool) (design : IsDesign c) (plain : ArePlain c) (module_rules : IsModule (module_of c)) (kept : Kept) (inputs : Inputs)
     (env held : List ℤ) (fit : FitsSignals c.pool env) (count : length held ≡ length c.pool.signals)
     (signals : (s : ℕ) → Carries (wire_bit (module_of c) kept inputs) (signal_value c s) (at env s))
     (exprs : (e : ExprId) → e.0 < length c.pool.exprs → Carries (wire_bit (module_of c) kept inputs) (expr_value c e.0) (num c.pool env e.0))
-    (same : (s : ℕ) (p : DesignProcess) (d : DomainId) → driving c s ≡ ByClock p d → s < length c.pool.signals → at held s ≡ at env s) where
+    (same : (s : ℕ) (p : DesignProcess) (d : DomainId) → driving c s ≡ ByClock p d → s < length c.pool.signals → at held s ≡ at env s)
+    (stored : (d : Drawing) → Among (memory_drawings c) d → AreDefined (wire_bit (module_of c) kept inputs) d.wires) where
   abbrev wires : Wires
   wires = wire_bit (module_of c) kept inputs
 
@@ -123,16 +126,18 @@ module _ (c : Circuit) (rules : IsPool c.pool) (design : IsDesign c) (flat : c.m
   shows : Shows wires c env
   shows e u = exprs e u.there
 
-  choice_defined : (s : ℕ) (p : DesignProcess) (d : DomainId) (o : Option ℕ) → driving c s ≡ ByClock p d → s < length c.pool.signals → reset_of c s d ≡ o → ObeysComb wires (register_drawing c s p d o) → AreDefined wires (register_drawing c s p d o).wires
-  choice_defined s p d None clock there e obeys = tt
-  choice_defined s p d (Some r) clock there e obeys =
+  choice_defined : (s : ℕ) (p : DesignProcess) (d : DomainId) (h : Heeding) → driving c s ≡ ByClock p d → s < length c.pool.signals → heeding c s d ≡ h → ObeysComb wires (register_drawing c s p d h) → AreDefined wires (register_drawing c s p d h).wires
+  choice_defined s p d NoReset clock there e obeys = tt
+  choice_defined s p d (AtOnce r) clock there e obeys = tt
+  choice_defined s p d (AtEdges r) clock there e obeys =
       let x : (y : Sig) × (slice_get c.pool.signals s ≡ Some y) = element c.pool.signals s there in
-      (choice_some c design flat s p d clock env wires rules plain fit shows signals x.0 x.1 r held (same s p d clock there) count e obeys, tt)
+      (choice_some c design s p d clock env wires rules plain fit shows signals x.0 x.1 r held (same s p d clock there) count (at_edges (is_async c d) (reset_of c s d) r e).0 obeys, tt)
 
   driving_defined : (s : ℕ) (d : Driving) → driving c s ≡ d → s < length c.pool.signals → ObeysComb wires (driving_drawing c s d) → AreDefined wires (driving_drawing c s d).wires
   driving_defined s ByEvents e there obeys = tt
   driving_defined s (ByComb p) e there obeys = tt
-  driving_defined s (ByClock p d) e there obeys = choice_defined s p d (reset_of c s d) e there refl obeys
+  driving_defined s (ByClock p d) e there obeys = choice_defined s p d (heeding c s d) e there refl obeys
+  driving_defined s ByRead e there obeys = tt
   driving_defined s ByNothing e there obeys = tt
 
   steps_defined : (s : ℕ) → s < length c.pool.signals → AreDefined wires (signal_drawing c s).wires
@@ -152,7 +157,9 @@ module _ (c : Circuit) (rules : IsPool c.pool) (design : IsDesign c) (flat : c.m
   drawing_defined : (d : Drawing) → Among (all_drawings c) d → AreDefined wires d.wires
   drawing_defined d a =
       let steps : List Drawing = map (signal_drawing c) (range_with_len 0 (length c.pool.signals)) in
-      ⊎_elim (λ e. parts_defined 0 0 c.pool.exprs (omega arith) (λ x b. Among-left (drawings c) steps x b) d e) (λ s. all_steps_defined 0 (length c.pool.signals) (omega arith) d s) (Among-append (drawings c) steps d a)
+      ⊎_elim (λ e. parts_defined 0 0 c.pool.exprs (omega arith) (λ x b. Among-left (drawings c) (other_drawings c) x b) d e)
+      (λ other. ⊎_elim (λ s. all_steps_defined 0 (length c.pool.signals) (omega arith) d s) (λ m. stored d m) (Among-append steps (memory_drawings c) d other))
+      (Among-append (drawings c) (other_drawings c) d a)
 
   others_defined : All HasBits (other_wires c)
   unfolding other_wires

@@ -1,6 +1,6 @@
 -- The cells and links of all expressions of a design keep the rules of its module.
-use Rattle.std.specs.Prelude.{◌≡◌, ◌≤◌, ◌<◌, ◌+◌, ℕ, suc, Bool, true, false, List, [], ◌∷◌, length, All, Contains, Some, slice_get, pos, map}
-use Rattle.std.specs.List.{AllByRecursion, range_with_len}
+use Rattle.std.specs.Prelude.{◌≡◌, ◌≤◌, ◌<◌, ◌+◌, ℕ, suc, Bool, true, false, List, [], ◌∷◌, length, All, Contains, Some, slice_get, pos}
+use Rattle.std.specs.List.{AllByRecursion}
 use Rattle.std.proofs.Common.{refl, ap, ◌∙◌, arith, subst, inl, inr, ⊎_elim}
 use Rattle.std.proofs.lemmas.Nat.{pow_pos}
 use Rattle.amh_bits.specs.Patterns.{IsOf}
@@ -16,7 +16,7 @@ use Rattle.rtlil_text.proofs.Among.{Among, Among-left}
 use Rattle.netlist.specs.Operators.{Drawing}
 use Rattle.netlist.specs.Expressions.{part_count, drawn}
 use Rattle.netlist.specs.Fits.{DrawingFits, HasWires}
-use Rattle.netlist.specs.Module.{signal_value, expr_value, drawn_from, drawings, signal_drawing, module_of}
+use Rattle.netlist.specs.Module.{signal_value, expr_value, drawn_from, drawings, other_drawings, module_of}
 use Rattle.netlist.proofs.FittingSelections.{fits_expression}
 use Rattle.netlist.proofs.ModuleHeld.{drawing_held, expr_held, signal_held}
 
@@ -58,4 +58,4 @@ module _ (c : Circuit) (pool : IsPool c.pool) where
 
   pub expression_fits : (d : Drawing) → Among (drawings c) d → DrawingFits (module_of c) d
   expression_fits d a =
-      fits_from 0 0 c.pool.exprs (omega arith) (λ i lt. ap (slice_get c.pool.exprs) (omega arith)) (λ x b. drawing_held c x (Among-left (drawings c) (map (signal_drawing c) (range_with_len 0 (length c.pool.signals))) x b)) d a
+      fits_from 0 0 c.pool.exprs (omega arith) (λ i lt. ap (slice_get c.pool.exprs) (omega arith)) (λ x b. drawing_held c x (Among-left (drawings c) (other_drawings c) x b)) d a

@@ -1,7 +1,7 @@
 -- The wires of a module that have first values are those that its registers drive.
 use Rattle.std.specs.Prelude.{◌≡◌, ℕ, suc, ◌+◌, ◌&&◌, nat_lt, Bool, true, false, if◌then◌else◌, List, [], ◌∷◌, ◌++◌, map, length, Option, Some, None, is_some, is_none, option_map, unwrap_or, IsPermutation, slice_get}
 use Rattle.std.specs.List.{flat_map, range_with_len, AllByRecursion}
-use Rattle.std.proofs.Common.{refl, sym, ap, ◌∙◌, arith, subst, append-nil}
+use Rattle.std.proofs.Common.{refl, sym, ap, ◌∙◌, arith, subst, append-nil, append_assoc}
 use Rattle.std.proofs.lemmas.Bool.{cond_both, false≢true, ltb-false}
 use Rattle.std.proofs.lemmas.List.Concat.{flat_map-append}
 use Rattle.std.proofs.lemmas.List.Sorted.{IsPermutation-trans, IsPermutation-sym, IsPermutation-append_left}
@@ -24,12 +24,14 @@ use Rattle.rtlil_text.specs.Inits.{is_register_kind, registered_bits, register_b
 use Rattle.netlist.specs.Ids.{signal_id, value_id}
 use Rattle.netlist.specs.Operators.{Drawing, nothing, inner_wire}
 use Rattle.netlist.specs.Expressions.{part_count, part_total, drawn}
-use Rattle.netlist.specs.Module.{public_id, column_of, signal_value, expr_value, Driving, ByEvents, ByComb, ByClock, ByNothing, is_clocked, driving, init_bits, first_value, column_wires, signal_wires, expr_wires, drawn_from, drawings, reset_of, register_drawing, driving_drawing, signal_drawing, all_drawings, module_of}
+use Rattle.netlist.specs.Module.{public_id, column_of, signal_value, expr_value, Driving, ByEvents, ByComb, ByClock, ByRead, ByNothing, is_clocked, driving, init_bits, first_value, column_wires, signal_wires, expr_wires, drawn_from, drawings, register_drawing, driving_drawing, signal_drawing, other_drawings, all_drawings, module_of, Heeding, NoReset, AtEdges, AtOnce, heeding}
+use Rattle.netlist.specs.MemoryDrawings.{memory_drawings}
 use Rattle.netlist.proofs.Places.{spec_bits-wire_part}
 use Rattle.netlist.proofs.Permuted.{IsPermutation-flat_map, flat_map-nested}
 use Rattle.netlist.proofs.Drives.{block, value_bits, IsBare}
 use Rattle.netlist.proofs.ManyDrawn.{drawing_wires, drawn_from_are}
 use Rattle.netlist.proofs.SignalsDrawn.{signals_drawn}
+use Rattle.netlist.proofs.PartsDrawn.{memories_drawn}
 use Rattle.netlist.proofs.ColumnSignals.{of_column, gathered, and-false, found, columns_distinct}
 use Rattle.netlist.proofs.ModuleWires.{other_wires, module_wires}
 use Rattle.netlist.proofs.LogicCells.{is_logic_kind, IsLogic, drawn_logic}
@@ -59,14 +61,16 @@ expression_registers c k n (e ∷ es) =
     λ i. logic_registers (drawn (signal_value c) (expr_value c) n (expr_value c k) e).cells (drawn_logic (signal_value c) (expr_value c) n (expr_value c k) e) i ++ expression_registers c (suc k) (n + part_count e) es i
 
 module _ (c : Circuit) (s : ℕ) where
-  one_register : (p : DesignProcess) (d : DomainId) (r : Option ℕ) → drawn_registers (register_drawing c s p d r) ≡ value_bits (signal_value c s)
-  one_register p d None = (λ i. spec_bits-wire_part (signal_value c s).id 0 (signal_form c.pool.signals s).width i ++ []) ∙ append-nil (value_bits (signal_value c s))
-  one_register p d (Some r) = (λ i. spec_bits-wire_part (signal_value c s).id 0 (signal_form c.pool.signals s).width i ++ []) ∙ append-nil (value_bits (signal_value c s))
+  one_register : (p : DesignProcess) (d : DomainId) (h : Heeding) → drawn_registers (register_drawing c s p d h) ≡ value_bits (signal_value c s)
+  one_register p d NoReset = (λ i. spec_bits-wire_part (signal_value c s).id 0 (signal_form c.pool.signals s).width i ++ []) ∙ append-nil (value_bits (signal_value c s))
+  one_register p d (AtOnce r) = (λ i. spec_bits-wire_part (signal_value c s).id 0 (signal_form c.pool.signals s).width i ++ []) ∙ append-nil (value_bits (signal_value c s))
+  one_register p d (AtEdges r) = (λ i. spec_bits-wire_part (signal_value c s).id 0 (signal_form c.pool.signals s).width i ++ []) ∙ append-nil (value_bits (signal_value c s))
 
   driving_registers : (x : Driving) → drawn_registers (driving_drawing c s x) ≡ (if is_clocked x then value_bits (signal_value c s) else [])
   driving_registers ByEvents = refl
   driving_registers (ByComb p) = refl
-  driving_registers (ByClock p d) = one_register p d (reset_of c s d)
+  driving_registers (ByClock p d) = one_register p d (heeding c s d)
+  driving_registers ByRead = refl
   driving_registers ByNothing = refl
 
   signal_registers : drawn_registers (signal_drawing c s) ≡ kept_bits c s
@@ -83,14 +87,18 @@ mapped : {A B C : Type 0} (f : B → List C) (g : A → B) (xs : List A) → fla
 mapped f g [] = refl
 mapped f g (x ∷ xs) = ap (λ r. f (g x) ++ r) (mapped f g xs)
 
-registers_are : (c : Circuit) → register_bits (module_of c) ≡ flat_map (kept_bits c) (range_with_len 0 (length c.pool.signals))
+-- those of memories' flags
+abbrev kept_flags : Circuit → List Source
+kept_flags c = flat_map drawn_registers (memory_drawings c)
+
+registers_are : (c : Circuit) → register_bits (module_of c) ≡ flat_map (kept_bits c) (range_with_len 0 (length c.pool.signals)) ++ kept_flags c
 unfolding module_of
 registers_are c =
     let R = range_with_len 0 (length c.pool.signals) in
     flat_map-nested registered_bits (λ (d : Drawing). d.cells) (all_drawings c)
-    ∙ flat_map-append drawn_registers (drawings c) (map (signal_drawing c) R)
-    ∙ (λ i. expression_registers c 0 0 c.pool.exprs i ++ mapped drawn_registers (signal_drawing c) R i)
-    ∙ (λ i. flat_map (λ s. signal_registers c s i) R)
+    ∙ flat_map-append drawn_registers (drawings c) (other_drawings c)
+    ∙ (λ i. expression_registers c 0 0 c.pool.exprs i ++ flat_map-append drawn_registers (map (signal_drawing c) R) (memory_drawings c) i)
+    ∙ ap (λ u. u ++ kept_flags c) (mapped drawn_registers (signal_drawing c) R ∙ (λ i. flat_map (λ s. signal_registers c s i) R))
 
 -- ---- which wires have first values
 
@@ -157,7 +165,11 @@ exprs_begun c (k ∷ ks) =
     flat_map-append begun_bits (expr_wires c k) (flat_map (expr_wires c) ks)
     ∙ (λ i. cond_both (nat_lt 0 (form c.pool k).width) (inner_wire (value_id k) (form c.pool k).width ∷ []) [] (λ (ws : List RtlWire). flat_map begun_bits ws ≡ []) (λ _. refl) (λ _. refl) i ++ exprs_begun c ks i)
 
-others_begun : (c : Circuit) → IsPool c.pool → flat_map begun_bits (other_wires c) ≡ flat_map begun_bits (flat_map (signal_wires c) (range_with_len 0 (length c.pool.signals)))
+-- the flags of memories
+abbrev begun_flags : Circuit → List Source
+begun_flags c = flat_map begun_bits (flat_map drawing_wires (memory_drawings c))
+
+others_begun : (c : Circuit) → IsPool c.pool → flat_map begun_bits (other_wires c) ≡ flat_map begun_bits (flat_map (signal_wires c) (range_with_len 0 (length c.pool.signals))) ++ begun_flags c
 unfolding other_wires
 others_begun c pool =
     let R = range_with_len 0 (length c.pool.signals) in
@@ -166,22 +178,26 @@ others_begun c pool =
     let X = flat_map (expr_wires c) Q in
     let D = flat_map drawing_wires (drawings c) in
     let G = flat_map drawing_wires (map (signal_drawing c) R) in
+    let M = flat_map drawing_wires (memory_drawings c) in
     let parts = (drawn_from_are c pool 0 0 (part_total c.pool.exprs) c.pool.exprs (λ i lt. ap (slice_get c.pool.exprs) (omega arith)) (omega arith)).bare in
     let steps = (signals_drawn c 0 (length c.pool.signals)).bare in
-    let drawn : flat_map begun_bits (flat_map drawing_wires (all_drawings c)) ≡ [] =
-    ap (flat_map begun_bits) (flat_map-append drawing_wires (drawings c) (map (signal_drawing c) R)) ∙ flat_map-append begun_bits D G ∙ (λ i. bare_begun D parts i ++ bare_begun G steps i) in
+    let others : flat_map begun_bits (flat_map drawing_wires (other_drawings c)) ≡ begun_flags c =
+    ap (flat_map begun_bits) (flat_map-append drawing_wires (map (signal_drawing c) R) (memory_drawings c)) ∙ flat_map-append begun_bits G M ∙ ap (λ u. u ++ begun_flags c) (bare_begun G steps) in
+    let drawn : flat_map begun_bits (flat_map drawing_wires (all_drawings c)) ≡ begun_flags c =
+    ap (flat_map begun_bits) (flat_map-append drawing_wires (drawings c) (other_drawings c)) ∙ flat_map-append begun_bits D (flat_map drawing_wires (other_drawings c)) ∙ (λ i. bare_begun D parts i ++ others i) in
     flat_map-append begun_bits (S ++ X) (flat_map drawing_wires (all_drawings c))
     ∙ (λ i. flat_map-append begun_bits S X i ++ drawn i)
-    ∙ (λ i. (flat_map begun_bits S ++ exprs_begun c Q i) ++ [])
-    ∙ append-nil (flat_map begun_bits S ++ [])
-    ∙ append-nil (flat_map begun_bits S)
+    ∙ (λ i. (flat_map begun_bits S ++ exprs_begun c Q i) ++ begun_flags c)
+    ∙ ap (λ u. u ++ begun_flags c) (append-nil (flat_map begun_bits S))
 
 pub inits_are : (c : Circuit) → IsPool c.pool → IsDesign c → InitsAreOfRegisters (module_of c)
 inits_are c pool h =
-    let C = column_wires c 0 c.columns in
-    let S = flat_map (signal_wires c) (range_with_len 0 (length c.pool.signals)) in
+    let C = flat_map begun_bits (column_wires c 0 c.columns) in
+    let S = flat_map begun_bits (flat_map (signal_wires c) (range_with_len 0 (length c.pool.signals))) in
     let kept = flat_map (kept_bits c) (range_with_len 0 (length c.pool.signals)) in
-    let first : first_bits (module_of c) ≡ flat_map begun_bits C ++ flat_map begun_bits S =
-    ap (flat_map begun_bits) (module_wires c) ∙ flat_map-append begun_bits C (other_wires c) ∙ ap (λ r. flat_map begun_bits C ++ r) (others_begun c pool) in
-    subst (λ u. IsPermutation u (first_bits (module_of c))) (sym (registers_are c))
-    (subst (IsPermutation kept) (sym first) (IsPermutation-sym (flat_map begun_bits C ++ flat_map begun_bits S) kept (signals_begun c h)))
+    let flags : kept_flags c ≡ begun_flags c = (memories_drawn c h).begins in
+    let first : first_bits (module_of c) ≡ (C ++ S) ++ begun_flags c =
+    ap (flat_map begun_bits) (module_wires c) ∙ flat_map-append begun_bits (column_wires c 0 c.columns) (other_wires c) ∙ ap (λ r. C ++ r) (others_begun c pool) ∙ sym (append_assoc C S (begun_flags c)) in
+    let registers : register_bits (module_of c) ≡ kept ++ begun_flags c = registers_are c ∙ ap (λ r. kept ++ r) flags in
+    subst (λ u. IsPermutation u (first_bits (module_of c))) (sym registers)
+    (subst (IsPermutation (kept ++ begun_flags c)) (sym first) (IsPermutation-append_left (begun_flags c) kept (C ++ S) (IsPermutation-sym (C ++ S) kept (signals_begun c h))))

@@ -32,6 +32,21 @@ pub mod BitWrites
 pub mod PutSources
 pub mod Origins
 pub mod OneDriver
+pub mod ReadOnce
+pub mod SanityMemories
+mod PortAddresses
+mod WritePorts
+mod ReadPorts
+pub mod HiddenWires
+pub mod PartsDrawn
+pub mod ReadWires
+pub mod OthersDrawn
+pub mod MemoryNames
+pub mod ReadData
+pub mod PartsFit
+pub mod PortEdges
+pub mod MemoryWrites
+pub mod MemoriesFit
 pub mod Driven
 pub mod SourcedSpecs
 pub mod Starts
@@ -57,7 +72,9 @@ pub mod PoolNeeds
 pub mod PoolsMade
 pub mod Driving
 pub mod SignalBits
+pub mod Heedings
 pub mod RegisterSteps
+pub mod RegisterClears
 pub mod ClockEdges
 pub mod ModuleHeld
 pub mod ExpressionCells
@@ -74,6 +91,8 @@ pub mod PartsDefined
 pub mod NeededInside
 pub mod FixedAims
 pub mod ModuleObeys
+pub mod PartsObey
+pub mod PortStands
 pub mod CombSignals
 pub mod OrderedBits
 pub mod SignalWires
@@ -85,8 +104,19 @@ pub mod SettledModule
 pub mod DefinedWires
 pub mod ModuleSteps
 pub mod ModuleHistories
+pub mod KeptRows
+pub mod KeptReads
+pub mod KeptReadSteps
+pub mod ReadMoves
+pub mod KeptMemories
+pub mod PortSignals
+pub mod SettledReads
+pub mod MovedMemories
+pub mod MemoryLaws
+pub mod MemoryWires
 pub mod LatestFits
 pub mod SanityStatements
+pub mod SanityRegisters
 pub mod LowerParts
 pub mod LowerItems
 pub mod LowerTables
@@ -102,6 +132,9 @@ pub mod LowerLatest
 pub mod LowerDomains
 pub mod LowerWires
 pub mod LowerModule
+pub mod LowerMemories
+pub mod LowerPorts
+pub mod LowerReads
 pub mod FlatModules
 pub mod FirstBits
 pub mod FirstValues

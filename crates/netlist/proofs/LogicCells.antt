@@ -9,7 +9,7 @@ use Rattle.shape_rules.specs.declared.op.Op.{Op}
 use Rattle.shape_rules.specs.declared.op.Op.TheVariants as op
 use Rattle.shape_rules.specs.declared.cell.CellKind.{CellKind}
 use Rattle.shape_rules.specs.declared.cell.CellKind.TheVariants as kind
-use Rattle.shape_rules.specs.declared.cell.CellKind.TheVariants.{Dff, Adff, MemoryRead}
+use Rattle.shape_rules.specs.declared.cell.CellKind.TheVariants.{Dff, Adff, MemoryRead, MemoryWrite, MemoryInit}
 use Rattle.design_ir.specs.declared.ids.ExprId.{ExprId}
 use Rattle.design_ir.specs.declared.expr.Pattern.{Pattern}
 use Rattle.design_ir.specs.declared.expr.Expr.{Expr}
@@ -27,11 +27,13 @@ use Rattle.netlist.specs.Ids.{part_id}
 use Rattle.netlist.specs.Operators.{Value, Drawing, nothing, inner_wire, whole, one_bit, as_form, linked, reduced, shifted, magnitude, operated, operator_drawing, one_cell}
 use Rattle.netlist.specs.Expressions.{and_also, truth_spec, truth_drawing, chosen, amount_drawing, amount_operand, part_form, stride_form, stride_operand, selected, picked, picked_of, in_reach, matched, no_match, matched_within, matched_any, shown, drawn}
 
--- a kind that goes by the operands alone
+-- a kind that goes by the operands alone, and is of no memory
 abbrev pub is_logic_kind : CellKind → Bool
 is_logic_kind Dff = false
 is_logic_kind Adff = false
 is_logic_kind MemoryRead = false
+is_logic_kind MemoryWrite = false
+is_logic_kind MemoryInit = false
 is_logic_kind kind = true
 
 abbrev pub IsLogic : RtlCell → Type 0

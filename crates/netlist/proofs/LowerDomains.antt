@@ -10,7 +10,8 @@ use Rattle.design_ir.specs.Circuits.{Circuit}
 use Rattle.design_ir.specs.Designs.{IsDesign, IsClockDomain, IsReset}
 use Rattle.netlist.specs.Module.{reset_of}
 
-at_place : {A : Type 0} (P : A → Type 0) (xs : List A) (k : ℕ) (x : A) → AllByRecursion P xs → slice_get xs k ≡ Some x → P x
+-- what holds of each element holds of the one at a place
+pub at_place : {A : Type 0} (P : A → Type 0) (xs : List A) (k : ℕ) (x : A) → AllByRecursion P xs → slice_get xs k ≡ Some x → P x
 at_place P [] k x h e = cc
 at_place P (y ∷ xs) zero x h e = let same : y ≡ x = cc in subst P same h.0
 at_place P (y ∷ xs) (suc k) x h e = at_place P xs k x h.1 e

@@ -96,7 +96,7 @@ all_other c (p ∷ ps) latest s plain none i =
 module _ (c : Circuit) (design : IsDesign c) (plain : IsPlain c) (s : ℕ) (p : DesignProcess) (found : find (drives c s) c.processes ≡ Some p) where
   one_process : (latest : Latest) (i : ℕ) → latest_of_all c c.processes latest s i ≡ latest_of c.pool (expr_value c) p.body latest s i
   one_process latest i =
-      let only : IsOnly (driven_by c) s c.processes p = find_only (driven_by c) s c.processes p (distinct_processes c plain.flat design) found in
+      let only : IsOnly (driven_by c) s c.processes p = find_only (driven_by c) s c.processes p (distinct_processes c design) found in
       let all : AllByRecursion (PlainBody c) (only.before ++ p ∷ only.after) = subst (AllByRecursion (PlainBody c)) only.split plain.plain in
       let first = all_left (PlainBody c) only.before (p ∷ only.after) all in
       let rest = all_right (PlainBody c) only.before (p ∷ only.after) all in

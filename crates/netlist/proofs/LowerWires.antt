@@ -13,10 +13,10 @@ use Rattle.netlist.specs.Module.{column_wire, column_wires}
 use Rattle.netlist.specs.Tables.{together}
 use Rattle.netlist.proofs.LowerDrawings.{also_nothing, also_more}
 
-range_next : (i n : ℕ) → i < n → range_with_len i (n - i) ≡ i ∷ range_with_len (i + 1) (n - (i + 1))
+pub range_next : (i n : ℕ) → i < n → range_with_len i (n - i) ≡ i ∷ range_with_len (i + 1) (n - (i + 1))
 range_next i n h = let e : n - i ≡ suc (n - (i + 1)) = omega arith in ap (range_with_len i) e
 
-range_end : (i n : ℕ) → n ≤ i → range_with_len i (n - i) ≡ []
+pub range_end : (i n : ℕ) → n ≤ i → range_with_len i (n - i) ≡ []
 range_end i n h = let e : n - i ≡ 0 = omega arith in ap (range_with_len i) e
 
 pub rows_turn : {A : Type 0} (f : ℕ → List A) (i n : ℕ) (out out' all : List A) → i < n → out' ≡ out ++ f i → out ++ flat_map f (range_with_len i (n - i)) ≡ all → out' ++ flat_map f (range_with_len (i + 1) (n - (i + 1))) ≡ all

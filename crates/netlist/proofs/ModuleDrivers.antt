@@ -1,5 +1,5 @@
 -- Each bit of each wire that is no input has exactly one driver in the module of a design.
-use Rattle.std.specs.Prelude.{◌≡◌, nat_lt, ℕ, false, List, [], ◌∷◌, ◌++◌, map, length, IsPermutation, slice_get}
+use Rattle.std.specs.Prelude.{◌≡◌, nat_lt, ℕ, false, List, [], ◌∷◌, ◌++◌, length, IsPermutation, slice_get}
 use Rattle.std.specs.List.{flat_map, range_with_len}
 use Rattle.std.proofs.Common.{sym, ap, ◌∙◌, arith, subst, append-nil}
 use Rattle.std.proofs.lemmas.Bool.{cond_both, ltb-false}
@@ -15,11 +15,12 @@ use Rattle.rtlil_text.specs.Drivers.{output_bits, driven_bits, inner_bits}
 use Rattle.netlist.specs.Ids.{value_id}
 use Rattle.netlist.specs.Operators.{Drawing, inner_wire}
 use Rattle.netlist.specs.Expressions.{part_total}
-use Rattle.netlist.specs.Module.{column_wires, signal_wires, expr_wires, drawings, signal_drawing, all_drawings, module_of}
+use Rattle.netlist.specs.Module.{column_wires, signal_wires, expr_wires, drawings, other_drawings, all_drawings, module_of}
 use Rattle.netlist.proofs.Permuted.{IsPermutation-inner_two, IsPermutation-flat_map, flat_map-nested}
 use Rattle.netlist.proofs.Drives.{block, owed_bits, left_bits, drawn_bits, own_bits}
 use Rattle.netlist.proofs.ManyDrawn.{expr_bits, drawn_from_are}
-use Rattle.netlist.proofs.SignalsDrawn.{signal_bits, signals_drawn}
+use Rattle.netlist.proofs.SignalsDrawn.{signal_bits}
+use Rattle.netlist.proofs.OthersDrawn.{others_drawn}
 use Rattle.netlist.proofs.ColumnSignals.{signal_wires-bits}
 
 -- what two groups of drawings drive, where each drives what it makes and its own wires
@@ -55,11 +56,11 @@ module_drivers c pool h =
     let S = flat_map (signal_wires c) R in
     let X = flat_map (expr_wires c) Q in
     let D = drawings c in
-    let G = map (signal_drawing c) R in
+    let G = other_drawings c in
     let ds = all_drawings c in
     let W : List RtlWire = flat_map (λ (d : Drawing). d.wires) ds in
     let parts = (drawn_from_are c pool 0 0 (part_total c.pool.exprs) c.pool.exprs (λ i lt. ap (slice_get c.pool.exprs) (omega arith)) (omega arith)).drives in
-    let steps = (signals_drawn c 0 (length c.pool.signals)).drives in
+    let steps = (others_drawn c h).drives in
     let madeE = flat_map (expr_bits c) Q in
     let madeS = flat_map (signal_bits c) R in
     let front : IsPermutation (flat_map owed_bits C ++ flat_map owed_bits S) madeS = signal_wires-bits c h in

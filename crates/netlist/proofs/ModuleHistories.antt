@@ -1,87 +1,112 @@
 -- The module of a plain design with an order of its bits has the design's history.
-use Rattle.std.specs.Prelude.{◌≡◌, List, [], ◌∷◌, ℤ, All, Some}
+use Rattle.std.specs.Prelude.{◌≡◌, ℕ, ◌<◌, ◌^◌, List, [], ◌∷◌, length, slice_set, ℤ, All, Some}
 use Rattle.std.specs.List.{AllByRecursion}
 use Rattle.std.proofs.Common.{refl, sym, ap, ◌∙◌, subst}
 use Rattle.std.proofs.lemmas.List.Elements.{All-nil, All-cons}
+use Rattle.design_ir.specs.declared.ids.DomainId.{DomainId}
+use Rattle.design_ir.specs.declared.ids.ExprId.{ExprId}
 use Rattle.design_ir.specs.declared.port.Column.{Column}
 use Rattle.design_ir.specs.declared.event.Event.{Event}
+use Rattle.design_ir.specs.declared.event.Event.TheVariants.{Set, Edge}
 use Rattle.design_ir.specs.PoolRules.{IsPool}
 use Rattle.design_ir.specs.Targets.{Bit}
-use Rattle.design_ir.specs.Circuits.{Circuit, State}
+use Rattle.design_ir.specs.Values.{num}
+use Rattle.design_ir.specs.Circuits.{Circuit, State, at}
 use Rattle.design_ir.specs.Designs.{IsDesign}
 use Rattle.design_ir.specs.Steps.{moved, step, first_state}
 use Rattle.design_ir.specs.Histories.{HistoryFrom}
-use Rattle.design_ir.proofs.RisingLaws.{steps_are_moves}
 use Rattle.design_ir.specs.Legal.{IsLegal, AllLegal}
 use Rattle.comb_graph.specs.Orders.{IsOrder}
-use Rattle.comb_graph.specs.Laws.{FitsRows, SettlesOnce}
+use Rattle.comb_graph.specs.Laws.{SettlesOnce}
 use Rattle.comb_graph.proofs.SettledOnce.{settles_once}
 use Rattle.rtlil_text.specs.Rules.{IsModule}
-use Rattle.rtlil_text.specs.Meaning.{State as Kept}
+use Rattle.rtlil_text.specs.Meaning.{Inputs, State as Kept}
 use Rattle.rtlil_text.specs.History as rtl
 use Rattle.rtlil_text.specs.History.{wire_bit, history_from}
 use Rattle.rtlil_text.proofs.Among.{Among}
+use Rattle.netlist.specs.Carried.{Carries}
 use Rattle.netlist.specs.Made.{HasByteStride}
 use Rattle.netlist.specs.Plain.{IsPlain}
 use Rattle.netlist.specs.Histories.{inputs_at, first_inputs, inputs_after, inputs_over, SameColumn, SameColumns, AllDefined, SameHistory}
-use Rattle.netlist.specs.Module.{module_of}
+use Rattle.netlist.specs.PortLaws.{IsCarried}
+use Rattle.netlist.specs.Module.{signal_value, expr_value, module_of}
+use Rattle.netlist.specs.MemoryDrawings.{all_parts, memories_of}
 use Rattle.netlist.specs.Laws.{ModulesHaveTheHistory}
 use Rattle.netlist.proofs.ColumnSignals.{columns_distinct}
 use Rattle.netlist.proofs.ModuleHeld.{All-among}
+use Rattle.netlist.proofs.PartsFit.{CellLaws}
 use Rattle.netlist.proofs.ModuleRules.{module_rules}
 use Rattle.netlist.proofs.RegisterCells.{clocked_held}
 use Rattle.netlist.proofs.SettledNumbers.{settled_held}
 use Rattle.netlist.proofs.SignalWires.{named_by}
-use Rattle.netlist.proofs.HeldFits.{AreHeld, first_held, moved_held}
-use Rattle.netlist.proofs.ModuleStates.{AgreeOnInputs, Keeps}
+use Rattle.netlist.proofs.HeldFits.{AreHeld, first_held, step_held}
+use Rattle.netlist.proofs.ModuleStates.{AgreeOnInputs, Keeps, input_carries}
+use Rattle.netlist.proofs.KeptMemories.{KeepsMemories, first_memories}
+use Rattle.netlist.proofs.MovedMemories.{memories_moved, memories_set}
+use Rattle.netlist.proofs.MemoryLaws.{MemoryLaws}
+use Rattle.netlist.proofs.MemoryWires.{memory_wires}
 use Rattle.netlist.proofs.SettledModule.{signals_carry, exprs_carry, shows}
 use Rattle.netlist.proofs.DefinedWires.{column_found, wires_defined}
-use Rattle.netlist.proofs.ModuleSteps.{inputs_agree, first_keeps, moved_keeps}
+use Rattle.netlist.proofs.ModuleSteps.{held_same, inputs_agree, inputs_step, first_keeps, step_keeps}
 
-module _ (c : Circuit) (order : List Bit) (rules : IsPool c.pool) (bytes : AllByRecursion HasByteStride c.pool.exprs) (design : IsDesign c) (plain : IsPlain c) (module_so : IsModule (module_of c)) (is_order : IsOrder c order) where
+module _ (laws : MemoryLaws) (c : Circuit) (order : List Bit) (rules : IsPool c.pool) (bytes : AllByRecursion HasByteStride c.pool.exprs) (design : IsDesign c) (plain : IsPlain c) (few : length (all_parts (memories_of c)) < 10 ^ 18) (module_so : IsModule (module_of c)) (is_order : IsOrder c order) where
   -- the module is where the design is
   record IsThere (st : State) (kept : Kept) (ins : List ℤ) : Type 0 where
-    held : AreHeld c.pool st.held
+    held : AreHeld c st
+    memories : KeepsMemories c kept st
     agree : AgreeOnInputs c ins st.held
     keeps : Keeps c kept st.held
 
   module _ (st : State) (kept : Kept) (ins : List ℤ) (h : IsThere st kept ins) where
     once : SettlesOnce c st
-    once = settles_once c order rules design is_order st (record { held = h.held.fits; rows = subst (λ ms. FitsRows ms st.rows) (sym plain.flat) tt })
+    once = settles_once c order rules design is_order st h.held.fits
+
+    signals : (s : ℕ) → Carries (wire_bit (module_of c) kept (inputs_at c ins)) (signal_value c s) (at once.env s)
+    signals = signals_carry laws c order rules bytes design plain.plain few module_so is_order st once.env once.settled once.fits kept ins h.memories h.agree h.keeps
+
+    exprs : (e : ExprId) → e.0 < length c.pool.exprs → Carries (wire_bit (module_of c) kept (inputs_at c ins)) (expr_value c e.0) (num c.pool once.env e.0)
+    exprs = exprs_carry laws c order rules bytes design plain.plain few module_so is_order st once.env once.settled once.fits kept ins h.memories h.agree h.keeps
 
     column_now : (x : Column) → Among c.columns x → SameColumn c once.env (wire_bit (module_of c) kept (inputs_at c ins)) x
     column_now x a i l =
         ap (λ id. wire_bit (module_of c) kept (inputs_at c ins) id i) (sym (named_by c x.sig.0 (Some x) (column_found c.columns x (columns_distinct c design) a)))
-        ∙ signals_carry c order rules bytes design plain module_so is_order st once.env once.settled once.fits kept ins h.agree h.keeps x.sig.0 i l
+        ∙ signals x.sig.0 i l
 
     columns_now : All (SameColumn c once.env (wire_bit (module_of c) kept (inputs_at c ins))) c.columns
     columns_now = All-among (SameColumn c once.env (wire_bit (module_of c) kept (inputs_at c ins))) c.columns column_now
 
     defined_now : AllDefined (module_of c) (wire_bit (module_of c) kept (inputs_at c ins))
     defined_now =
-        wires_defined c rules design plain.flat plain.plain module_so kept (inputs_at c ins) once.env st.held once.fits h.held.long
-        (signals_carry c order rules bytes design plain module_so is_order st once.env once.settled once.fits kept ins h.agree h.keeps)
-        (exprs_carry c order rules bytes design plain module_so is_order st once.env once.settled once.fits kept ins h.agree h.keeps)
-        (λ s p d clock there. sym (settled_held c once.env design st plain.flat once.settled s there (clocked_held c design rules plain.flat plain.plain s p d clock)))
+        wires_defined c rules design plain.plain module_so kept (inputs_at c ins) once.env st.held once.fits h.held.long signals exprs
+        (λ s p d clock there. sym (settled_held c once.env design st once.settled s there (clocked_held c design rules plain.plain s p d clock)))
+        (memory_wires laws c rules design few module_so once.env once.fits st kept (inputs_at c ins) h.memories exprs)
 
-    -- so it is after an event, which clears nothing
-    there_moved : (e : Event) → IsLegal c e → IsThere (moved c st once.env e) (rtl.step (module_of c) (inputs_at c ins) (inputs_at c (inputs_after c ins e)) kept) (inputs_after c ins e)
-    there_moved e legal = record {
-      held = moved_held c rules design plain.plain plain.flat st once.env e legal h.held;
-      agree = inputs_agree c design plain.flat st once.env ins e legal h.held.long h.agree;
+    carried : (listed : List DomainId) (new : Inputs) → IsCarried (record { design = c; env = once.env; listed = listed; rtl = module_of c; st = kept; old = inputs_at c ins; new = new })
+    carried listed new = record { pool = rules; fits = once.fits; exprs = exprs }
+
+    memories_after : (e : Event) → IsLegal c e → KeepsMemories c (rtl.step (module_of c) (inputs_at c ins) (inputs_at c (inputs_after c ins e)) kept) (step c st once.env e)
+    memories_after (Set s n) legal =
+        memories_set c rules design few module_so once.env st kept ins s n legal laws.writes laws.reads laws.follow (carried [] (inputs_at c (slice_set ins s.0 n))) h.memories
+    memories_after (Edge listed) legal =
+        let new : List ℤ = inputs_after c ins (Edge listed) in
+        let after = inputs_agree c design st once.env ins (Edge listed) legal h.held.long h.agree in
+        memories_moved c rules design few module_so once.env once.fits st listed legal.2 h.held.long (held_same c design st once.env once.settled h.held.long) kept (inputs_at c ins) (inputs_at c new) laws.writes laws.reads laws.follow (carried listed (inputs_at c new)) signals
+        (λ s input. input_carries c design module_so kept new (moved c st once.env (Edge listed)).held after s input) h.memories
+
+    -- so it is after an event
+    there_after : (e : Event) → IsLegal c e → IsThere (step c st once.env e) (rtl.step (module_of c) (inputs_at c ins) (inputs_at c (inputs_after c ins e)) kept) (inputs_after c ins e)
+    there_after e legal = record {
+      held = step_held c rules design st once.env e legal h.held;
+      memories = memories_after e legal;
+      agree = inputs_step c design st once.env ins e legal h.held.long h.agree;
       keeps =
-          moved_keeps c rules design plain.flat plain.rising plain.plain module_so st once.env once.settled once.fits kept ins h.held.long h.agree h.keeps
-          (signals_carry c order rules bytes design plain module_so is_order st once.env once.settled once.fits kept ins h.agree h.keeps)
-          (shows c order rules bytes design plain module_so is_order st once.env once.settled once.fits kept ins h.agree h.keeps) e legal;
+          step_keeps c rules design plain.plain module_so st once.env once.settled once.fits kept ins h.held.long h.agree h.keeps
+          signals
+          (shows laws c order rules bytes design plain.plain few module_so is_order st once.env once.settled once.fits kept ins h.memories h.agree h.keeps) e legal;
     }
 
-    there_after : (e : Event) → IsLegal c e → IsThere (step c st once.env e) (rtl.step (module_of c) (inputs_at c ins) (inputs_at c (inputs_after c ins e)) kept) (inputs_after c ins e)
-    there_after e legal =
-        subst (λ (x : State). IsThere x (rtl.step (module_of c) (inputs_at c ins) (inputs_at c (inputs_after c ins e)) kept) (inputs_after c ins e))
-        (sym (steps_are_moves c plain.rising st once.env e)) (there_moved e legal)
-
   there_first : IsThere (first_state c) (rtl.first_state (module_of c)) (first_inputs c)
-  there_first = record { held = first_held c rules; agree = record { long = refl; same = λ s e. refl }; keeps = first_keeps c design module_so }
+  there_first = record { held = first_held c rules design; memories = first_memories c rules design few module_so laws.begin; agree = record { long = refl; same = λ s e. refl }; keeps = first_keeps c design module_so }
 
   -- ---- the only history
 
@@ -136,5 +161,5 @@ module _ (c : Circuit) (order : List Bit) (rules : IsPool c.pool) (bytes : AllBy
       let r = runs events (first_state c) (rtl.first_state (module_of c)) (first_inputs c) legal there_first in
       record { envs = r.envs; is_history = record { settles = r.settles_so; only = r.only }; columns = r.columns; defined = r.defined }
 
-pub modules_have_the_history : ModulesHaveTheHistory
-modules_have_the_history c order rules bytes design plain few is_order = same_history c order rules bytes design plain (module_rules c rules design few) is_order
+pub modules_have_the_history : CellLaws → MemoryLaws → ModulesHaveTheHistory
+modules_have_the_history cells laws c order rules bytes design plain parts few is_order = same_history laws c order rules bytes design plain parts (module_rules c rules design cells parts few) is_order

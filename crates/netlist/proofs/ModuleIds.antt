@@ -1,12 +1,12 @@
 -- All ids of the module of a design: they are ids of the text's form, and no two are the same.
 use Rattle.std.specs.Prelude.{◌≡◌, ◌≢◌, ◌<◌, ◌+◌, ◌*◌, ◌^◌, ◌&&◌, nat_lt, ℕ, zero, suc, Bool, true, false, List, [], ◌∷◌, ◌++◌, map, length, IsPermutation, All, is_none, slice_get}
 use Rattle.std.specs.List.{flat_map, range_with_len, AllByRecursion, IsDistinct}
-use Rattle.std.proofs.Common.{refl, sym, ap, ◌∙◌, arith, subst, append_assoc, append-nil, inl, inr}
+use Rattle.std.proofs.Common.{refl, sym, ap, ◌∙◌, arith, subst, append_assoc, inl, inr}
 use Rattle.std.proofs.lemmas.Bool.{cond_both}
 use Rattle.std.proofs.lemmas.List.{map-append}
 use Rattle.std.proofs.lemmas.List.Concat.{flat_map-append}
 use Rattle.std.proofs.lemmas.List.Elements.{All-nil, All-cons, All-append}
-use Rattle.std.proofs.lemmas.List.Sorted.{IsPermutation-refl, IsPermutation-trans, IsPermutation-sym, IsPermutation-append, IsPermutation-append_right, All-permutation}
+use Rattle.std.proofs.lemmas.List.Sorted.{IsPermutation-refl, IsPermutation-trans, IsPermutation-sym, IsPermutation-append, IsPermutation-append_left, IsPermutation-append_right, IsPermutation-append_comm, All-permutation}
 use Rattle.std.proofs.lemmas.Map.Keys.{IsDistinct-IsPermutation}
 use Rattle.std.proofs.lemmas.Map.Made.{AllPairs-from_IsDistinct}
 use Rattle.lists.specs.Names.{IsPublicName}
@@ -19,20 +19,23 @@ use Rattle.design_ir.specs.Circuits.{Circuit}
 use Rattle.design_ir.specs.Designs.{IsDesign}
 use Rattle.rtlil_text.specs.declared.cell.RtlCell.{RtlCell}
 use Rattle.rtlil_text.specs.declared.module.RtlWire.{RtlWire}
+use Rattle.rtlil_text.specs.declared.module.RtlMemory.{RtlMemory}
 use Rattle.rtlil_text.specs.declared.module.WirePort.TheVariants.{Inner}
 use Rattle.rtlil_text.specs.Ids.{AreDistinct, IsId}
 use Rattle.rtlil_text.specs.Rules.{module_ids}
 use Rattle.netlist.specs.Ids.{inner_id, signal_id, value_id, part_id, step_id}
 use Rattle.netlist.specs.Operators.{Drawing, inner_wire}
 use Rattle.netlist.specs.Expressions.{part_total}
-use Rattle.netlist.specs.Module.{public_id, column_of, first_value, column_wires, signal_wires, expr_wires, drawings, signal_drawing, all_drawings, module_of}
+use Rattle.netlist.specs.Module.{public_id, column_of, first_value, column_wires, signal_wires, expr_wires, drawings, other_drawings, all_drawings, module_of}
+use Rattle.netlist.specs.MemoryDrawings.{memories_of, all_parts, memory_lines}
 use Rattle.netlist.proofs.Permuted.{IsPermutation-flat_map}
 use Rattle.rtlil_text.proofs.Among.{AllByRecursion-append}
 use Rattle.rtlil_text.proofs.Numerals.{numeral_is_decimal}
 use Rattle.netlist.proofs.Fresh.{Apart, Within, Apart-append, Apart-map, IsFresh, IsFresh-append, inner_id-differ}
 use Rattle.netlist.proofs.Drives.{drawing_ids, fresh_none}
 use Rattle.netlist.proofs.ManyDrawn.{drawn_from_are}
-use Rattle.netlist.proofs.SignalsDrawn.{signals_drawn}
+use Rattle.netlist.proofs.OthersDrawn.{step_total, others_drawn}
+use Rattle.netlist.proofs.MemoryNames.{column_names, memory_names, memory_ids, names_distinct, names_public}
 
 -- ---- a test of ids
 
@@ -184,7 +187,7 @@ map-flat_map f g (x ∷ xs) = map-append f (g x) (flat_map g xs) ∙ ap (λ r. m
 -- the public ids, and then the inner ids by their numbers
 pub record HasIds (c : Circuit) : Type 0 where
   pub numbers : List ℕ
-  pub same : IsPermutation (module_ids (module_of c)) (map public_id (map (λ (x : Column). x.name) c.columns) ++ map inner_id numbers)
+  pub same : IsPermutation (module_ids (module_of c)) (map public_id (memory_names c ++ column_names c) ++ map inner_id numbers)
   pub apart : Apart numbers
   pub below : Below numbers
 
@@ -202,9 +205,9 @@ module _ (c : Circuit) where
   part_ids = flat_map drawing_ids (drawings c)
 
   step_ids : List (List ℕ)
-  step_ids = flat_map drawing_ids (map (signal_drawing c) (range_with_len 0 (length c.pool.signals)))
+  step_ids = flat_map drawing_ids (other_drawings c)
 
-  module_ids-parts : IsPermutation (module_ids (module_of c)) (((columns_ids ++ hidden_ids) ++ shown_ids) ++ (part_ids ++ step_ids))
+  module_ids-parts : IsPermutation (module_ids (module_of c)) (map public_id (memory_names c) ++ (((columns_ids ++ hidden_ids) ++ shown_ids) ++ (part_ids ++ step_ids)))
   unfolding module_of columns_ids hidden_ids shown_ids part_ids step_ids
   module_ids-parts =
       let R = range_with_len 0 (length c.pool.signals) in
@@ -222,14 +225,19 @@ module _ (c : Circuit) where
       let cells : map cell_id_of L ≡ flat_map (λ (d : Drawing). map cell_id_of d.cells) ds = map-flat_map cell_id_of (λ (d : Drawing). d.cells) ds in
       let V = flat_map (λ (d : Drawing). map wire_id_of d.wires) ds in
       let K = flat_map (λ (d : Drawing). map cell_id_of d.cells) ds in
-      let all : (map wire_id_of (((C ++ S) ++ X) ++ W) ++ []) ++ map cell_id_of L ≡ F ++ (V ++ K) =
-      (λ i. append-nil (map wire_id_of (((C ++ S) ++ X) ++ W)) i ++ map cell_id_of L) ∙ (λ i. wires i ++ cells i) ∙ append_assoc F V K in
+      let N = map public_id (memory_names c) in
+      let lines : map (λ (r : RtlMemory). r.id) (memory_lines c) ≡ N = memory_ids c in
+      let all : (map wire_id_of (((C ++ S) ++ X) ++ W) ++ map (λ (r : RtlMemory). r.id) (memory_lines c)) ++ map cell_id_of L ≡ ((F ++ V) ++ N) ++ K = λ i. (wires i ++ lines i) ++ cells i in
+      let first : IsPermutation (((F ++ V) ++ N) ++ K) (N ++ (F ++ (V ++ K))) =
+      subst (IsPermutation (((F ++ V) ++ N) ++ K)) (append_assoc N (F ++ V) K ∙ ap (λ r. N ++ r) (append_assoc F V K)) (IsPermutation-append_left K ((F ++ V) ++ N) (N ++ (F ++ V)) (IsPermutation-append_comm (F ++ V) N)) in
       let drawn : IsPermutation (V ++ K) (flat_map drawing_ids ds) = IsPermutation-flat_map (λ (d : Drawing). map wire_id_of d.wires) (λ (d : Drawing). map cell_id_of d.cells) ds in
-      let split : flat_map drawing_ids ds ≡ flat_map drawing_ids (drawings c) ++ flat_map drawing_ids (map (signal_drawing c) R) = flat_map-append drawing_ids (drawings c) (map (signal_drawing c) R) in
-      subst (λ u. IsPermutation u (F ++ (flat_map drawing_ids (drawings c) ++ flat_map drawing_ids (map (signal_drawing c) R)))) (sym all)
-      (subst (λ u. IsPermutation (F ++ (V ++ K)) (F ++ u)) split (IsPermutation-append_right F (V ++ K) (flat_map drawing_ids ds) drawn))
+      let O = flat_map drawing_ids (drawings c) ++ flat_map drawing_ids (other_drawings c) in
+      let split : flat_map drawing_ids ds ≡ O = flat_map-append drawing_ids (drawings c) (other_drawings c) in
+      let rest : IsPermutation (N ++ (F ++ (V ++ K))) (N ++ (F ++ O)) =
+      IsPermutation-append_right N (F ++ (V ++ K)) (F ++ O) (subst (λ u. IsPermutation (F ++ (V ++ K)) (F ++ u)) split (IsPermutation-append_right F (V ++ K) (flat_map drawing_ids ds) drawn)) in
+      subst (λ u. IsPermutation u (N ++ (F ++ O))) (sym all) (IsPermutation-trans (((F ++ V) ++ N) ++ K) (N ++ (F ++ (V ++ K))) (N ++ (F ++ O)) first rest)
 
-  module _ (pool : IsPool c.pool) (few : part_total c.pool.exprs < 10 ^ 63) where
+  module _ (pool : IsPool c.pool) (few : part_total c.pool.exprs < 10 ^ 63) (h : IsDesign c) (few_parts : length (all_parts (memories_of c)) < 10 ^ 18) where
     has_ids : HasIds c
     unfolding columns_ids hidden_ids shown_ids part_ids step_ids
     has_ids =
@@ -238,7 +246,8 @@ module _ (c : Circuit) where
         let hidden : IsFresh signal_id 0 (0 + n) hidden_ids = fresh_row signal_id (signal_wires c) (signal_wires-fresh c) 0 n in
         let shown : IsFresh value_id 0 (0 + length c.pool.exprs) shown_ids = fresh_row value_id (expr_wires c) (expr_wires-fresh c) 0 (length c.pool.exprs) in
         let parts : IsFresh part_id 0 (part_total c.pool.exprs) part_ids = (drawn_from_are c pool 0 0 (part_total c.pool.exprs) c.pool.exprs (λ i lt. ap (slice_get c.pool.exprs) (omega arith)) (omega arith)).fresh in
-        let steps : IsFresh step_id (3 * 0) (3 * (0 + n)) step_ids = (signals_drawn c 0 n).fresh in
+        let steps : IsFresh step_id 0 (step_total c) step_ids = (others_drawn c h).fresh in
+        let N = map public_id (memory_names c) in
         let H = map signal_id hidden.numbers in
         let K = map value_id shown.numbers in
         let P = map part_id parts.numbers in
@@ -246,11 +255,15 @@ module _ (c : Circuit) where
         let front : IsPermutation ((A ++ hidden_ids) ++ shown_ids) ((A ++ H) ++ K) =
         IsPermutation-append (A ++ hidden_ids) (A ++ H) shown_ids K (IsPermutation-append_right A hidden_ids H hidden.same) shown.same in
         let back : IsPermutation (part_ids ++ step_ids) (P ++ T) = IsPermutation-append part_ids P step_ids T parts.same steps.same in
-        let all : IsPermutation (module_ids (module_of c)) (((A ++ H) ++ K) ++ (P ++ T)) =
-        IsPermutation-trans (module_ids (module_of c)) (((A ++ hidden_ids) ++ shown_ids) ++ (part_ids ++ step_ids)) (((A ++ H) ++ K) ++ (P ++ T)) module_ids-parts
-        (IsPermutation-append ((A ++ hidden_ids) ++ shown_ids) ((A ++ H) ++ K) (part_ids ++ step_ids) (P ++ T) front back) in
-        let grouped : ((A ++ H) ++ K) ++ (P ++ T) ≡ A ++ map inner_id (inner_numbers hidden.numbers shown.numbers parts.numbers steps.numbers) =
-        (λ i. append_assoc A H K i ++ (P ++ T)) ∙ append_assoc A (H ++ K) (P ++ T) ∙ ap (λ r. A ++ r) (inner_numbers-ids hidden.numbers shown.numbers parts.numbers steps.numbers) in
+        let old = ((A ++ hidden_ids) ++ shown_ids) ++ (part_ids ++ step_ids) in
+        let new = ((A ++ H) ++ K) ++ (P ++ T) in
+        let all : IsPermutation (module_ids (module_of c)) (N ++ new) =
+        IsPermutation-trans (module_ids (module_of c)) (N ++ old) (N ++ new) module_ids-parts
+        (IsPermutation-append_right N old new (IsPermutation-append ((A ++ hidden_ids) ++ shown_ids) ((A ++ H) ++ K) (part_ids ++ step_ids) (P ++ T) front back)) in
+        let inner = map inner_id (inner_numbers hidden.numbers shown.numbers parts.numbers steps.numbers) in
+        let grouped : N ++ new ≡ map public_id (memory_names c ++ column_names c) ++ inner =
+        ap (λ r. N ++ r) ((λ i. append_assoc A H K i ++ (P ++ T)) ∙ append_assoc A (H ++ K) (P ++ T) ∙ ap (λ r. A ++ r) (inner_numbers-ids hidden.numbers shown.numbers parts.numbers steps.numbers))
+        ∙ sym (append_assoc N A inner) ∙ ap (λ r. r ++ inner) (sym (map-append public_id (memory_names c) (column_names c))) in
         record {
           numbers = inner_numbers hidden.numbers shown.numbers parts.numbers steps.numbers;
           same = subst (IsPermutation (module_ids (module_of c))) grouped all;
@@ -260,29 +273,38 @@ module _ (c : Circuit) where
               (AllByRecursion-append (λ n. n < 10 ^ 64) (map by_signal hidden.numbers) (map by_value shown.numbers)
               (Below-map by_signal 0 (0 + n) hidden.numbers (λ s lt. omega (arith, pool.few_signals)) hidden.within) (Below-map by_value 0 (0 + length c.pool.exprs) shown.numbers (λ s lt. omega (arith, pool.few_exprs)) shown.within))
               (AllByRecursion-append (λ n. n < 10 ^ 64) (map by_part parts.numbers) (map by_step steps.numbers)
-              (Below-map by_part 0 (part_total c.pool.exprs) parts.numbers (λ s lt. omega (arith, few)) parts.within) (Below-map by_step (3 * 0) (3 * (0 + n)) steps.numbers (λ s lt. omega (arith, pool.few_signals)) steps.within));
+              (Below-map by_part 0 (part_total c.pool.exprs) parts.numbers (λ s lt. omega (arith, few)) parts.within) (Below-map by_step 0 (step_total c) steps.numbers (λ s lt. omega (arith, lt, few_parts, pool.few_signals)) steps.within));
         }
 
-    pub module_ids-distinct : IsDesign c → AreDistinct (module_ids (module_of c))
-    module_ids-distinct h =
+    pub module_ids-distinct : AreDistinct (module_ids (module_of c))
+    module_ids-distinct =
         let g = has_ids in
-        let all = map public_id (map (λ (x : Column). x.name) c.columns) ++ map inner_id g.numbers in
-        let distinct : IsDistinct text_eq all = public_distinct (map (λ (x : Column). x.name) c.columns) g.numbers h.columns.names (inner_distinct g.numbers g.apart g.below) in
+        let names = memory_names c ++ column_names c in
+        let all = map public_id names ++ map inner_id g.numbers in
+        let apart : IsDistinct text_eq names =
+        IsDistinct-IsPermutation text_eq text_flips (column_names c ++ memory_names c) names (IsPermutation-append_comm (column_names c) (memory_names c)) (names_distinct c pool h few_parts) in
+        let distinct : IsDistinct text_eq all = public_distinct names g.numbers apart (inner_distinct g.numbers g.apart g.below) in
         AllPairs-from_IsDistinct (λ a b. (text_eq_true a b, λ e. rw e (text_eq_same b))) (module_ids (module_of c))
         (IsDistinct-IsPermutation text_eq text_flips all (module_ids (module_of c)) (IsPermutation-sym (module_ids (module_of c)) all g.same) distinct)
 
     -- ---- they are ids of the text's form
 
-    pub module_ids-are : IsDesign c → All IsId (module_ids (module_of c))
-    module_ids-are h =
+    pub module_ids-are : All IsId (module_ids (module_of c))
+    module_ids-are =
         let g = has_ids in
-        let A = map public_id (map (λ (x : Column). x.name) c.columns) in
-        let all : All IsId (A ++ map inner_id g.numbers) = All-append IsId A (map inner_id g.numbers) (publics c.columns h.columns.name_forms) (inners g.numbers g.below) in
+        let names = memory_names c ++ column_names c in
+        let A = map public_id names in
+        let forms : AllByRecursion IsPublicName names = AllByRecursion-append IsPublicName (memory_names c) (column_names c) (names_public c pool h few_parts) (named c.columns h.columns.name_forms) in
+        let all : All IsId (A ++ map inner_id g.numbers) = All-append IsId A (map inner_id g.numbers) (publics names forms) (inners g.numbers g.below) in
         All-permutation IsId (A ++ map inner_id g.numbers) (module_ids (module_of c)) (IsPermutation-sym (module_ids (module_of c)) (A ++ map inner_id g.numbers) g.same) all
       where
-        publics : (xs : List Column) → AllByRecursion (λ (x : Column). IsPublicName x.name) xs → All IsId (map public_id (map (λ (x : Column). x.name) xs))
+        named : (xs : List Column) → AllByRecursion (λ (x : Column). IsPublicName x.name) xs → AllByRecursion IsPublicName (map (λ (x : Column). x.name) xs)
+        named [] k = tt
+        named (x ∷ xs) k = (k.0, named xs k.1)
+
+        publics : (names : List (List ℕ)) → AllByRecursion IsPublicName names → All IsId (map public_id names)
         publics [] k = All-nil IsId
-        publics (x ∷ xs) k = All-cons IsId (public_id x.name) (map public_id (map (λ (y : Column). y.name) xs)) (inl (x.name, k.0, refl)) (publics xs k.1)
+        publics (name ∷ names) k = All-cons IsId (public_id name) (map public_id names) (inl (name, k.0, refl)) (publics names k.1)
 
         inners : (ns : List ℕ) → Below ns → All IsId (map inner_id ns)
         inners [] k = All-nil IsId

@@ -1,5 +1,5 @@
 -- The wires of the module of a design obey all its drawings.
-use Rattle.std.specs.Prelude.{◌≡◌, ℕ, zero, suc, ◌+◌, ◌<◌, nat_lt, false, cond, List, [], ◌∷◌, length, slice_get, Some, All, Contains, Option, None}
+use Rattle.std.specs.Prelude.{◌≡◌, ℕ, zero, suc, ◌+◌, ◌<◌, nat_lt, false, cond, List, [], ◌∷◌, length, slice_get, Some, All, Contains}
 use Rattle.std.specs.List.{AllByRecursion}
 use Rattle.std.proofs.Common.{refl, sym, ap, ◌∙◌, arith, subst, inl, inr}
 use Rattle.std.proofs.lemmas.Bool.{cond_both, false≢true}
@@ -24,7 +24,7 @@ use Rattle.netlist.specs.CombDrawings.{ObeysUnkept, ObeysComb}
 use Rattle.netlist.specs.Expressions.{part_count, drawn}
 use Rattle.netlist.specs.Made.{HasByteStride}
 use Rattle.netlist.specs.PoolsDrawn.{IsDrawn}
-use Rattle.netlist.specs.Module.{wire_id, signal_value, expr_value, Driving, ByEvents, ByComb, ByClock, ByNothing, driving, reset_of, register_drawing, driving_drawing, signal_drawing, drawn_from, drawings, all_drawings, module_of}
+use Rattle.netlist.specs.Module.{wire_id, signal_value, expr_value, Driving, ByEvents, ByComb, ByClock, ByNothing, driving, register_drawing, driving_drawing, signal_drawing, drawn_from, drawings, other_drawings, all_drawings, module_of, ByRead, Heeding, NoReset, AtEdges, AtOnce, heeding}
 use Rattle.netlist.proofs.ModuleHeld.{All-among}
 use Rattle.netlist.proofs.ModuleParts.{signal_among, cell_held, link_held}
 use Rattle.netlist.proofs.LogicCells.{IsLogic, AreLogic, logic_unkept, logic_bit, drawn_logic}
@@ -77,14 +77,16 @@ expression_among c k e is =
 abbrev IsSimple : RtlCell → Type 0
 IsSimple x = is_kept x ≡ false → IsLogic x
 
-register_simple : (c : Circuit) (s : ℕ) (p : DesignProcess) (d : DomainId) (o : Option ℕ) → AllByRecursion IsSimple (register_drawing c s p d o).cells
-register_simple c s p d None = (λ e. absurd (false≢true (sym e)), tt)
-register_simple c s p d (Some r) = (λ e. refl, ((λ e. absurd (false≢true (sym e))), tt))
+register_simple : (c : Circuit) (s : ℕ) (p : DesignProcess) (d : DomainId) (h : Heeding) → AllByRecursion IsSimple (register_drawing c s p d h).cells
+register_simple c s p d NoReset = (λ e. absurd (false≢true (sym e)), tt)
+register_simple c s p d (AtOnce r) = (λ e. absurd (false≢true (sym e)), tt)
+register_simple c s p d (AtEdges r) = (λ e. refl, ((λ e. absurd (false≢true (sym e))), tt))
 
 driving_simple : (c : Circuit) (s : ℕ) (d : Driving) → AllByRecursion IsSimple (driving_drawing c s d).cells
 driving_simple c s ByEvents = tt
 driving_simple c s (ByComb p) = tt
-driving_simple c s (ByClock p d) = register_simple c s p d (reset_of c s d)
+driving_simple c s (ByClock p d) = register_simple c s p d (heeding c s d)
+driving_simple c s ByRead = tt
 driving_simple c s ByNothing = tt
 
 signal_simple : (c : Circuit) (s : ℕ) → AllByRecursion IsSimple (signal_drawing c s).cells
@@ -116,4 +118,4 @@ module _ (c : Circuit) (rules : IsModule (module_of c)) (kept : State) (inputs :
   pub all_drawn : AllByRecursion HasByteStride c.pool.exprs → IsDrawn (wire_bit (module_of c) kept inputs) c.pool (wire_id c) value_id (part_start c.pool.exprs)
   all_drawn bytes k e is =
       let d : Drawing = drawn (signal_value c) (expr_value c) (part_start c.pool.exprs k) (expr_value c k) e in
-      (AllByRecursion-among HasByteStride c.pool.exprs e bytes (Among-slice_get c.pool.exprs k e is), obeys_drawing d (Among-left (drawings c) _ d (expression_among c k e is)) (drawn_logic (signal_value c) (expr_value c) (part_start c.pool.exprs k) (expr_value c k) e))
+      (AllByRecursion-among HasByteStride c.pool.exprs e bytes (Among-slice_get c.pool.exprs k e is), obeys_drawing d (Among-left (drawings c) (other_drawings c) d (expression_among c k e is)) (drawn_logic (signal_value c) (expr_value c) (part_start c.pool.exprs k) (expr_value c k) e))

@@ -9,12 +9,14 @@ use Rattle.rtlil_text.specs.declared.cell.RtlCell.{RtlCell}
 use Rattle.rtlil_text.specs.declared.module.RtlLink.{RtlLink}
 use Rattle.rtlil_text.specs.Sources.{Net, spec_bits}
 use Rattle.rtlil_text.specs.Drivers.{ByCell, ByLink, output_bits, driver}
-use Rattle.rtlil_text.proofs.Among.{Among, Contains-among, Among-right, Among-map, Among-flat_map}
+use Rattle.rtlil_text.proofs.Among.{Among, Contains-among, Among-left, Among-right, Among-map, Among-flat_map}
 use Rattle.rtlil_text.proofs.Driven.{driver-cell, driver-link}
 use Rattle.netlist.specs.Operators.{Drawing}
 use Rattle.netlist.specs.Expressions.{part_total}
-use Rattle.netlist.specs.Module.{drawings, signal_drawing, all_drawings, module_of}
+use Rattle.netlist.specs.Module.{drawings, signal_drawing, other_drawings, all_drawings, module_of}
+use Rattle.netlist.specs.MemoryDrawings.{memories_of, all_parts, memory_drawings}
 use Rattle.netlist.proofs.ModuleHeld.{Among-range}
+use Rattle.netlist.proofs.PartsFit.{CellLaws}
 use Rattle.netlist.proofs.ModuleRules.{module_rules}
 
 module _ (c : Circuit) where
@@ -23,7 +25,8 @@ module _ (c : Circuit) where
   pub signal_among : (s : ℕ) → s < length c.pool.signals → Among (all_drawings c) (signal_drawing c s)
   signal_among s p =
       let R = range_with_len 0 (length c.pool.signals) in
-      Among-right (drawings c) (map (signal_drawing c) R) (signal_drawing c s) (Among-map (signal_drawing c) R s (Among-range 0 (length c.pool.signals) s (omega arith) (omega arith)))
+      Among-right (drawings c) (other_drawings c) (signal_drawing c s)
+      (Among-left (map (signal_drawing c) R) (memory_drawings c) (signal_drawing c s) (Among-map (signal_drawing c) R s (Among-range 0 (length c.pool.signals) s (omega arith) (omega arith))))
 
   -- ---- their cells and links
 
@@ -35,9 +38,9 @@ module _ (c : Circuit) where
   unfolding module_of
   link_held d l a b = Contains-among (flat_map (λ (d : Drawing). d.links) (all_drawings c)) l (Among-flat_map (λ (d : Drawing). d.links) (all_drawings c) d l a b)
 
-  module _ (pool : IsPool c.pool) (h : IsDesign c) (few : part_total c.pool.exprs < 10 ^ 63) where
+  module _ (pool : IsPool c.pool) (h : IsDesign c) (few : part_total c.pool.exprs < 10 ^ 63) (laws : CellLaws) (few_parts : length (all_parts (memories_of c)) < 10 ^ 18) where
     pub driven_by_cell : (d : Drawing) (x : RtlCell) (k : ℕ) (id : List ℕ) (i : ℕ) → Among (all_drawings c) d → Among d.cells x → slice_get (output_bits x) k ≡ Some (Net id i) → driver (module_of c) id i ≡ ByCell x k
-    driven_by_cell d x k id i a b e = driver-cell (module_of c) x k id i (module_rules c pool h few) (cell_held d x a b) e
+    driven_by_cell d x k id i a b e = driver-cell (module_of c) x k id i (module_rules c pool h laws few_parts few) (cell_held d x a b) e
 
     pub driven_by_link : (d : Drawing) (l : RtlLink) (k : ℕ) (id : List ℕ) (i : ℕ) → Among (all_drawings c) d → Among d.links l → slice_get (spec_bits l.left) k ≡ Some (Net id i) → driver (module_of c) id i ≡ ByLink l k
-    driven_by_link d l k id i a b e = driver-link (module_of c) l k id i (module_rules c pool h few) (link_held d l a b) e
+    driven_by_link d l k id i a b e = driver-link (module_of c) l k id i (module_rules c pool h laws few_parts few) (link_held d l a b) e

@@ -24,13 +24,14 @@ use Rattle.rtlil_text.proofs.CellLaws.{length-number_bits}
 use Rattle.netlist.specs.Ids.{signal_id, value_id}
 use Rattle.netlist.specs.Operators.{inner_wire}
 use Rattle.netlist.specs.Expressions.{part_total}
-use Rattle.netlist.specs.Module.{public_id, column_of, side_of, port_of, is_clocked, driving, init_bits, first_value, column_wire, column_wires, signal_wires, expr_wires, drawings, signal_drawing, all_drawings, module_of}
+use Rattle.netlist.specs.Module.{public_id, column_of, side_of, port_of, is_clocked, driving, init_bits, first_value, column_wire, column_wires, signal_wires, expr_wires, drawings, other_drawings, all_drawings, module_of}
 use Rattle.netlist.specs.Corresponds.{column_fields, wire_fields, Corresponds}
 use Rattle.rtlil_text.proofs.Among.{AllByRecursion-append}
 use Rattle.netlist.proofs.Fresh.{AllByRecursion-weaker}
 use Rattle.netlist.proofs.Drives.{IsBare}
 use Rattle.netlist.proofs.ManyDrawn.{drawing_wires, drawn_from_are}
-use Rattle.netlist.proofs.SignalsDrawn.{signals_drawn}
+use Rattle.netlist.proofs.HiddenWires.{IsHidden, hidden_bare}
+use Rattle.netlist.proofs.OthersDrawn.{others_drawn}
 
 -- ---- first values
 
@@ -49,14 +50,6 @@ first_fits c s =
     cond_both (is_clocked (driving c s)) (Some (init_bits c s)) None (λ (o : Option (List Bool)). IfSome o (λ (bits : List Bool). length bits ≡ (signal_form c.pool.signals s).width)) (λ _. length-init_bits c s) (λ _. tt)
 
 -- ---- wires that are no ports
-
--- a wire as it may stand, and no port
-pub record IsHidden (w : RtlWire) : Type 0 where
-  pub fits : WireFits w
-  pub inner : w.port ≡ Inner
-
-hidden_bare : (w : RtlWire) → IsBare w → IsHidden w
-hidden_bare w b = record { fits = record { wide = b.some; init = subst (λ (o : Option (List Bool)). IfSome o (λ (bits : List Bool). length bits ≡ w.width)) (sym b.init) tt }; inner = b.inner }
 
 hidden_signal : (c : Circuit) (s : ℕ) → AllByRecursion IsHidden (signal_wires c s)
 hidden_signal c s =
@@ -90,19 +83,18 @@ module_wires c =
     let W = flat_map drawing_wires (all_drawings c) in
     (λ i. append_assoc C S X i ++ W) ∙ append_assoc C (S ++ X) W
 
-pub others_hidden : (c : Circuit) → IsPool c.pool → AllByRecursion IsHidden (other_wires c)
+pub others_hidden : (c : Circuit) → IsPool c.pool → IsDesign c → AllByRecursion IsHidden (other_wires c)
 unfolding other_wires
-others_hidden c pool =
+others_hidden c pool design =
     let R = range_with_len 0 (length c.pool.signals) in
     let S = flat_map (signal_wires c) R in
     let X = flat_map (expr_wires c) (range_with_len 0 (length c.pool.exprs)) in
     let parts = (drawn_from_are c pool 0 0 (part_total c.pool.exprs) c.pool.exprs (λ i lt. ap (slice_get c.pool.exprs) (omega arith)) (omega arith)).bare in
-    let steps = (signals_drawn c 0 (length c.pool.signals)).bare in
-    let split = flat_map-append drawing_wires (drawings c) (map (signal_drawing c) R) in
-    let bare : AllByRecursion IsBare (flat_map drawing_wires (all_drawings c)) = subst (AllByRecursion IsBare) (sym split) (AllByRecursion-append IsBare (flat_map drawing_wires (drawings c)) (flat_map drawing_wires (map (signal_drawing c) R)) parts steps) in
+    let drawn : AllByRecursion IsHidden (flat_map drawing_wires (all_drawings c)) =
+    subst (AllByRecursion IsHidden) (sym (flat_map-append drawing_wires (drawings c) (other_drawings c)))
+    (AllByRecursion-append IsHidden (flat_map drawing_wires (drawings c)) (flat_map drawing_wires (other_drawings c)) (AllByRecursion-weaker IsBare IsHidden hidden_bare (flat_map drawing_wires (drawings c)) parts) (others_drawn c design).hidden) in
     AllByRecursion-append IsHidden (S ++ X) (flat_map drawing_wires (all_drawings c))
-    (AllByRecursion-append IsHidden S X (all_flat_map IsHidden (signal_wires c) R (hidden_signal c)) (all_flat_map IsHidden (expr_wires c) (range_with_len 0 (length c.pool.exprs)) (hidden_expr c)))
-    (AllByRecursion-weaker IsBare IsHidden hidden_bare (flat_map drawing_wires (all_drawings c)) bare)
+    (AllByRecursion-append IsHidden S X (all_flat_map IsHidden (signal_wires c) R (hidden_signal c)) (all_flat_map IsHidden (expr_wires c) (range_with_len 0 (length c.pool.exprs)) (hidden_expr c))) drawn
 
 abbrev IsWide : Circuit → Column → Type 0
 IsWide c x = 1 ≤ (signal_form c.pool.signals x.sig.0).width
@@ -115,7 +107,7 @@ pub module_wires-fit : (c : Circuit) → IsPool c.pool → IsDesign c → All Wi
 module_wires-fit c pool h =
     subst (All WireFits) (sym (module_wires c))
     (All-append WireFits (column_wires c 0 c.columns) (other_wires c) (columns_fit c 0 c.columns h.columns.some_width)
-    (All-from_recursion WireFits (other_wires c) (AllByRecursion-weaker IsHidden WireFits (λ w g. g.fits) (other_wires c) (others_hidden c pool))))
+    (All-from_recursion WireFits (other_wires c) (AllByRecursion-weaker IsHidden WireFits (λ w g. g.fits) (other_wires c) (others_hidden c pool h))))
 
 -- ---- the ports' numbers
 
@@ -184,7 +176,7 @@ module_ports : (c : Circuit) → IsPool c.pool → IsDesign c → port_numbers (
 module_ports c pool h =
     ap (flat_map numbers_of) (module_wires c)
     ∙ flat_map-append numbers_of (column_wires c 0 c.columns) (other_wires c)
-    ∙ (λ i. column_numbers c 0 c.columns (port_signals c) h.columns.registers h.columns.split (all_ports c.ports) h.columns.no_ports i ++ no_numbers (other_wires c) (others_hidden c pool) i)
+    ∙ (λ i. column_numbers c 0 c.columns (port_signals c) h.columns.registers h.columns.split (all_ports c.ports) h.columns.no_ports i ++ no_numbers (other_wires c) (others_hidden c pool h) i)
     ∙ append-nil (range_with_len 1 (length (port_signals c)))
 
 pub module_ports-numbered : (c : Circuit) → IsPool c.pool → IsDesign c → port_numbers (module_of c) ≡ range_with_len 1 (length (port_numbers (module_of c)))
@@ -200,11 +192,11 @@ column_wires-fields c k n (x ∷ xs) e =
     let rest = column_wires-fields c (suc k) (n + 1) xs (omega arith) in
     λ i. (public_id x.name, ((signal_form c.pool.signals x.sig.0).width, port_of c (e i) x.sig.0)) ∷ rest i
 
-pub module_corresponds : (c : Circuit) → IsPool c.pool → Corresponds c (module_of c)
-module_corresponds c pool = record {
+pub module_corresponds : (c : Circuit) → IsPool c.pool → IsDesign c → Corresponds c (module_of c)
+module_corresponds c pool h = record {
   firsts = column_wires c 0 c.columns;
   others = other_wires c;
   wires = module_wires c;
   columns = column_wires-fields c 0 0 c.columns refl;
-  inner = All-from_recursion (λ (w : RtlWire). w.port ≡ Inner) (other_wires c) (AllByRecursion-weaker IsHidden (λ (w : RtlWire). w.port ≡ Inner) (λ w g. g.inner) (other_wires c) (others_hidden c pool));
+  inner = All-from_recursion (λ (w : RtlWire). w.port ≡ Inner) (other_wires c) (AllByRecursion-weaker IsHidden (λ (w : RtlWire). w.port ≡ Inner) (λ w g. g.inner) (other_wires c) (others_hidden c pool h));
 }

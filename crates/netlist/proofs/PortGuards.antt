@@ -17,8 +17,8 @@ use Rattle.rtlil_text.specs.History.{Wires}
 use Rattle.netlist.specs.Cells.{binary_cell, mux_cell}
 use Rattle.netlist.specs.Operands.{wire_part, const_spec, at_width, const_operand}
 use Rattle.netlist.specs.Operators.{Value, nothing, inner_wire, one_bit, as_form}
-use Rattle.netlist.specs.Carried.{ObeysCell, Obeys}
-use Rattle.netlist.specs.PortGuards.{is_exact, address_value, GuardsAreMade}
+use Rattle.netlist.specs.Carried.{Carries, ObeysCell, Obeys}
+use Rattle.netlist.specs.PortGuards.{is_exact, address_value, guard_drawing, GuardsAreMade}
 use Rattle.netlist.proofs.Reading.{HasBits, Reads, has_carried, reads_const, reads_low, reads_at_width, reads_whole}
 use Rattle.netlist.proofs.Whole.{signed_cell}
 use Rattle.netlist.proofs.Drawn.{first_cell, second_cell}
@@ -92,6 +92,24 @@ module _ (wires : Wires) (id : ℕ → List ℕ) (n depth : ℕ) (name : List �
   exact_made e =
       let inside : nat_lt u depth ≡ true = lt-ltb u depth (subst (λ d. u < d) (sym e) below) in
       (ap Some (sym inside), whole_address ∙ ap (λ (b : Bool). Some (number_bits (max 1 width) (if b then u else 0))) (sym inside))
+
+-- the wires of the guard, where there is one: whether the address is one of a row, and the address behind the guard
+pub guard_bits : (wires : Wires) (id : ℕ → List ℕ) (n depth : ℕ) (name : List ℕ) (width u : ℕ) → u < 2 ^ width → 1 ≤ depth → depth ≤ 2 ^ width → Carries wires (address_value name width) (pos u)
+    → Obeys wires (guard_drawing id n depth (address_value name width)) → is_exact depth width ≡ false → HasBits wires (id (n + 1)) 1 (truth (nat_lt u depth)) × HasBits wires (id (n + 3)) width (cond (nat_lt u depth) (pos u) (pos 0))
+guard_bits wires id n depth name width u below some fits carries obeys e = by (is_exact depth width) e obeys
+  where
+    by : (b : Bool) → b ≡ false → Obeys wires (if b then nothing else record {
+      wires = inner_wire (id (n + 1)) 1 ∷ inner_wire (id (n + 3)) width ∷ [];
+      cells =
+          binary_cell kind.Lt (id n) (as_form (address_value name width) (unsigned width)) (const_operand (unsigned width) (pos depth)) 1 (one_bit (id (n + 1)))
+          ∷ mux_cell (id (n + 2)) width (const_spec width (pos 0)) (at_width name (unsigned width) width) (one_bit (id (n + 1))) (wire_part (id (n + 3)) 0 width) ∷ [];
+      links = [];
+    }) → HasBits wires (id (n + 1)) 1 (truth (nat_lt u depth)) × HasBits wires (id (n + 3)) width (cond (nat_lt u depth) (pos u) (pos 0))
+    by true t o = absurd (false≢true (sym t))
+    by false t o =
+        let less : depth < 2 ^ width = omega (arith, fits, eqb-false depth (2 ^ width) e) in
+        let h : HasBits wires name width (pos u) = has_carried wires (address_value name width) (pos u) carries in
+        (tested wires id n depth name width u below some h less o.cells, guarded wires id n depth name width u below some h less o.cells)
 
 pub guards_made : GuardsAreMade
 guards_made wires id n depth name width u below some fits carries obeys = by (is_exact depth width) refl obeys

@@ -1,7 +1,7 @@
 -- What a register takes at an edge, on its wires and in the design.
-use Rattle.std.specs.Prelude.{◌≡◌, ◌≢◌, refl, ℕ, zero, suc, ◌+◌, ◌*◌, ◌<◌, ◌≤◌, Bool, true, false, not, cond, List, [], ◌∷◌, map, length, slice_get, ℤ, pos, Option, Some, None, fold, codes, ◌-ℤ◌}
+use Rattle.std.specs.Prelude.{◌≡◌, ◌⊎◌, ◌≢◌, refl, ℕ, zero, suc, ◌+◌, ◌*◌, ◌<◌, ◌≤◌, Bool, true, false, not, cond, List, [], ◌∷◌, map, length, slice_get, ℤ, pos, Option, Some, None, fold, ◌-ℤ◌}
 use Rattle.std.specs.List.{AllByRecursion, find}
-use Rattle.std.proofs.Common.{sym, ◌∙◌, ap, arith, subst, ⊎_elim}
+use Rattle.std.proofs.Common.{sym, ◌∙◌, ap, arith, subst, ⊎_elim, inr}
 use Rattle.std.proofs.lemmas.Bool.{false≢true, cond_both, cond-true, cond-false}
 use Rattle.std.proofs.lemmas.List.{get_or-set_other}
 use Rattle.std.proofs.lemmas.List.Elements.{All-head}
@@ -10,7 +10,6 @@ use Rattle.shape_rules.specs.Operators.{is_zero}
 use Rattle.design_ir.specs.declared.ids.DomainId.{DomainId}
 use Rattle.design_ir.specs.declared.signal.Sig.{Sig}
 use Rattle.design_ir.specs.declared.domain.Domain.{Domain}
-use Rattle.design_ir.specs.declared.memory.Memory.{Memory}
 use Rattle.design_ir.specs.declared.process.DesignProcess.{DesignProcess}
 use Rattle.design_ir.specs.declared.event.Event.TheVariants.{Edge}
 use Rattle.design_ir.specs.PoolRules.{IsPool}
@@ -24,7 +23,7 @@ use Rattle.design_ir.proofs.NumbersFit.{element, FitsSignals}
 use Rattle.design_ir.proofs.PutLaws.{put_length, put_other}
 use Rattle.rtlil_text.specs.declared.sig.SigPart.{SigPart}
 use Rattle.rtlil_text.specs.declared.cell.RtlCell.{RtlCell}
-use Rattle.rtlil_text.specs.Sources.{Constant, spec_bits, end_bits}
+use Rattle.rtlil_text.specs.Sources.{Constant, spec_bits}
 use Rattle.rtlil_text.specs.Cells.{bit_at}
 use Rattle.rtlil_text.specs.Meaning.{source_value}
 use Rattle.rtlil_text.specs.History.{Wires}
@@ -35,34 +34,40 @@ use Rattle.netlist.specs.Operators.{whole}
 use Rattle.netlist.specs.Carried.{Carries}
 use Rattle.netlist.specs.CombDrawings.{ObeysUnkept, ObeysComb}
 use Rattle.netlist.specs.Spelled.{spec_of}
-use Rattle.netlist.specs.Module.{signal_value, drives, driving_by, driving, ByEvents, ByComb, ByClock, ByNothing, init_bits, bits_at_last, reset_of, clock_of, register_cell, register_drawing, signal_drawing}
+use Rattle.netlist.specs.Module.{signal_value, is_read, drives, undriven, driving_by, driving, Driving, ByEvents, ByComb, ByClock, ByRead, ByNothing, init_bits, bits_at_last, reset_of, clock_of, register_cell, register_drawing, signal_drawing, Heeding, NoReset, AtEdges, AtOnce, heeding, is_async}
 use Rattle.netlist.proofs.Reading.{HasBits, Reads, reads_low}
 use Rattle.netlist.proofs.Widths.{has_equal}
 use Rattle.netlist.proofs.Bitwise.{mux_cell_bits}
 use Rattle.netlist.proofs.BitWrites.{some_signal}
 use Rattle.netlist.proofs.SignalBits.{bit_at-signal}
+use Rattle.netlist.proofs.Heedings.{not_heeded, at_edges}
 use Rattle.netlist.proofs.OneDriver.{IsOnly, IsFolded, find_only, fold_only}
-use Rattle.netlist.proofs.Driven.{driven_by, distinct_processes, by_comb, by_clock}
+use Rattle.netlist.proofs.Driven.{driven_by, distinct_processes, process_unread, by_comb, by_clock}
+use Rattle.netlist.proofs.ReadOnce.{clocked_reads-other}
 use Rattle.netlist.proofs.ResetLaws.{length-reset_all, reset_all-other, reset_all-less, reset_all-full, IsResetOf, is_reset-of, reset_of-some, reset_of-none}
 use Rattle.netlist.proofs.SettledWires.{Shows, reads_next, signal_drawing-some}
 use Rattle.netlist.specs.Plain.{ArePlain}
 use Rattle.netlist.proofs.SourcedSpecs.{init_bits_are, reads_constants}
 
--- the bits at D of a register's cell: what the statements leave, or what the reset's `$mux` makes of it
-abbrev pub next_spec : Circuit → ℕ → DesignProcess → Option ℕ → List SigPart
-next_spec c s p None = bits_at_last c true p s
-next_spec c s p (Some r) = wire_part (step_id (3 * s + 1)) 0 (signal_form c.pool.signals s).width
+-- the bits at D of a register's cell: what the statements leave, or what the `$mux` of a reset at edges makes of it
+abbrev pub next_spec : Circuit → ℕ → DesignProcess → Heeding → List SigPart
+next_spec c s p NoReset = bits_at_last c true p s
+next_spec c s p (AtOnce r) = bits_at_last c true p s
+next_spec c s p (AtEdges r) = wire_part (step_id (3 * s + 1)) 0 (signal_form c.pool.signals s).width
 
-pub end_bits-register_cell : (id : List ℕ) (width : ℕ) (clock next now : List SigPart) → end_bits (register_cell id width clock next now) (codes "\\D") ≡ spec_bits next
-end_bits-register_cell id width clock next now = refl
+-- a reset that acts at once is not 1
+abbrev pub IsCalm : Circuit → DomainId → List ℤ → Heeding → Type 0
+IsCalm c d env NoReset = Unit {0}
+IsCalm c d env (AtEdges r) = Unit {0}
+IsCalm c d env (AtOnce r) = is_reset c env d.0 ≡ false
 
 -- ---- a register's process and domain
 
 module _ (c : Circuit) (p : DesignProcess) (d : DomainId) where
-  found_domain : (q : DesignProcess) (x : Option DomainId) → q.domain ≡ x → driving_by (Some q) ≡ ByClock p d → (q ≡ p) × (p.domain ≡ Some d)
-  found_domain q None e h = let other : ByComb q ≡ ByClock p d = sym (by_comb q e) ∙ h in cc
-  found_domain q (Some y) e h =
-      let both : ByClock q y ≡ ByClock p d = sym (by_clock q y e) ∙ h in
+  found_domain : (u : Driving) (q : DesignProcess) (x : Option DomainId) → q.domain ≡ x → driving_by u (Some q) ≡ ByClock p d → (q ≡ p) × (p.domain ≡ Some d)
+  found_domain u q None e h = let other : ByComb q ≡ ByClock p d = sym (by_comb u q e) ∙ h in cc
+  found_domain u q (Some y) e h =
+      let both : ByClock q y ≡ ByClock p d = sym (by_clock u q y e) ∙ h in
       let same : q ≡ p = cc in
       let number : y ≡ d = cc in
       (same, ap (λ (z : DesignProcess). z.domain) (sym same) ∙ e ∙ ap (λ z. Some z) number)
@@ -72,11 +77,15 @@ module _ (c : Circuit) (p : DesignProcess) (d : DomainId) where
     pub found : find (drives c s) c.processes ≡ Some p
     pub domain : p.domain ≡ Some d
 
-  by_parts : (s : ℕ) (t : Bool) (o : Option DesignProcess) → is_input c s ≡ t → find (drives c s) c.processes ≡ o → cond t ByEvents (driving_by o) ≡ ByClock p d → IsClocked s
+  unclocked : (b : Bool) → cond b ByRead ByNothing ≡ ByClock p d → ⊥
+  unclocked true e = let other : ByRead ≡ ByClock p d = e in cc
+  unclocked false e = let other : ByNothing ≡ ByClock p d = e in cc
+
+  by_parts : (s : ℕ) (t : Bool) (o : Option DesignProcess) → is_input c s ≡ t → find (drives c s) c.processes ≡ o → cond t ByEvents (driving_by (undriven c s) o) ≡ ByClock p d → IsClocked s
   by_parts s true o i f h = let other : ByEvents ≡ ByClock p d = h in cc
-  by_parts s false None i f h = let other : ByNothing ≡ ByClock p d = h in cc
+  by_parts s false None i f h = absurd (unclocked (is_read c s) h)
   by_parts s false (Some q) i f h =
-      let r = found_domain q q.domain refl h in
+      let r = found_domain (undriven c s) q q.domain refl h in
       record { no_input = i; found = f ∙ ap (λ x. Some x) r.0; domain = r.1 }
 
   pub is_clocked : (s : ℕ) → driving c s ≡ ByClock p d → IsClocked s
@@ -107,7 +116,7 @@ module _ (c : Circuit) (env : List ℤ) (listed : List DomainId) (s : ℕ) where
   toggle_at-other cur None h = refl
   toggle_at-other cur (Some x) h = get_or-set_other cur x.clk.0 s (pos 1 -ℤ at cur x.clk.0) (pos 0) (h x refl)
 
-  toggles-other : (ds : List DomainId) (cur : List ℤ) → ((d : DomainId) (x : Domain) → slice_get c.domains d.0 ≡ Some x → s ≢ x.clk.0) → at (fold (toggle c.domains) cur ds) s ≡ at cur s
+  pub toggles-other : (ds : List DomainId) (cur : List ℤ) → ((d : DomainId) (x : Domain) → slice_get c.domains d.0 ≡ Some x → s ≢ x.clk.0) → at (fold (toggle c.domains) cur ds) s ≡ at cur s
   toggles-other [] cur h = refl
   toggles-other (d ∷ ds) cur h = toggles-other ds (toggle c.domains cur d) h ∙ toggle_at-other cur (slice_get c.domains d.0) (λ x e. h d x e)
 
@@ -117,16 +126,16 @@ all_at P (y ∷ xs) zero x h e = let same : y ≡ x = cc in subst P same h.0
 all_at P (y ∷ xs) (suc k) x h e = all_at P xs k x h.1 e
 
 -- a signal that is no input is no clock
-no_clock : (c : Circuit) (s : ℕ) → AllByRecursion (IsClockDomain c) c.domains → is_input c s ≡ false → (d : DomainId) (x : Domain) → slice_get c.domains d.0 ≡ Some x → s ≢ x.clk.0
+pub no_clock : (c : Circuit) (s : ℕ) → AllByRecursion (IsClockDomain c) c.domains → is_input c s ≡ false → (d : DomainId) (x : Domain) → slice_get c.domains d.0 ≡ Some x → s ≢ x.clk.0
 no_clock c s h none d x e same =
     let input : is_input c x.clk.0 ≡ true = (all_at (IsClockDomain c) c.domains d.0 x h e).clock_input in
     false≢true (sym none ∙ ap (is_input c) same ∙ input)
 
 -- ---- a register at an edge
 
-module _ (c : Circuit) (design : IsDesign c) (flat : c.memories ≡ []) (s : ℕ) (p : DesignProcess) (d : DomainId) (clock : driving c s ≡ ByClock p d) where
+module _ (c : Circuit) (design : IsDesign c) (s : ℕ) (p : DesignProcess) (d : DomainId) (clock : driving c s ≡ ByClock p d) where
   only : IsOnly (driven_by c) s c.processes p
-  only = find_only (driven_by c) s c.processes p (distinct_processes c flat design) (is_clocked c p d s clock).found
+  only = find_only (driven_by c) s c.processes p (distinct_processes c design) (is_clocked c p d s clock).found
 
   -- ---- the choice that a reset makes
 
@@ -144,7 +153,7 @@ module _ (c : Circuit) (design : IsDesign c) (flat : c.memories ≡ []) (s : ℕ
     reads_init = subst (λ bits. Reads wires (spec_of (map Constant bits)) (signal_form c.pool.signals s).width x.init) (sym (init_bits_are c s x is)) (reads_constants wires (signal_form c.pool.signals s).width x.init)
 
     -- the init where the reset is not 0, else what the statements leave
-    pub choice_bits : (r : ℕ) (left : ℤ) → reset_of c s d ≡ Some r → Reads wires (bits_at_last c true p s) (signal_form c.pool.signals s).width left → ObeysComb wires (register_drawing c s p d (Some r))
+    pub choice_bits : (r : ℕ) (left : ℤ) → reset_of c s d ≡ Some r → Reads wires (bits_at_last c true p s) (signal_form c.pool.signals s).width left → ObeysComb wires (register_drawing c s p d (AtEdges r))
         → HasBits wires (step_id (3 * s + 1)) (signal_form c.pool.signals s).width (cond (not (is_zero (at env r))) x.init left)
     choice_bits r left e reads obeys =
         let n : ℕ = (signal_form c.pool.signals s).width in
@@ -155,7 +164,7 @@ module _ (c : Circuit) (design : IsDesign c) (flat : c.memories ≡ []) (s : ℕ
         (reset_bit r (reset_of-some c d env s x is r e).1) reads reads_init (All-head (ObeysUnkept wires) choice (keeps ∷ []) obeys.cells refl)
 
     -- so each bit of it has a value
-    pub choice_some : (r : ℕ) (cur : List ℤ) → at cur s ≡ at env s → length cur ≡ length c.pool.signals → reset_of c s d ≡ Some r → ObeysComb wires (register_drawing c s p d (Some r))
+    pub choice_some : (r : ℕ) (cur : List ℤ) → at cur s ≡ at env s → length cur ≡ length c.pool.signals → reset_of c s d ≡ Some r → ObeysComb wires (register_drawing c s p d (AtEdges r))
         → (i : ℕ) → i < (signal_form c.pool.signals s).width → (b : Bool) × (wires (step_id (3 * s + 1)) i ≡ Some b)
     choice_some r cur same count e obeys i l =
         (_, (choice_bits r (at (put c.pool env p.body cur) s) e (reads_next wires c env design rules plain fit shows s p (at env s) cur only (carried s) same count) obeys).at i l)
@@ -168,7 +177,7 @@ module _ (c : Circuit) (design : IsDesign c) (flat : c.memories ≡ []) (s : ℕ
     by_process : at (moved c st env (Edge listed)).held s ≡ at (clocked_at c env listed p folded.then (Some d)) s
     by_process =
         toggles-other c env listed s listed (clocked_reads c env listed c.memories st.rows (fold (clocked c env listed) st.held c.processes)) (no_clock c s design.domains (is_clocked c p d s clock).no_input)
-        ∙ ap (λ (ms : List Memory). at (clocked_reads c env listed ms st.rows (fold (clocked c env listed) st.held c.processes)) s) flat
+        ∙ clocked_reads-other c env listed s c.memories st.rows (fold (clocked c env listed) st.held c.processes) (process_unread c design s p only)
         ∙ folded.result
         ∙ ap (λ o. at (clocked_at c env listed p folded.then o) s) (is_clocked c p d s clock).domain
 
@@ -201,16 +210,16 @@ module _ (c : Circuit) (design : IsDesign c) (flat : c.memories ≡ []) (s : ℕ
         there : s < length (put c.pool env p.body folded.then)
         there = omega (arith, put_length c.pool env p.body folded.then, folded.long, count, some_signal c.pool.signals s some)
 
-        -- with no reset that it heeds, it takes what the statements leave
-        unreset : reset_of c s d ≡ None → at (moved c st env (Edge listed)).held s ≡ left
+        -- with no reset that it heeds, or none that is 1, it takes what the statements leave
+        unreset : (sig.0.reset_less ≡ true) ⊎ (is_reset c env d.0 ≡ false) → at (moved c st env (Edge listed)).held s ≡ left
         unfolding left
-        unreset e =
+        unreset none =
             let after : List ℤ = put c.pool env p.body folded.then in
             risen up ∙ cond_both (is_reset c env d.0) (reset_all c.pool.signals after (driven c.pool p.body)) after (λ xs. at xs s ≡ at after s)
             (λ on. ⊎_elim
             (λ (less : sig.0.reset_less ≡ true). reset_all-less c.pool.signals s sig.0 sig.1 less (driven c.pool p.body) after)
             (λ (off : is_reset c env d.0 ≡ false). absurd (false≢true (sym off ∙ on)))
-            (reset_of-none c d env s sig.0 sig.1 e))
+            none)
             (λ off. refl)
 
         -- with one, it takes its init where that is not 0
@@ -225,15 +234,19 @@ module _ (c : Circuit) (design : IsDesign c) (flat : c.memories ≡ []) (s : ℕ
             (λ on. reset_all-full c.pool.signals s sig.0 sig.1 h.0 (driven c.pool p.body) after there only.here ∙ sym (cond-true (not (is_zero (at env r))) sig.0.init (at after s) on))
             (λ off. sym (cond-false (not (is_zero (at env r))) sig.0.init (at after s) off))
 
-        by_reset : (o : Option ℕ) → reset_of c s d ≡ o → ObeysComb wires (register_drawing c s p d o) → Reads wires (next_spec c s p o) (signal_form c.pool.signals s).width (at (moved c st env (Edge listed)).held s)
-        by_reset None e obeys = subst (Reads wires (bits_at_last c true p s) (signal_form c.pool.signals s).width) (sym (unreset e)) reads_left
-        by_reset (Some r) e obeys =
+        by_reset : (h : Heeding) → heeding c s d ≡ h → IsCalm c d env h → ObeysComb wires (register_drawing c s p d h) → Reads wires (next_spec c s p h) (signal_form c.pool.signals s).width (at (moved c st env (Edge listed)).held s)
+        by_reset NoReset e calm obeys =
+            let none : reset_of c s d ≡ None = not_heeded (is_async c d) (reset_of c s d) e in
+            subst (Reads wires (bits_at_last c true p s) (signal_form c.pool.signals s).width) (sym (unreset (reset_of-none c d env s sig.0 sig.1 none))) reads_left
+        by_reset (AtOnce r) e calm obeys = subst (Reads wires (bits_at_last c true p s) (signal_form c.pool.signals s).width) (sym (unreset (inr calm))) reads_left
+        by_reset (AtEdges r) e calm obeys =
+            let heeds : reset_of c s d ≡ Some r = (at_edges (is_async c d) (reset_of c s d) r e).0 in
             let n : ℕ = (signal_form c.pool.signals s).width in
             let out : List ℕ = step_id (3 * s + 1) in
-            let chosen : HasBits wires out n (cond (not (is_zero (at env r))) sig.0.init left) = choice_bits env wires rules plain fit shows carried sig.0 sig.1 r left e reads_left obeys in
+            let chosen : HasBits wires out n (cond (not (is_zero (at env r))) sig.0.init left) = choice_bits env wires rules plain fit shows carried sig.0 sig.1 r left heeds reads_left obeys in
             reads_low wires out n n (at (moved c st env (Edge listed)).held s) (omega arith)
-            (has_equal wires out n (cond (not (is_zero (at env r))) sig.0.init left) (at (moved c st env (Edge listed)).held s) (sym (reset_is r e)) chosen)
+            (has_equal wires out n (cond (not (is_zero (at env r))) sig.0.init left) (at (moved c st env (Edge listed)).held s) (sym (reset_is r heeds)) chosen)
 
         -- the bits at D are those of its number after the edge
-        pub reads_register : ObeysComb wires (signal_drawing c s) → Reads wires (next_spec c s p (reset_of c s d)) (signal_form c.pool.signals s).width (at (moved c st env (Edge listed)).held s)
-        reads_register obeys = by_reset (reset_of c s d) refl (subst (ObeysComb wires) (signal_drawing-some c s (ByClock p d) some clock) obeys)
+        pub reads_register : IsCalm c d env (heeding c s d) → ObeysComb wires (signal_drawing c s) → Reads wires (next_spec c s p (heeding c s d)) (signal_form c.pool.signals s).width (at (moved c st env (Edge listed)).held s)
+        reads_register calm obeys = by_reset (heeding c s d) refl calm (subst (ObeysComb wires) (signal_drawing-some c s (ByClock p d) some clock) obeys)

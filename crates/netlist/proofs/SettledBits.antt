@@ -52,7 +52,7 @@ all_among : {A : Type 0} (xs ys : List A) → ((x : A) → Among xs x → Among 
 all_among [] ys f = tt
 all_among (x ∷ xs) ys f = (f x (inl refl), all_among xs ys (λ y a. f y (inr a)))
 
-module _ (c : Circuit) (env : List ℤ) (design : IsDesign c) (rules : IsPool c.pool) (plain : ArePlain c) (st : State) (flat : c.memories ≡ []) (settled : Settled c st env) (s : ℕ) (p : DesignProcess) (i : ℕ) where
+module _ (c : Circuit) (env : List ℤ) (design : IsDesign c) (rules : IsPool c.pool) (plain : ArePlain c) (st : State) (settled : Settled c st env) (s : ℕ) (p : DesignProcess) (i : ℕ) where
   -- the bit of an expression that a process may read, and its source: what that needs, this needs
   pub record IsFrom : Type 0 where
     pub expr : ExprId
@@ -98,7 +98,7 @@ module _ (c : Circuit) (env : List ℤ) (design : IsDesign c) (rules : IsPool c.
   pub settled_bit : (x : Sig) → slice_get c.pool.signals s ≡ Some x → is_held c s ≡ false → IsOnly (driven_by c) s c.processes p → p.domain ≡ None → i < (signal_form c.pool.signals s).width
       → (at_last c false p s i ≡ Constant (bit_of (at env s) i)) ⊎ IsFrom
   settled_bit x is held o d inside =
-      let r = settled_by c env design st flat settled s x p is held o d in
+      let r = settled_by c env design st settled s x p is held o d in
       ⊎_elim
       (λ (b : IsBefore c.pool env (expr_value c) IsItsOwn s i inside (at_first c false) r.then (at_last c false p) (put c.pool env p.body r.then)).
       inl (b.source ∙ first_source c s x i is inside ∙ ap (λ z. Constant (bit_of z i)) (sym r.first) ∙ ap Constant (sym b.same) ∙ ap (λ z. Constant (bit_of z i)) (sym r.result)))

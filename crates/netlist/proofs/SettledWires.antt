@@ -1,40 +1,28 @@
 -- Wires that carry an environment in which every combinational equation holds.
-use Rattle.std.specs.Prelude.{◌≡◌, refl, ℕ, ◌<◌, ◌≤◌, Bool, true, false, cond, List, [], map, length, slice_get, ℤ, Option, Some, None, is_some}
-use Rattle.std.specs.List.{find}
-use Rattle.std.proofs.Common.{sym, ◌∙◌, ap, arith, subst}
-use Rattle.std.proofs.lemmas.Bool.{false≢true, or_parts, lt-ltb}
-use Rattle.std.proofs.lemmas.List.Elements.{All-nil}
+use Rattle.std.specs.Prelude.{◌≡◌, ℕ, ◌<◌, ◌≤◌, true, cond, List, length, ℤ}
+use Rattle.std.proofs.Common.{◌∙◌, ap, arith}
+use Rattle.std.proofs.lemmas.Bool.{lt-ltb}
 use Rattle.design_ir.specs.declared.ids.ExprId.{ExprId}
-use Rattle.design_ir.specs.declared.ids.DomainId.{DomainId}
-use Rattle.design_ir.specs.declared.signal.Sig.{Sig}
 use Rattle.design_ir.specs.declared.process.DesignProcess.{DesignProcess}
 use Rattle.design_ir.specs.PoolRules.{IsPool}
 use Rattle.design_ir.specs.Values.{form, num, signal_form}
 use Rattle.design_ir.specs.Put.{put}
-use Rattle.design_ir.specs.Circuits.{Circuit, State, at, is_input, is_register, is_held}
+use Rattle.design_ir.specs.Circuits.{Circuit, at}
 use Rattle.design_ir.specs.Designs.{IsUsable, IsDesign}
-use Rattle.design_ir.specs.Settled.{Settled}
-use Rattle.design_ir.proofs.NumbersFit.{element, FitsSignals, has_shape, num_fits}
-use Rattle.rtlil_text.specs.declared.sig.SigPart.{SigPart}
-use Rattle.rtlil_text.specs.Sources.{Constant}
+use Rattle.design_ir.proofs.NumbersFit.{FitsSignals, has_shape, num_fits}
 use Rattle.rtlil_text.specs.History.{Wires}
 use Rattle.netlist.specs.Operators.{nothing}
-use Rattle.netlist.specs.Carried.{Carries, ObeysCell}
-use Rattle.netlist.specs.CombDrawings.{ObeysComb}
+use Rattle.netlist.specs.Carried.{Carries}
 use Rattle.netlist.specs.Latest.{Latest, latest_of}
-use Rattle.netlist.specs.Spelled.{spec_of}
-use Rattle.netlist.specs.Module.{signal_value, expr_value, drives, driving, Driving, ByComb, ByNothing, init_bits, at_first, at_last, bits_at_last, link_to, driving_drawing, signal_drawing}
-use Rattle.netlist.proofs.Reading.{Reads, carries_bits}
+use Rattle.netlist.specs.Module.{signal_value, expr_value, driving, Driving, at_first, at_last, bits_at_last, driving_drawing, signal_drawing}
+use Rattle.netlist.proofs.Reading.{Reads}
 use Rattle.netlist.proofs.Drawn.{form_sign}
-use Rattle.netlist.proofs.Widths.{linked_bits}
-use Rattle.netlist.proofs.BitWrites.{some_signal}
 use Rattle.netlist.proofs.PutSources.{IsSourced, IsShown, put_sourced}
-use Rattle.netlist.proofs.OneDriver.{IsOnly, find_only, find_none}
-use Rattle.netlist.proofs.Driven.{driven_by, distinct_processes, is_register-only, driving-found, driving-comb}
-use Rattle.netlist.proofs.SourcedSpecs.{reads_sources, reads_constants, init_bits_are, first_sourced, held_sourced}
+use Rattle.netlist.proofs.OneDriver.{IsOnly}
+use Rattle.netlist.proofs.Driven.{driven_by}
+use Rattle.netlist.proofs.SourcedSpecs.{reads_sources, held_sourced}
 use Rattle.netlist.specs.Plain.{ArePlain}
 use Rattle.netlist.proofs.PlainProcesses.{process_plain, process_given}
-use Rattle.netlist.proofs.SettledNumbers.{settled_none, settled_by}
 
 -- ---- what expressions carry
 
@@ -71,62 +59,3 @@ module _ (wires : Wires) (c : Circuit) (env : List ℤ) (design : IsDesign c) (r
   reads_next s p x cur o carried is count =
       let h : IsSourced wires c.pool (at_last c true p) (put c.pool env p.body cur) s = process_sourced s p (at_first c true) cur o count (held_sourced wires c s cur x carried is) in
       reads_sources wires (at_last c true p s) (signal_form c.pool.signals s).width (at (put c.pool env p.body cur) s) h.bits
-
-  module _ (st : State) (flat : c.memories ≡ []) (settled : Settled c st env) (s : ℕ) where
-    module _ (held : is_held c s ≡ false) (some : 1 ≤ (signal_form c.pool.signals s).width) (obeys : ObeysComb wires (signal_drawing c s)) where
-      sig : (x : Sig) × (slice_get c.pool.signals s ≡ Some x)
-      sig = element c.pool.signals s (some_signal c.pool.signals s some)
-
-      no_input : is_input c s ≡ false
-      no_input = (or_parts (is_input c s) (is_register c s) held).0
-
-      obeys_driving : (d : Driving) → driving c s ≡ d → ObeysComb wires (driving_drawing c s d)
-      obeys_driving d e = subst (ObeysComb wires) (signal_drawing-some c s d some e) obeys
-
-      from_link : (right : List SigPart) (x : ℤ) → Reads wires right (signal_form c.pool.signals s).width x → at env s ≡ x → ObeysComb wires (link_to c s right) → Carries wires (signal_value c s) (at env s)
-      from_link right x r e o =
-          subst (Carries wires (signal_value c s)) (sym e) (carries_bits wires (signal_value c s) x (linked_bits wires (signal_value c s) right (signal_form c.pool.signals s).width x r (omega arith) (record { cells = All-nil (ObeysCell wires); links = o.links })))
-
-      by_nothing : find (drives c s) c.processes ≡ None → Carries wires (signal_value c s) (at env s)
-      by_nothing e =
-          let x : Sig = sig.0 in
-          let is : at env s ≡ x.init = settled_none c env design st flat settled s x sig.1 held (find_none (driven_by c) s c.processes e) in
-          from_link (spec_of (map Constant (init_bits c s))) x.init
-          (subst (λ bits. Reads wires (spec_of (map Constant bits)) (signal_form c.pool.signals s).width x.init) (sym (init_bits_are c s x sig.1)) (reads_constants wires (signal_form c.pool.signals s).width x.init))
-          is (obeys_driving ByNothing (driving-found c s no_input None e))
-
-      by_process : (p : DesignProcess) → find (drives c s) c.processes ≡ Some p → p.domain ≡ None → Carries wires (signal_value c s) (at env s)
-      by_process p e d =
-          let x : Sig = sig.0 in
-          let o : IsOnly (driven_by c) s c.processes p = find_only (driven_by c) s c.processes p (distinct_processes c flat design) e in
-          let r = settled_by c env design st flat settled s x p sig.1 held o d in
-          let first : IsSourced wires c.pool (at_first c false) r.then s = first_sourced wires c s x r.then sig.1 r.first in
-          let last : IsSourced wires c.pool (at_last c false p) (put c.pool env p.body r.then) s = process_sourced s p (at_first c false) r.then o r.long first in
-          from_link (bits_at_last c false p s) (at (put c.pool env p.body r.then) s)
-          (reads_sources wires (at_last c false p s) (signal_form c.pool.signals s).width (at (put c.pool env p.body r.then) s) last.bits)
-          r.result (obeys_driving (ByComb p) (driving-comb c s no_input p e d))
-
-      not_clocked : (p : DesignProcess) (d : DomainId) → find (drives c s) c.processes ≡ Some p → p.domain ≡ Some d → ⊥
-      not_clocked p d e h =
-          let o : IsOnly (driven_by c) s c.processes p = find_only (driven_by c) s c.processes p (distinct_processes c flat design) e in
-          false≢true (sym (or_parts (is_input c s) (is_register c s) held).1 ∙ is_register-only c flat s p o ∙ ap is_some h)
-
-      by_domain : (p : DesignProcess) (d : Option DomainId) → find (drives c s) c.processes ≡ Some p → p.domain ≡ d → Carries wires (signal_value c s) (at env s)
-      by_domain p None e h = by_process p e h
-      by_domain p (Some d) e h = absurd (not_clocked p d e h)
-
-      by_found : (o : Option DesignProcess) → find (drives c s) c.processes ≡ o → Carries wires (signal_value c s) (at env s)
-      by_found None e = by_nothing e
-      by_found (Some p) e = by_domain p p.domain e refl
-
-    -- the wire of a signal that no state holds carries its number
-    pub settled_signal : is_held c s ≡ false → ObeysComb wires (signal_drawing c s) → Carries wires (signal_value c s) (at env s)
-    settled_signal held obeys i l = by_found held (omega arith) obeys (find (drives c s) c.processes) refl i l
-
-    -- so the wire of each signal does, where those of inputs and registers do
-    pub settled_wire : (is_held c s ≡ true → Carries wires (signal_value c s) (at env s)) → ObeysComb wires (signal_drawing c s) → Carries wires (signal_value c s) (at env s)
-    settled_wire held obeys = by_held (is_held c s) refl
-      where
-        by_held : (t : Bool) → is_held c s ≡ t → Carries wires (signal_value c s) (at env s)
-        by_held true e = held e
-        by_held false e = settled_signal e obeys

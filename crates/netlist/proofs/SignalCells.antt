@@ -27,6 +27,8 @@ use Rattle.rtlil_text.specs.declared.module.RtlModule.{RtlModule}
 use Rattle.rtlil_text.specs.Sources.{Source, Constant, Net}
 use Rattle.rtlil_text.specs.Rules.{WireFits, ValueFits, SpecFits, CellFits, LinkFits}
 use Rattle.rtlil_text.proofs.Among.{Among, AllByRecursion-among, Among-slice_get}
+use Rattle.memory_cells.specs.declared.clock.Clock.{Clock}
+use Rattle.memory_cells.proofs.Clocks.{polarity-flag}
 use Rattle.netlist.specs.Ids.{step_id}
 use Rattle.netlist.specs.Cells.{mux_cell}
 use Rattle.netlist.specs.Operands.{wire_part}
@@ -35,7 +37,7 @@ use Rattle.netlist.specs.Latest.{Latest, source_at, with_source, given, latest_o
 use Rattle.netlist.specs.Latest as latest_spec
 use Rattle.netlist.specs.Spelled.{spec_of}
 use Rattle.netlist.specs.Fits.{HasWire, HasValue, DrawingFits}
-use Rattle.netlist.specs.Module.{signal_value, expr_value, wire_id, Driving, ByEvents, ByComb, ByClock, ByNothing, drives, driving_at, driving_by, driving, init_bits, at_first, at_last, bits_at_last, domain_of, reset_of, clock_of, register_cell, register_drawing, driving_drawing, signal_drawing, module_of}
+use Rattle.netlist.specs.Module.{signal_value, expr_value, wire_id, Driving, ByEvents, ByComb, ByClock, ByRead, ByNothing, drives, driving_at, is_read, undriven, driving_by, driving, init_bits, at_first, at_last, bits_at_last, domain_of, reset_of, clock_of, register_cell, register_drawing, driving_drawing, signal_drawing, module_of, clock_at, no_clock, Heeding, NoReset, AtEdges, AtOnce, heeding, heeding_of, is_async, clear_cell}
 use Rattle.netlist.proofs.Drawn.{form_sign}
 use Rattle.netlist.proofs.NeededBits.{all_right}
 use Rattle.netlist.proofs.Reading.{HasSign}
@@ -78,13 +80,23 @@ source_fits m v k sign h =
 
 -- ---- registers
 
-register_fits : (m : RtlModule) (id : List ℕ) (width : ℕ) (clock after now : List SigPart) → SpecIs m clock 1 → SpecIs m after width → SpecIs m now width → CellFits m (register_cell id width clock after now)
+pub register_fits : (m : RtlModule) (id : List ℕ) (width : ℕ) (clock : Clock) (after now : List SigPart) → SpecIs m clock.bit 1 → SpecIs m after width → SpecIs m now width → CellFits m (register_cell id width clock after now)
 register_fits m id width clock after now p q r = record {
   parameters = refl;
   values = All-from_recursion (λ (p : RtlParameter). ValueFits p.value) (register_cell id width clock after now).parameters (tt, (tt, tt));
   ends = refl;
   specs = All-from_recursion (λ (e : RtlEnd). SpecFits m.wires e.spec) (register_cell id width clock after now).ends (p.parts, (q.parts, (r.parts, tt)));
-  rules = record { d = sym q.wide; q = sym r.wide; clock = p.wide; edge = omega arith };
+  rules = record { d = sym q.wide; q = sym r.wide; clock = p.wide; edge = polarity-flag clock };
+}
+
+clear_fits : (m : RtlModule) (id : List ℕ) (width : ℕ) (clock : Clock) (reset : List SigPart) (first : List Bool) (after now : List SigPart) → SpecIs m clock.bit 1 → SpecIs m reset 1 → length first ≡ width → SpecIs m after width → SpecIs m now width
+    → CellFits m (clear_cell id width clock reset first after now)
+clear_fits m id width clock reset first after now p s long q r = record {
+  parameters = refl;
+  values = All-from_recursion (λ (p : RtlParameter). ValueFits p.value) (clear_cell id width clock reset first after now).parameters (tt, (tt, (tt, (tt, tt))));
+  ends = refl;
+  specs = All-from_recursion (λ (e : RtlEnd). SpecFits m.wires e.spec) (clear_cell id width clock reset first after now).ends (s.parts, (p.parts, (q.parts, (r.parts, tt))));
+  rules = record { register = record { d = sym q.wide; q = sym r.wide; clock = p.wide; edge = polarity-flag clock }; reset = s.wide; level = omega arith; value = long };
 }
 
 found_process : (p : DesignProcess → Bool) (xs : List DesignProcess) (x : DesignProcess) → find p xs ≡ Some x → Among xs x
@@ -136,11 +148,11 @@ module _ (c : Circuit) (pool : IsPool c.pool) (h : IsDesign c) where
   bit_is : (s : SigId) → IsSignalOf c (unsigned 1) s → SpecIs (module_of c) (whole (signal_value c s.0)) 1
   bit_is s g = subst (λ (f : Form). SpecIs (module_of c) (whole (signal_value c s.0)) f.width) g.shape (whole_is (module_of c) (signal_value c s.0) (signal_held c s.0 g.there))
 
-  clock_is : (d : DomainId) → d.0 < length c.domains → SpecIs (module_of c) (clock_of c d) 1
+  pub clock_is : (d : DomainId) → d.0 < length c.domains → SpecIs (module_of c) (clock_of c d).bit 1
   clock_is d p =
       let x = element c.domains d.0 p in
       let domain : IsClockDomain c x.0 = AllByRecursion-among (IsClockDomain c) c.domains x.0 h.domains (Among-slice_get c.domains d.0 x.0 x.1) in
-      subst (λ (o : Option Domain). SpecIs (module_of c) (unwrap_or (option_map (λ (y : Domain). whole (signal_value c y.clk.0)) o) []) 1) (sym x.1) (bit_is x.0.clk domain.clock)
+      subst (λ (o : Option Domain). SpecIs (module_of c) (unwrap_or (option_map (clock_at c) o) no_clock).bit 1) (sym x.1) (bit_is x.0.clk domain.clock)
 
   -- a reset, where there is one, is a signal of one bit
   abbrev ResetIs : Option ℕ → Type 0
@@ -160,19 +172,36 @@ module _ (c : Circuit) (pool : IsPool c.pool) (h : IsDesign c) where
       cond_both (unwrap_or (option_map (λ (x : Sig). x.reset_less) (slice_get c.pool.signals s)) true) None (option_and_then (λ (x : Domain). option_map (λ (r : SigId). r.0) x.rst) (domain_of c d)) ResetIs (λ _. tt)
       (λ _. reset_by (domain_of c d) (λ x e. AllByRecursion-among (IsClockDomain c) c.domains x h.domains (Among-slice_get c.domains d.0 x e)))
 
+  abbrev HeedingIs : Heeding → Type 0
+  HeedingIs NoReset = Unit {0}
+  HeedingIs (AtEdges r) = SpecIs (module_of c) (whole (signal_value c r)) 1
+  HeedingIs (AtOnce r) = SpecIs (module_of c) (whole (signal_value c r)) 1
+
+  heeding_by : (async : Bool) (o : Option ℕ) → ResetIs o → HeedingIs (heeding_of async o)
+  heeding_by async None g = tt
+  heeding_by true (Some r) g = g
+  heeding_by false (Some r) g = g
+
+  heeding_is : (s : ℕ) (d : DomainId) → HeedingIs (heeding c s d)
+  heeding_is s d = heeding_by (is_async c d) (reset_of c s d) (reset_is s d)
+
   -- ---- what drives a signal
 
   module _ (s : ℕ) (there : s < length c.pool.signals) where
     now_is : SpecIs (module_of c) (whole (signal_value c s)) (signal_form c.pool.signals s).width
     now_is = whole_is (module_of c) (signal_value c s) (signal_held c s there)
 
-    register_drawing-fits : (p : DesignProcess) (d : DomainId) (r : Option ℕ) → 1 ≤ (signal_form c.pool.signals s).width → IsProcess c p → d.0 < length c.domains → ResetIs r
-        → All (Contains (module_of c).wires) (register_drawing c s p d r).wires → DrawingFits (module_of c) (register_drawing c s p d r)
-    register_drawing-fits p d None some q domain reset held =
+    register_drawing-fits : (p : DesignProcess) (d : DomainId) (x : Heeding) → 1 ≤ (signal_form c.pool.signals s).width → IsProcess c p → d.0 < length c.domains → HeedingIs x
+        → All (Contains (module_of c).wires) (register_drawing c s p d x).wires → DrawingFits (module_of c) (register_drawing c s p d x)
+    register_drawing-fits p d NoReset some q domain reset held =
         let w : ℕ = (signal_form c.pool.signals s).width in
         one_fits (module_of c) (register_cell (step_id (3 * s)) w (clock_of c d) (bits_at_last c true p s) (whole (signal_value c s)))
         (register_fits (module_of c) (step_id (3 * s)) w (clock_of c d) (bits_at_last c true p s) (whole (signal_value c s)) (clock_is d domain) (last_is true p s q there) now_is)
-    register_drawing-fits p d (Some r) some q domain reset held =
+    register_drawing-fits p d (AtOnce r) some q domain reset held =
+        let w : ℕ = (signal_form c.pool.signals s).width in
+        one_fits (module_of c) (clear_cell (step_id (3 * s)) w (clock_of c d) (whole (signal_value c r)) (init_bits c s) (bits_at_last c true p s) (whole (signal_value c s)))
+        (clear_fits (module_of c) (step_id (3 * s)) w (clock_of c d) (whole (signal_value c r)) (init_bits c s) (bits_at_last c true p s) (whole (signal_value c s)) (clock_is d domain) reset (length-init_bits c s) (last_is true p s q there) now_is)
+    register_drawing-fits p d (AtEdges r) some q domain reset held =
         let n : ℕ = 3 * s in
         let w : ℕ = (signal_form c.pool.signals s).width in
         let begin : List SigPart = spec_of (map Constant (init_bits c s)) in
@@ -194,26 +223,28 @@ module _ (c : Circuit) (pool : IsPool c.pool) (h : IsDesign c) where
     IsDriving ByEvents = Unit {0}
     IsDriving (ByComb p) = IsProcess c p
     IsDriving (ByClock p d) = IsProcess c p × (d.0 < length c.domains)
+    IsDriving ByRead = Unit {0}
     IsDriving ByNothing = Unit {0}
 
     is_driving-at : (p : DesignProcess) (d : Option DomainId) → IsProcess c p → IsDomain c d → IsDriving (driving_at p d)
     is_driving-at p None q g = q
     is_driving-at p (Some d) q g = (q, g)
 
-    is_driving-by : (p : Option DesignProcess) → ((x : DesignProcess) → p ≡ Some x → IsProcess c x) → IsDriving (driving_by p)
-    is_driving-by None each = tt
+    is_driving-by : (p : Option DesignProcess) → ((x : DesignProcess) → p ≡ Some x → IsProcess c x) → IsDriving (driving_by (undriven c s) p)
+    is_driving-by None each = cond_both (is_read c s) ByRead ByNothing IsDriving (λ _. tt) (λ _. tt)
     is_driving-by (Some p) each = let q = each p refl in is_driving-at p p.domain q q.domain
 
     is_driving : IsDriving (driving c s)
     is_driving =
         let p = find (drives c s) c.processes in
-        cond_both (is_input c s) ByEvents (driving_by p) IsDriving (λ _. tt)
+        cond_both (is_input c s) ByEvents (driving_by (undriven c s) p) IsDriving (λ _. tt)
         (λ _. is_driving-by p (λ x e. AllByRecursion-among (IsProcess c) c.processes x h.processes (found_process (drives c s) c.processes x e)))
 
     driving_fits : (x : Driving) → IsDriving x → 1 ≤ (signal_form c.pool.signals s).width → All (Contains (module_of c).wires) (driving_drawing c s x).wires → DrawingFits (module_of c) (driving_drawing c s x)
     driving_fits ByEvents g some held = nothing_fits (module_of c)
     driving_fits (ByComb p) g some held = linked_fits (module_of c) (signal_value c s) (bits_at_last c false p s) (signal_held c s there) (last_is false p s g there)
-    driving_fits (ByClock p d) g some held = register_drawing-fits p d (reset_of c s d) some g.0 g.1 (reset_is s d) held
+    driving_fits (ByClock p d) g some held = register_drawing-fits p d (heeding c s d) some g.0 g.1 (heeding_is s d) held
+    driving_fits ByRead g some held = nothing_fits (module_of c)
     driving_fits ByNothing g some held =
         linked_fits (module_of c) (signal_value c s) (spec_of (map Constant (init_bits c s))) (signal_held c s there) (constants_are (module_of c) (init_bits c s) (signal_form c.pool.signals s).width (length-init_bits c s))
 

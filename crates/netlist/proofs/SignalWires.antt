@@ -70,7 +70,7 @@ signal_wire c design s there some = own_wire c design s there some (column_of c 
 
 -- ---- found by its id
 
-wire_found : (ws : List RtlWire) (w : RtlWire) → IsDistinct text_eq (wire_ids ws) → Among ws w → find (λ (v : RtlWire). text_eq v.id w.id) ws ≡ Some w
+pub wire_found : (ws : List RtlWire) (w : RtlWire) → IsDistinct text_eq (wire_ids ws) → Among ws w → find (λ (v : RtlWire). text_eq v.id w.id) ws ≡ Some w
 unfolding IsDistinct
 wire_found [] w d a = absurd a
 wire_found (v ∷ ws) w d a = ⊎_elim here (there (wire_found ws w d.1)) a

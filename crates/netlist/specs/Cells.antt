@@ -4,13 +4,16 @@ use Rattle.shape_rules.specs.Forms.{Form}
 use Rattle.shape_rules.specs.declared.cell.CellKind.{CellKind}
 use Rattle.shape_rules.specs.declared.cell.CellKind.TheVariants as kind
 use Rattle.rtlil_text.specs.declared.sig.SigPart.{SigPart}
-use Rattle.rtlil_text.specs.declared.cell.RtlValue.TheVariants.{Number}
+use Rattle.rtlil_text.specs.declared.cell.RtlValue.TheVariants.{Number, Bits}
 use Rattle.rtlil_text.specs.declared.cell.RtlParameter.{RtlParameter}
 use Rattle.rtlil_text.specs.declared.cell.RtlEnd.{RtlEnd}
 use Rattle.rtlil_text.specs.declared.cell.RtlCell.{RtlCell}
 
 abbrev pub number_parameter : List ℕ → ℕ → RtlParameter
 number_parameter name n = record { name = name; value = Number n }
+
+abbrev pub bits_parameter : List ℕ → List Bool → RtlParameter
+bits_parameter name bits = record { name = name; value = Bits bits }
 
 abbrev pub end_at : List ℕ → List SigPart → RtlEnd
 end_at name spec = record { name = name; spec = spec }

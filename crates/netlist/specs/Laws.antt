@@ -1,5 +1,5 @@
 -- What is proved of the lowering, for every design.
-use Rattle.std.specs.Prelude.{◌<◌, ◌^◌, List}
+use Rattle.std.specs.Prelude.{◌<◌, ◌^◌, List, length}
 use Rattle.std.specs.List.{AllByRecursion}
 use Rattle.shape_rules.specs.declared.op.Op.{Op}
 use Rattle.design_ir.specs.declared.expr.Expr.{Expr}
@@ -11,6 +11,7 @@ use Rattle.netlist.specs.Carried.{MakesOperator}
 use Rattle.netlist.specs.Made.{HasByteStride, MakesExpression}
 use Rattle.netlist.specs.Expressions.{part_total}
 use Rattle.netlist.specs.Module.{module_of}
+use Rattle.netlist.specs.MemoryDrawings.{memories_of, all_parts}
 use Rattle.netlist.specs.Corresponds.{Corresponds}
 use Rattle.netlist.specs.Plain.{IsPlain}
 use Rattle.netlist.specs.Histories.{SameHistory}
@@ -25,15 +26,16 @@ OperatorsAreMade = (o : Op) → MakesOperator o
 abbrev pub ExpressionsAreMade : Type 0
 ExpressionsAreMade = (e : Expr) → MakesExpression e
 
--- the module keeps every rule of the text: names, widths, parameters, one driver for each bit
+-- the module keeps every rule of the text, its memories too: names, widths, parameters, one driver for each bit
 abbrev pub ModulesKeepTheRules : Type 0
-ModulesKeepTheRules = (c : Circuit) → IsPool c.pool → IsDesign c → part_total c.pool.exprs < 10 ^ 63 → IsModule (module_of c)
+ModulesKeepTheRules = (c : Circuit) → IsPool c.pool → IsDesign c → length (all_parts (memories_of c)) < 10 ^ 18 → part_total c.pool.exprs < 10 ^ 63 → IsModule (module_of c)
 
 -- the module has the design's columns
 abbrev pub ModulesCorrespond : Type 0
-ModulesCorrespond = (c : Circuit) → IsPool c.pool → Corresponds c (module_of c)
+ModulesCorrespond = (c : Circuit) → IsPool c.pool → IsDesign c → Corresponds c (module_of c)
 
--- where strides are bytes, as in the code, and the bits of comb signals have an order, the module has the design's history, and every bit of it has a value
+-- where strides are bytes, as in the code, and the bits of comb signals have an order, the module has the design's history, its memories' too, and every
+-- bit of it has a value
 abbrev pub ModulesHaveTheHistory : Type 0
 ModulesHaveTheHistory =
-    (c : Circuit) (order : List Bit) → IsPool c.pool → AllByRecursion HasByteStride c.pool.exprs → IsDesign c → IsPlain c → part_total c.pool.exprs < 10 ^ 63 → IsOrder c order → SameHistory c (module_of c)
+    (c : Circuit) (order : List Bit) → IsPool c.pool → AllByRecursion HasByteStride c.pool.exprs → IsDesign c → IsPlain c → length (all_parts (memories_of c)) < 10 ^ 18 → part_total c.pool.exprs < 10 ^ 63 → IsOrder c order → SameHistory c (module_of c)

@@ -1,9 +1,8 @@
--- Designs that can be lowered so far: no memories, domains that rise and reset at edges alone, no choices, and fixed targets alone.
-use Rattle.std.specs.Prelude.{◌≡◌, true, []}
+-- Designs in a form that is drawn as it stands: no choices, and fixed targets alone.
+use Rattle.std.specs.Prelude.{◌≡◌, true}
 use Rattle.std.specs.List.{AllByRecursion}
 use Rattle.design_ir.specs.declared.process.DesignProcess.{DesignProcess}
 use Rattle.design_ir.specs.Circuits.{Circuit}
-use Rattle.design_ir.specs.Rising.{AllRisingSync}
 use Rattle.netlist.specs.Latest.{is_plain}
 
 -- no process has a choice, or a target that is not fixed
@@ -11,6 +10,4 @@ abbrev pub ArePlain : Circuit → Type 0
 ArePlain c = AllByRecursion (λ (p : DesignProcess). is_plain c.pool p.body ≡ true) c.processes
 
 pub record IsPlain (c : Circuit) : Type 0 where
-  pub flat : c.memories ≡ []
-  pub rising : AllRisingSync c
   pub plain : ArePlain c

@@ -1,10 +1,13 @@
 -- What is kept for each signal of a design while its module is made.
-use Rattle.std.specs.Prelude.{◌≡◌, ◌<◌, ◌==◌, ◌+◌, ◌*◌, ℕ, Bool, true, false, cond, suc, ◌&&◌, map, List, [], ◌∷◌, length, drop, slice_get, slice_index_or, Option, Some, None, option_and_then}
-use Rattle.std.specs.List.{find, flat_map, range_with_len}
+use Rattle.std.specs.Prelude.{◌≡◌, ◌<◌, ◌==◌, ◌+◌, ◌*◌, ℕ, Bool, true, false, cond, if◌then◌else◌, suc, ◌&&◌, ◌||◌, map, List, [], ◌∷◌, ◌++◌, length, drop, slice_get, slice_index_or, Option, Some, None, option_and_then}
+use Rattle.std.specs.List.{find, flat_map, list_any, range_with_len}
 use Rattle.lists.specs.Texts.{text_eq}
 use Rattle.rtlil_text.specs.declared.module.RtlModule.{RtlModule}
+use Rattle.rtlil_text.specs.declared.module.RtlMemory.{RtlMemory}
 use Rattle.rtlil_text.specs.declared.sig.SigPart.{SigPart}
 use Rattle.rtlil_text.specs.declared.sig.SigPart.TheVariants as parts
+use Rattle.design_ir.specs.declared.memory.MemRead.{MemRead}
+use Rattle.design_ir.specs.declared.memory.Memory.{Memory}
 use Rattle.design_ir.specs.declared.port.Port.{Port}
 use Rattle.design_ir.specs.declared.port.Column.{Column}
 use Rattle.design_ir.specs.declared.process.DesignProcess.{DesignProcess}
@@ -19,7 +22,11 @@ use Rattle.netlist.specs.declared.sources.BitSource.TheVariants as sources
 use Rattle.netlist.specs.Ids.{value_id}
 use Rattle.netlist.specs.Spelled.{spec_of}
 use Rattle.netlist.specs.Latest.{Latest, latest_of}
-use Rattle.netlist.specs.Module.{expr_value, wire_id, is_clocked, drives, driving, at_first}
+use Rattle.memory_cells.specs.declared.plan.Plan.{Plan}
+use Rattle.new_names.specs.Fresh.{fresh_name}
+use Rattle.netlist.specs.Expressions.{and_also}
+use Rattle.netlist.specs.Module.{expr_value, wire_id, column_wires, signal_wires, expr_wires, drawings, signal_drawing, is_there, is_read, is_clocked, drives, driving, at_first}
+use Rattle.netlist.specs.MemoryDrawings.{Placed, Part, plan_of}
 
 -- for each of n signals the place of the first of these, from one place on, that passes the signal's test
 pub record ArePlaces (X : Type 0) (test : ℕ → X → Bool) (xs : List X) (from n : ℕ) (places : List (Option ℕ)) : Type 0 where
@@ -111,6 +118,29 @@ abbrev pub source_place : Source → Option ℕ
 source_place (Constant b) = None
 source_place (Net id i) = Some i
 
+-- ---- memories
+
+-- the parts of a memory under this plan
+abbrev pub own_parts : Plan → Memory → List Part → List (Placed × Part)
+own_parts p m qs = map (λ q. (record { plan = p; memory = m }, q)) qs
+
+-- a memory of the design behind these names, where it is one of the module, and the names with it
+abbrev pub placed_one : List (List ℕ) → Memory → List Placed
+placed_one names m = if is_there m then record { plan = plan_of (fresh_name names m.name) m; memory = m } ∷ [] else []
+
+abbrev pub names_with : List (List ℕ) → Memory → List (List ℕ)
+names_with names m = if is_there m then names ++ fresh_name names m.name ∷ [] else names
+
+-- the signals that its ports give are marked, where it is one of the module
+pub record AreMarked (m : Memory) (before after : List Bool) : Type 0 where
+  pub long : length after ≡ length before
+  pub each : (s : ℕ) → slice_index_or after s false ≡ ((is_there m && list_any (λ (r : MemRead). r.word.0 == s) m.reads) || slice_index_or before s false)
+
+-- which signals ports of the module's memories give
+pub record AreReads (c : Circuit) (reads : List Bool) : Type 0 where
+  pub long : length reads ≡ length c.pool.signals
+  pub each : (s : ℕ) → slice_index_or reads s false ≡ is_read c s
+
 -- ---- all of it
 
 -- what is known of each signal
@@ -118,12 +148,20 @@ pub record AreTables (c : Circuit) (t : Tables) : Type 0 where
   pub columns : AreColumnPlaces c t.columns.items
   pub ports : ArePortPlaces c t.ports.items
   pub drivers : AreDrivers c t.drivers.items
+  pub reads : AreReads c t.reads.items
   pub bits : Shows (wire_id c) (length c.pool.signals) t.bits.items (latest_of_all c c.processes (at_start c))
 
 -- the last sources of a signal's bits as a spec
 abbrev pub last_spec : Circuit → ℕ → List SigPart
 last_spec c s = spec_of (map (latest_of_all c c.processes (at_start c) s) (range_with_len 0 (signal_form c.pool.signals s).width))
 
--- the module with these wires, cells and links
-abbrev pub drawn_module : Drawing → RtlModule
-drawn_module d = record { wires = d.wires; memories = []; cells = d.cells; links = d.links }
+-- the module with these memories, wires, cells and links
+abbrev pub drawn_module : List RtlMemory → Drawing → RtlModule
+drawn_module memories d = record { wires = d.wires; memories = memories; cells = d.cells; links = d.links }
+
+-- the wires, cells and links of a design's module but those of its memories
+abbrev pub drawn_signals : Circuit → Drawing
+drawn_signals c =
+    and_also
+    (and_also (record { wires = column_wires c 0 c.columns ++ flat_map (signal_wires c) (range_with_len 0 (length c.pool.signals)) ++ flat_map (expr_wires c) (range_with_len 0 (length c.pool.exprs)); cells = []; links = [] }) (together (drawings c)))
+    (together (map (signal_drawing c) (range_with_len 0 (length c.pool.signals))))

@@ -1,14 +1,15 @@
 // Cells, with their parameters and ends.
 ghost use Rattle.std.specs.Prelude.{◌≡◌, IfOk};
-ghost use Rattle.netlist.specs.Cells.{number_parameter, end_at, flag, unary_cell, binary_cell, mux_cell};
-ghost use Rattle.netlist.specs.Module.{register_cell};
+ghost use Rattle.netlist.specs.Cells.{number_parameter, bits_parameter, end_at, flag, unary_cell, binary_cell, mux_cell};
+ghost use Rattle.netlist.specs.Module.{register_cell, clear_cell};
 ghost use Rattle.netlist.specs.Operands.{at_form, const_operand};
 
 use crate::ids::copied;
 use crate::parts::{Form, at_width, const_spec};
 use amh_bits::Int;
 use amh_host::{Items, NoMemory, Text};
-use rtlil_text::{RtlCell, RtlEnd, RtlParameter, RtlValue, SigSpec};
+use memory_cells::Clock;
+use rtlil_text::{RtlBits, RtlCell, RtlEnd, RtlParameter, RtlValue, SigSpec};
 use shape_rules::{CellKind, Shape};
 use std::alloc::Global;
 use std::marker::Model;
@@ -61,6 +62,15 @@ fn number_parameter(alloc: Global, name: &str, number: u32) -> Result<RtlParamet
     Ok(RtlParameter {
         name: copied(alloc, name)?,
         value: RtlValue::Number(number),
+    })
+}
+
+fn bits_parameter(alloc: Global, name: &str, bits: RtlBits) -> Result<RtlParameter, NoMemory>
+    ensures { IfOk result (λ p. p ≡ bits_parameter name.now bits) }
+{
+    Ok(RtlParameter {
+        name: copied(alloc, name)?,
+        value: RtlValue::Bits(bits),
     })
 }
 
@@ -164,12 +174,12 @@ pub(crate) fn mux_cell(
     })
 }
 
-/// A register at the rising edge of its clock.
+/// A register at the edge of its clock.
 pub(crate) fn register_cell(
     alloc: Global,
     id: Text,
     width: u32,
-    clock: SigSpec,
+    clock: Clock,
     next: SigSpec,
     now: SigSpec,
 ) -> Result<RtlCell, NoMemory>
@@ -177,13 +187,50 @@ pub(crate) fn register_cell(
 {
     let mut parameters = Items::new(alloc);
     parameters.push(number_parameter(alloc, "\\WIDTH", width)?)?;
-    parameters.push(number_parameter(alloc, "\\CLK_POLARITY", 1)?)?;
+    parameters.push(number_parameter(alloc, "\\CLK_POLARITY", clock.polarity())?)?;
     let mut ends = Items::new(alloc);
-    ends.push(end_at(alloc, "\\CLK", clock)?)?;
+    ends.push(end_at(alloc, "\\CLK", clock.bit)?)?;
     ends.push(end_at(alloc, "\\D", next)?)?;
     ends.push(end_at(alloc, "\\Q", now)?)?;
     Ok(RtlCell {
         kind: CellKind::Dff,
+        id,
+        parameters,
+        ends,
+    })
+}
+
+/// What is at the ends of a register that a reset clears at once: its clock, the reset, and what it takes and gives.
+#[derive(Drop)]
+pub(crate) struct ClearEnds {
+    pub clock: Clock,
+    pub reset: SigSpec,
+    pub next: SigSpec,
+    pub now: SigSpec,
+}
+
+/// A register at the edge of its clock, which has these first bits wherever its reset is 1.
+pub(crate) fn clear_cell(
+    alloc: Global,
+    id: Text,
+    width: u32,
+    first: RtlBits,
+    at: ClearEnds,
+) -> Result<RtlCell, NoMemory>
+    ensures { IfOk result (λ c. c ≡ clear_cell id width at.clock at.reset first at.next at.now) }
+{
+    let mut parameters = Items::new(alloc);
+    parameters.push(number_parameter(alloc, "\\WIDTH", width)?)?;
+    parameters.push(number_parameter(alloc, "\\CLK_POLARITY", at.clock.polarity())?)?;
+    parameters.push(number_parameter(alloc, "\\ARST_POLARITY", 1)?)?;
+    parameters.push(bits_parameter(alloc, "\\ARST_VALUE", first)?)?;
+    let mut ends = Items::new(alloc);
+    ends.push(end_at(alloc, "\\ARST", at.reset)?)?;
+    ends.push(end_at(alloc, "\\CLK", at.clock.bit)?)?;
+    ends.push(end_at(alloc, "\\D", at.next)?)?;
+    ends.push(end_at(alloc, "\\Q", at.now)?)?;
+    Ok(RtlCell {
+        kind: CellKind::Adff,
         id,
         parameters,
         ends,

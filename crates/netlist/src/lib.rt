@@ -1,14 +1,13 @@
 //! The lowering of a design to a module of RTLIL.
 //!
-//! specs/Module.antt says which module a design without memories and without choices is lowered to. Each expression has
-//! a wire of its own, which cells or a link drive (specs/Operators.antt, specs/Expressions.antt), and statements give
-//! each bit of a signal one source (specs/Latest.antt). `lower` makes that module in one pass over each list, and promises
-//! that it keeps the rules of RTLIL text, has the design's columns, and has the design's history over all legal events;
-//! what it rests on is proved for every design, and the functions of `laws` carry it in their clauses. `first_beyond` tells
-//! where the first part of a design stands that cannot be lowered yet (specs/Beyond.antt).
+//! specs/Module.antt says which module a design without choices is lowered to. Each expression has a wire of its own, which
+//! cells or a link drive (specs/Operators.antt, specs/Expressions.antt), statements give each bit of a signal one source
+//! (specs/Latest.antt), and the ports of memories draw their cells with guards around them (specs/MemoryDrawings.antt).
+//! `lower` makes that module in one pass over each list, and promises that it keeps the rules of RTLIL text, has the
+//! design's columns, and has the design's history over all legal events; what it rests on is proved for every design, and
+//! the functions of `laws` carry it in their clauses.
 #![tactic(auto)]
 
-mod beyond;
 mod cells;
 mod drawing;
 mod drawings;
@@ -18,10 +17,14 @@ mod ids;
 mod item_cells;
 mod laws;
 mod lowering;
+mod memories;
 mod muxes;
 mod operators;
 mod parts;
 mod pattern_cells;
+mod port_guards;
+mod ports;
+mod read_signals;
 mod signals;
 mod sources;
 mod spelling;
@@ -29,9 +32,8 @@ mod tables;
 mod targets;
 mod wires;
 
-pub use beyond::first_beyond;
 pub use laws::{
-    expressions_are_made, guards_are_made, modules_are_sound, modules_have_the_history,
-    operators_are_made,
+    expressions_are_made, guards_are_made, memory_ports_are_made, modules_are_sound,
+    modules_have_the_history, operators_are_made,
 };
 pub use lowering::lower;

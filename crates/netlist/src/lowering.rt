@@ -5,7 +5,6 @@ ghost use Rattle.comb_graph.specs.Orders.{IsOrder};
 ghost use Rattle.comb_graph.specs.Rankings.{bit_of, IsRanking};
 ghost use Rattle.design_ir.specs.PoolRules.{IsPool};
 ghost use Rattle.design_ir.specs.Designs.{IsDesign};
-ghost use Rattle.design_ir.specs.Rising.{AllRisingSync};
 ghost use Rattle.rtlil_text.specs.Rules.{IsModule};
 ghost use Rattle.netlist.specs.Expressions.{part_total};
 ghost use Rattle.netlist.specs.Module.{column_wires, signal_wires, expr_wires, module_of};
@@ -14,11 +13,13 @@ ghost use Rattle.netlist.specs.FirstValues.{HasFirstValues};
 ghost use Rattle.netlist.specs.Histories.{SameHistory};
 ghost use Rattle.netlist.specs.Made.{HasByteStride};
 ghost use Rattle.netlist.specs.Plain.{IsPlain};
-ghost use Rattle.netlist.specs.Tables.{AreTables, drawn_module};
+ghost use Rattle.netlist.specs.MemoryDrawings.{memories_of, all_parts};
+ghost use Rattle.netlist.specs.Tables.{AreTables, drawn_module, drawn_signals};
 
 use crate::drawing::Drawing;
 use crate::drawings::push_expressions;
 use crate::laws::modules_have_the_history;
+use crate::memories::push_memories;
 use crate::signals::{Tables, push_signals};
 use crate::wires::{push_columns, push_others, push_values};
 use amh_host::{Items, NoMemory};
@@ -26,16 +27,16 @@ use cell_split::split_tangled;
 use comb_graph::Ranks;
 use design_ir::{Design, Expr, ExprId, Exprs};
 use flat_design::{flat_has_the_history, flat_keeps_orders, flatten};
-use rtlil_text::{RtlModule, RtlWire};
+use memory_cells::cells_keep_the_rules;
+use rtlil_text::{RtlMemory, RtlModule, RtlWire};
 use std::alloc::Global;
 
-/// The module of a design that has no memories, and whose domains rise and reset at edges alone. It keeps the rules of RTLIL text, has the design's columns, and has the
+/// The module of a design with its memories. It keeps the rules of RTLIL text, has the design's columns, and has the
 /// design's history over all legal events, with a value on every bit of every wire. Wires have first values where registers
-/// drive them, and nowhere else. Choices become multiplexers, and so do
+/// drive them, and nowhere else. Registers act at the edge of their domain, and where its reset acts at once they have an
+/// asynchronous reset. Choices become multiplexers, and so do
 /// targets with computed offsets and indices. Cells whose bits need each other in turn are cut into cells of one bit.
 pub fn lower(alloc: Global, design: &Design, ranks: &Ranks) -> Result<RtlModule, NoMemory>
-    requires flat { design.now.memories ≡ [] }
-    requires rising { AllRisingSync design.now }
     requires ranked { IsRanking design.now ranks.now }
     ensures rules { IfOk result IsModule }
     ensures corresponds { IfOk result (Corresponds design.now) }
@@ -93,16 +94,21 @@ fn is_a_byte(_n: u8)
 
 // The module, in time that is linear in the numbers of expressions, statements and bits of signals.
 pub(crate) fn draw(alloc: Global, design: &Design) -> Result<RtlModule, NoMemory>
-    requires { IsPlain design.now }
-    ensures module { IfOk result (λ m. (m ≡ module_of design.now) × (part_total design.now.pool.exprs < 10 ^ 63)) }
+    requires plain { IsPlain design.now }
+    ensures module { IfOk result (λ m. m ≡ module_of design.now) }
+    ensures few { IfOk result (λ m. part_total design.now.pool.exprs < 10 ^ 63) }
+    ensures parts { IfOk result (λ m. length (all_parts (memories_of design.now)) < 10 ^ 18) }
     ensures sound { IfOk result IsModule }
     ensures columns { IfOk result (Corresponds design.now) }
     ensures begins { IfOk result (HasFirstValues design.now) }
 {
+    cells_keep_the_rules();
     let _ = design.count();
     let _ = design.processes();
-    let drawing = drawing_of(alloc, design)?;
-    module_from(alloc, drawing)
+    let tables = Tables::of(alloc, design)?;
+    let mut drawing = drawing_of(alloc, design, &tables)?;
+    let memories = push_memories(alloc, design, &tables, &mut drawing)?;
+    module_from(alloc, memories, drawing)
 }
 
 // The wires of columns, of other signals and of expressions.
@@ -118,18 +124,18 @@ fn wires_of(alloc: Global, design: &Design, tables: &Tables) -> Result<Vec<RtlWi
     Ok(wires)
 }
 
-// All wires, cells and links.
-fn drawing_of(alloc: Global, design: &Design) -> Result<Drawing, NoMemory>
+// All wires, cells and links but those of memories.
+fn drawing_of(alloc: Global, design: &Design, tables: &Tables) -> Result<Drawing, NoMemory>
     requires pool { IsPool design.now.pool }
     requires rules { IsDesign design.now }
     requires plain { IsPlain design.now }
-    ensures drawn { IfOk result (λ d. drawn_module d ≡ module_of design.now) }
+    requires tables { AreTables design.now tables.now }
+    ensures drawn { IfOk result (λ d. d ≡ drawn_signals design.now) }
     ensures few { IfOk result (λ d. part_total design.now.pool.exprs < 10 ^ 63) }
 {
-    let tables = Tables::of(alloc, design)?;
-    let mut drawing = Drawing::of_wires(alloc, wires_of(alloc, design, &tables)?);
+    let mut drawing = Drawing::of_wires(alloc, wires_of(alloc, design, tables)?);
     push_expressions(alloc, design, tables.columns.as_slice(), &mut drawing)?;
-    push_signals(alloc, design, &tables, &mut drawing)?;
+    push_signals(alloc, design, tables, &mut drawing)?;
     Ok(drawing)
 }
 
@@ -145,13 +151,17 @@ fn items_of<T: Drop>(alloc: Global, from: Vec<T>) -> Result<Items<T>, NoMemory>
     Ok(items)
 }
 
-// The module of these wires, cells and links, without memories.
-fn module_from(alloc: Global, drawing: Drawing) -> Result<RtlModule, NoMemory>
-    ensures { IfOk result (λ m. m ≡ drawn_module drawing) }
+// The module of these memories, wires, cells and links.
+fn module_from(
+    alloc: Global,
+    memories: Items<RtlMemory>,
+    drawing: Drawing,
+) -> Result<RtlModule, NoMemory>
+    ensures { IfOk result (λ m. m ≡ drawn_module memories drawing) }
 {
     Ok(RtlModule {
         wires: items_of(alloc, drawing.wires)?,
-        memories: Items::new(alloc),
+        memories,
         cells: items_of(alloc, drawing.cells)?,
         links: items_of(alloc, drawing.links)?,
     })

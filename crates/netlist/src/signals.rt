@@ -1,5 +1,5 @@
 // What drives the wire of each signal.
-ghost use Rattle.std.specs.Prelude.{◌≡◌, ◌<◌, ◌+◌, ◌*◌, ◌^◌, true, map, length, option_map, is_some, Some, None, IfOk, OnOk};
+ghost use Rattle.std.specs.Prelude.{◌≡◌, ◌<◌, ◌+◌, ◌*◌, ◌^◌, [], true, map, length, option_map, is_some, Some, None, IfOk, OnOk};
 ghost use Rattle.std.specs.List.{range_with_len};
 ghost use Rattle.design_ir.specs.declared.process.DesignProcess.{DesignProcess};
 ghost use Rattle.design_ir.specs.PoolRules.{IsPool};
@@ -12,31 +12,35 @@ ghost use Rattle.netlist.specs.Operands.{wire_part};
 ghost use Rattle.netlist.specs.Operators.{whole};
 ghost use Rattle.netlist.specs.Expressions.{and_also};
 ghost use Rattle.netlist.specs.Spelled.{spec_of};
-ghost use Rattle.netlist.specs.Module.{signal_value, init_bits, clock_of, reset_of, link_to, register_cell, register_drawing, bits_at_last, driving_at, driving, driving_drawing, signal_drawing};
+ghost use Rattle.netlist.specs.Module.{signal_value, init_bits, clock_of, reset_of, is_async, NoReset, AtEdges, AtOnce, heeding_of, link_to, register_cell, register_drawing, bits_at_last, driving_at, driving, driving_drawing, undriven, signal_drawing};
 ghost use Rattle.netlist.specs.Plain.{IsPlain};
 ghost use Rattle.netlist.specs.Tables.{AreTables, last_spec, together};
 
-use crate::cells::{mux_cell, register_cell};
+use crate::cells::{ClearEnds, clear_cell, mux_cell, register_cell};
 use crate::drawing::{Drawing, inner_wire, linked, one_cell};
 use crate::drivers::{driver_of, driver_places};
 use crate::expressions::signal_value;
 use crate::ids::step_id;
 use crate::parts::{const_part, wire_part};
+use crate::read_signals::{is_marked, read_signals};
 use crate::sources::{BitSource, init_bits, sources};
 use crate::spelling::spec_of;
 use crate::tables::{column_places, is_input, port_places};
 use crate::targets::signal_width;
 use amh_host::NoMemory;
 use design_ir::{Design, DomainId, SigId};
+use memory_cells::Clock;
 use rtlil_text::{RtlCell, SigSpec};
 use std::alloc::Global;
 
-/// For each signal the places of its column, its port and its driver, and where its bits come from.
+/// For each signal the places of its column, its port and its driver, whether a port of a memory gives it, and where its bits
+/// come from.
 #[derive(Drop)]
 pub(crate) struct Tables {
     pub columns: Vec<Option<u32>>,
     pub ports: Vec<Option<u32>>,
     pub drivers: Vec<Option<u32>>,
+    pub reads: Vec<bool>,
     pub bits: Vec<BitSource>,
 }
 
@@ -51,11 +55,13 @@ impl Tables {
         let columns = column_places(alloc, design)?;
         let ports = port_places(alloc, design)?;
         let drivers = driver_places(alloc, design)?;
+        let reads = read_signals(alloc, design)?;
         let bits = sources(alloc, design, ports.as_slice(), drivers.as_slice())?;
         Ok(Tables {
             columns,
             ports,
             drivers,
+            reads,
             bits,
         })
     }
@@ -118,8 +124,21 @@ fn reset_of(design: &Design, s: SigId, d: DomainId) -> Option<SigId>
     design.domain(d).rst
 }
 
+// Whether a domain's reset acts at once.
+fn is_async(design: &Design, d: DomainId) -> bool
+    requires domain { d.0 < length design.now.domains }
+    ensures { result ≡ is_async design.now d }
+{
+    design.domain(d).async_reset
+}
+
 // The bits of a signal's wire.
-fn whole_signal(alloc: Global, design: &Design, t: &Tables, s: SigId) -> Result<SigSpec, NoMemory>
+pub(crate) fn whole_signal(
+    alloc: Global,
+    design: &Design,
+    t: &Tables,
+    s: SigId,
+) -> Result<SigSpec, NoMemory>
     requires tables { AreTables design.now t.now }
     requires there { s.0 < length design.now.pool.signals }
     ensures { IfOk result (λ spec. spec ≡ whole (signal_value design.now s.0)) }
@@ -127,20 +146,28 @@ fn whole_signal(alloc: Global, design: &Design, t: &Tables, s: SigId) -> Result<
     signal_value(alloc, design, t.columns.as_slice(), s)?.whole(alloc)
 }
 
-// The bit of a domain's clock.
+// The clock of a domain, at the domain's active edge.
 #[tactic(auto, using(crate::proofs::LowerDomains::clock_there))]
-fn clock_of(alloc: Global, design: &Design, t: &Tables, d: DomainId) -> Result<SigSpec, NoMemory>
+pub(crate) fn clock_of(
+    alloc: Global,
+    design: &Design,
+    t: &Tables,
+    d: DomainId,
+) -> Result<Clock, NoMemory>
     requires rules { IsDesign design.now }
     requires tables { AreTables design.now t.now }
     requires domain { d.0 < length design.now.domains }
-    ensures { IfOk result (λ spec. spec ≡ clock_of design.now d) }
+    ensures { IfOk result (λ clock. clock ≡ clock_of design.now d) }
 {
-    let clock = design.domain(d).clk;
-    whole_signal(alloc, design, t, clock)
+    let domain = design.domain(d);
+    Ok(Clock {
+        bit: whole_signal(alloc, design, t, domain.clk)?,
+        falling: domain.falling,
+    })
 }
 
 // The bits of the wire with this number.
-fn step_bits(alloc: Global, n: u128, width: u32) -> Result<SigSpec, NoMemory>
+pub(crate) fn step_bits(alloc: Global, n: u128, width: u32) -> Result<SigSpec, NoMemory>
     requires { n < 2 ^ 100 }
     ensures { IfOk result (λ spec. spec ≡ wire_part (step_id n) 0 width) }
 {
@@ -206,14 +233,14 @@ fn bare_register(
     requires tables { AreTables design.now t.now }
     requires there { s.0 < length design.now.pool.signals }
     requires domain { d.0 < length design.now.domains }
-    ensures { IfOk result (λ x. (p : DesignProcess) → bits_at_last design.now true p s.0 ≡ last_spec design.now s.0 → x ≡ register_drawing design.now s.0 p d None) }
+    ensures { IfOk result (λ x. (p : DesignProcess) → bits_at_last design.now true p s.0 ≡ last_spec design.now s.0 → x ≡ register_drawing design.now s.0 p d NoReset) }
 {
     let next = last_bits(alloc, design, t, s)?;
     let cell = register(alloc, design, t, s, d, next)?;
     one_cell(alloc, cell)
 }
 
-// A register with a reset.
+// A register with a reset at edges.
 fn reset_register(
     alloc: Global,
     design: &Design,
@@ -228,7 +255,7 @@ fn reset_register(
     requires there { s.0 < length design.now.pool.signals }
     requires domain { d.0 < length design.now.domains }
     requires reset { r.0 < length design.now.pool.signals }
-    ensures { IfOk result (λ x. (p : DesignProcess) → bits_at_last design.now true p s.0 ≡ last_spec design.now s.0 → x ≡ register_drawing design.now s.0 p d (Some r.0)) }
+    ensures { IfOk result (λ x. (p : DesignProcess) → bits_at_last design.now true p s.0 ≡ last_spec design.now s.0 → x ≡ register_drawing design.now s.0 p d (AtEdges r.0)) }
 {
     let width = signal_width(design, s) as u32;
     let choice = reset_choice(alloc, design, t, s, r)?;
@@ -240,6 +267,59 @@ fn reset_register(
     drawing.push_cell(choice)?;
     drawing.push_cell(cell)?;
     Ok(drawing)
+}
+
+// A register with a reset that acts at once.
+fn clear_register(
+    alloc: Global,
+    design: &Design,
+    t: &Tables,
+    s: SigId,
+    d: DomainId,
+    r: SigId,
+) -> Result<Drawing, NoMemory>
+    requires pool { IsPool design.now.pool }
+    requires rules { IsDesign design.now }
+    requires tables { AreTables design.now t.now }
+    requires there { s.0 < length design.now.pool.signals }
+    requires domain { d.0 < length design.now.domains }
+    requires reset { r.0 < length design.now.pool.signals }
+    ensures { IfOk result (λ x. (p : DesignProcess) → bits_at_last design.now true p s.0 ≡ last_spec design.now s.0 → x ≡ register_drawing design.now s.0 p d (AtOnce r.0)) }
+{
+    let at = ClearEnds {
+        clock: clock_of(alloc, design, t, d)?,
+        reset: whole_signal(alloc, design, t, r)?,
+        next: last_bits(alloc, design, t, s)?,
+        now: whole_signal(alloc, design, t, s)?,
+    };
+    let first = init_bits(alloc, design, s)?;
+    let id = step_id(alloc, 3 * s.0 as u128)?;
+    let cell = clear_cell(alloc, id, signal_width(design, s) as u32, first, at)?;
+    one_cell(alloc, cell)
+}
+
+// A register of a domain with this reset.
+fn heeding_register(
+    alloc: Global,
+    design: &Design,
+    t: &Tables,
+    s: SigId,
+    d: DomainId,
+    r: SigId,
+) -> Result<Drawing, NoMemory>
+    requires pool { IsPool design.now.pool }
+    requires rules { IsDesign design.now }
+    requires tables { AreTables design.now t.now }
+    requires there { s.0 < length design.now.pool.signals }
+    requires domain { d.0 < length design.now.domains }
+    requires reset { r.0 < length design.now.pool.signals }
+    ensures { IfOk result (λ x. (p : DesignProcess) → bits_at_last design.now true p s.0 ≡ last_spec design.now s.0 → x ≡ register_drawing design.now s.0 p d (heeding_of (is_async design.now d) (Some r.0))) }
+{
+    if is_async(design, d) {
+        clear_register(alloc, design, t, s, d, r)
+    } else {
+        reset_register(alloc, design, t, s, d, r)
+    }
 }
 
 // ---- any signal
@@ -266,7 +346,7 @@ fn driven_drawing(
     };
     match reset_of(design, s, d) {
         None => bare_register(alloc, design, t, s, d),
-        Some(r) => reset_register(alloc, design, t, s, d, r),
+        Some(r) => heeding_register(alloc, design, t, s, d, r),
     }
 }
 
@@ -284,11 +364,26 @@ fn wired_drawing(alloc: Global, design: &Design, t: &Tables, s: SigId) -> Result
     }
     match driver_of(design, t.drivers.as_slice(), s) {
         Some(p) => driven_drawing(alloc, design, t, s, p.domain),
-        None => {
-            let bits = init_spec(alloc, design, s)?;
-            link_to(alloc, design, t, s, bits)
-        }
+        None => undriven_drawing(alloc, design, t, s),
     }
+}
+
+// What gives a signal its number that neither events nor statements drive: a port of a memory, whose cell gives it, or nothing.
+fn undriven_drawing(
+    alloc: Global,
+    design: &Design,
+    t: &Tables,
+    s: SigId,
+) -> Result<Drawing, NoMemory>
+    requires tables { AreTables design.now t.now }
+    requires there { s.0 < length design.now.pool.signals }
+    ensures { IfOk result (λ d. d ≡ driving_drawing design.now s.0 (undriven design.now s.0)) }
+{
+    if is_marked(t.reads.as_slice(), s) {
+        return Ok(Drawing::new(alloc));
+    }
+    let bits = init_spec(alloc, design, s)?;
+    link_to(alloc, design, t, s, bits)
 }
 
 /// What drives the wire of a signal; a signal without bits has none.

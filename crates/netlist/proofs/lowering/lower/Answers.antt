@@ -1,20 +1,13 @@
 use Rattle.std.specs.Prelude.{map}
-use Rattle.std.proofs.Common.{sym, ◌∙◌, ap, subst}
 use Rattle.std.proofs.lemmas.Result.{IfOk-weaker}
 use Rattle.comb_graph.specs.Rankings.{bit_of}
-use Rattle.design_ir.specs.Circuits.{Circuit}
-use Rattle.design_ir.specs.Rising.{AllRisingSync}
 use Rattle.netlist.proofs.FlatModules.{Corresponds-flat, SameHistory-flat}
 use Rattle.netlist.proofs.FirstValues.{HasFirstValues-flat}
 use Rattle.netlist.proofs.lowering.lower.Goals as goal
 
 pub lower_plain-requires : goal.lower_plain-requires
 lower_plain-requires c = record {
-  plain = record {
-    flat = ap (λ (x : Circuit). x.memories) c.in_ok-flat.ensures.flat.rest ∙ c.requires.flat;
-    rising = subst AllRisingSync (sym c.in_ok-flat.ensures.flat.rest) c.requires.rising;
-    plain = c.in_ok-flat.ensures.plain;
-  };
+  plain = record { plain = c.in_ok-flat.ensures.plain };
   ordered = c.flat_keeps_orders.ensures c.args.design.now c.in_ok-flat.flat (map bit_of c.args.ranks.now.order) c.count.ensures.rules c.processes.ensures.rules c.in_ok-flat.ensures.flat c.requires.ranked.order;
 }
 
@@ -29,4 +22,4 @@ returns-clause-history c =
     c.lower_plain.ensures.history
 
 pub returns-clause-begins : goal.returns-clause-begins
-returns-clause-begins c = IfOk-weaker c.lower_plain.result _ _ (λ m h. HasFirstValues-flat c.args.design.now c.in_ok-flat.flat m c.requires.flat c.in_ok-flat.ensures.flat h) c.lower_plain.ensures.begins
+returns-clause-begins c = IfOk-weaker c.lower_plain.result _ _ (λ m h. HasFirstValues-flat c.args.design.now c.in_ok-flat.flat m c.in_ok-flat.ensures.flat h) c.lower_plain.ensures.begins

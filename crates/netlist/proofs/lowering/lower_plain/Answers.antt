@@ -19,8 +19,8 @@ pub returns-clause-history : goal.returns-clause-history
 returns-clause-history c =
     let drawn = c.in_ok-drawn.drawn in
     let was : SameHistory c.args.design.now drawn =
-    subst (SameHistory c.args.design.now) (sym c.in_ok-drawn.ensures.module.0)
-    (c.modules_have_the_history.ensures c.args.design.now (map bit_of c.args.ranks.now.order) c.count.ensures.rules c.strides_are_bytes.ensures c.processes.ensures.rules c.requires.plain c.in_ok-drawn.ensures.module.1 c.requires.ordered) in
+    subst (SameHistory c.args.design.now) (sym c.in_ok-drawn.ensures.module)
+    (c.modules_have_the_history.ensures c.args.design.now (map bit_of c.args.ranks.now.order) c.count.ensures.rules c.strides_are_bytes.ensures c.processes.ensures.rules c.requires.plain c.in_ok-drawn.ensures.parts c.in_ok-drawn.ensures.few c.requires.ordered) in
     IfOk-both c.split_tangled.result (λ (m : RtlModule). m.wires ≡ drawn.wires) (KeepsHistory drawn) (SameHistory c.args.design.now)
     (λ m e keeps. SameHistory-kept c.args.design.now drawn m e keeps was) c.split_tangled.ensures.wires c.split_tangled.ensures.history
 
