@@ -17,12 +17,13 @@ use Rattle.comb_graph.proofs.DeltaLaws.{delta_length}
 use Rattle.comb_graph.proofs.EventStarts.{begin_ready}
 use Rattle.delta_sim.specs.declared.plan.Plan.{Plan}
 use Rattle.delta_sim.specs.Driven.{numbers_of}
-use Rattle.delta_sim.specs.Plans.{Rests, Wakes, taken}
+use Rattle.delta_sim.specs.Plans.{Rests, Wakes, WakesPorts, taken}
 use Rattle.delta_sim.specs.Settling.{EndsIn}
-use Rattle.delta_sim.specs.Ports.{AreReadsClocked}
 use Rattle.delta_sim.specs.Standing.{Simulated, state_of, AreNumbersOf, AreRowsOf, IsSimOf}
+use Rattle.delta_sim.specs.Woken.{AreChanged}
 use Rattle.delta_sim.proofs.DeltaSteps.{below_of}
 use Rattle.delta_sim.proofs.Lives.{same_state, fits_state, step_numbers, step_rows}
+use Rattle.delta_sim.proofs.PortHeld.{comb_free}
 use Rattle.delta_sim.proofs.Resting.{rests_first}
 use Rattle.delta_sim.proofs.Settling.{same_lists}
 use Rattle.delta_sim.proofs.Taking.{taken_at, taken_other, taken_length}
@@ -62,16 +63,17 @@ pub record IsBegun (c : Circuit) (plan : Plan) (longest : ℕ) (held : List ℤ)
   pub rows_of : AreRowsOf c rows
   pub fit : FitsState c (state_of held rows)
   pub numbers : AreNumbersOf c first
-  pub rests : Rests c (state_of held rows) plan.tasks marks first
+  pub rests : Rests c (state_of held rows) plan marks first
   pub ends : EndsIn c (state_of held rows) first (longest + 2)
   pub deltas : (rest : List (List ℤ)) → DeltasFrom c (state_of held rows) first rest → Deltas c (state_of held rows) env (first ∷ rest)
 
-module _ (c : Circuit) (ports : AreReadsClocked c) (rules : IsPool c.pool) (design : IsDesign c) (s : Simulated) (of : IsSimOf c s) (e : Event) (legal : IsLegal c e) (laws : DeltasAreFew) where
+module _ (c : Circuit) (rules : IsPool c.pool) (design : IsDesign c) (s : Simulated) (of : IsSimOf c s) (e : Event) (legal : IsLegal c e) (laws : DeltasAreFew) where
   abbrev old : State
   old = state_of s.held s.rows
 
-  pub begins : (held : List ℤ) (rows : List (List ℤ)) (first : List ℤ) (was marks : List Bool) → held ≡ (step c old s.env e).held → rows ≡ (step c old s.env e).rows → first ≡ taken held (numbers_of s.plan.given) s.env → Wakes s.plan.readers s.env first was marks → IsBegun c s.plan s.longest held rows s.env first marks
-  begins held rows first was marks held_is rows_is first_is wakes =
+  pub begins : (held : List ℤ) (rows : List (List ℤ)) (first : List ℤ) (was between marks changed : List Bool) → held ≡ (step c old s.env e).held → rows ≡ (step c old s.env e).rows → first ≡ taken held (numbers_of s.plan.given) s.env → Wakes s.plan.readers s.env first was between
+      → WakesPorts (length s.plan.tasks) s.plan.reads changed between marks → AreChanged c s.rows rows changed → IsBegun c s.plan s.longest held rows s.env first marks
+  begins held rows first was between marks changed held_is rows_is first_is wakes ports are =
       let new : State = state_of held rows in
       let stepped : step c old s.env e ≡ new = same_state (step c old s.env e) held rows held_is rows_is in
       let held_of : AreNumbersOf c held = subst (AreNumbersOf c) (sym held_is) (step_numbers c rules design s.held s.rows s.env e legal of.held of.rows) in
@@ -83,13 +85,13 @@ module _ (c : Circuit) (ports : AreReadsClocked c) (rules : IsPool c.pool) (desi
       let begun = begin_ready c rules design old new fit_old fit s.env of.settled in
       let long : length first ≡ length c.pool.signals = ap length put_in ∙ begun.whole.long in
       let ready : (t : ℕ) → is_comb c t ≡ false → at first t ≡ at (delta c new first) t = λ t h. ap (λ xs. at xs t) put_in ∙ begun.held t h ∙ ap (λ xs. at (delta c new xs) t) (sym put_in) in
-      let kept : (t : ℕ) → is_held c t ≡ false → at first t ≡ at s.env t = λ t h. ap (λ xs. at xs t) first_is ∙ kept_at t h in
+      let kept : (t : ℕ) → is_comb c t ≡ true → at first t ≡ at s.env t = λ t h. ap (λ xs. at xs t) first_is ∙ kept_at t (comb_free c design t h) in
       record {
         held_of = held_of;
         rows_of = rows_of;
         fit = fit;
         numbers = record { count = long; fits = subst (FitsSignals c.pool) (sym put_in) begun.whole.fits };
-        rests = rests_first c rules design (length s.numbers) of.numbers.few s.plan of.plan ports old new s.env first was marks of.settled ready kept long (delta_length c new rules design first) wakes;
+        rests = rests_first c rules design (length s.numbers) of.numbers.few s.plan of.plan old new s.env first was between marks changed of.rows.count rows_of.count wakes ports are of.settled ready kept long (delta_length c new rules design first);
         ends = ends_here new put_in all.deltas all.are all.few;
         deltas = λ rest are. (put_in, are);
       }

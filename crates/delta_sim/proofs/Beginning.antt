@@ -16,7 +16,6 @@ use Rattle.design_ir.specs.PoolRules.{IsPool}
 use Rattle.design_ir.specs.Settled.{starts, delta, Settled}
 use Rattle.design_ir.specs.Steps.{clock_low}
 use Rattle.design_ir.specs.Values.{form}
-use Rattle.design_ir.proofs.Equations.{place_below}
 use Rattle.design_ir.proofs.NumbersFit.{element}
 use Rattle.comb_graph.specs.Laws.{FitsState, rounds}
 use Rattle.comb_graph.specs.Orders.{is_comb, IsLongest}
@@ -24,12 +23,11 @@ use Rattle.comb_graph.proofs.ChainRounds.{IsReady, settled_after}
 use Rattle.comb_graph.proofs.DeltaLaws.{delta_start, starts_length}
 use Rattle.delta_sim.specs.declared.plan.Plan.{Plan}
 use Rattle.delta_sim.specs.Plans.{IsPlan, Rests}
-use Rattle.delta_sim.specs.Ports.{AreReadsClocked}
 use Rattle.delta_sim.specs.Settling.{EndsIn}
 use Rattle.delta_sim.specs.Standing.{state_of, AreNumbersOf}
 use Rattle.delta_sim.specs.Tasks.{AreFitting}
+use Rattle.delta_sim.proofs.Jobs.{driven_by}
 use Rattle.delta_sim.proofs.Lives.{fits_state, first_numbers, first_rows}
-use Rattle.delta_sim.proofs.Resting.{comb_signal}
 use Rattle.delta_sim.proofs.TargetsInside.{inits}
 use Rattle.delta_sim.proofs.TaskValues.{starts_get}
 use Rattle.delta_sim.proofs.Waking.{cases_int}
@@ -124,13 +122,12 @@ module _ (c : Circuit) (rules : IsPool c.pool) (design : IsDesign c) where
         first_ends longest chain = ends_in c st env longest (settled_after c rules design st fit env ready longest chain)
 
         -- where all tasks wait, whatever none of them drives rests
-        pub first_rests : (ports : AreReadsClocked c) (count : ℕ) (plan : Plan) (marks : List Bool) → IsPlan c count plan → ((j : ℕ) → j < length plan.tasks → slice_index_or marks j false ≡ true) → Rests c (state_of held rows) plan.tasks marks env
-        first_rests ports count plan marks planned all s untouched =
+        pub first_rests : (count : ℕ) (plan : Plan) (marks : List Bool) → IsPlan c count plan → ((j : ℕ) → j < plan.jobs → slice_index_or marks j false ≡ true) → Rests c (state_of held rows) plan marks env
+        first_rests count plan marks planned all s untouched =
             ⊎_elim
             (λ (comb : is_comb c s ≡ true).
-            let o = comb_signal c ports s comb in
-            let v = planned.covered o.k o.p s o.stands o.comb o.drives in
-            absurd (false≢true (sym (untouched v.j v.t v.stands (all v.j (place_below plan.tasks v.j v.t v.stands))) ∙ v.drives)))
+            let v = driven_by c design count plan planned s comb in
+            absurd (false≢true (sym (untouched v.j (all v.j v.there)) ∙ v.drives)))
             (λ (comb : is_comb c s ≡ false). sym (ready_at s comb))
             (cases_Bool (is_comb c s))
 

@@ -1,26 +1,16 @@
 -- The tasks of a delta, one after another.
-use Rattle.std.specs.Prelude.{◌≡◌, ◌≢◌, refl, ℕ, zero, suc, ◌+◌, ◌<◌, ◌≤◌, ◌⊎◌, ◌==◌, ◌||◌, ◌&&◌, Bool, true, false, is_none, List, [], ◌∷◌, take, length, slice_get, slice_index_or, ℤ, Some, None}
-use Rattle.std.specs.List.{AllByRecursion, list_any}
+use Rattle.std.specs.Prelude.{◌≡◌, ◌≢◌, refl, ℕ, zero, suc, ◌+◌, ◌<◌, ◌≤◌, ◌⊎◌, ◌==◌, ◌||◌, Bool, true, false, List, [], ◌∷◌, take, length, slice_index_or, ℤ}
+use Rattle.std.specs.List.{AllByRecursion}
 use Rattle.std.proofs.Common.{sym, ◌∙◌, ap, arith, subst, inl, inr, ⊎_elim, get_or, add-one}
-use Rattle.std.proofs.lemmas.Bool.{cases_eq, cases_Bool, eq-eqb, eqb-true, false≢true}
-use Rattle.design_ir.specs.declared.memory.Memory.{Memory}
-use Rattle.design_ir.specs.declared.memory.MemRead.{MemRead}
-use Rattle.design_ir.specs.declared.process.DesignProcess.{DesignProcess}
+use Rattle.std.proofs.lemmas.Bool.{cases_Bool, eq-eqb, eqb-true, false≢true}
 use Rattle.design_ir.specs.Circuits.{Circuit, State, at, is_among}
 use Rattle.design_ir.specs.Designs.{IsDesign}
-use Rattle.design_ir.specs.Guards.{driven}
-use Rattle.design_ir.specs.PoolRules.{IsPool}
-use Rattle.design_ir.specs.Put.{put}
 use Rattle.design_ir.specs.Settled.{delta}
 use Rattle.comb_graph.specs.Orders.{is_comb}
 use Rattle.delta_sim.specs.declared.plan.Plan.{Plan}
-use Rattle.delta_sim.specs.declared.task.Task.{Task}
-use Rattle.delta_sim.specs.Driven.{numbers_of}
-use Rattle.delta_sim.specs.Ports.{AreReadsClocked}
-use Rattle.delta_sim.specs.Plans.{IsPlan, IsUntouched, Rests, begun, taken}
-use Rattle.delta_sim.specs.Tasks.{picked}
+use Rattle.delta_sim.specs.Plans.{IsPlan, IsUntouched, Rests, outs_at, taken}
 use Rattle.delta_sim.specs.Waiting.{Waiting, IsWaiting}
-use Rattle.delta_sim.proofs.Resting.{comb_signal, run_gives, run_keeps}
+use Rattle.delta_sim.proofs.Jobs.{driven_by, out_comb, outs_apart}
 use Rattle.delta_sim.proofs.Settling.{same_lists}
 use Rattle.delta_sim.proofs.Taking.{taken_at, taken_other}
 
@@ -84,110 +74,80 @@ below_of n [] s h e = absurd (false≢true e)
 below_of n (x ∷ xs) s h e =
     ⊎_elim (λ (t : (x == s) ≡ true). subst (λ k. k < n) (eqb-true x s t) h.0) (λ (t : (x == s) ≡ false). below_of n xs s h.1 (sym (ap (λ b. b || is_among xs s) t) ∙ e)) (cases_Bool (x == s))
 
-module _ (c : Circuit) (rules : IsPool c.pool) (design : IsDesign c) (count : ℕ) (few : count ≤ length c.pool.exprs) (plan : Plan) (is : IsPlan c count plan) where
+module _ (c : Circuit) (rows : List (List ℤ)) (plan : Plan) where
   -- ---- runs
 
   -- the signals of the first tasks have what a delta leaves in them
   abbrev pub HaveRun : List ℤ → List ℕ → List ℤ → Type 0
-  HaveRun env js next = (st : State) (j s : ℕ) (t : Task) → slice_get plan.tasks j ≡ Some t → is_among js j ≡ true → is_among (numbers_of t.outs) s ≡ true → at next s ≡ at (delta c st env) s
+  HaveRun env js next = (st : State) (j s : ℕ) → st.rows ≡ rows → is_among js j ≡ true → is_among (outs_at plan j) s ≡ true → at next s ≡ at (delta c st env) s
 
-  pub run_turn : (list : List ℕ) (i : ℕ) (task : Task) (env cur next : List ℤ) → slice_get plan.tasks (get_or list i 0) ≡ Some task → length cur ≡ length c.pool.signals
-      → ((p : DesignProcess) → slice_get c.processes task.process ≡ Some p → next ≡ put c.pool env (picked p.body task.statements) (begun c.pool.signals cur (numbers_of task.outs))) → HaveRun env (take i list) cur → HaveRun env (take (i + 1) list) next
-  run_turn list i task env cur next stands long ran was st j s t there among out =
+  pub run_turn : (list : List ℕ) (i : ℕ) (env cur next : List ℤ) → ((st : State) (s : ℕ) → st.rows ≡ rows → is_among (outs_at plan (get_or list i 0)) s ≡ true → at next s ≡ at (delta c st env) s)
+      → ((s : ℕ) → is_among (outs_at plan (get_or list i 0)) s ≡ false → at next s ≡ at cur s) → HaveRun env (take i list) cur → HaveRun env (take (i + 1) list) next
+  run_turn list i env cur next gives keeps was st j s of among out =
       let x : ℕ = get_or list i 0 in
-      let of = is.tasks x task stands in
-      let e = ran of.p of.task.process in
       ⊎_elim
-      (λ (same : x ≡ j).
-      let alike : task ≡ t = let f : Some task ≡ Some t = sym stands ∙ ap (slice_get plan.tasks) same ∙ there in cc in
-      let out' : is_among (numbers_of task.outs) s ≡ true = subst (λ (y : Task). is_among (numbers_of y.outs) s ≡ true) (sym alike) out in
-      run_gives c rules design count few plan is x task stands s out' st env cur next (below_of (length c.pool.signals) (numbers_of task.outs) s of.below out') long e)
-      (λ (other : x ≢ j).
-      let none : is_among (numbers_of task.outs) s ≡ false = is.apart j x t task s there stands (λ f. other (sym f)) out in
-      run_keeps c rules design count few plan is x task stands s none env cur next e ∙ was st j s t there (among_next list i j among other) out)
-      (cases_eq x j)
+      (λ (own : is_among (outs_at plan x) s ≡ true). gives st s of own)
+      (λ (none : is_among (outs_at plan x) s ≡ false).
+      let other : x ≢ j = λ e. false≢true (sym none ∙ ap (λ k. is_among (outs_at plan k) s) e ∙ out) in
+      keeps s none ∙ was st j s of (among_next list i j among other) out)
+      (cases_Bool (is_among (outs_at plan x) s))
 
+module _ (c : Circuit) (design : IsDesign c) (count : ℕ) (plan : Plan) (is : IsPlan c count plan) where
   -- ---- the environment behind a delta
 
-  -- a combinational signal is one of a task that waits, or of none that does
-  touched : (ports : AreReadsClocked c) (marks : List Bool) (s : ℕ) → IsUntouched plan.tasks marks s ⊎ ((j : ℕ) × (t : Task) × (slice_get plan.tasks j ≡ Some t) × (slice_index_or marks j false ≡ true) × (is_among (numbers_of t.outs) s ≡ true))
-  touched ports marks s =
+  abbrev IsTouched : List Bool → ℕ → Type 0
+  IsTouched marks s = (j : ℕ) × (slice_index_or marks j false ≡ true) × (is_among (outs_at plan j) s ≡ true)
+
+  -- a signal is one of a task that waits, or of none that does
+  touched : (marks : List Bool) (s : ℕ) → IsUntouched plan marks s ⊎ IsTouched marks s
+  touched marks s =
       ⊎_elim
       (λ (comb : is_comb c s ≡ true).
-      let o = comb_signal c ports s comb in
-      let v = is.covered o.k o.p s o.stands o.comb o.drives in
+      let v = driven_by c design count plan is s comb in
       ⊎_elim
-      (λ (w : slice_index_or marks v.j false ≡ true). inr (v.j, v.t, v.stands, w, v.drives))
-      (λ (w : slice_index_or marks v.j false ≡ false). inl (λ j t there waits.
-      is.apart v.j j v.t t s v.stands there (λ f. false≢true (sym w ∙ ap (λ k. slice_index_or marks k false) f ∙ waits)) v.drives))
+      (λ (w : slice_index_or marks v.j false ≡ true). inr (v.j, w, v.drives))
+      (λ (w : slice_index_or marks v.j false ≡ false). inl (λ j waits. outs_apart c design count plan is v.j j s (λ f. false≢true (sym w ∙ ap (λ k. slice_index_or marks k false) f ∙ waits)) v.drives))
       (cases_Bool (slice_index_or marks v.j false)))
-      (λ (comb : is_comb c s ≡ false). inl (λ j t there waits.
+      (λ (comb : is_comb c s ≡ false). inl (λ j waits.
       ⊎_elim
-      (λ (out : is_among (numbers_of t.outs) s ≡ true).
-      let of = is.tasks j t there in
-      absurd (false≢true (sym comb ∙ drives_comb c.processes t.process of.p of.task.process (of.task.drives s out) of.comb)))
-      (λ (out : is_among (numbers_of t.outs) s ≡ false). out)
-      (cases_Bool (is_among (numbers_of t.outs) s))))
+      (λ (out : is_among (outs_at plan j) s ≡ true). absurd (false≢true (sym comb ∙ out_comb c design count plan is j s out)))
+      (λ (out : is_among (outs_at plan j) s ≡ false). out)
+      (cases_Bool (is_among (outs_at plan j) s))))
       (cases_Bool (is_comb c s))
-    where
-      left : (a b : Bool) → a ≡ true → (a || b) ≡ true
-      left true b e = refl
-      left false b e = absurd (false≢true e)
 
-      right : (a b : Bool) → b ≡ true → (a || b) ≡ true
-      right true b e = refl
-      right false b e = e
-
-      both : (a b : Bool) → a ≡ true → b ≡ true → (a && b) ≡ true
-      both true b e h = h
-      both false b e h = absurd (false≢true e)
-
-      any : (ps : List DesignProcess) (k : ℕ) (p : DesignProcess) → slice_get ps k ≡ Some p → is_among (driven c.pool p.body) s ≡ true → p.domain ≡ None → list_any (λ (q : DesignProcess). is_none q.domain && is_among (driven c.pool q.body) s) ps ≡ true
-      any [] k p is d e = cc
-      any (q ∷ ps) zero p is d e =
-          let same : q ≡ p = cc in
-          left (is_none q.domain && is_among (driven c.pool q.body) s) _ (both (is_none q.domain) (is_among (driven c.pool q.body) s) (ap (λ (x : DesignProcess). is_none x.domain) same ∙ ap is_none e) (ap (λ (x : DesignProcess). is_among (driven c.pool x.body) s) same ∙ d))
-      any (q ∷ ps) (suc k) p is d e = right (is_none q.domain && is_among (driven c.pool q.body) s) _ (any ps k p is d e)
-
-      drives_comb : (ps : List DesignProcess) (k : ℕ) (p : DesignProcess) → slice_get ps k ≡ Some p → is_among (driven c.pool p.body) s ≡ true → p.domain ≡ None
-          → (list_any (λ (q : DesignProcess). is_none q.domain && is_among (driven c.pool q.body) s) ps || list_any (λ (m : Memory). list_any (λ (r : MemRead). is_none r.domain && (r.word.0 == s)) m.reads) c.memories) ≡ true
-      drives_comb ps k p is d e = left _ _ (any ps k p is d e)
-
-  pub delta_is : (ports : AreReadsClocked c) (st : State) (marks : List Bool) (env next after : List ℤ) → length env ≡ length c.pool.signals → length after ≡ length env → length (delta c st env) ≡ length c.pool.signals → Rests c st plan.tasks marks env
-      → ((j s : ℕ) (t : Task) → slice_get plan.tasks j ≡ Some t → slice_index_or marks j false ≡ true → is_among (numbers_of t.outs) s ≡ true → at next s ≡ at (delta c st env) s)
-      → ((s : ℕ) → IsUntouched plan.tasks marks s → at after s ≡ at env s)
-      → ((j s : ℕ) (t : Task) → slice_get plan.tasks j ≡ Some t → slice_index_or marks j false ≡ true → is_among (numbers_of t.outs) s ≡ true → at after s ≡ at next s)
+  pub delta_is : (st : State) (marks : List Bool) (env next after : List ℤ) → length env ≡ length c.pool.signals → length after ≡ length env → length (delta c st env) ≡ length c.pool.signals → Rests c st plan marks env
+      → ((j s : ℕ) → slice_index_or marks j false ≡ true → is_among (outs_at plan j) s ≡ true → at next s ≡ at (delta c st env) s)
+      → ((s : ℕ) → IsUntouched plan marks s → at after s ≡ at env s)
+      → ((j s : ℕ) → slice_index_or marks j false ≡ true → is_among (outs_at plan j) s ≡ true → at after s ≡ at next s)
       → after ≡ delta c st env
-  delta_is ports st marks env next after long same long' rests ran kept taken =
+  delta_is st marks env next after long same long' rests ran kept taken =
       same_lists after (delta c st env) (same ∙ long ∙ sym long') (λ s h.
       ⊎_elim
-      (λ (u : IsUntouched plan.tasks marks s). kept s u ∙ sym (rests s u))
-      (λ (x : (j : ℕ) × (t : Task) × (slice_get plan.tasks j ≡ Some t) × (slice_index_or marks j false ≡ true) × (is_among (numbers_of t.outs) s ≡ true)). taken x.0 s x.1 x.2 x.3 x.4 ∙ ran x.0 s x.1 x.2 x.3 x.4)
-      (touched ports marks s))
+      (λ (u : IsUntouched plan marks s). kept s u ∙ sym (rests s u))
+      (λ (x : IsTouched marks s). taken x.0 s x.1 x.2 ∙ ran x.0 s x.1 x.2)
+      (touched marks s))
 
 -- ---- numbers that are taken, one task after another
 
-module _ (tasks : List Task) where
+module _ (plan : Plan) where
   abbrev Free : List ℕ → ℕ → Type 0
-  Free js s = (j : ℕ) (t : Task) → slice_get tasks j ≡ Some t → is_among js j ≡ true → is_among (numbers_of t.outs) s ≡ false
+  Free js s = (j : ℕ) → is_among js j ≡ true → is_among (outs_at plan j) s ≡ false
 
-  pub kept_turn : (list : List ℕ) (i : ℕ) (task : Task) (from first env new : List ℤ) → i < length list → slice_get tasks (get_or list i 0) ≡ Some task → new ≡ taken from (numbers_of task.outs) env → ((s : ℕ) → Free (take i list) s → at env s ≡ at first s) → (s : ℕ) → Free (take (i + 1) list) s → at new s ≡ at first s
-  kept_turn list i task from first env new h stands e was s free =
-      ap (λ xs. at xs s) e ∙ taken_other from (numbers_of task.outs) env s (free (get_or list i 0) task stands (among_here list i h)) ∙ was s (λ j t there among. free j t there (among_more list i j among))
+  pub kept_turn : (list : List ℕ) (i : ℕ) (from first env new : List ℤ) → i < length list → new ≡ taken from (outs_at plan (get_or list i 0)) env → ((s : ℕ) → Free (take i list) s → at env s ≡ at first s) → (s : ℕ) → Free (take (i + 1) list) s → at new s ≡ at first s
+  kept_turn list i from first env new h e was s free =
+      ap (λ xs. at xs s) e ∙ taken_other from (outs_at plan (get_or list i 0)) env s (free (get_or list i 0) (among_here list i h)) ∙ was s (λ j among. free j (among_more list i j among))
 
-  pub taken_turn : (list : List ℕ) (i : ℕ) (task : Task) (from env new : List ℤ) → slice_get tasks (get_or list i 0) ≡ Some task → new ≡ taken from (numbers_of task.outs) env → AllByRecursion (λ s. s < length env) (numbers_of task.outs)
-      → ((j s : ℕ) (t : Task) → slice_get tasks j ≡ Some t → is_among (take i list) j ≡ true → is_among (numbers_of t.outs) s ≡ true → at env s ≡ at from s)
-      → (j s : ℕ) (t : Task) → slice_get tasks j ≡ Some t → is_among (take (i + 1) list) j ≡ true → is_among (numbers_of t.outs) s ≡ true → at new s ≡ at from s
-  taken_turn list i task from env new stands e below was j s t there among out =
+  pub taken_turn : (list : List ℕ) (i : ℕ) (from env new : List ℤ) → new ≡ taken from (outs_at plan (get_or list i 0)) env → AllByRecursion (λ s. s < length env) (outs_at plan (get_or list i 0))
+      → ((j s : ℕ) → is_among (take i list) j ≡ true → is_among (outs_at plan j) s ≡ true → at env s ≡ at from s)
+      → (j s : ℕ) → is_among (take (i + 1) list) j ≡ true → is_among (outs_at plan j) s ≡ true → at new s ≡ at from s
+  taken_turn list i from env new e below was j s among out =
       let x : ℕ = get_or list i 0 in
       ⊎_elim
-      (λ (out' : is_among (numbers_of task.outs) s ≡ true). ap (λ xs. at xs s) e ∙ taken_at from (numbers_of task.outs) env s out' (below_of (length env) (numbers_of task.outs) s below out'))
-      (λ (none : is_among (numbers_of task.outs) s ≡ false).
-      let other : x ≢ j = λ f.
-      let alike : task ≡ t = let g : Some task ≡ Some t = sym stands ∙ ap (slice_get tasks) f ∙ there in cc in
-      false≢true (sym none ∙ ap (λ (y : Task). is_among (numbers_of y.outs) s) alike ∙ out) in
-      ap (λ xs. at xs s) e ∙ taken_other from (numbers_of task.outs) env s none ∙ was j s t there (among_next list i j among other) out)
-      (cases_Bool (is_among (numbers_of task.outs) s))
+      (λ (out' : is_among (outs_at plan x) s ≡ true). ap (λ xs. at xs s) e ∙ taken_at from (outs_at plan x) env s out' (below_of (length env) (outs_at plan x) s below out'))
+      (λ (none : is_among (outs_at plan x) s ≡ false).
+      let other : x ≢ j = λ f. false≢true (sym none ∙ ap (λ k. is_among (outs_at plan k) s) f ∙ out) in
+      ap (λ xs. at xs s) e ∙ taken_other from (outs_at plan x) env s none ∙ was j s (among_next list i j among other) out)
+      (cases_Bool (is_among (outs_at plan x) s))
 
 -- between two of these environments each signal changes once
 pub once_taken : (first env new from : List ℤ) (ss : List ℕ) → AllByRecursion (λ s. s < length env) ss → new ≡ taken from ss env → ((t : ℕ) → (at first t ≡ at env t) ⊎ (at env t ≡ at from t)) → ((t : ℕ) → (at first t ≡ at new t) ⊎ (at new t ≡ at from t)) × ((t : ℕ) → (at first t ≡ at env t) ⊎ (at env t ≡ at new t))

@@ -36,13 +36,20 @@ pub mod Spreading
 pub mod Applying
 pub mod Clocking
 pub mod Clearing
+pub mod CombPorts
+pub mod Jobs
+pub mod PortHeld
+pub mod SameRows
+pub mod PortTables
+pub mod ChainBounds
+pub mod Flags
 pub mod Settles
 pub mod StatementTurns
 pub mod TaskValues
 pub mod WritesFit
-pub mod ClockedReads
 pub mod PortsFit
 pub mod PortTurns
+pub mod PortValues
 pub mod Granules
 pub mod PortPrograms
 pub mod Starts
@@ -56,3 +63,5 @@ pub mod ResetLaws
 pub mod EdgesFit
 pub mod Marks
 pub mod Lives
+pub mod Finding
+pub mod GrowthLaws

@@ -20,11 +20,11 @@ use Rattle.delta_sim.specs.Compiled.{IsCompiled}
 use Rattle.delta_sim.specs.Driven.{numbers_of}
 use Rattle.delta_sim.specs.Groups.{AreOthers, IsApart}
 use Rattle.delta_sim.specs.Marks.{is_marked}
-use Rattle.delta_sim.specs.Plans.{IsPlan, IsTable, IsClockedTask, IsCombTask, IsCovered, readers_of}
-use Rattle.delta_sim.specs.Ports.{HasPorts}
+use Rattle.delta_sim.specs.Plans.{IsPlan, IsTable, IsClockedTask, IsCombTask, IsCovered, clearable_processes, readers_of}
+use Rattle.delta_sim.specs.Ports.{HasPorts, comb_ports}
 use Rattle.delta_sim.specs.Reads.{block_reads}
 use Rattle.delta_sim.specs.Reading.{AreFirst}
-use Rattle.delta_sim.specs.Tables.{IsAdded, AreTables, ArePartial}
+use Rattle.delta_sim.specs.Tables.{IsAdded, AreTables, ArePartial, ArePorted}
 use Rattle.delta_sim.specs.Tasks.{picked}
 use Rattle.delta_sim.proofs.Agrees.{left, right}
 use Rattle.delta_sim.proofs.CompiledTasks.{task_group}
@@ -113,7 +113,7 @@ adds_end reads i n old now h was = record {
       sym (ap (λ xs. is_among (readers_of now s) k || (is_among xs s && (n == k))) (at_drop_all numbers_of reads i h) ∙ or_false (is_among (readers_of now s) k)) ∙ was.each s k inside;
 }
 
-past_none : (table : List (List ℕ)) (s k : ℕ) → length table ≤ s → is_among (readers_of table s) k ≡ false
+pub past_none : (table : List (List ℕ)) (s k : ℕ) → length table ≤ s → is_among (readers_of table s) k ≡ false
 past_none table s k past = ap (λ xs. is_among xs k) (get_or_past table s [] past)
 
 none_read : (n s : ℕ) (k : ℕ) → is_among (readers_of (replicate n []) s) k ≡ false
@@ -129,7 +129,7 @@ and_true : (a b : Bool) → (a && b) ≡ true → b ≡ true
 and_true true b e = e
 and_true false b e = absurd (false≢true e)
 
-or_cases : (a b : Bool) → (a || b) ≡ true → (a ≡ true) ⊎ (b ≡ true)
+pub or_cases : (a b : Bool) → (a || b) ≡ true → (a ≡ true) ⊎ (b ≡ true)
 or_cases true b e = inl refl
 or_cases false b e = inr e
 
@@ -158,22 +158,22 @@ still_reads k reads old new added s j h =
 
 -- ---- lists that grow
 
-get_more : {A : Type 0} (xs : List A) (x y : A) (i : ℕ) → slice_get (xs ++ x ∷ []) i ≡ Some y → (slice_get xs i ≡ Some y) ⊎ ((i ≡ length xs) × (x ≡ y))
+pub get_more : {A : Type 0} (xs : List A) (x y : A) (i : ℕ) → slice_get (xs ++ x ∷ []) i ≡ Some y → (slice_get xs i ≡ Some y) ⊎ ((i ≡ length xs) × (x ≡ y))
 get_more [] x y zero e = inr (refl, cc)
 get_more [] x y (suc i) e = cc
 get_more (z ∷ xs) x y zero e = inl e
 get_more (z ∷ xs) x y (suc i) e = ⊎_elim (λ h. inl h) (λ (h : (i ≡ length xs) × (x ≡ y)). inr (ap suc h.0, h.1)) (get_more xs x y i e)
 
-get_old : {A : Type 0} (xs : List A) (x y : A) (i : ℕ) → slice_get xs i ≡ Some y → slice_get (xs ++ x ∷ []) i ≡ Some y
+pub get_old : {A : Type 0} (xs : List A) (x y : A) (i : ℕ) → slice_get xs i ≡ Some y → slice_get (xs ++ x ∷ []) i ≡ Some y
 get_old [] x y i e = cc
 get_old (z ∷ xs) x y zero e = e
 get_old (z ∷ xs) x y (suc i) e = get_old xs x y i e
 
-get_last : {A : Type 0} (xs : List A) (x : A) → slice_get (xs ++ x ∷ []) (length xs) ≡ Some x
+pub get_last : {A : Type 0} (xs : List A) (x : A) → slice_get (xs ++ x ∷ []) (length xs) ≡ Some x
 get_last [] x = refl
 get_last (y ∷ xs) x = get_last xs x
 
-same_some : {A : Type 0} (o : Option A) (x y : A) → o ≡ Some x → o ≡ Some y → x ≡ y
+pub same_some : {A : Type 0} (o : Option A) (x y : A) → o ≡ Some x → o ≡ Some y → x ≡ y
 same_some o x y e f = let g : Some x ≡ Some y = sym e ∙ f in cc
 
 -- ---- no process
@@ -440,9 +440,10 @@ if_ok (Err e) q = tt
 
 -- ---- all processes
 
-pub planned : (c : Circuit) (design : IsDesign c) (plan : Plan) (marks : List Bool) → AreFirst false (is_held c) (length c.pool.signals) marks → ((s : ℕ) → is_among (numbers_of plan.given) s ≡ is_marked marks s)
-    → AreTables c (length c.processes) plan.clocked plan.tasks plan.readers plan.processes → ((k : ℕ) (m : Memory) → slice_get c.memories k ≡ Some m → HasPorts c (length c.pool.exprs) plan.ports k m) → IsPlan c (length c.pool.exprs) plan
-planned c design plan marks first given all ports = record {
+pub planned : (c : Circuit) (design : IsDesign c) (plan : Plan) (marks : List Bool) (readers processes : List (List ℕ)) → AreFirst false (is_held c) (length c.pool.signals) marks → ((s : ℕ) → is_among (numbers_of plan.given) s ≡ is_marked marks s)
+    → AreTables c (length c.processes) plan.clocked plan.tasks readers processes → ArePorted c (length plan.tasks) plan.reads (comb_ports 0 c.memories) readers processes plan.readers plan.processes
+    → plan.jobs ≡ length plan.tasks + length plan.reads → plan.agents ≡ length c.processes + length plan.reads → ((k : ℕ) (m : Memory) → slice_get c.memories k ≡ Some m → HasPorts c (length c.pool.exprs) plan.ports k m) → plan.clearable ≡ clearable_processes c → IsPlan c (length c.pool.exprs) plan
+planned c design plan marks readers processes first given all ported jobs agents ports clearable = record {
   given = λ s inside. given s ∙ first.each s inside;
   given_below = all_of (λ s. s < length c.pool.signals) (numbers_of plan.given) (λ s h.
       ⊎_elim
@@ -454,8 +455,12 @@ planned c design plan marks first given all ports = record {
   covered = λ k p s is dom h. all.covered k p s (place_below c.processes k p is) is dom h;
   apart = all.apart;
   ports = ports;
-  readers = all.readers;
-  awake = all.awake;
-  processes = all.processes;
-  exact = λ s k p inside is. all.exact s k p inside (place_below c.processes k p is) is;
+  readers = subst (λ n. IsTable (length c.pool.signals) n plan.readers) (sym jobs) ported.readers;
+  awake = λ s j t p is at h. ported.same_readers s j (place_below plan.tasks j t is) ∙ all.awake s j t p is at h;
+  processes = subst (λ n. IsTable (length c.pool.signals) n plan.processes) (sym agents) ported.processes;
+  exact = λ s k p inside is. ported.same_processes s k (place_below c.processes k p is) ∙ all.exact s k p inside (place_below c.processes k p is) is;
+  reads = ported.tasks;
+  jobs = jobs;
+  agents = agents;
+  clearable = clearable;
 }

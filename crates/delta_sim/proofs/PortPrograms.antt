@@ -1,26 +1,36 @@
 -- The expressions of memory ports, in an order in which they can be computed.
-use Rattle.std.specs.Prelude.{◌≡◌, refl, ℕ, zero, suc, ◌+◌, ◌<◌, ◌≤◌, ◌||◌, Bool, true, List, [], ◌∷◌, ◌++◌, length, slice_get, Option, Some, None}
+use Rattle.std.specs.Prelude.{◌≡◌, refl, ℕ, zero, suc, ◌+◌, ◌<◌, ◌≤◌, ◌==◌, ◌||◌, Bool, true, false, List, [], ◌∷◌, ◌++◌, length, replicate, slice_get, Option, Some, None}
 use Rattle.std.specs.List.{AllByRecursion, flat_map}
 use Rattle.std.specs.List.Sorted.{IsNonDecreasing}
 use Rattle.std.proofs.Common.{sym, ◌∙◌, ap, arith, subst, ⊎_elim}
-use Rattle.std.proofs.lemmas.Bool.{cases_lt}
+use Rattle.std.proofs.lemmas.Bool.{cases_lt, eq-eqb, eqb-true, false≢true}
+use Rattle.design_ir.specs.declared.expr.Expr as expr
 use Rattle.design_ir.specs.declared.ids.ExprId.{ExprId}
+use Rattle.design_ir.specs.declared.ids.SigId.{SigId}
 use Rattle.design_ir.specs.declared.memory.MemRead.{MemRead}
 use Rattle.design_ir.specs.declared.memory.MemWrite.{MemWrite}
 use Rattle.design_ir.specs.declared.memory.Memory.{Memory}
 use Rattle.design_ir.specs.Circuits.{Circuit, is_among}
 use Rattle.design_ir.specs.Designs.{IsMemory, IsReadPort, IsWritePort, IsClocking}
+use Rattle.design_ir.specs.Pools.{Pooled}
 use Rattle.design_ir.specs.PoolRules.{IsPool}
 use Rattle.design_ir.specs.Targets.{is_target}
+use Rattle.design_ir.proofs.Equations.{standing}
+use Rattle.delta_sim.specs.Compiled.{HoldsSignal}
+use Rattle.delta_sim.specs.Driven.{numbers_of}
 use Rattle.delta_sim.specs.Given.{marked}
-use Rattle.delta_sim.specs.Marks.{is_marked, AreMarked, AreSpread, Stays}
+use Rattle.delta_sim.specs.Marks.{is_marked, AreMarked, AreSpread, ReadOnly, Stays}
 use Rattle.delta_sim.specs.Ports.{HasPorts, write_exprs, enable_exprs, read_exprs, port_exprs}
 use Rattle.delta_sim.specs.Reading.{AreBelow, AreThere}
+use Rattle.delta_sim.specs.Reads.{stands_in}
 use Rattle.delta_sim.specs.Tasks.{AreAmong, IsProgram, places_of}
-use Rattle.delta_sim.proofs.Agrees.{right}
+use Rattle.delta_sim.proofs.Agrees.{right, stands_is}
 use Rattle.delta_sim.proofs.Listing.{all_among}
-use Rattle.delta_sim.proofs.Spreading.{marks_new, all_stay}
+use Rattle.delta_sim.proofs.ReadMarks.{stands_held}
+use Rattle.delta_sim.proofs.SignalsInside.{all_of}
+use Rattle.delta_sim.proofs.Spreading.{marks_back, marks_new, all_stay}
 use Rattle.delta_sim.proofs.TargetsInside.{all_append}
+use Rattle.delta_sim.proofs.Waits.{none_marked, replicate_length}
 
 -- ---- they are expressions of the pool
 
@@ -57,6 +67,48 @@ module _ (c : Circuit) (rules : IsPool c.pool) (es : List ExprId) (old first aim
   ports_among =
       let marks : AreMarked values es = all_stay first values es stay (subst (λ ms. AreMarked ms es) (sym e) (marks_new es old below)) in
       all_among c.pool rules aims values long long' closed are list order has es (either aims values es marks)
+
+-- ---- what an address reads
+
+both : (a b : Bool) → (a ≡ true → b ≡ true) → (b ≡ true → a ≡ true) → a ≡ b
+both true b f g = sym (f refl)
+both false true f g = g refl
+both false false f g = refl
+
+first_only : (p : Pooled) (e : ExprId) (aims values : List Bool) (n : ℕ) → aims ≡ replicate n false → values ≡ marked (e.0 ∷ []) (replicate n false) → ReadOnly p aims values (λ s. stands_in p s e.0)
+first_only p e aims values n ea ev = (
+  λ j s m h.
+      ⊎_elim
+      (λ (was : is_marked (replicate n false) j ≡ true). absurd (false≢true (sym (none_marked n j) ∙ was)))
+      (λ (own : is_among (e.0 ∷ []) j ≡ true). ap (stands_in p s) (eqb-true e.0 j (or_none (e.0 == j) own)) ∙ h)
+      (marks_back (e.0 ∷ []) (replicate n false) j (ap (λ ms. is_marked ms j) (sym ev) ∙ m)),
+  λ j s m h. absurd (false≢true (sym (none_marked n j) ∙ ap (λ ms. is_marked ms j) (sym ea) ∙ m)),
+)
+  where
+    or_none : (a : Bool) → (a || false) ≡ true → a ≡ true
+    or_none true h = refl
+    or_none false h = h
+
+-- the signals of the marked expressions are exactly those that stand in it
+pub address_reads : (p : Pooled) → IsPool p → (e : ExprId) → e.0 < length p.exprs → (aims0 values0 aims values : List Bool) → aims0 ≡ replicate (length p.exprs) false → values0 ≡ marked (e.0 ∷ []) (replicate (length p.exprs) false) → length aims ≡ length p.exprs → length values ≡ length p.exprs
+    → Stays values0 values → AreSpread p aims values → ((r : ℕ → Bool) → ReadOnly p aims0 values0 r → ReadOnly p aims values r)
+    → (list : List SigId) → ((k : ℕ) (s : SigId) → slice_get p.exprs k ≡ Some (expr.TheVariants.Sig s) → is_marked values k ≡ true → is_among (numbers_of list) s.0 ≡ true) → ((s : ℕ) → is_among (numbers_of list) s ≡ true → HoldsSignal p values s)
+    → (s : ℕ) → is_among (numbers_of list) s ≡ stands_in p s e.0
+address_reads p rules e there aims0 values0 aims values ea ev long long' stay closed only list all_in only_in s =
+    let reads = only (λ x. stands_in p x e.0) (first_only p e aims0 values0 (length p.exprs) ea ev) in
+    let begun : AreMarked values0 (e ∷ []) = subst (λ ms. AreMarked ms (e ∷ [])) (sym ev) (marks_new (e ∷ []) (replicate (length p.exprs) false) (subst (λ n. AreBelow n (e ∷ [])) (sym (replicate_length false (length p.exprs))) (there, tt))) in
+    let marked : is_marked values e.0 ≡ true = (all_stay values0 values (e ∷ []) stay begun).0 in
+    both (is_among (numbers_of list) s) (stands_in p s e.0)
+    (λ h.
+    let x = only_in s h in
+    reads.0 x.k s x.marked (stands_is p s x.k (expr.TheVariants.Sig x.sig) rules x.is ∙ eq-eqb x.sig.0 s x.same))
+    (λ h.
+    let x = stands_held p rules aims values long long' closed s e.0 marked h in
+    subst (λ n. is_among (numbers_of list) n ≡ true) x.same (all_in x.k x.sig x.is x.marked))
+
+pub address_below : (p : Pooled) → IsPool p → (values : List Bool) (list : List SigId) → ((s : ℕ) → is_among (numbers_of list) s ≡ true → HoldsSignal p values s) → AllByRecursion (λ s. s < length p.signals) (numbers_of list)
+address_below p rules values list only_in =
+    all_of (λ s. s < length p.signals) (numbers_of list) (λ s h. let y = only_in s h in subst (λ i. i < length p.signals) y.same (standing p y.k (expr.TheVariants.Sig y.sig) rules y.is).askable.parts)
 
 -- ---- one memory more
 

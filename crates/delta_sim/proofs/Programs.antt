@@ -50,7 +50,7 @@ module _ (shape : ℕ → Form) (env : List ℤ) (f g : ℕ → ℤ) where
 
 -- ---- one expression
 
-below_more : (k n : ℕ) (es : List ExprId) → k ≤ n → AllBelow k es → AllBelow n es
+pub below_more : (k n : ℕ) (es : List ExprId) → k ≤ n → AllBelow k es → AllBelow n es
 below_more k n [] le h = tt
 below_more k n (e ∷ es) le h = (omega (arith, h.0, le), below_more k n es le h.1)
 

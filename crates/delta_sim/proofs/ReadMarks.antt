@@ -104,7 +104,7 @@ module _ (p : Pooled) (rules : IsPool p) (aims values : List Bool) (long : lengt
       stands_down (suc r.0) r.0 (omega arith) r.2 r.3)
       (placing_cases p s (places p s) at.0 (sym (places_is p s k at.0 rules at.1) ∙ h))
 
-  stands_held : (k : ℕ) → is_marked values k ≡ true → stands_in p s k ≡ true → HoldsSignal p values s
+  pub stands_held : (k : ℕ) → is_marked values k ≡ true → stands_in p s k ≡ true → HoldsSignal p values s
   stands_held k m h = stands_down (suc k) k (omega arith) m h
 
   mutual

@@ -1,77 +1,42 @@
--- Which signals the next delta leaves as they are: those that no waiting task drives.
-use Rattle.std.specs.Prelude.{◌≡◌, ◌≢◌, refl, ℕ, suc, ◌<◌, ◌≤◌, ◌&&◌, ◌||◌, ◌==◌, Bool, true, false, is_none, List, [], ◌∷◌, length, slice_get, slice_index_or, ℤ, pos, Option, Some, None}
-use Rattle.std.specs.List.{AllByRecursion, list_any}
+-- What a run of a task leaves, and which signals the next delta leaves as they are: those that no waiting task drives.
+use Rattle.std.specs.Prelude.{◌≡◌, ◌≢◌, refl, ℕ, ◌+◌, ◌-◌, ◌<◌, ◌≤◌, ◌||◌, ◌==◌, Bool, true, false, not, List, [], ◌∷◌, length, slice_get, slice_set, slice_index_or, ℤ, pos, unsigned_abs, Option, Some, None}
+use Rattle.std.specs.List.{AllByRecursion}
 use Rattle.std.proofs.Common.{sym, ◌∙◌, ap, arith, subst, ⊎_elim}
 use Rattle.std.proofs.lemmas.Bool.{cases_Bool, cases_lt, eqb-true, eq-eqb, false≢true}
 use Rattle.std.proofs.lemmas.List.{get_or_past, get_or-set_same, get_or-set_other, length-set}
 use Rattle.design_ir.specs.declared.ids.ExprId.{ExprId}
-use Rattle.design_ir.specs.declared.process.DesignProcess.{DesignProcess}
+use Rattle.design_ir.specs.declared.ids.SigId.{SigId}
 use Rattle.design_ir.specs.declared.signal.Sig.{Sig}
 use Rattle.design_ir.specs.Circuits.{Circuit, State, at, is_among, is_held}
 use Rattle.design_ir.specs.Designs.{IsDesign}
 use Rattle.design_ir.specs.Guards.{driven, block_exprs}
 use Rattle.design_ir.specs.PoolRules.{IsPool}
 use Rattle.design_ir.specs.Put.{put}
+use Rattle.design_ir.specs.Rows.{row_at}
 use Rattle.design_ir.specs.Settled.{starts, delta, Settled}
 use Rattle.design_ir.specs.Trees.{Block}
-use Rattle.design_ir.proofs.NumbersFit.{element}
+use Rattle.design_ir.proofs.NumbersFit.{FitsSignals, element}
 use Rattle.design_ir.proofs.PutLaws.{put_other}
-use Rattle.comb_graph.specs.Laws.{FitsState}
 use Rattle.comb_graph.specs.Orders.{is_comb}
 use Rattle.comb_graph.proofs.DeltaLaws.{delta_other, starts_length}
 use Rattle.delta_sim.specs.declared.plan.Plan.{Plan}
+use Rattle.delta_sim.specs.declared.task.PortTask.{PortTask}
 use Rattle.delta_sim.specs.declared.task.Task.{Task}
 use Rattle.delta_sim.specs.Driven.{numbers_of}
-use Rattle.delta_sim.specs.Plans.{IsPlan, IsCombTask, Wakes, IsUntouched, Rests, init_at, begun}
-use Rattle.delta_sim.specs.Ports.{AreReadsClocked}
-use Rattle.delta_sim.specs.Reads.{block_reads}
+use Rattle.delta_sim.specs.Plans.{IsPlan, IsCombTask, Wakes, WakesPorts, IsUntouched, Rests, init_at, begun, readers_of}
+use Rattle.delta_sim.specs.Reads.{block_reads, stands_in}
+use Rattle.delta_sim.specs.Standing.{AreRowsOf}
 use Rattle.delta_sim.specs.Tasks.{AreAmong, picked}
-use Rattle.delta_sim.proofs.Agrees.{put_agrees}
-use Rattle.delta_sim.proofs.ClockedReads.{words_none}
+use Rattle.delta_sim.specs.Woken.{AreChanged, same_rows}
+use Rattle.delta_sim.proofs.Agrees.{num_agrees, put_agrees}
+use Rattle.delta_sim.proofs.CombPorts.{memory_there, port_at, port_fits, word_there}
+use Rattle.delta_sim.proofs.Jobs.{TaskOut, PortOut, PortAt, out_cases, port_of, port_word, driven_by}
+use Rattle.delta_sim.proofs.SameRows.{same_rows_is}
 use Rattle.delta_sim.proofs.Frames.{put_frame}
 use Rattle.delta_sim.proofs.PlaceWalks.{among_index, there_at}
 use Rattle.delta_sim.proofs.TaskValues.{delta_at, not_held, starts_init}
 use Rattle.delta_sim.proofs.Waking.{cases_int}
-
--- ---- a combinational signal is one of a process
-
-pub record IsOfComb (c : Circuit) (s : ℕ) : Type 0 where
-  pub k : ℕ
-  pub p : DesignProcess
-  pub stands : slice_get c.processes k ≡ Some p
-  pub comb : p.domain ≡ None
-  pub drives : is_among (driven c.pool p.body) s ≡ true
-
-none_is : {A : Type 0} (o : Option A) → is_none o ≡ true → o ≡ None
-none_is None e = refl
-none_is (Some x) e = absurd (false≢true e)
-
-and_left : (a b : Bool) → (a && b) ≡ true → a ≡ true
-and_left true b e = refl
-and_left false b e = e
-
-and_right : (a b : Bool) → (a && b) ≡ true → b ≡ true
-and_right true b e = e
-and_right false b e = absurd (false≢true e)
-
-any_place : {A : Type 0} (P : A → Bool) (xs : List A) → list_any P xs ≡ true → (k : ℕ) × (x : A) × (slice_get xs k ≡ Some x) × (P x ≡ true)
-any_place P [] h = absurd (false≢true h)
-any_place P (x ∷ xs) h =
-    ⊎_elim
-    (λ (t : P x ≡ true). (0, x, refl, t))
-    (λ (t : P x ≡ false). let r = any_place P xs (sym (ap (λ b. b || list_any P xs) t) ∙ h) in (suc r.0, r.1, r.2, r.3))
-    (cases_Bool (P x))
-
-or_false : (a : Bool) → (a || false) ≡ true → a ≡ true
-or_false true e = refl
-or_false false e = e
-
-pub comb_signal : (c : Circuit) → AreReadsClocked c → (s : ℕ) → is_comb c s ≡ true → IsOfComb c s
-comb_signal c ports s h =
-    let P : DesignProcess → Bool = λ p. is_none p.domain && is_among (driven c.pool p.body) s in
-    let some : list_any P c.processes ≡ true = or_false (list_any P c.processes) (ap (λ b. list_any P c.processes || b) (sym (words_none s c.memories ports)) ∙ h) in
-    let r = any_place P c.processes some in
-    record { k = r.0; p = r.1; stands = r.2; comb = none_is r.1.domain (and_left (is_none r.1.domain) (is_among (driven c.pool r.1.body) s) r.3); drives = and_right (is_none r.1.domain) (is_among (driven c.pool r.1.body) s) r.3 }
+use Rattle.delta_sim.proofs.WritesFit.{OfSignal, set_fits}
 
 all_below : (count n : ℕ) (list es : List ExprId) → AllByRecursion (λ (e : ExprId). e.0 < count) list → count ≤ n → AreAmong list es → AllByRecursion (λ (e : ExprId). e.0 < n) es
 all_below count n list [] there few h = tt
@@ -149,11 +114,10 @@ module _ (c : Circuit) (rules : IsPool c.pool) (design : IsDesign c) (count : �
         starts_init c design st s x.0 x.1 free ∙ sym (starts_init c design other s x.0 x.1 free)
 
     -- where nothing that it reads has another number, a delta leaves the same in it
-    pub task_kept : (st other : State) (old new : List ℤ) → s < length c.pool.signals → (is : List Bool) (was : List Bool) → Wakes plan.readers old new was is → slice_index_or is j false ≡ false
-        → at (delta c other new) s ≡ at (delta c st old) s
-    task_kept st other old new inside is_marks was wakes asleep =
+    pub task_kept : (st other : State) (old new : List ℤ) → s < length c.pool.signals → ((x : ℕ) → is_among (readers_of plan.readers x) j ≡ true → at old x ≡ at new x) → at (delta c other new) s ≡ at (delta c st old) s
+    task_kept st other old new inside same =
         let unread : (x : ℕ) → block_reads c.pool x body ≡ true → at new x ≡ at old x =
-        λ x reads. ⊎_elim (λ e. sym e) (λ (e : at old x ≢ at new x). absurd (false≢true (sym asleep ∙ wakes.wakes x j e (is.awake x j t task.p stands task.task.process reads)))) (cases_int (at old x) (at new x)) in
+        λ x reads. sym (same x (is.awake x j t task.p stands task.task.process reads)) in
         task_at other new
         ∙ ap (λ xs. at xs s) (put_agrees c.pool new old rules body (starts c other 0 c.pool.signals) there unread)
         ∙ put_frame c.pool s old body (starts c other 0 c.pool.signals) (starts c st 0 c.pool.signals) (begun_long other ∙ sym (begun_long st), same_start other st inside)
@@ -175,39 +139,149 @@ module _ (c : Circuit) (rules : IsPool c.pool) (design : IsDesign c) (count : �
       let b : Block = picked task.p.body t.statements in
       ap (λ xs. at xs s) e ∙ put_other c.pool env b (begun c.pool.signals cur (numbers_of t.outs)) s (sym (task.task.outs s) ∙ none) ∙ begun_other c.pool.signals (numbers_of t.outs) cur s none
 
+  -- ---- read ports
+
+  module _ (i : ℕ) (t : PortTask) (stands : slice_get plan.reads i ≡ Some t) (s : ℕ) (out : is_among (numbers_of t.outs) s ≡ true) where
+    abbrev at_port : PortAt c design count plan is i t
+    at_port = port_of c design count plan is i t stands
+
+    word_is : at_port.x.1.word.0 ≡ s
+    word_is = port_word c design count plan is i t s at_port out
+
+    -- a delta leaves in its data the row at its address
+    pub row_left : (st : State) (env : List ℤ) → length st.rows ≡ length c.memories → at (delta c st env) s ≡ row_at c.pool env (slice_index_or st.rows t.memory []) t.addr
+    row_left st env many =
+        ap (at (delta c st env)) (sym word_is)
+        ∙ port_at c design i at_port.x at_port.port st env many
+        ∙ ap (λ n. row_at c.pool env (slice_index_or st.rows n []) at_port.x.1.addr) (sym at_port.task.memory)
+        ∙ ap (row_at c.pool env (slice_index_or st.rows t.memory [])) (sym at_port.task.addr)
+
+    address_there : t.addr.0 < length c.pool.exprs
+    address_there = (all_below count (length c.pool.exprs) t.exprs (t.addr ∷ []) at_port.task.program.there few at_port.task.computed).0
+
+    -- where neither its address nor its memory changed, a delta leaves the same in it
+    pub port_kept : (st other : State) (old new : List ℤ) → length st.rows ≡ length c.memories → length other.rows ≡ length c.memories → ((x : ℕ) → is_among (readers_of plan.readers x) (length plan.tasks + i) ≡ true → at old x ≡ at new x)
+        → slice_index_or st.rows t.memory [] ≡ slice_index_or other.rows t.memory [] → at (delta c other new) s ≡ at (delta c st old) s
+    port_kept st other old new many many' same rows =
+        let unread : (x : ℕ) → stands_in c.pool x t.addr.0 ≡ true → at new x ≡ at old x =
+        λ x stands. sym (same x (is.reads.awake x i at_port.x at_port.port (ap (λ (e : ExprId). stands_in c.pool x e.0) (sym at_port.task.addr) ∙ stands))) in
+        row_left other new many'
+        ∙ ap (λ n. at (slice_index_or other.rows t.memory []) (unsigned_abs n)) (num_agrees c.pool new old rules t.addr.0 address_there unread)
+        ∙ ap (λ xs. row_at c.pool old xs t.addr) (sym rows)
+        ∙ sym (row_left st old many)
+
+    -- a run of the port gives it
+    pub port_gives : (st : State) (env cur next : List ℤ) → length st.rows ≡ length c.memories → length cur ≡ length c.pool.signals → ((w : SigId) → t.outs ≡ w ∷ [] → next ≡ slice_set cur w.0 (row_at c.pool env (slice_index_or st.rows t.memory []) t.addr)) → at next s ≡ at (delta c st env) s
+    port_gives st env cur next many long ran =
+        let row : ℤ = row_at c.pool env (slice_index_or st.rows t.memory []) t.addr in
+        let there : s < length cur = omega (arith, long, word_is, word_there c design i at_port.x at_port.port) in
+        ap (λ xs. at xs s) (ran at_port.x.1.word at_port.task.outs) ∙ ap (λ n. at (slice_set cur n row) s) word_is ∙ get_or-set_same cur s row (pos 0) there ∙ sym (row_left st env many)
+
+  -- a run of a port changes nothing else
+  pub port_keeps : (i : ℕ) (t : PortTask) (stands : slice_get plan.reads i ≡ Some t) (s : ℕ) → is_among (numbers_of t.outs) s ≡ false → (cur next : List ℤ) (row : ℤ) → ((w : SigId) → t.outs ≡ w ∷ [] → next ≡ slice_set cur w.0 row) → at next s ≡ at cur s
+  port_keeps i t stands s none cur next row ran =
+      let p = port_of c design count plan is i t stands in
+      let other : is_among (p.x.1.word.0 ∷ []) s ≡ false = ap (λ (ws : List SigId). is_among (numbers_of ws) s) (sym p.task.outs) ∙ none in
+      ap (λ xs. at xs s) (ran p.x.1.word p.task.outs) ∙ get_or-set_other cur p.x.1.word.0 s row (pos 0) (λ f. false≢true (sym other ∙ ap (λ b. b || false) (eq-eqb p.x.1.word.0 s (sym f))))
+
+  -- what it leaves is of the signals' shapes
+  pub port_next_fits : (i : ℕ) (t : PortTask) (stands : slice_get plan.reads i ≡ Some t) (env cur next : List ℤ) (rows : List (List ℤ)) → AreRowsOf c rows → FitsSignals c.pool cur → ((w : SigId) → t.outs ≡ w ∷ [] → next ≡ slice_set cur w.0 (row_at c.pool env (slice_index_or rows t.memory []) t.addr)) → FitsSignals c.pool next
+  port_next_fits i t stands env cur next rows of fit ran =
+      let p = port_of c design count plan is i t stands in
+      let own = port_fits c design i p.x p.port rows env of.fits of.count in
+      let row = subst (λ n. OfSignal c.pool p.x.1.word.0 (row_at c.pool env (slice_index_or rows n []) p.x.1.addr)) (sym p.task.memory) own in
+      let row' = subst (λ (e : ExprId). OfSignal c.pool p.x.1.word.0 (row_at c.pool env (slice_index_or rows t.memory []) e)) (sym p.task.addr) row in
+      subst (FitsSignals c.pool) (sym (ran p.x.1.word p.task.outs)) (set_fits c.pool cur p.x.1.word.0 (row_at c.pool env (slice_index_or rows t.memory []) t.addr) row' fit)
+
+  pub port_next_long : (i : ℕ) (t : PortTask) (stands : slice_get plan.reads i ≡ Some t) (cur next : List ℤ) (row : ℤ) → ((w : SigId) → t.outs ≡ w ∷ [] → next ≡ slice_set cur w.0 row) → length next ≡ length cur
+  port_next_long i t stands cur next row ran =
+      let p = port_of c design count plan is i t stands in
+      ap length (ran p.x.1.word p.task.outs) ∙ length-set cur p.x.1.word.0 row
+
   -- ---- the next environment
 
   inside_or_past : (s : ℕ) (E F : List ℤ) → length E ≡ length c.pool.signals → length F ≡ length c.pool.signals → (s < length c.pool.signals → at E s ≡ at F s) → at E s ≡ at F s
   inside_or_past s E F long long' h =
       ⊎_elim h (λ (past : length c.pool.signals ≤ s). get_or_past E s (pos 0) (omega (arith, past, long)) ∙ sym (get_or_past F s (pos 0) (omega (arith, past, long')))) (cases_lt s (length c.pool.signals))
 
-  -- what the next delta leaves in a combinational signal that no waiting task drives, where another state may have come
-  kept_comb : (ports : AreReadsClocked c) (st other : State) (old new : List ℤ) (was marks : List Bool) → Wakes plan.readers old new was marks → (s : ℕ) → s < length c.pool.signals → is_comb c s ≡ true → IsUntouched plan.tasks marks s → at (delta c other new) s ≡ at (delta c st old) s
-  kept_comb ports st other old new was marks wakes s inside comb untouched =
-      let o = comb_signal c ports s comb in
-      let v = is.covered o.k o.p s o.stands o.comb o.drives in
+  -- nothing that the task reads changed
+  pub record Sleeps (st other : State) (old new : List ℤ) (j : ℕ) : Type 0 where
+    pub same : (s : ℕ) → is_among (readers_of plan.readers s) j ≡ true → at old s ≡ at new s
+    pub rows : (i : ℕ) (t : PortTask) → slice_get plan.reads i ≡ Some t → j ≡ length plan.tasks + i → slice_index_or st.rows t.memory [] ≡ slice_index_or other.rows t.memory []
+
+  -- what the next delta leaves in a combinational signal whose task sleeps, where another state may have come
+  kept_comb : (st other : State) (old new : List ℤ) (marks : List Bool) → length st.rows ≡ length c.memories → length other.rows ≡ length c.memories → ((j : ℕ) → j < plan.jobs → slice_index_or marks j false ≡ false → Sleeps st other old new j)
+      → (s : ℕ) → s < length c.pool.signals → is_comb c s ≡ true → IsUntouched plan marks s → at (delta c other new) s ≡ at (delta c st old) s
+  kept_comb st other old new marks many many' sleeps s inside comb untouched =
+      let v = driven_by c design count plan is s comb in
       ⊎_elim
-      (λ (w : slice_index_or marks v.j false ≡ true). absurd (false≢true (sym (untouched v.j v.t v.stands w) ∙ v.drives)))
-      (λ (w : slice_index_or marks v.j false ≡ false). task_kept v.j v.t v.stands s v.drives st other old new inside marks was wakes w)
+      (λ (w : slice_index_or marks v.j false ≡ true). absurd (false≢true (sym (untouched v.j w) ∙ v.drives)))
+      (λ (w : slice_index_or marks v.j false ≡ false).
+      let z = sleeps v.j v.there w in
+      ⊎_elim
+      (λ (o : TaskOut plan v.j s). task_kept v.j o.t o.stands s o.out st other old new inside z.same)
+      (λ (o : PortOut plan v.j s).
+      port_kept o.i o.t o.stands s o.out st other old new many many' (λ x h. z.same x (ap (is_among (readers_of plan.readers x)) o.place ∙ h)) (z.rows o.i o.t o.stands o.place))
+      (out_cases plan v.j s v.drives))
       (cases_Bool (slice_index_or marks v.j false))
 
+  -- what was not woken saw no signal change
+  unread : (old new : List ℤ) (was marks : List Bool) (j : ℕ) → Wakes plan.readers old new was marks → slice_index_or marks j false ≡ false → (s : ℕ) → is_among (readers_of plan.readers s) j ≡ true → at old s ≡ at new s
+  unread old new was marks j wakes asleep s reads = ⊎_elim (λ e. e) (λ (e : at old s ≢ at new s). absurd (false≢true (sym asleep ∙ wakes.wakes s j e reads))) (cases_int (at old s) (at new s))
+
   -- behind a delta, what no waiting task drives rests
-  pub rests_next : (ports : AreReadsClocked c) (st : State) (E F : List ℤ) (was marks : List Bool) → FitsState c st → F ≡ delta c st E → length F ≡ length c.pool.signals → length (delta c st F) ≡ length c.pool.signals → Wakes plan.readers E F was marks → Rests c st plan.tasks marks F
-  rests_next ports st E F was marks fit e long long' wakes s untouched =
+  pub rests_next : (st : State) (E F : List ℤ) (was marks : List Bool) → length st.rows ≡ length c.memories → F ≡ delta c st E → length F ≡ length c.pool.signals → length (delta c st F) ≡ length c.pool.signals → Wakes plan.readers E F was marks → Rests c st plan marks F
+  rests_next st E F was marks many e long long' wakes s untouched =
       inside_or_past s (delta c st F) F long' long (λ inside.
       ⊎_elim
-      (λ (comb : is_comb c s ≡ true). kept_comb ports st st E F was marks wakes s inside comb untouched ∙ ap (λ xs. at xs s) (sym e))
+      (λ (comb : is_comb c s ≡ true).
+      kept_comb st st E F marks many many (λ j lt w. record { same = unread E F was marks j wakes w; rows = λ i t at e. refl }) s inside comb untouched ∙ ap (λ xs. at xs s) (sym e))
       (λ (comb : is_comb c s ≡ false). delta_other c st rules design F E s comb ∙ ap (λ xs. at xs s) (sym e))
       (cases_Bool (is_comb c s)))
 
-  -- behind an event, what no waiting task drives rests
-  pub rests_first : (ports : AreReadsClocked c) (st other : State) (E F : List ℤ) (was marks : List Bool) → Settled c st E → ((s : ℕ) → is_comb c s ≡ false → at F s ≡ at (delta c other F) s) → ((s : ℕ) → is_held c s ≡ false → at F s ≡ at E s)
-      → length F ≡ length c.pool.signals → length (delta c other F) ≡ length c.pool.signals → Wakes plan.readers E F was marks → Rests c other plan.tasks marks F
-  rests_first ports st other E F was marks settled ready kept long long' wakes s untouched =
-      inside_or_past s (delta c other F) F long' long (λ inside.
-      ⊎_elim
-      (λ (comb : is_comb c s ≡ true).
-      let o = comb_signal c ports s comb in
-      kept_comb ports st other E F was marks wakes s inside comb untouched ∙ ap (λ xs. at xs s) settled ∙ sym (kept s (not_held c design o.k o.p s o.stands o.comb o.drives)))
-      (λ (comb : is_comb c s ≡ false). sym (ready s comb))
-      (cases_Bool (is_comb c s)))
+  -- ---- the first environment of an event
+
+  module _ (st other : State) (E F : List ℤ) (was between marks changed : List Bool) (many : length st.rows ≡ length c.memories) (many' : length other.rows ≡ length c.memories)
+      (wakes : Wakes plan.readers E F was between) (ports : WakesPorts (length plan.tasks) plan.reads changed between marks) (are : AreChanged c st.rows other.rows changed) where
+    or_none : (a b : Bool) → (a || b) ≡ false → (a ≡ false) × (b ≡ false)
+    or_none true b e = absurd (false≢true (sym e))
+    or_none false b e = (refl, e)
+
+    not_false : (b : Bool) → not b ≡ false → b ≡ true
+    not_false true e = refl
+    not_false false e = absurd (false≢true (sym e))
+
+    parts : (i : ℕ) (t : PortTask) → slice_get plan.reads i ≡ Some t → slice_index_or marks (length plan.tasks + i) false ≡ false → (slice_index_or between (length plan.tasks + i) false ≡ false) × (slice_index_or changed t.memory false ≡ false)
+    parts i t e w = or_none (slice_index_or between (length plan.tasks + i) false) (slice_index_or changed t.memory false) (sym (ports.ports i t e) ∙ w)
+
+    -- a task that sleeps saw neither signals nor rows change
+    asleep : (j : ℕ) → j < plan.jobs → slice_index_or marks j false ≡ false → Sleeps st other E F j
+    asleep j lt w =
+        ⊎_elim
+        (λ (before : j < length plan.tasks).
+        record { same = unread E F was between j wakes (sym (ports.others j before) ∙ w); rows = λ i t at e. absurd (omega (arith, before, e)) })
+        (λ (behind : length plan.tasks ≤ j).
+        let n : ℕ = j - length plan.tasks in
+        let place : j ≡ length plan.tasks + n = omega (arith, behind) in
+        let there : n < length plan.reads = omega (arith, lt, is.jobs, place) in
+        let u = element plan.reads n there in
+        let p = parts n u.0 u.1 (ap (λ k. slice_index_or marks k false) (sym place) ∙ w) in
+        record {
+          same = unread E F was between j wakes (ap (λ k. slice_index_or between k false) place ∙ p.0);
+          rows = λ i t at e.
+              let q = port_of c design count plan is i t at in
+              let there' : t.memory < length c.memories = subst (λ k. k < length c.memories) (sym q.task.memory) (memory_there c design i q.x q.port) in
+              let r = parts i t at (ap (λ k. slice_index_or marks k false) (sym e) ∙ w) in
+              same_rows_is (slice_index_or st.rows t.memory []) (slice_index_or other.rows t.memory []) (not_false (same_rows (slice_index_or st.rows t.memory []) (slice_index_or other.rows t.memory [])) (sym (are t.memory there') ∙ r.1));
+        })
+        (cases_lt j (length plan.tasks))
+
+    -- behind an event, what no waiting task drives rests
+    pub rests_first : Settled c st E → ((s : ℕ) → is_comb c s ≡ false → at F s ≡ at (delta c other F) s) → ((s : ℕ) → is_comb c s ≡ true → at F s ≡ at E s)
+        → length F ≡ length c.pool.signals → length (delta c other F) ≡ length c.pool.signals → Rests c other plan marks F
+    rests_first settled ready kept long long' s untouched =
+        inside_or_past s (delta c other F) F long' long (λ inside.
+        ⊎_elim
+        (λ (comb : is_comb c s ≡ true). kept_comb st other E F marks many many' asleep s inside comb untouched ∙ ap (λ xs. at xs s) settled ∙ sym (kept s comb))
+        (λ (comb : is_comb c s ≡ false). sym (ready s comb))
+        (cases_Bool (is_comb c s)))

@@ -1,5 +1,5 @@
 -- Delta after delta: what is left, and what was counted.
-use Rattle.std.specs.Prelude.{◌≡◌, ◌≢◌, refl, ℕ, ◌+◌, ◌*◌, ◌^◌, ◌<◌, ◌≤◌, ◌⊎◌, ◌==◌, Bool, true, false, List, [], ◌∷◌, length, replicate, slice_index_or, ℤ}
+use Rattle.std.specs.Prelude.{◌≡◌, ◌≢◌, refl, ℕ, ◌+◌, ◌*◌, ◌^◌, ◌<◌, ◌≤◌, ◌⊎◌, ◌==◌, ◌||◌, Bool, true, false, List, [], ◌∷◌, length, replicate, slice_index_or, ℤ}
 use Rattle.std.specs.List.{count_by}
 use Rattle.std.proofs.Common.{sym, ◌∙◌, ap, arith, subst, inl, inr, ⊎_elim}
 use Rattle.std.proofs.Math.Nat.{mul-le-mul_left}
@@ -11,13 +11,12 @@ use Rattle.design_ir.specs.PoolRules.{IsPool}
 use Rattle.design_ir.specs.Settled.{delta, Settled}
 use Rattle.comb_graph.proofs.DeltaLaws.{delta_length}
 use Rattle.delta_sim.specs.declared.plan.Plan.{Plan}
-use Rattle.delta_sim.specs.declared.task.Task.{Task}
 use Rattle.delta_sim.specs.Plans.{IsPlan, Rests, Wakes, readers_of}
-use Rattle.delta_sim.specs.Ports.{AreReadsClocked}
-use Rattle.delta_sim.specs.Settling.{EndsIn}
+use Rattle.delta_sim.specs.Settling.{EndsIn, IsWoken}
 use Rattle.delta_sim.specs.Waiting.{Waiting, IsWaiting}
 use Rattle.delta_sim.specs.Woken.{woken, one_if_some, deltas_from, runs_from, deltas_of, runs_of}
 use Rattle.delta_sim.proofs.Counting.{woken_count, woken_same}
+use Rattle.delta_sim.proofs.SameRows.{no_change}
 use Rattle.delta_sim.proofs.Settling.{same_lists}
 use Rattle.delta_sim.proofs.WritesFit.{either}
 use Rattle.delta_sim.proofs.Waits.{none_marked, none_counted, all_false}
@@ -72,20 +71,20 @@ module _ (c : Circuit) (st : State) where
           record { rest = more; are = subst (λ y. DeltasFrom c st y more) same are.2; enough = inl (omega (arith, few)) }
 
   -- where none waits, it is settled
-  pub idle_settles : (rules : IsPool c.pool) (design : IsDesign c) (tasks : List Task) (marks : List Bool) (env : List ℤ) → length env ≡ length c.pool.signals → Rests c st tasks marks env → IsIdle marks → Settled c st env
-  idle_settles rules design tasks marks env long rests idle =
-      same_lists (delta c st env) env (delta_length c st rules design env ∙ sym long) (λ s h. rests s (λ j t stands waits. absurd (false≢true (sym (idle j) ∙ waits))))
+  pub idle_settles : (rules : IsPool c.pool) (design : IsDesign c) (plan : Plan) (marks : List Bool) (env : List ℤ) → length env ≡ length c.pool.signals → Rests c st plan marks env → IsIdle marks → Settled c st env
+  idle_settles rules design plan marks env long rests idle =
+      same_lists (delta c st env) env (delta_length c st rules design env ∙ sym long) (λ s h. rests s (λ j waits. absurd (false≢true (sym (idle j) ∙ waits))))
 
 -- ---- what was counted
 
 module _ (c : Circuit) (st : State) where
   -- so many deltas and runs were counted, and behind these environments come all others
-  pub record Counted (table : List (List ℕ)) (env : List ℤ) (marks : List Bool) (deltas runs all_deltas all_runs : ℕ) : Type 0 where
+  pub record Counted (plan : Plan) (env : List ℤ) (marks : List Bool) (deltas runs all_deltas all_runs : ℕ) : Type 0 where
     pub rows : List (List ℤ)
     pub old : List ℤ
     pub rest : List (List ℤ)
     pub are : DeltasFrom c st env rest
-    pub wakes : Wakes table old env (replicate (length c.processes) false) marks
+    pub wakes : IsWoken c plan old env rows st.rows marks
     pub many_deltas : deltas + deltas_of c rows st.rows old (env ∷ rest) ≡ all_deltas
     pub many_runs : runs + runs_of c rows st.rows old (env ∷ rest) ≡ all_runs
 
@@ -96,9 +95,9 @@ module _ (c : Circuit) (st : State) where
     pub many_deltas : deltas + deltas_from c st.rows env rest ≡ all_deltas
     pub many_runs : runs + runs_from c st.rows env rest ≡ all_runs
 
-  pub count_here : (free : AreReadsClocked c) (count : ℕ) (plan : Plan) (is : IsPlan c count plan) (env : List ℤ) (marks : List Bool) (n deltas runs all_deltas all_runs : ℕ) → length marks ≡ length c.processes → n ≡ count_by (λ b. b) marks → Counted plan.processes env marks deltas runs all_deltas all_runs → CountedHere env (deltas + one_if_some n) (runs + n) all_deltas all_runs
-  count_here free count plan is env marks n deltas runs all_deltas all_runs long some h =
-      let many : n ≡ woken c h.rows st.rows h.old env = some ∙ woken_count c free h.rows st.rows count plan is h.old env marks h.wakes long in
+  pub count_here : (design : IsDesign c) (count : ℕ) (plan : Plan) (is : IsPlan c count plan) (env : List ℤ) (marks : List Bool) (n deltas runs all_deltas all_runs : ℕ) → length st.rows ≡ length c.memories → length marks ≡ plan.agents → n ≡ count_by (λ b. b) marks → Counted plan env marks deltas runs all_deltas all_runs → CountedHere env (deltas + one_if_some n) (runs + n) all_deltas all_runs
+  count_here design count plan is env marks n deltas runs all_deltas all_runs many_rows long some h =
+      let many : n ≡ woken c h.rows st.rows h.old env = some ∙ woken_count c design count plan is h.old env h.rows st.rows marks h.wakes long many_rows in
       record {
         rest = h.rest;
         are = h.are;
@@ -106,19 +105,34 @@ module _ (c : Circuit) (st : State) where
         many_runs = omega (arith, h.many_runs, many);
       }
 
-  pub count_next : (free : AreReadsClocked c) (table : List (List ℕ)) (env new : List ℤ) (marks : List Bool) (deltas runs all_deltas all_runs : ℕ) → new ≡ delta c st env → Wakes table env new (replicate (length c.processes) false) marks → CountedHere env deltas runs all_deltas all_runs → Counted table new marks deltas runs all_deltas all_runs
-  count_next free table env new marks deltas runs all_deltas all_runs e wakes h = next h.rest h.are h.many_deltas h.many_runs
+  -- where no rows change, only signals wake
+  only_signals : (plan : Plan) (env new : List ℤ) (marks : List Bool) → length st.rows ≡ length c.memories → Wakes plan.processes env new (replicate plan.agents false) marks → IsWoken c plan env new st.rows st.rows marks
+  only_signals plan env new marks many wakes = record {
+    many = many;
+    between = marks;
+    changed = [];
+    signals = wakes;
+    ports = record { count = refl; ports = λ i t is. or_none (slice_index_or marks (length c.processes + i) false); others = λ j lt. refl };
+    are_changed = λ k lt. sym (no_change (slice_index_or st.rows k []) (slice_index_or st.rows k []) refl);
+  }
     where
-      next : (rest : List (List ℤ)) → DeltasFrom c st env rest → deltas + deltas_from c st.rows env rest ≡ all_deltas → runs + runs_from c st.rows env rest ≡ all_runs → Counted table new marks deltas runs all_deltas all_runs
+      or_none : (a : Bool) → a ≡ (a || false)
+      or_none true = refl
+      or_none false = refl
+
+  pub count_next : (plan : Plan) (env new : List ℤ) (marks : List Bool) (deltas runs all_deltas all_runs : ℕ) → length st.rows ≡ length c.memories → new ≡ delta c st env → Wakes plan.processes env new (replicate plan.agents false) marks → CountedHere env deltas runs all_deltas all_runs → Counted plan new marks deltas runs all_deltas all_runs
+  count_next plan env new marks deltas runs all_deltas all_runs many e wakes h = next h.rest h.are h.many_deltas h.many_runs
+    where
+      next : (rest : List (List ℤ)) → DeltasFrom c st env rest → deltas + deltas_from c st.rows env rest ≡ all_deltas → runs + runs_from c st.rows env rest ≡ all_runs → Counted plan new marks deltas runs all_deltas all_runs
       next [] are d r =
           let same : new ≡ env = e ∙ are in
-          let none : woken c st.rows st.rows env new ≡ 0 = ap (woken c st.rows st.rows env) same ∙ woken_same c free st.rows st.rows env in
+          let none : woken c st.rows st.rows env new ≡ 0 = ap (woken c st.rows st.rows env) same ∙ woken_same c st.rows env in
           record {
             rows = st.rows;
             old = env;
             rest = [];
             are = subst (Settled c st) (sym same) are;
-            wakes = wakes;
+            wakes = only_signals plan env new marks many wakes;
             many_deltas = ap (λ k. deltas + (one_if_some k + 0)) none ∙ d;
             many_runs = ap (λ k. runs + (k + 0)) none ∙ r;
           }
@@ -129,7 +143,7 @@ module _ (c : Circuit) (st : State) where
             old = env;
             rest = more;
             are = subst (λ y. DeltasFrom c st y more) same are.2;
-            wakes = wakes;
+            wakes = only_signals plan env new marks many wakes;
             many_deltas = ap (λ y. deltas + (one_if_some (woken c st.rows st.rows env y) + deltas_from c st.rows y more)) (sym same) ∙ d;
             many_runs = ap (λ y. runs + (woken c st.rows st.rows env y + runs_from c st.rows y more)) (sym same) ∙ r;
           }
@@ -144,9 +158,9 @@ module _ (c : Circuit) (st : State) where
 
 -- ---- few enough
 
-pub runs_fit : (i n k r most : ℕ) → r ≤ i * n → k ≤ n → i < most → most ≤ 2 ^ 32 + 1 → n < 2 ^ 32 → r + k < 2 ^ 64
+pub runs_fit : (i n k r most : ℕ) → r ≤ i * n → k ≤ n → i < most → most ≤ 2 ^ 22 + 2 → n < 2 ^ 32 + 16385 → r + k < 2 ^ 64
 runs_fit i n k r most few some turn enough small =
-    let all : i * n ≤ i * 4294967295 = mul-le-mul_left i (omega (arith, small)) in
+    let all : i * n ≤ i * 4294983681 = mul-le-mul_left i (omega (arith, small)) in
     omega (arith, all, few, some, turn, enough, small)
 
 pub runs_next : (i n k r : ℕ) → r ≤ i * n → k ≤ n → r + k ≤ (i + 1) * n

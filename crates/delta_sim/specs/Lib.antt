@@ -6,6 +6,7 @@ pub mod Reads
 pub mod Woken
 pub mod Tasks
 pub mod Ports
+pub mod PortValues
 pub mod Groups
 pub mod Waiting
 pub mod Walked
@@ -14,3 +15,5 @@ pub mod Settling
 pub mod Marks
 pub mod Compiled
 pub mod Tables
+pub mod Evaluations
+pub mod Growth

@@ -1,22 +1,36 @@
--- The ports of memories: which designs have none without a clock, and what is worked out of them once.
-use Rattle.std.specs.Prelude.{◌≡◌, ℕ, ◌<◌, false, List, [], ◌∷◌, ◌++◌, length, is_none, Bool, slice_get, slice_index_or, ℤ, pos, Option, Some, None}
-use Rattle.std.specs.List.{AllByRecursion, flat_map, list_any}
+-- The ports of memories, and what is worked out of them once.
+use Rattle.std.specs.Prelude.{◌≡◌, ◌≢◌, ℕ, suc, ◌<◌, if◌then◌else◌, List, [], ◌∷◌, ◌++◌, length, is_none, slice_get, slice_index_or, ℤ, pos, Option, Some, None}
+use Rattle.std.specs.List.{AllByRecursion, flat_map}
 use Rattle.design_ir.specs.declared.ids.ExprId.{ExprId}
 use Rattle.design_ir.specs.declared.memory.MemRead.{MemRead}
 use Rattle.design_ir.specs.declared.memory.MemWrite.{MemWrite}
 use Rattle.design_ir.specs.declared.memory.Memory.{Memory}
 use Rattle.design_ir.specs.Circuits.{Circuit}
 use Rattle.design_ir.specs.Pools.{Pooled}
+use Rattle.design_ir.specs.Rows.{row_at}
 use Rattle.design_ir.specs.Values.{num}
+use Rattle.delta_sim.specs.declared.task.PortTask.{PortTask}
 use Rattle.delta_sim.specs.Tasks.{IsProgram, AreAmong}
 
--- a read port of one of these memories is combinational
-abbrev pub has_comb_read : List Memory → Bool
-has_comb_read ms = list_any (λ (m : Memory). list_any (λ (r : MemRead). is_none r.domain) m.reads) ms
+-- ---- read ports without a clock
 
--- every read port has a clock
-abbrev pub AreReadsClocked : Circuit → Type 0
-AreReadsClocked c = has_comb_read c.memories ≡ false
+-- those of a memory's read ports, each with the number of the memory
+abbrev pub unclocked : ℕ → List MemRead → List (ℕ × MemRead)
+unclocked k [] = []
+unclocked k (r ∷ rs) = if is_none r.domain then (k, r) ∷ unclocked k rs else unclocked k rs
+
+-- those of memories that are numbered from k on
+abbrev pub comb_ports : ℕ → List Memory → List (ℕ × MemRead)
+comb_ports k [] = []
+comb_ports k (m ∷ ms) = unclocked k m.reads ++ comb_ports (suc k) ms
+
+-- the task of such a port
+pub record IsPortTask (c : Circuit) (count : ℕ) (t : PortTask) (x : ℕ × MemRead) : Type 0 where
+  pub memory : t.memory ≡ x.0
+  pub addr : t.addr ≡ x.1.addr
+  pub outs : t.outs ≡ x.1.word ∷ []
+  pub program : IsProgram c.pool count t.exprs
+  pub computed : AreAmong t.exprs (t.addr ∷ [])
 
 -- ---- the expressions of ports
 
@@ -43,3 +57,16 @@ pub record HasPorts (c : Circuit) (count : ℕ) (lists : List (List ExprId)) (k 
 -- the integers of these expressions are known
 abbrev pub AreKnown : Pooled → List ℤ → List ℤ → List ExprId → Type 0
 AreKnown p env nums es = AllByRecursion (λ (e : ExprId). (e.0 < length nums) × (slice_index_or nums e.0 (pos 0) ≡ num p env e.0)) es
+
+-- ---- rows that are written
+
+-- the rows at the addresses of write ports
+abbrev pub AreNoted : Pooled → List ℤ → List ℤ → List MemWrite → List ℤ → Type 0
+AreNoted p env rows ws noted = (i : ℕ) (w : MemWrite) → slice_get ws i ≡ Some w → slice_index_or noted i (pos 0) ≡ row_at p env rows w.addr
+
+-- one of these is another row
+pub record IsOther (p : Pooled) (env rows : List ℤ) (ws : List MemWrite) (noted : List ℤ) : Type 0 where
+  pub i : ℕ
+  pub w : MemWrite
+  pub stands : slice_get ws i ≡ Some w
+  pub other : slice_index_or noted i (pos 0) ≢ row_at p env rows w.addr

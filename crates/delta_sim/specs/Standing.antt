@@ -1,5 +1,5 @@
 -- What a simulator stands for: the events that a design has had.
-use Rattle.std.specs.Prelude.{◌≡◌, ℕ, false, List, map, length, ℤ, fold}
+use Rattle.std.specs.Prelude.{◌≡◌, ◌≤◌, ◌^◌, ℕ, false, List, map, length, ℤ, fold}
 use Rattle.design_ir.specs.declared.event.Event.{Event}
 use Rattle.design_ir.specs.declared.memory.Memory.{Memory}
 use Rattle.design_ir.specs.declared.signal.Sig.{Sig}
@@ -31,6 +31,8 @@ pub record Simulated : Type 0 where
   pub waits : Waiting
   pub then : Waiting
   pub woken : Waiting
+  pub noted : List ℤ
+  pub changed : Waiting
 
 abbrev pub state_of : List ℤ → List (List ℤ) → State
 state_of held rows = record { held = held; rows = rows }
@@ -52,12 +54,15 @@ pub record IsSimOf (c : Circuit) (s : Simulated) : Type 0 where
   pub rows : AreRowsOf c s.rows
   pub settled : Settled c (state_of s.held s.rows) s.env
   pub longest : IsLongest c s.longest
+  pub few_bits : s.longest ≤ 2 ^ 22
   pub plan : IsPlan c (length s.numbers) s.plan
   pub numbers : AreFitting c.pool s.numbers
   pub next : AreNumbersOf c s.next
-  pub waits : s.waits ≡ nobody (length s.plan.tasks)
-  pub then : s.then ≡ nobody (length s.plan.tasks)
-  pub woken : s.woken ≡ nobody (length c.processes)
+  pub waits : s.waits ≡ nobody s.plan.jobs
+  pub then : s.then ≡ nobody s.plan.jobs
+  pub woken : s.woken ≡ nobody s.plan.agents
+  pub noted : 64 ≤ length s.noted
+  pub changed : s.changed ≡ nobody (length c.memories)
 
 -- a simulator of this design before any event, not yet settled: it is known what the state gives, and what nothing drives
 pub record IsFresh (c : Circuit) (s : Simulated) : Type 0 where
@@ -66,12 +71,15 @@ pub record IsFresh (c : Circuit) (s : Simulated) : Type 0 where
   pub env : AreNumbersOf c s.env
   pub same : (i : ℕ) → is_comb c i ≡ false → at s.env i ≡ at s.held i
   pub longest : IsLongest c s.longest
+  pub few_bits : s.longest ≤ 2 ^ 22
   pub plan : IsPlan c (length s.numbers) s.plan
   pub numbers : AreFitting c.pool s.numbers
   pub next : AreNumbersOf c s.next
-  pub waits : s.waits ≡ nobody (length s.plan.tasks)
-  pub then : s.then ≡ nobody (length s.plan.tasks)
-  pub woken : s.woken ≡ nobody (length c.processes)
+  pub waits : s.waits ≡ nobody s.plan.jobs
+  pub then : s.then ≡ nobody s.plan.jobs
+  pub woken : s.woken ≡ nobody s.plan.agents
+  pub noted : 64 ≤ length s.noted
+  pub changed : s.changed ≡ nobody (length c.memories)
 
 -- the design has had these events, and is settled behind them
 pub record Stands (c : Circuit) (events : List Event) (s : Simulated) : Type 0 where

@@ -1,13 +1,15 @@
 -- What is known of the first processes while a plan grows.
 use Rattle.std.specs.Prelude.{◌≡◌, ◌≢◌, ℕ, ◌+◌, ◌<◌, ◌≤◌, ◌==◌, ◌&&◌, ◌||◌, true, false, List, length, is_none, slice_get, Some, None}
 use Rattle.design_ir.specs.declared.ids.DomainId.{DomainId}
+use Rattle.design_ir.specs.declared.memory.MemRead.{MemRead}
 use Rattle.design_ir.specs.declared.process.DesignProcess.{DesignProcess}
 use Rattle.design_ir.specs.Circuits.{Circuit, is_among}
 use Rattle.design_ir.specs.Guards.{driven}
 use Rattle.delta_sim.specs.declared.compile.Marks.{Marks}
+use Rattle.delta_sim.specs.declared.task.PortTask.{PortTask}
 use Rattle.delta_sim.specs.declared.task.Task.{Task}
 use Rattle.delta_sim.specs.Driven.{numbers_of}
-use Rattle.delta_sim.specs.Plans.{IsTable, HasClocked, IsCombTask, IsCovered, readers_of}
+use Rattle.delta_sim.specs.Plans.{IsTable, HasClocked, IsCombTask, IsCovered, ArePortTasks, readers_of}
 use Rattle.delta_sim.specs.Reads.{block_reads}
 use Rattle.delta_sim.specs.Settling.{nobody}
 use Rattle.delta_sim.specs.Tasks.{picked}
@@ -41,6 +43,14 @@ pub record ArePartial (c : Circuit) (n : ℕ) (p : DesignProcess) (gone : List �
   pub processes : IsTable (length c.pool.signals) (n + 1) process_table
   pub exact : (s k : ℕ) (q : DesignProcess) → s < length c.pool.signals → k < n → slice_get c.processes k ≡ Some q → is_among (readers_of process_table s) k ≡ (is_none q.domain && block_reads c.pool s q.body)
   pub exact_now : (s : ℕ) → s < length c.pool.signals → is_among (readers_of process_table s) n ≡ block_reads c.pool s (picked p.body gone)
+
+-- the tasks of the first combinational read ports, and who reads each signal with them; who read it before them still does
+pub record ArePorted (c : Circuit) (first : ℕ) (own : List PortTask) (ports : List (ℕ × MemRead)) (old_tasks old_processes task_table process_table : List (List ℕ)) : Type 0 where
+  pub tasks : ArePortTasks c (length c.pool.exprs) first own ports task_table process_table
+  pub readers : IsTable (length c.pool.signals) (first + length own) task_table
+  pub processes : IsTable (length c.pool.signals) (length c.processes + length own) process_table
+  pub same_readers : (s j : ℕ) → j < first → is_among (readers_of task_table s) j ≡ is_among (readers_of old_tasks s) j
+  pub same_processes : (s k : ℕ) → k < length c.processes → is_among (readers_of process_table s) k ≡ is_among (readers_of old_processes s) k
 
 -- nothing is marked
 pub record AreNoMarks (c : Circuit) (marks : Marks) : Type 0 where

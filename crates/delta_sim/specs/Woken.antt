@@ -2,7 +2,7 @@
 -- run again, delta after delta, as long as something that they read has changed). A process is all combinational
 -- statements of one fragment, and each combinational read port is one. What is read is counted by whole signals, and a
 -- memory's rows as a whole.
-use Rattle.std.specs.Prelude.{ℕ, ◌+◌, ◌==◌, ◌&&◌, ◌||◌, Bool, true, false, not, if◌then◌else◌, List, [], ◌∷◌, length, is_none, ℤ}
+use Rattle.std.specs.Prelude.{◌≡◌, ℕ, ◌+◌, ◌<◌, ◌==◌, ◌&&◌, ◌||◌, Bool, true, false, not, if◌then◌else◌, List, [], ◌∷◌, length, is_none, slice_index_or, ℤ}
 use Rattle.std.specs.List.{count_by, list_any, range_with_len}
 use Rattle.std.specs.Ordering.{int_eq}
 use Rattle.design_ir.specs.declared.memory.MemRead.{MemRead}
@@ -27,6 +27,10 @@ same_rows [] [] = true
 same_rows [] (y ∷ ys) = false
 same_rows (x ∷ xs) [] = false
 same_rows (x ∷ xs) (y ∷ ys) = int_eq x y && same_rows xs ys
+
+-- for each memory whether its rows are others
+abbrev pub AreChanged : Circuit → List (List ℤ) → List (List ℤ) → List Bool → Type 0
+AreChanged c rows after changed = (k : ℕ) → k < length c.memories → slice_index_or changed k false ≡ not (same_rows (slice_index_or rows k []) (slice_index_or after k []))
 
 -- a combinational read port whose address has a signal with another number, or whose memory has other rows
 abbrev pub is_port_woken : Circuit → List ℤ → List ℤ → List ℤ → List ℤ → MemRead → Bool

@@ -1,5 +1,5 @@
 // Numbers that wait, each once.
-ghost use Rattle.std.specs.Prelude.{◌≡◌, ◌<◌, [], false, true, length, ℕ, slice_set, slice_index, slice_index_or, replicate, IfOk};
+ghost use Rattle.std.specs.Prelude.{◌≡◌, ◌<◌, [], if◌then◌else◌, false, true, length, ℕ, slice_set, slice_index, slice_index_or, replicate, IfOk};
 ghost use Rattle.std.specs.List.{AllByRecursion};
 ghost use Rattle.design_ir.specs.Circuits.{is_among};
 ghost use Rattle.delta_sim.specs.Waiting.{IsWaiting, IsFront};
@@ -57,6 +57,16 @@ impl Agenda {
         self.list[i]
     }
 
+    /// Whether a number waits.
+    pub fn has(&self, n: usize) -> bool
+        ensures { result ≡ slice_index_or self.now.marks n false }
+    {
+        match self.marks.get(n) {
+            Some(mark) => *mark,
+            None => false,
+        }
+    }
+
     /// Lets a number wait, behind those that do.
     pub fn mark(&mut self, n: usize)
         requires { n < length self.old.marks }
@@ -69,6 +79,16 @@ impl Agenda {
         self.marks[n] = true;
         self.list[self.len] = n;
         self.len += 1;
+    }
+
+    /// Lets a number wait where this is wanted.
+    pub fn mark_if(&mut self, wanted: bool, n: usize)
+        requires { n < length self.old.marks }
+        ensures { self.new.marks ≡ (if wanted then slice_set self.old.marks n true else self.old.marks) }
+    {
+        if wanted {
+            self.mark(n);
+        }
     }
 
     /// Lets none wait any more.

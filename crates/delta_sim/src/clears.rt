@@ -1,13 +1,40 @@
 // What asynchronous resets leave.
-ghost use Rattle.std.specs.Prelude.{◌≡◌, ◌<◌, ℕ, length, fold, slice_get, Some};
+ghost use Rattle.std.specs.Prelude.{◌≡◌, ◌<◌, ℕ, length, fold, slice_get, Some, IfOk};
 ghost use Rattle.design_ir.specs.declared.process.DesignProcess.{DesignProcess};
 ghost use Rattle.design_ir.specs.Steps.{is_cleared, cleared};
-ghost use Rattle.delta_sim.specs.Plans.{IsPlan};
+ghost use Rattle.delta_sim.specs.Plans.{IsPlan, is_clearable, clearable_processes};
 
 use crate::clocks::{is_reset, reset_all};
 use crate::plan::Plan;
 use amh_bits::Int;
+use amh_host::{Items, NoMemory};
 use design_ir::{Design, DomainId, Exprs};
+use std::alloc::Global;
+
+/// The clocked processes whose domains are reset asynchronously.
+pub fn clearable_processes(alloc: Global, design: &Design) -> Result<Items<usize>, NoMemory>
+    ensures { IfOk result (λ list. list ≡ clearable_processes design.now) }
+{
+    let mut list = Items::new(alloc);
+    for k in 0..design.processes().len() {
+        if is_clearable(design, k) {
+            list.push(k)?;
+        }
+    }
+    Ok(list)
+}
+
+// Whether a process is clocked, and its domain is reset asynchronously.
+fn is_clearable(design: &Design, k: usize) -> bool
+    requires { k < length design.now.processes }
+    ensures { result ≡ is_clearable design.now k }
+{
+    let p = design.processes().get(k);
+    match p.domain {
+        Some(d) => design.domain(d).async_reset,
+        None => false,
+    }
+}
 
 /// Gives the registers of domains whose asynchronous resets are 1 their inits.
 pub fn clear_all(design: &Design, plan: &Plan, held: &mut [Int])
@@ -15,9 +42,9 @@ pub fn clear_all(design: &Design, plan: &Plan, held: &mut [Int])
     requires signals { length held.old ≡ length design.now.pool.signals }
     ensures { held.new ≡ fold (cleared design.now held.old) held.old design.now.processes }
 {
-    let all = design.processes();
-    for k in 0..all.len() {
-        clear(design, plan, k, held);
+    let _ = design.processes();
+    for k in plan.clearable.as_slice() {
+        clear(design, plan, *k, held);
     }
 }
 

@@ -1,5 +1,5 @@
 // What an edge of clocks leaves.
-ghost use Rattle.std.specs.Prelude.{◌≡◌, ◌<◌, ◌-ℤ◌, ◌==◌, ◌&&◌, false, length, pos, fold, slice_get, Some};
+ghost use Rattle.std.specs.Prelude.{◌≡◌, ◌<◌, ◌≤◌, ◌-ℤ◌, ◌==◌, ◌&&◌, false, length, pos, fold, slice_get, Some};
 ghost use Rattle.std.specs.List.{AllByRecursion, list_any};
 ghost use Rattle.amh_bits.specs.Patterns.{IsOf};
 ghost use Rattle.design_ir.specs.declared.ids.DomainId.{DomainId};
@@ -10,9 +10,12 @@ ghost use Rattle.design_ir.specs.Steps.{is_before_edge, is_active, is_reset, res
 ghost use Rattle.design_ir.proofs.NumbersFit.{FitsSignals};
 ghost use Rattle.delta_sim.specs.Driven.{numbers_of};
 ghost use Rattle.delta_sim.specs.Plans.{IsPlan, HasClocked};
+ghost use Rattle.delta_sim.specs.Settling.{nobody};
 ghost use Rattle.delta_sim.specs.Standing.{AreRowsOf};
 ghost use Rattle.delta_sim.specs.Tasks.{AreFitting};
+ghost use Rattle.delta_sim.specs.Woken.{AreChanged};
 
+use crate::agenda::Agenda;
 use crate::compute::compute;
 use crate::plan::Plan;
 use crate::ports::clock_memories;
@@ -30,6 +33,8 @@ pub fn after_edge(
     listed: &[DomainId],
     held: &mut [Int],
     rows: &mut Vec<Rows>,
+    room: &mut Vec<Int>,
+    changed: &mut Agenda,
 )
     requires plan { IsPlan design.now (length nums.old.items) plan.now }
     requires env { length env.now ≡ length design.now.pool.signals }
@@ -39,14 +44,19 @@ pub fn after_edge(
     requires listed { AllByRecursion (λ (d : DomainId). d.0 < length design.now.domains) listed.now }
     requires signals { length held.old ≡ length design.now.pool.signals }
     requires fits { FitsSignals design.now.pool held.old }
+    requires room { 64 ≤ length room.old.items }
+    requires changed { changed.old ≡ nobody (length design.now.memories) }
     ensures held { held.new ≡ fold (toggle design.now.domains) (clocked_reads design.now env.now listed.now design.now.memories rows.old.items (fold (clocked design.now env.now listed.now) held.old design.now.processes)) listed.now }
     ensures rows { rows.new.items ≡ rows_after design.now env.now listed.now design.now.memories rows.old.items }
     ensures count { length nums.new.items ≡ length nums.old.items }
     ensures numbers { AreFitting design.now.pool nums.new.items }
+    ensures room { length room.new.items ≡ length room.old.items }
+    ensures changed { AreChanged design.now rows.old.items rows.new.items changed.new.marks }
+    ensures changed_count { length changed.new.marks ≡ length design.now.memories }
 {
     let _ = design.processes();
     clock_all(design, plan, env, nums, listed, held);
-    clock_memories(design, plan, env, nums, listed, rows, held);
+    clock_memories(design, plan, env, nums, listed, rows, held, room, changed);
     toggle_all(design, listed, held);
 }
 

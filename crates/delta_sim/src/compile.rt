@@ -138,8 +138,8 @@ fn ids(alloc: Global, numbers: &[usize]) -> Result<Ids, NoMemory>
     Ok(list)
 }
 
-// The signals of the marked expressions.
-fn signals_read(alloc: Global, design: &Design, values: &Agenda) -> Result<SigIds, NoMemory>
+/// The signals of the marked expressions.
+pub fn signals_read(alloc: Global, design: &Design, values: &Agenda) -> Result<SigIds, NoMemory>
     requires { length values.now.marks ≡ length design.now.pool.exprs }
     ensures all { IfOk result (λ list. (k : ℕ) (s : SigId) → slice_get design.now.pool.exprs k ≡ Some (expr.Sig s) → is_marked values.now.marks k ≡ true → is_among (numbers_of list) s.0 ≡ true) }
     ensures only { IfOk result (λ list. (s : ℕ) → is_among (numbers_of list) s ≡ true → HoldsSignal design.now.pool values.now.marks s) }

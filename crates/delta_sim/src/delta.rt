@@ -1,18 +1,17 @@
 // One delta.
-ghost use Rattle.std.specs.Prelude.{◌≡◌, ◌<◌, ℕ, [], true, false, length, replicate, slice_get, slice_index_or, Some};
+ghost use Rattle.std.specs.Prelude.{◌≡◌, ◌+◌, ◌<◌, ℕ, [], true, false, length, replicate, slice_index_or};
 ghost use Rattle.std.specs.List.{AllByRecursion};
 ghost use Rattle.design_ir.specs.Circuits.{State, at, is_among};
 ghost use Rattle.design_ir.specs.Settled.{delta};
 ghost use Rattle.design_ir.proofs.NumbersFit.{FitsSignals};
 ghost use Rattle.comb_graph.specs.Laws.{FitsState};
-ghost use Rattle.delta_sim.specs.declared.task.Task.{Task};
-ghost use Rattle.delta_sim.specs.Driven.{numbers_of};
-ghost use Rattle.delta_sim.specs.Plans.{IsPlan, IsTable, Rests, Wakes, IsUntouched};
+ghost use Rattle.delta_sim.specs.Plans.{IsPlan, IsTable, Rests, Wakes, IsUntouched, outs_at};
+ghost use Rattle.delta_sim.specs.Standing.{AreRowsOf};
 ghost use Rattle.delta_sim.specs.Tasks.{AreFitting};
-ghost use Rattle.delta_sim.specs.Ports.{AreReadsClocked};
 
 use crate::agenda::Agenda;
 use crate::plan::Plan;
+use crate::rows::Rows;
 use crate::run::run;
 use crate::wake::take;
 use amh_bits::Int;
@@ -23,6 +22,7 @@ use design_ir::{Design, Exprs};
 pub fn delta(
     design: &Design,
     plan: &Plan,
+    rows: &[Rows],
     env: &mut Vec<Int>,
     nums: &mut Vec<Int>,
     next: &mut [Int],
@@ -30,28 +30,28 @@ pub fn delta(
     then: &mut Agenda,
     woken: &mut Agenda,
 )
-    requires ports { AreReadsClocked design.now }
     requires plan { IsPlan design.now (length nums.old.items) plan.now }
+    requires rows { AreRowsOf design.now rows.now }
     requires signals { length env.old.items ≡ length design.now.pool.signals }
     requires fits { FitsSignals design.now.pool env.old.items }
     requires numbers { AreFitting design.now.pool nums.old.items }
     requires next { length next.old ≡ length design.now.pool.signals }
     requires next_fits { FitsSignals design.now.pool next.old }
-    requires waits { length waits.old.marks ≡ length plan.now.tasks }
-    requires then { then.old ≡ record { marks = replicate (length plan.now.tasks) false; list = [] } }
-    requires woken { length woken.old.marks ≡ length design.now.processes }
-    ensures env { (st : State) → FitsState design.now st → Rests design.now st plan.now.tasks waits.old.marks env.old.items → env.new.items ≡ delta design.now st env.old.items }
+    requires waits { length waits.old.marks ≡ plan.now.jobs }
+    requires then { then.old ≡ record { marks = replicate plan.now.jobs false; list = [] } }
+    requires woken { length woken.old.marks ≡ plan.now.agents }
+    ensures env { (st : State) → FitsState design.now st → st.rows ≡ rows.now → Rests design.now st plan.now waits.old.marks env.old.items → env.new.items ≡ delta design.now st env.old.items }
     ensures count { length nums.new.items ≡ length nums.old.items }
     ensures numbers { AreFitting design.now.pool nums.new.items }
     ensures next { length next.new ≡ length design.now.pool.signals }
     ensures next_fits { FitsSignals design.now.pool next.new }
-    ensures waits { Wakes plan.now.readers env.old.items env.new.items (replicate (length plan.now.tasks) false) waits.new.marks }
-    ensures then { then.new ≡ record { marks = replicate (length plan.now.tasks) false; list = [] } }
+    ensures waits { Wakes plan.now.readers env.old.items env.new.items (replicate plan.now.jobs false) waits.new.marks }
+    ensures then { then.new ≡ record { marks = replicate plan.now.jobs false; list = [] } }
     ensures woken { Wakes plan.now.processes env.old.items env.new.items woken.old.marks woken.new.marks }
 {
     let _ = design.count();
     let _ = design.processes();
-    run_all(design, plan, waits, env.as_slice(), nums, next);
+    run_all(design, plan, rows, waits, env.as_slice(), nums, next);
     take_all(plan, waits, next, env, then, woken);
     waits.clear();
     std::mem::swap(waits, then);
@@ -61,19 +61,21 @@ pub fn delta(
 fn run_all(
     design: &Design,
     plan: &Plan,
+    rows: &[Rows],
     waits: &Agenda,
     env: &[Int],
     nums: &mut Vec<Int>,
     next: &mut [Int],
 )
     requires plan { IsPlan design.now (length nums.old.items) plan.now }
+    requires rows { AreRowsOf design.now rows.now }
     requires signals { length env.now ≡ length design.now.pool.signals }
     requires fits { FitsSignals design.now.pool env.now }
     requires numbers { AreFitting design.now.pool nums.old.items }
     requires next { length next.old ≡ length design.now.pool.signals }
     requires next_fits { FitsSignals design.now.pool next.old }
-    requires waits { length waits.now.marks ≡ length plan.now.tasks }
-    ensures ran { (st : State) (j s : ℕ) (t : Task) → slice_get plan.now.tasks j ≡ Some t → slice_index_or waits.now.marks j false ≡ true → is_among (numbers_of t.outs) s ≡ true → at next.new s ≡ at (delta design.now st env.now) s }
+    requires waits { length waits.now.marks ≡ plan.now.jobs }
+    ensures ran { (st : State) (j s : ℕ) → st.rows ≡ rows.now → slice_index_or waits.now.marks j false ≡ true → is_among (outs_at plan.now j) s ≡ true → at next.new s ≡ at (delta design.now st env.now) s }
     ensures count { length nums.new.items ≡ length nums.old.items }
     ensures numbers { AreFitting design.now.pool nums.new.items }
     ensures next { length next.new ≡ length design.now.pool.signals }
@@ -82,8 +84,7 @@ fn run_all(
     let _ = design.count();
     let _ = design.processes();
     for i in 0..waits.len() {
-        let task = plan.tasks.get(waits.get(i));
-        run(design, task, env, nums, next);
+        run(design, plan, waits.get(i), env, rows, nums, next);
     }
 }
 
@@ -98,17 +99,17 @@ fn take_all(
 )
     requires tasks { IsTable (length env.old.items) (length then.old.marks) plan.now.readers }
     requires processes { IsTable (length env.old.items) (length woken.old.marks) plan.now.processes }
-    requires waits { length waits.now.marks ≡ length plan.now.tasks }
-    requires below { (j : ℕ) (t : Task) → slice_get plan.now.tasks j ≡ Some t → AllByRecursion (λ s. s < length env.old.items) (numbers_of t.outs) }
+    requires waits { length waits.now.marks ≡ plan.now.jobs }
+    requires jobs { plan.now.jobs ≡ length plan.now.tasks + length plan.now.reads }
+    requires below { (j : ℕ) → AllByRecursion (λ s. s < length env.old.items) (outs_at plan.now j) }
     requires long { length next.now ≡ length env.old.items }
     ensures count { length env.new.items ≡ length env.old.items }
-    ensures kept { (s : ℕ) → IsUntouched plan.now.tasks waits.now.marks s → at env.new.items s ≡ at env.old.items s }
-    ensures taken { (j s : ℕ) (t : Task) → slice_get plan.now.tasks j ≡ Some t → slice_index_or waits.now.marks j false ≡ true → is_among (numbers_of t.outs) s ≡ true → at env.new.items s ≡ at next.now s }
+    ensures kept { (s : ℕ) → IsUntouched plan.now waits.now.marks s → at env.new.items s ≡ at env.old.items s }
+    ensures taken { (j s : ℕ) → slice_index_or waits.now.marks j false ≡ true → is_among (outs_at plan.now j) s ≡ true → at env.new.items s ≡ at next.now s }
     ensures waits { Wakes plan.now.readers env.old.items env.new.items then.old.marks then.new.marks }
     ensures woken { Wakes plan.now.processes env.old.items env.new.items woken.old.marks woken.new.marks }
 {
     for i in 0..waits.len() {
-        let task = plan.tasks.get(waits.get(i));
-        take(plan, task.outs.as_slice(), next, env, then, woken);
+        take(plan, plan.outs(waits.get(i)), next, env, then, woken);
     }
 }

@@ -1,17 +1,16 @@
 // A first guess at the settled numbers: each task once, behind those that it reads from as far as there is such an order.
-ghost use Rattle.std.specs.Prelude.{◌≡◌, ◌<◌, ◌≤◌, ℕ, [], false, true, length, slice_get, slice_index_or, Some, IfOk, OnOk};
+ghost use Rattle.std.specs.Prelude.{◌≡◌, ◌+◌, ◌<◌, ℕ, false, length, IfOk};
 ghost use Rattle.std.specs.List.{AllByRecursion};
-ghost use Rattle.design_ir.specs.Circuits.{at, is_among};
+ghost use Rattle.design_ir.specs.Circuits.{at};
 ghost use Rattle.comb_graph.specs.Orders.{is_comb};
-ghost use Rattle.delta_sim.specs.declared.task.Task.{Task};
 ghost use Rattle.delta_sim.specs.Driven.{numbers_of};
-ghost use Rattle.delta_sim.specs.Plans.{IsCombTask, IsPlan, taken};
-ghost use Rattle.delta_sim.specs.Standing.{AreNumbersOf};
+ghost use Rattle.delta_sim.specs.Plans.{IsPlan, taken};
+ghost use Rattle.delta_sim.specs.Standing.{AreNumbersOf, AreRowsOf};
 ghost use Rattle.delta_sim.specs.Tasks.{AreFitting};
 
 use crate::plan::Plan;
+use crate::rows::Rows;
 use crate::run::run;
-use crate::task::Task;
 use amh_bits::Int;
 use amh_host::NoMemory;
 use comb_graph::RankedBit;
@@ -25,11 +24,13 @@ pub fn run_in_order(
     design: &Design,
     order: &[RankedBit],
     plan: &Plan,
+    rows: &[Rows],
     env: &mut Vec<Int>,
     nums: &mut Vec<Int>,
     next: &mut [Int],
 ) -> Result<(), NoMemory>
     requires plan { IsPlan design.now (length nums.old.items) plan.now }
+    requires rows { AreRowsOf design.now rows.now }
     requires env { AreNumbersOf design.now env.old.items }
     requires numbers { AreFitting design.now.pool nums.old.items }
     requires next { AreNumbersOf design.now next.old }
@@ -40,19 +41,29 @@ pub fn run_in_order(
     ensures others { (s : ℕ) → is_comb design.now s ≡ false → at env.new.items s ≡ at env.old.items s }
 {
     let owners = owners(alloc, design, plan)?;
-    let last = last_bits(alloc, order, owners.as_slice(), plan.tasks.len())?;
+    let last = last_bits(alloc, order, owners.as_slice(), plan.jobs)?;
     for i in 0..order.len() {
         let t = owner(owners.as_slice(), order[i].sig);
-        if t < plan.tasks.len() && last[t] == i {
-            run_now(design, plan.tasks.get(t), env, nums, next);
+        if t < plan.jobs && last[t] == i {
+            run_now(design, plan, t, rows, env, nums, next);
         }
     }
     Ok(())
 }
 
 // Runs a task, and gives its signals what it comes to.
-fn run_now(design: &Design, task: &Task, env: &mut Vec<Int>, nums: &mut Vec<Int>, next: &mut [Int])
-    requires task { IsCombTask design.now (length nums.old.items) task.now }
+fn run_now(
+    design: &Design,
+    plan: &Plan,
+    j: usize,
+    rows: &[Rows],
+    env: &mut Vec<Int>,
+    nums: &mut Vec<Int>,
+    next: &mut [Int],
+)
+    requires there { j < plan.now.jobs }
+    requires plan { IsPlan design.now (length nums.old.items) plan.now }
+    requires rows { AreRowsOf design.now rows.now }
     requires env { AreNumbersOf design.now env.old.items }
     requires numbers { AreFitting design.now.pool nums.old.items }
     requires next { AreNumbersOf design.now next.old }
@@ -64,8 +75,8 @@ fn run_now(design: &Design, task: &Task, env: &mut Vec<Int>, nums: &mut Vec<Int>
 {
     let _ = design.count();
     let _ = design.processes();
-    run(design, task, env.as_slice(), nums, next);
-    give(task.outs.as_slice(), next, env);
+    run(design, plan, j, env.as_slice(), rows, nums, next);
+    give(plan.outs(j), next, env);
 }
 
 // These signals take their numbers from others.
@@ -80,11 +91,13 @@ fn give(signals: &[SigId], from: &[Int], env: &mut Vec<Int>)
 }
 
 // For each signal the task that drives it, past all tasks where none does.
-fn owners(alloc: Global, design: &Design, plan: &Plan) -> Result<Vec<usize>, NoMemory> {
-    let count = plan.tasks.len();
+fn owners(alloc: Global, design: &Design, plan: &Plan) -> Result<Vec<usize>, NoMemory>
+    requires { plan.now.jobs ≡ length plan.now.tasks + length plan.now.reads }
+{
+    let count = plan.jobs;
     let mut owners = vec![in alloc; count; design.signals() as usize]?;
     for t in 0..count {
-        own(plan.tasks.get(t).outs.as_slice(), t, &mut owners);
+        own(plan.outs(t), t, &mut owners);
     }
     Ok(owners)
 }

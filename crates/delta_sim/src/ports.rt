@@ -1,25 +1,31 @@
 // What an edge does to memories: clocked read ports take rows, and write ports write them.
-ghost use Rattle.std.specs.Prelude.{◌≡◌, ◌<◌, ◌==◌, ◌||◌, ℕ, length, fold, Some, slice_get};
+ghost use Rattle.std.specs.Prelude.{◌≡◌, ◌<◌, ◌≤◌, ◌==◌, ◌||◌, ℕ, false, true, not, length, fold, Some, slice_get};
 ghost use Rattle.std.specs.List.{flat_map, list_any};
 ghost use Rattle.design_ir.specs.declared.memory.Memory.{Memory};
 ghost use Rattle.design_ir.specs.Designs.{IsMemory, IsWritePort};
+ghost use Rattle.design_ir.specs.Rows.{row_at};
 ghost use Rattle.design_ir.specs.Steps.{clocked_read, clocked_reads, port_active, read_word, reads_now, rows_after, shown_through, write_row, writes_through};
 ghost use Rattle.design_ir.proofs.NumbersFit.{FitsSignals};
 ghost use Rattle.delta_sim.specs.Plans.{IsPlan};
-ghost use Rattle.delta_sim.specs.Ports.{AreKnown, port_exprs, read_exprs, write_exprs};
+ghost use Rattle.delta_sim.specs.Ports.{AreKnown, AreNoted, IsOther, port_exprs, read_exprs, write_exprs};
+ghost use Rattle.delta_sim.specs.Settling.{nobody};
 ghost use Rattle.delta_sim.specs.Tasks.{AreFitting};
+ghost use Rattle.delta_sim.specs.Woken.{AreChanged, same_rows};
 
+use crate::agenda::Agenda;
 use crate::clocks::is_active;
 use crate::compute::compute;
 use crate::plan::Plan;
 use crate::rows::Rows;
 use crate::statements::is_zero;
+use crate::wake::differs;
 use crate::written::{at, written};
 use amh_bits::Int;
 use amh_host::Text;
 use design_ir::{Design, DomainId, Exprs, MemRead, MemWrite, Memory};
 
-/// What read ports take from the rows, and then what write ports leave in them, all read before the edge.
+/// What read ports take from the rows, and then what write ports leave in them, all read before the edge. Memories whose
+/// rows changed are noted.
 pub fn clock_memories(
     design: &Design,
     plan: &Plan,
@@ -28,6 +34,8 @@ pub fn clock_memories(
     listed: &[DomainId],
     rows: &mut Vec<Rows>,
     held: &mut [Int],
+    room: &mut Vec<Int>,
+    changed: &mut Agenda,
 )
     requires plan { IsPlan design.now (length nums.old.items) plan.now }
     requires env { length env.now ≡ length design.now.pool.signals }
@@ -35,17 +43,23 @@ pub fn clock_memories(
     requires numbers { AreFitting design.now.pool nums.old.items }
     requires rows { length rows.old.items ≡ length design.now.memories }
     requires signals { length held.old ≡ length design.now.pool.signals }
+    requires room { 64 ≤ length room.old.items }
+    requires changed { changed.old ≡ nobody (length design.now.memories) }
     ensures held { held.new ≡ clocked_reads design.now env.now listed.now design.now.memories rows.old.items held.old }
     ensures rows { rows.new.items ≡ rows_after design.now env.now listed.now design.now.memories rows.old.items }
     ensures count { length nums.new.items ≡ length nums.old.items }
     ensures numbers { AreFitting design.now.pool nums.new.items }
+    ensures room { length room.new.items ≡ length room.old.items }
+    ensures changed { AreChanged design.now rows.old.items rows.new.items changed.new.marks }
+    ensures changed_count { length changed.new.marks ≡ length design.now.memories }
 {
     for k in 0..design.memories().len() {
-        clock_memory(design, plan, k, env, nums, listed, &mut rows[k], held);
+        let other = clock_memory(design, plan, k, env, nums, listed, &mut rows[k], held, room);
+        changed.mark_if(other, k);
     }
 }
 
-// The same for one memory. Where none of its ports acts, nothing is computed for it.
+// The same for one memory: whether its rows changed. Where none of its ports acts, nothing is computed for it.
 fn clock_memory(
     design: &Design,
     plan: &Plan,
@@ -55,13 +69,17 @@ fn clock_memory(
     listed: &[DomainId],
     rows: &mut Rows,
     held: &mut [Int],
-)
+    room: &mut Vec<Int>,
+) -> bool
     requires there { k < length design.now.memories }
     requires plan { IsPlan design.now (length nums.old.items) plan.now }
     requires env { length env.now ≡ length design.now.pool.signals }
     requires env_fits { FitsSignals design.now.pool env.now }
     requires numbers { AreFitting design.now.pool nums.old.items }
     requires signals { length held.old ≡ length design.now.pool.signals }
+    requires room { 64 ≤ length room.old.items }
+    ensures changed { result ≡ not (same_rows rows.old rows.new) }
+    ensures room { length room.new.items ≡ length room.old.items }
     ensures held { (m : Memory) → slice_get design.now.memories k ≡ Some m → held.new ≡ fold (clocked_read design.now env.now listed.now m rows.old) held.old m.reads }
     ensures rows { (m : Memory) → slice_get design.now.memories k ≡ Some m → rows.new ≡ fold (write_row design.now env.now listed.now m) rows.old m.writes }
     ensures count { length nums.new.items ≡ length nums.old.items }
@@ -70,11 +88,68 @@ fn clock_memory(
     let _ = design.processes();
     let m = design.memories().get(k);
     if !acts(design, m, env, listed) {
-        return;
+        return false;
     }
     compute(design, plan.ports.get(k).as_slice(), env, nums);
     read_all(design, m, env, nums.as_slice(), listed, rows, held);
+    note_all(design, m, env, nums.as_slice(), rows, room);
     write_all(design, m, env, nums.as_slice(), listed, rows);
+    any_differs(design, m, env, nums.as_slice(), rows, room.as_slice())
+}
+
+// Notes the row at the address of each write port.
+fn note_all(
+    design: &Design,
+    m: &Memory,
+    env: &[Int],
+    nums: &[Int],
+    rows: &Rows,
+    room: &mut Vec<Int>,
+)
+    requires written { AreKnown design.now.pool env.now nums.now (flat_map write_exprs m.now.writes) }
+    requires room { length m.now.writes ≤ length room.old.items }
+    ensures room { length room.new.items ≡ length room.old.items }
+    ensures noted { AreNoted design.now.pool env.now rows.now m.now.writes room.new.items }
+{
+    let _ = design;
+    let _ = env;
+    for i in 0..m.writes.len() {
+        room[i] = written_row(design, m.writes.get(i), env, nums, rows);
+    }
+}
+
+// The row at the address of a write port.
+fn written_row(design: &Design, w: &MemWrite, env: &[Int], nums: &[Int], rows: &Rows) -> Int
+    requires { AreKnown design.now.pool env.now nums.now (write_exprs w.now) }
+    ensures { result ≡ row_at design.now.pool env.now rows.now w.now.addr }
+{
+    let _ = design;
+    let _ = env;
+    rows.at(at(nums, w.addr).size)
+}
+
+// Whether one of those rows is another now.
+fn any_differs(
+    design: &Design,
+    m: &Memory,
+    env: &[Int],
+    nums: &[Int],
+    rows: &Rows,
+    room: &[Int],
+) -> bool
+    requires written { AreKnown design.now.pool env.now nums.now (flat_map write_exprs m.now.writes) }
+    requires room { length m.now.writes ≤ length room.now }
+    ensures same { result ≡ false → AreNoted design.now.pool env.now rows.now m.now.writes room.now }
+    ensures other { result ≡ true → IsOther design.now.pool env.now rows.now m.now.writes room.now }
+{
+    for i in 0..m.writes.len() {
+        let row = written_row(design, m.writes.get(i), env, nums, rows);
+        let other = differs(room[i], row);
+        if other {
+            return true;
+        }
+    }
+    false
 }
 
 // Whether the domain of one of a memory's ports is active.

@@ -1,20 +1,63 @@
 // A run of a task.
-ghost use Rattle.std.specs.Prelude.{◌≡◌, ◌<◌, length, slice_get, Some};
+ghost use Rattle.std.specs.Prelude.{◌≡◌, ◌<◌, ◌∷◌, [], true, false, ℕ, length, slice_get, slice_set, slice_index_or, Some};
+ghost use Rattle.design_ir.specs.declared.ids.SigId.{SigId};
 ghost use Rattle.design_ir.specs.declared.process.DesignProcess.{DesignProcess};
+ghost use Rattle.design_ir.specs.Circuits.{State, at, is_among};
 ghost use Rattle.design_ir.specs.Put.{put};
+ghost use Rattle.design_ir.specs.Rows.{row_at};
+ghost use Rattle.design_ir.specs.Settled.{delta};
 ghost use Rattle.design_ir.proofs.NumbersFit.{FitsSignals};
 ghost use Rattle.delta_sim.specs.Driven.{numbers_of};
-ghost use Rattle.delta_sim.specs.Plans.{begun, init_at, IsCombTask};
-ghost use Rattle.delta_sim.specs.Tasks.{AreFitting, picked};
+ghost use Rattle.delta_sim.specs.Plans.{begun, init_at, outs_at, IsCombTask, IsPlan};
+ghost use Rattle.delta_sim.specs.Standing.{AreRowsOf};
+ghost use Rattle.delta_sim.specs.Tasks.{AreAmong, AreFitting, IsProgram, picked};
 
 use crate::compute::compute;
+use crate::plan::Plan;
+use crate::rows::Rows;
 use crate::statements::put_task;
-use crate::task::Task;
+use crate::task::{PortTask, Task};
+use crate::written::at;
 use amh_bits::Int;
 use design_ir::{Design, Exprs, SigId};
 
-/// Runs a combinational task: what it drives has what its statements leave from the inits on.
-pub fn run(design: &Design, task: &Task, env: &[Int], nums: &mut Vec<Int>, next: &mut [Int])
+/// Runs a task: what it drives has what a delta leaves there, and nothing else changes.
+pub fn run(
+    design: &Design,
+    plan: &Plan,
+    j: usize,
+    env: &[Int],
+    rows: &[Rows],
+    nums: &mut Vec<Int>,
+    next: &mut [Int],
+)
+    requires there { j < plan.now.jobs }
+    requires plan { IsPlan design.now (length nums.old.items) plan.now }
+    requires rows { AreRowsOf design.now rows.now }
+    requires signals { length env.now ≡ length design.now.pool.signals }
+    requires fits { FitsSignals design.now.pool env.now }
+    requires numbers { AreFitting design.now.pool nums.old.items }
+    requires next { length next.old ≡ length design.now.pool.signals }
+    requires next_fits { FitsSignals design.now.pool next.old }
+    ensures gives { (st : State) (s : ℕ) → st.rows ≡ rows.now → is_among (outs_at plan.now j) s ≡ true → at next.new s ≡ at (delta design.now st env.now) s }
+    ensures keeps { (s : ℕ) → is_among (outs_at plan.now j) s ≡ false → at next.new s ≡ at next.old s }
+    ensures count { length nums.new.items ≡ length nums.old.items }
+    ensures numbers { AreFitting design.now.pool nums.new.items }
+    ensures next_count { length next.new ≡ length design.now.pool.signals }
+    ensures next_fits { FitsSignals design.now.pool next.new }
+{
+    let _ = design.count();
+    let _ = design.processes();
+    let first = plan.tasks.len();
+    if j < first {
+        run_task(design, plan.tasks.get(j), env, nums, next);
+    } else {
+        run_port(design, plan.reads.get(j - first), env, rows, nums, next);
+    }
+}
+
+// Runs a task of a combinational process: what it drives has what its statements leave from the inits on.
+fn run_task(design: &Design, task: &Task, env: &[Int], nums: &mut Vec<Int>, next: &mut [Int])
     requires signals { length env.now ≡ length design.now.pool.signals }
     requires fits { FitsSignals design.now.pool env.now }
     requires numbers { AreFitting design.now.pool nums.old.items }
@@ -31,6 +74,41 @@ pub fn run(design: &Design, task: &Task, env: &[Int], nums: &mut Vec<Int>, next:
     compute(design, task.exprs.as_slice(), env, nums);
     let process = design.processes().get(task.process as usize);
     put_task(design, task, &process.body, env, nums.as_slice(), next);
+}
+
+// Runs a combinational read port: its data has the row at its address, and 0 past the depth.
+fn run_port(
+    design: &Design,
+    task: &PortTask,
+    env: &[Int],
+    rows: &[Rows],
+    nums: &mut Vec<Int>,
+    next: &mut [Int],
+)
+    requires signals { length env.now ≡ length design.now.pool.signals }
+    requires fits { FitsSignals design.now.pool env.now }
+    requires numbers { AreFitting design.now.pool nums.old.items }
+    requires program { IsProgram design.now.pool (length nums.old.items) task.now.exprs }
+    requires computed { AreAmong task.now.exprs (task.now.addr ∷ []) }
+    requires memory { task.now.memory < length rows.now }
+    requires outs { length task.now.outs ≡ 1 }
+    ensures count { length nums.new.items ≡ length nums.old.items }
+    ensures numbers { AreFitting design.now.pool nums.new.items }
+    ensures next { (w : SigId) → task.now.outs ≡ w ∷ [] → next.new ≡ slice_set next.old w.0 (row_at design.now.pool env.now (slice_index_or rows.now task.now.memory []) task.now.addr) }
+{
+    compute(design, task.exprs.as_slice(), env, nums);
+    let row = rows[task.memory].at(at(nums.as_slice(), task.addr).size);
+    set_number(next, *task.outs.get(0), row);
+}
+
+/// Gives a signal a number.
+pub fn set_number(numbers: &mut [Int], sig: SigId, value: Int)
+    ensures { numbers.new ≡ slice_set numbers.old sig.0 value }
+{
+    let s = sig.0 as usize;
+    if s < numbers.len() {
+        numbers[s] = value;
+    }
 }
 
 // Gives these signals their inits.

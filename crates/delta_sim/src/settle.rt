@@ -1,15 +1,14 @@
 // Delta after delta until nothing changes.
-ghost use Rattle.std.specs.Prelude.{◌≡◌, ◌+◌, ◌<◌, ◌≤◌, ◌^◌, [], ◌∷◌, false, List, ℤ, length, replicate};
+ghost use Rattle.std.specs.Prelude.{◌≡◌, ◌+◌, ◌<◌, ◌≤◌, ◌^◌, [], ◌∷◌, List, ℤ, length};
 ghost use Rattle.design_ir.specs.Histories.{DeltasFrom};
 ghost use Rattle.design_ir.specs.Settled.{Settled};
 ghost use Rattle.design_ir.proofs.NumbersFit.{FitsSignals};
 ghost use Rattle.comb_graph.specs.Laws.{FitsState};
-ghost use Rattle.delta_sim.specs.Plans.{IsPlan, Rests, Wakes};
-ghost use Rattle.delta_sim.specs.Settling.{EndsIn, AreCounts, nobody};
-ghost use Rattle.delta_sim.specs.Standing.{state_of};
+ghost use Rattle.delta_sim.specs.Plans.{IsPlan, Rests};
+ghost use Rattle.delta_sim.specs.Settling.{EndsIn, AreCounts, IsWoken, nobody};
+ghost use Rattle.delta_sim.specs.Standing.{AreRowsOf, state_of};
 ghost use Rattle.delta_sim.specs.Tasks.{AreFitting};
 ghost use Rattle.delta_sim.specs.Woken.{one_if_some};
-ghost use Rattle.delta_sim.specs.Ports.{AreReadsClocked};
 
 use crate::agenda::Agenda;
 use crate::delta::delta;
@@ -20,14 +19,14 @@ use amh_host::Steps;
 use design_ir::{Design, Exprs};
 use std::sync::ledger::Ledger;
 
-/// How many deltas there were in which a process ran, and how often processes ran.
+/// How many deltas there were in which a process or a read port without a clock ran, and how often they ran.
 #[derive(Clone, Copy, Debug, PartialEq, Eq, Drop)]
 pub struct Counts {
-    pub deltas: u64,
+    pub deltas: u32,
     pub runs: u64,
 }
 
-/// Settles the state that is held, one step for each run of a process.
+/// Settles the state that is held, one step for each run of a process or of a read port without a clock.
 pub fn settle<L: Ledger>(
     design: &Design,
     plan: &Plan,
@@ -42,20 +41,20 @@ pub fn settle<L: Ledger>(
     woken: &mut Agenda,
     steps: &mut Steps<L>,
 ) -> Counts
-    requires ports { AreReadsClocked design.now }
     requires plan { IsPlan design.now (length nums.old.items) plan.now }
+    requires rows { AreRowsOf design.now rows.now }
     requires state { FitsState design.now (state_of held.now rows.now) }
     requires signals { length env.old.items ≡ length design.now.pool.signals }
     requires fits { FitsSignals design.now.pool env.old.items }
     requires numbers { AreFitting design.now.pool nums.old.items }
     requires next { length next.old ≡ length design.now.pool.signals }
     requires next_fits { FitsSignals design.now.pool next.old }
-    requires waits { length waits.old.marks ≡ length plan.now.tasks }
-    requires then { then.old ≡ nobody (length plan.now.tasks) }
-    requires woken { length woken.old.marks ≡ length design.now.processes }
-    requires rests { Rests design.now (state_of held.now rows.now) plan.now.tasks waits.old.marks env.old.items }
+    requires waits { length waits.old.marks ≡ plan.now.jobs }
+    requires then { then.old ≡ nobody plan.now.jobs }
+    requires woken { length woken.old.marks ≡ plan.now.agents }
+    requires rests { Rests design.now (state_of held.now rows.now) plan.now waits.old.marks env.old.items }
     requires ends { EndsIn design.now (state_of held.now rows.now) env.old.items most }
-    requires most { most ≤ 2 ^ 32 + 1 }
+    requires most { most ≤ 2 ^ 22 + 2 }
     ensures settled { Settled design.now (state_of held.now rows.now) env.new.items }
     ensures signals { length env.new.items ≡ length design.now.pool.signals }
     ensures fits { FitsSignals design.now.pool env.new.items }
@@ -63,16 +62,15 @@ pub fn settle<L: Ledger>(
     ensures numbers { AreFitting design.now.pool nums.new.items }
     ensures next { length next.new ≡ length design.now.pool.signals }
     ensures next_fits { FitsSignals design.now.pool next.new }
-    ensures waits { waits.new ≡ nobody (length plan.now.tasks) }
-    ensures then { then.new ≡ nobody (length plan.now.tasks) }
-    ensures woken { woken.new ≡ nobody (length design.now.processes) }
-    ensures counts { (before : List (List ℤ)) (old : List ℤ) (rest : List (List ℤ)) → Wakes plan.now.processes old env.old.items (replicate (length design.now.processes) false) woken.old.marks → DeltasFrom design.now (state_of held.now rows.now) env.old.items rest → AreCounts design.now before rows.now old (env.old.items ∷ rest) result.deltas result.runs }
+    ensures waits { waits.new ≡ nobody plan.now.jobs }
+    ensures then { then.new ≡ nobody plan.now.jobs }
+    ensures woken { woken.new ≡ nobody plan.now.agents }
+    ensures counts { (before : List (List ℤ)) (old : List ℤ) (rest : List (List ℤ)) → IsWoken design.now plan.now old env.old.items before rows.now woken.old.marks → DeltasFrom design.now (state_of held.now rows.now) env.old.items rest → AreCounts design.now before rows.now old (env.old.items ∷ rest) result.deltas result.runs }
     ensures steps { steps.new ≡ steps.old + result.runs }
 {
     let _ = design.count();
     let _ = design.processes();
     let _ = held;
-    let _ = rows;
     let mut counts = Counts { deltas: 0, runs: 0 };
     for _ in 0..most {
         let count = woken.len();
@@ -83,14 +81,14 @@ pub fn settle<L: Ledger>(
             waits.clear();
             return counts;
         }
-        delta(design, plan, env, nums, next, waits, then, woken);
+        delta(design, plan, rows, env, nums, next, waits, then, woken);
     }
     counts
 }
 
 // One delta more, in which so many processes run.
 fn counted(counts: Counts, runs: usize) -> Counts
-    requires deltas { counts.deltas < 2 ^ 63 }
+    requires deltas { counts.deltas < 2 ^ 31 }
     requires runs { counts.runs + runs < 2 ^ 64 }
     ensures deltas { result.deltas ≡ counts.deltas + one_if_some runs }
     ensures runs { result.runs ≡ counts.runs + runs }

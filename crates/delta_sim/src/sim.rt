@@ -1,32 +1,36 @@
 // A simulator, from event to event.
-ghost use Rattle.std.specs.Prelude.{◌≡◌, ◌+◌, ◌<◌, ◌^◌, ◌++◌, ◌∷◌, [], ℕ, true, false, List, map, length, slice_index_or, slice_set, fold, IfOk, MatchResult, Ok};
+ghost use Rattle.std.specs.Prelude.{◌≡◌, ◌+◌, ◌<◌, ◌≤◌, ◌^◌, ◌++◌, ◌∷◌, [], ℕ, true, false, List, map, length, pos, replicate, slice_index_or, slice_set, fold, IfOk, MatchResult, Ok};
 ghost use Rattle.design_ir.specs.declared.event.Event.{Event};
 ghost use Rattle.design_ir.specs.Circuits.{at};
 ghost use Rattle.design_ir.specs.Legal.{IsLegal};
 ghost use Rattle.design_ir.specs.Steps.{clock_low};
+ghost use Rattle.design_ir.specs.Values.{num};
 ghost use Rattle.comb_graph.specs.Rankings.{IsRanking};
+ghost use Rattle.delta_sim.specs.Evaluations.{eval_room};
+ghost use Rattle.delta_sim.specs.Settling.{nobody};
 ghost use Rattle.delta_sim.specs.Standing.{IsFresh, IsSimOf, Settles, Stands};
-ghost use Rattle.delta_sim.specs.Ports.{AreReadsClocked};
 
 use crate::agenda::Agenda;
 use crate::event::hold;
 use crate::first::run_in_order;
 use crate::plan::Plan;
+use crate::room::Room;
 use crate::rows::Rows;
+use crate::run::set_number;
 use crate::settle::{Counts, settle};
 use crate::tables::plan_of;
-use crate::wake::take_given;
+use crate::wake::{take_given, wake_ports};
 use amh_bits::Int;
 use amh_host::{NoMemory, Steps};
 use comb_graph::{Ranks, deltas_are_few};
-use design_ir::{Design, DomainId, Event, Exprs, SigId};
+use design_ir::{Design, DomainId, Event, ExprId, Exprs, SigId};
 use std::alloc::Global;
 use std::marker::{Brand, Model};
 use std::sync::ledger::{Blank, Ledger};
 
 /// The numbers of a design's signals behind a list of events, those that its state holds and those of the settled
 /// environment, and the rows of its memories. Beside them stands what is worked out of the design once, and the room in
-/// which events are carried out.
+/// which events are carried out and expressions are evaluated.
 #[derive(Drop)]
 pub struct Sim {
     held: Vec<Int>,
@@ -40,6 +44,9 @@ pub struct Sim {
     waits: Agenda,
     then: Agenda,
     woken: Agenda,
+    noted: Vec<Int>,
+    changed: Agenda,
+    room: Room,
 }
 
 impl Model for Sim {
@@ -47,22 +54,22 @@ impl Model for Sim {
 
     ghost Value = { Simulated };
 
-    ghost view = { λ s. record { held = s.held.items; rows = s.rows.items; env = s.env.items; counts = s.counts; longest = s.longest; plan = s.plan; numbers = s.numbers.items; next = s.next.items; waits = s.waits; then = s.then; woken = s.woken } };
+    ghost view = { λ s. record { held = s.held.items; rows = s.rows.items; env = s.env.items; counts = s.counts; longest = s.longest; plan = s.plan; numbers = s.numbers.items; next = s.next.items; waits = s.waits; then = s.then; woken = s.woken; noted = s.noted.items; changed = s.changed } };
 }
 
 impl Sim {
     /// The design before any event, settled. Each task runs once in the order of the ranks first, so that a long chain is
     /// not gone along signal by signal.
     pub fn start(alloc: Global, design: &Design, ranks: &Ranks) -> Result<Sim, NoMemory>
-        requires ports { AreReadsClocked design.now }
         requires ranked { IsRanking design.now ranks.now }
         ensures { IfOk result (Stands design.now []) }
     {
+        let _ = design.count();
+        let _ = design.processes();
         let plan = plan_of(alloc, design)?;
         let held = first_held(alloc, design)?;
         let env = Vec::from_slice(alloc, held.as_slice())?;
-        let next = Vec::from_slice(alloc, held.as_slice())?;
-        let tasks = plan.tasks.len();
+        let spare = spare_room(alloc, design, &plan, held.as_slice())?;
         let mut sim = Sim {
             held,
             rows: first_rows(alloc, design)?,
@@ -70,17 +77,21 @@ impl Sim {
             counts: Counts { deltas: 0, runs: 0 },
             longest: ranks.longest(),
             plan,
-            numbers: vec![in alloc; Int::of_u128(0); design.count() as usize]?,
-            next,
-            waits: Agenda::new(alloc, tasks)?,
-            then: Agenda::new(alloc, tasks)?,
-            woken: Agenda::new(alloc, design.processes().len())?,
+            numbers: spare.numbers,
+            next: spare.next,
+            waits: spare.waits,
+            then: spare.then,
+            woken: spare.woken,
+            noted: spare.noted,
+            changed: spare.changed,
+            room: Room::new(alloc)?,
         };
         run_in_order(
             alloc,
             design,
             ranks.order().as_slice(),
             &sim.plan,
+            sim.rows.as_slice(),
             &mut sim.env,
             &mut sim.numbers,
             &mut sim.next,
@@ -89,14 +100,14 @@ impl Sim {
         Ok(sim)
     }
 
-    /// What an event does. It takes no memory and is always Ok, and takes one step for each run of a process.
+    /// What an event does. It takes no memory and is always Ok, and takes one step for each run of a process or of a read
+    /// port without a clock.
     pub fn apply<L: Ledger>(
         &mut self,
         design: &Design,
         event: &Event,
         steps: &mut Steps<L>,
     ) -> Result<(), NoMemory>
-        requires ports { AreReadsClocked design.now }
         requires legal { IsLegal design.now event.now }
         requires of_design { IsSimOf design.now self.old }
         ensures ok { result ≡ Ok tt }
@@ -116,6 +127,8 @@ impl Sim {
             &mut self.numbers,
             &mut self.held,
             &mut self.rows,
+            &mut self.noted,
+            &mut self.changed,
         );
         take_given(
             &self.plan,
@@ -124,6 +137,8 @@ impl Sim {
             &mut self.waits,
             &mut self.woken,
         );
+        wake_ports(&self.plan, &self.changed, &mut self.waits, &mut self.woken);
+        self.changed.clear();
         self.counts = settle(
             design,
             &self.plan,
@@ -141,6 +156,18 @@ impl Sim {
         Ok(())
     }
 
+    /// The integer of an expression in the settled environment. The design may have grown by expressions since `start`
+    /// (laws.rt). It takes no memory, and no call after it answers otherwise than it would have.
+    pub fn eval(&mut self, design: &Design, e: ExprId) -> Int
+        requires there { e.0 < length design.now.pool.exprs }
+        requires room { e.0 < eval_room }
+        requires of_design { IsSimOf design.now self.old }
+        ensures value { result ≡ num design.now.pool self.old.env e.0 }
+        ensures same { self.new ≡ self.old }
+    {
+        self.room.eval(design, self.env.as_slice(), e)
+    }
+
     /// The number of a signal.
     pub fn value(&self, sig: SigId) -> Int
         requires { sig.0 < length self.now.env }
@@ -156,17 +183,23 @@ impl Sim {
         self.env.as_slice()
     }
 
-    /// In how many deltas of the last event a process ran, and how often processes ran in them.
-    pub fn counts(&self) -> Counts
-        ensures { result ≡ self.now.counts }
+    /// In how many deltas of the last event a process or a read port without a clock ran.
+    pub fn deltas(&self) -> u32
+        ensures { result ≡ self.now.counts.deltas }
     {
-        self.counts
+        self.counts.deltas
+    }
+
+    /// How often processes and read ports without a clock ran in the deltas of the last event.
+    pub fn runs(&self) -> u64
+        ensures { result ≡ self.now.counts.runs }
+    {
+        self.counts.runs
     }
 }
 
 // Settles a simulator that has had no event, with a counter of steps of its own.
 fn first_settled<L: Ledger>(sim: &mut Sim, design: &Design, blank: Blank)
-    requires ports { AreReadsClocked design.now }
     requires fresh { IsFresh design.now sim.old }
     requires blank { (blank.name ≡ L.name) × (blank.parts ≡ L.parts) × (0 < L.parts) }
     ensures of_design { IsSimOf design.now sim.new }
@@ -176,7 +209,7 @@ fn first_settled<L: Ledger>(sim: &mut Sim, design: &Design, blank: Blank)
     let _ = design.count();
     let _ = design.processes();
     let mut steps = Steps::<L>::new(blank);
-    wake_all(sim.plan.tasks.len(), &mut sim.waits);
+    wake_all(sim.plan.jobs, &mut sim.waits);
     let _ = settle(
         design,
         &sim.plan,
@@ -191,6 +224,47 @@ fn first_settled<L: Ledger>(sim: &mut Sim, design: &Design, blank: Blank)
         &mut sim.woken,
         &mut steps,
     );
+}
+
+// The room in which events are carried out: the integers of expressions, what tasks leave, which tasks and processes
+// wait, the rows at the addresses of a memory's write ports, and which memories changed.
+#[derive(Drop)]
+struct Spare {
+    numbers: Vec<Int>,
+    next: Vec<Int>,
+    waits: Agenda,
+    then: Agenda,
+    woken: Agenda,
+    noted: Vec<Int>,
+    changed: Agenda,
+}
+
+// Room in which nothing waits. No memory has more than 64 ports.
+fn spare_room(alloc: Global, design: &Design, plan: &Plan, held: &[Int]) -> Result<Spare, NoMemory>
+    ensures numbers { IfOk result (λ s. s.numbers.items ≡ replicate (length design.now.pool.exprs) (pos 0)) }
+    ensures next { IfOk result (λ s. s.next.items ≡ held.now) }
+    ensures waits { IfOk result (λ s. s.waits ≡ nobody plan.now.jobs) }
+    ensures then { IfOk result (λ s. s.then ≡ nobody plan.now.jobs) }
+    ensures woken { IfOk result (λ s. s.woken ≡ nobody plan.now.agents) }
+    ensures noted { IfOk result (λ s. 64 ≤ length s.noted.items) }
+    ensures changed { IfOk result (λ s. s.changed ≡ nobody (length design.now.memories)) }
+{
+    Ok(Spare {
+        numbers: zeros(alloc, design.count() as usize)?,
+        next: Vec::from_slice(alloc, held)?,
+        waits: Agenda::new(alloc, plan.jobs)?,
+        then: Agenda::new(alloc, plan.jobs)?,
+        woken: Agenda::new(alloc, plan.agents)?,
+        noted: zeros(alloc, 64)?,
+        changed: Agenda::new(alloc, design.memories().len())?,
+    })
+}
+
+// So many zeros.
+fn zeros(alloc: Global, count: usize) -> Result<Vec<Int>, NoMemory>
+    ensures { IfOk result (λ v. v.items ≡ replicate count (pos 0)) }
+{
+    Ok(vec![in alloc; Int::of_u128(0); count]?)
 }
 
 // The rows of each memory before any event.
@@ -230,15 +304,6 @@ fn lower_clocks(design: &Design, held: &mut [Int])
     for d in 0..design.domains() {
         let clk = design.domain(DomainId(d)).clk;
         set_number(held, clk, Int::of_u128(0));
-    }
-}
-
-fn set_number(held: &mut [Int], sig: SigId, value: Int)
-    ensures { held.new ≡ slice_set held.old sig.0 value }
-{
-    let s = sig.0 as usize;
-    if s < held.len() {
-        held[s] = value;
     }
 }
 

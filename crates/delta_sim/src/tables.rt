@@ -8,12 +8,14 @@ ghost use Rattle.delta_sim.specs.Marks.{is_marked};
 ghost use Rattle.delta_sim.specs.Plans.{IsPlan};
 ghost use Rattle.delta_sim.specs.Tables.{AreNoMarks, ArePartial, AreTables, IsAdded, IsRoom};
 
+use crate::clears::clearable_processes;
 use crate::compile::{Marks, compile};
 use crate::driven::driven_each;
 use crate::given::given_signals;
 use crate::group::groups;
 use crate::plan::Plan;
 use crate::port_exprs::all_ports;
+use crate::port_tasks::{port_tables, sum};
 use crate::targets::{SigIds, all_targets};
 use crate::task::Task;
 use amh_host::{Items, NoMemory};
@@ -30,13 +32,20 @@ pub fn plan_of(alloc: Global, design: &Design) -> Result<Plan, NoMemory>
     let given = given_signals(alloc, design, targets.as_slice())?;
     let given = listed(alloc, given.as_slice())?;
     let tables = all_tables(alloc, design, targets.as_slice())?;
+    let first = tables.tasks.len();
+    let with_ports = port_tables(alloc, design, first, tables.readers, tables.processes)?;
+    let reads = with_ports.tasks.len();
     Ok(Plan {
         given,
         clocked: tables.clocked,
         tasks: tables.tasks,
+        reads: with_ports.tasks,
+        jobs: sum(first, reads)?,
+        agents: sum(design.processes().len(), reads)?,
         ports: all_ports(alloc, design)?,
-        readers: all_items(alloc, tables.readers)?,
-        processes: all_items(alloc, tables.processes)?,
+        readers: all_items(alloc, with_ports.readers)?,
+        processes: all_items(alloc, with_ports.processes)?,
+        clearable: clearable_processes(alloc, design)?,
     })
 }
 
@@ -225,8 +234,8 @@ fn no_readers(alloc: Global, signals: u32) -> Result<Vec<Items<usize>>, NoMemory
     Ok(lists)
 }
 
-// Adds a reader of these signals.
-fn add_reader(reads: &[SigId], n: usize, lists: &mut Vec<Items<usize>>) -> Result<(), NoMemory>
+/// Adds a reader of these signals.
+pub fn add_reader(reads: &[SigId], n: usize, lists: &mut Vec<Items<usize>>) -> Result<(), NoMemory>
     ensures { OnOk result (IsAdded (numbers_of reads.now) n lists.old.items lists.new.items) }
 {
     for s in reads {

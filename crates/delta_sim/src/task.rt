@@ -2,7 +2,7 @@
 
 use crate::targets::SigIds;
 use amh_host::Items;
-use design_ir::Ids;
+use design_ir::{ExprId, Ids};
 
 /// Statements of one process by their places in it, the signals that they drive, and the expressions that stand in them,
 /// each behind those that it names.
@@ -10,6 +10,16 @@ use design_ir::Ids;
 pub struct Task {
     pub process: u32,
     pub statements: Items<usize>,
+    pub outs: SigIds,
+    pub exprs: Ids,
+}
+
+/// A combinational read port: the number of its memory, its address, the signal that has its data, and the expressions
+/// that stand in the address, each behind those that it names.
+#[derive(Drop)]
+pub struct PortTask {
+    pub memory: usize,
+    pub addr: ExprId,
     pub outs: SigIds,
     pub exprs: Ids,
 }

@@ -1,10 +1,10 @@
 // What wakes where signals take other numbers.
-ghost use Rattle.std.specs.Prelude.{◌≡◌, ◌≢◌, ◌<◌, true, false, length, slice_set};
+ghost use Rattle.std.specs.Prelude.{◌≡◌, ◌≢◌, ◌+◌, ◌<◌, ◌≤◌, ◌^◌, ℕ, true, false, length, slice_set};
 ghost use Rattle.std.specs.List.{AllByRecursion};
 ghost use Rattle.design_ir.specs.Circuits.{at};
 ghost use Rattle.delta_sim.specs.Driven.{numbers_of};
 ghost use Rattle.delta_sim.specs.Given.{marked};
-ghost use Rattle.delta_sim.specs.Plans.{IsTable, Wakes, taken};
+ghost use Rattle.delta_sim.specs.Plans.{IsTable, Wakes, WakesPorts, taken};
 
 use crate::agenda::Agenda;
 use crate::plan::Plan;
@@ -53,6 +53,34 @@ pub fn take_given(
     take(plan, plan.given.as_slice(), held, env, waits, woken);
 }
 
+/// The read ports of the memories whose rows changed now wait, and so they do among the processes.
+pub fn wake_ports(plan: &Plan, changed: &Agenda, waits: &mut Agenda, woken: &mut Agenda)
+    requires tasks { plan.now.jobs ≡ length plan.now.tasks + length plan.now.reads }
+    requires processes { length plan.now.reads ≤ plan.now.agents }
+    requires waits { length waits.old.marks ≡ plan.now.jobs }
+    requires woken { length woken.old.marks ≡ plan.now.agents }
+    ensures waits { WakesPorts (length plan.now.tasks) plan.now.reads changed.now.marks waits.old.marks waits.new.marks }
+    ensures woken { (n : ℕ) → plan.now.agents ≡ n + length plan.now.reads → WakesPorts n plan.now.reads changed.now.marks woken.old.marks woken.new.marks }
+{
+    if changed.len() == 0 {
+        return;
+    }
+    mark_ports(plan, plan.jobs - plan.reads.len(), changed, waits);
+    mark_ports(plan, plan.agents - plan.reads.len(), changed, woken);
+}
+
+// The read ports of the memories whose rows changed now wait, where they are numbered from `first` on.
+fn mark_ports(plan: &Plan, first: usize, changed: &Agenda, waits: &mut Agenda)
+    requires few { first + length plan.now.reads < 2 ^ 64 }
+    requires room { length waits.old.marks ≡ first + length plan.now.reads }
+    ensures { WakesPorts first plan.now.reads changed.now.marks waits.old.marks waits.new.marks }
+{
+    for i in 0..plan.reads.len() {
+        let wanted = changed.has(plan.reads.get(i).memory);
+        waits.mark_if(wanted, first + i);
+    }
+}
+
 // One signal takes its number.
 fn take_one(
     plan: &Plan,
@@ -90,8 +118,8 @@ fn mark_all(list: &[usize], waits: &mut Agenda)
     }
 }
 
-// Whether two integers differ.
-fn differs(a: Int, b: Int) -> bool
+/// Whether two integers differ.
+pub fn differs(a: Int, b: Int) -> bool
     ensures other { result ≡ true → a ≢ b }
     ensures same { result ≡ false → a ≡ b }
 {

@@ -174,6 +174,7 @@ module _ (c : Circuit) (q : Pooled) (rules : IsPool c.pool) (design : IsDesign c
       record {
         needs = λ b x. (n b x, m b x);
         loops = λ b. (loop_alike c after n b, loop_alike after c m b);
+        longest = λ k. (longest_alike c after n m bits back (next_alike after c m) k, longest_alike after c m n back bits (next_alike c after n) k);
         ranks = λ r. (ranks_alike c after n m bits back (next_alike after c m) r, ranks_alike after c m n back bits (next_alike c after n) r);
       }
 

@@ -117,7 +117,7 @@ module _ (c : Circuit) (p : Pooled) (same : AreSameIn p c.pool c) where
       ap (λ xs. xs ++ flat_map (λ (m : Memory). map (λ (r : MemRead). r.word.0 ∷ []) m.reads) c.memories)
       (map_same IsSameBody (λ (x : DesignProcess). driven p x.body) (λ (x : DesignProcess). driven c.pool x.body) body_drives c.processes same.processes)
 
-  register_same : (s : ℕ) → is_register over s ≡ is_register c s
+  pub register_same : (s : ℕ) → is_register over s ≡ is_register c s
   register_same s =
       ap (λ b. b || list_any (λ (m : Memory). list_any (λ (r : MemRead). is_some r.domain && (r.word.0 == s)) m.reads) c.memories)
       (any_same IsSameBody (λ (x : DesignProcess). is_some x.domain && is_among (driven p x.body) s) (λ (x : DesignProcess). is_some x.domain && is_among (driven c.pool x.body) s)

@@ -12,6 +12,7 @@ use Rattle.design_ir.specs.Steps.{step, first_state}
 use Rattle.design_ir.specs.Histories.{History}
 use Rattle.design_ir.specs.Legal.{AllLegal}
 use Rattle.design_ir.specs.Loops.{Needs, Loop}
+use Rattle.comb_graph.specs.Orders.{IsLongest}
 use Rattle.comb_graph.specs.Rankings.{Ranking, IsRanking}
 use Rattle.flat_design.specs.Growing.{IsMore}
 
@@ -37,10 +38,11 @@ pub record MeansTheSame (c d : Circuit) : Type 0 where
   pub legal : (es : List Event) → AllLegal d es ↔ AllLegal c es
   pub histories : (es : List Event) (envs : List (List ℤ)) → History d es envs ↔ History c es envs
 
--- the same bits need each other, and the ranks of the one are those of the other
+-- the same bits need each other, so many stand on the longest chain of needs, and the ranks of the one are those of the other
 pub record NeedsTheSame (c d : Circuit) : Type 0 where
   pub needs : (b x : Bit) → Needs d b x ↔ Needs c b x
   pub loops : (b : Bit) → Loop d b ↔ Loop c b
+  pub longest : (n : ℕ) → IsLongest d n ↔ IsLongest c n
   pub ranks : (r : Ranking) → IsRanking d r ↔ IsRanking c r
 
 abbrev pub GrowthKeepsMeaning : Type 0

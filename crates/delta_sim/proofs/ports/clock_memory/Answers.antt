@@ -1,14 +1,17 @@
-use Rattle.std.proofs.Common.{◌≡◌, ◌∙◌, sym, ap, subst, Some, length, slice_get, fold, List}
+use Rattle.std.proofs.Common.{◌≡◌, ◌∙◌, sym, ap, arith, refl, subst, true, false, ⊎_elim, Some, length, slice_get, fold, List}
 use Rattle.std.specs.List.{flat_map, list_any}
-use Rattle.std.proofs.lemmas.Bool.{or_parts}
+use Rattle.std.proofs.lemmas.Bool.{cases_Bool, or_parts}
 use Rattle.design_ir.specs.declared.ids.ExprId.{ExprId}
 use Rattle.design_ir.specs.declared.memory.MemRead.{MemRead}
 use Rattle.design_ir.specs.declared.memory.MemWrite.{MemWrite}
 use Rattle.design_ir.specs.declared.memory.Memory.{Memory}
+use Rattle.design_ir.specs.Designs.{IsMemory}
 use Rattle.design_ir.specs.Steps.{clocked_read, port_active, write_row}
-use Rattle.delta_sim.specs.Ports.{AreKnown, port_exprs, read_exprs, write_exprs}
+use Rattle.delta_sim.specs.Ports.{AreKnown, AreNoted, port_exprs, read_exprs, write_exprs}
 use Rattle.delta_sim.specs.Tasks.{AreAmong, IsProgram}
 use Rattle.delta_sim.proofs.Clocking.{place_of}
+use Rattle.delta_sim.proofs.EdgesFit.{all_get}
+use Rattle.delta_sim.proofs.SameRows.{no_change, rows_other, rows_same}
 use Rattle.delta_sim.proofs.PortTurns.{idle_reads, idle_writes, known_of, known_parts}
 use Rattle.delta_sim.proofs.ports.clock_memory.Goals as goal
 
@@ -68,4 +71,61 @@ write_all-requires-clause-written c =
     let list : c.get.result.now ≡ has.list = let f : Some c.get.result.now ≡ Some has.list = sym c.get.ensures.lookup ∙ has.stands in cc in
     let computed = subst (λ (l : List ExprId). AreAmong l (port_exprs m)) (sym (c.as_slice.ensures ∙ list)) has.computed in
     let all = known_of pool env c.compute.new.nums.items c.as_slice.result.now (port_exprs m) c.compute.ensures.read computed in
+    subst (λ ns. AreKnown pool env ns (flat_map write_exprs m.writes)) (sym c.as_slice-4.ensures.value) (known_parts pool env c.compute.new.nums.items (flat_map write_exprs m.writes) (flat_map read_exprs m.reads) all).0
+
+pub note_all-requires-clause-written : goal.note_all-requires-clause-written
+note_all-requires-clause-written c =
+    let pool = c.args.design.now.pool in
+    let env = c.args.env.now in
+    let m = c.get-m.result.now in
+    let p = subst (λ xs. slice_get xs c.args.k ≡ Some m) c.memories.ensures c.get-m.ensures.lookup in
+    let has = c.requires.plan.ports c.args.k m p in
+    let list : c.get.result.now ≡ has.list = let f : Some c.get.result.now ≡ Some has.list = sym c.get.ensures.lookup ∙ has.stands in cc in
+    let computed = subst (λ (l : List ExprId). AreAmong l (port_exprs m)) (sym (c.as_slice.ensures ∙ list)) has.computed in
+    let all = known_of pool env c.compute.new.nums.items c.as_slice.result.now (port_exprs m) c.compute.ensures.read computed in
     subst (λ ns. AreKnown pool env ns (flat_map write_exprs m.writes)) (sym c.as_slice-3.ensures.value) (known_parts pool env c.compute.new.nums.items (flat_map write_exprs m.writes) (flat_map read_exprs m.reads) all).0
+
+pub note_all-requires-clause-room : goal.note_all-requires-clause-room
+note_all-requires-clause-room c =
+    let d = c.args.design.now in
+    let m = c.get-m.result.now in
+    let p = subst (λ xs. slice_get xs c.args.k ≡ Some m) c.memories.ensures c.get-m.ensures.lookup in
+    let is = all_get (IsMemory d) d.memories c.args.k m c.processes.ensures.rules.memories p in
+    omega (arith, is.few_ports, c.requires.room)
+
+pub any_differs-requires-clause-written : goal.any_differs-requires-clause-written
+any_differs-requires-clause-written c =
+    let pool = c.args.design.now.pool in
+    let env = c.args.env.now in
+    let m = c.get-m.result.now in
+    let p = subst (λ xs. slice_get xs c.args.k ≡ Some m) c.memories.ensures c.get-m.ensures.lookup in
+    let has = c.requires.plan.ports c.args.k m p in
+    let list : c.get.result.now ≡ has.list = let f : Some c.get.result.now ≡ Some has.list = sym c.get.ensures.lookup ∙ has.stands in cc in
+    let computed = subst (λ (l : List ExprId). AreAmong l (port_exprs m)) (sym (c.as_slice.ensures ∙ list)) has.computed in
+    let all = known_of pool env c.compute.new.nums.items c.as_slice.result.now (port_exprs m) c.compute.ensures.read computed in
+    subst (λ ns. AreKnown pool env ns (flat_map write_exprs m.writes)) (sym c.as_slice-5.ensures.value) (known_parts pool env c.compute.new.nums.items (flat_map write_exprs m.writes) (flat_map read_exprs m.reads) all).0
+
+pub any_differs-requires-clause-room : goal.any_differs-requires-clause-room
+any_differs-requires-clause-room c =
+    let d = c.args.design.now in
+    let m = c.get-m.result.now in
+    let p = subst (λ xs. slice_get xs c.args.k ≡ Some m) c.memories.ensures c.get-m.ensures.lookup in
+    let is = all_get (IsMemory d) d.memories c.args.k m c.processes.ensures.rules.memories p in
+    let long = ap length c.as_slice-6.ensures.value ∙ c.note_all.ensures.room in
+    omega (arith, is.few_ports, c.requires.room, long)
+
+pub returns-then-not-acts-clause-changed : goal.returns-then-not-acts-clause-changed
+returns-then-not-acts-clause-changed c = sym (no_change c.args.rows.now c.args.rows.now refl)
+
+pub returns-clause-changed : goal.returns-clause-changed
+returns-clause-changed c =
+    let d = c.args.design.now in
+    let env = c.args.env.now in
+    let m = c.get-m.result.now in
+    let old = c.args.rows.now in
+    let new = c.write_all.new.rows in
+    let notes = subst (AreNoted d.pool env old m.writes) (sym c.as_slice-6.ensures.value) c.note_all.ensures.noted in
+    ⊎_elim
+    (λ (t : c.any_differs.result ≡ true). t ∙ sym (rows_other d env c.args.listed.now m old new c.as_slice-6.result.now c.write_all.ensures notes (c.any_differs.ensures.other t)))
+    (λ (t : c.any_differs.result ≡ false). t ∙ sym (rows_same d env c.args.listed.now m old new c.as_slice-6.result.now c.write_all.ensures notes (c.any_differs.ensures.same t)))
+    (cases_Bool c.any_differs.result)

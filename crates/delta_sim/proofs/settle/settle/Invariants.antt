@@ -1,8 +1,8 @@
-use Rattle.std.proofs.Common.{◌≡◌, ◌+◌, ◌*◌, ◌≤◌, ◌∷◌, List, ℤ, false, length, replicate}
+use Rattle.std.proofs.Common.{◌≡◌, ◌+◌, ◌*◌, ◌≤◌, ◌∷◌, List, ℤ, length}
 use Rattle.design_ir.specs.Histories.{DeltasFrom}
 use Rattle.design_ir.proofs.NumbersFit.{FitsSignals}
-use Rattle.delta_sim.specs.Plans.{Rests, Wakes}
-use Rattle.delta_sim.specs.Settling.{nobody}
+use Rattle.delta_sim.specs.Plans.{Rests}
+use Rattle.delta_sim.specs.Settling.{IsWoken, nobody}
 use Rattle.delta_sim.specs.Standing.{state_of}
 use Rattle.delta_sim.specs.Tasks.{AreFitting}
 use Rattle.delta_sim.specs.Woken.{deltas_of, runs_of}
@@ -17,14 +17,14 @@ invariant-loop g l = record {
   numbers : AreFitting l.design.pool l.nums.items;
   next : length l.next ≡ length l.design.pool.signals;
   next_fits : FitsSignals l.design.pool l.next;
-  waits : length l.waits.marks ≡ length l.plan.tasks;
-  then : l.then ≡ nobody (length l.plan.tasks);
-  woken : length l.woken.marks ≡ length l.design.processes;
-  rests : Rests l.design (state_of l.held l.rows) l.plan.tasks l.waits.marks l.env.items;
+  waits : length l.waits.marks ≡ l.plan.jobs;
+  then : l.then ≡ nobody l.plan.jobs;
+  woken : length l.woken.marks ≡ l.plan.agents;
+  rests : Rests l.design (state_of l.held l.rows) l.plan l.waits.marks l.env.items;
   left : Left l.design (state_of l.held l.rows) l.env.items l.waits.marks l.most l.counter;
-  counts : (before : List (List ℤ)) (old : List ℤ) (rest : List (List ℤ)) → Wakes l.plan.processes old l.initial.env.items (replicate (length l.design.processes) false) l.initial.woken.marks → DeltasFrom l.design (state_of l.held l.rows) l.initial.env.items rest
-      → Counted l.design (state_of l.held l.rows) l.plan.processes l.env.items l.woken.marks l.counts.deltas l.counts.runs (deltas_of l.design before l.rows old (l.initial.env.items ∷ rest)) (runs_of l.design before l.rows old (l.initial.env.items ∷ rest));
+  counts : (before : List (List ℤ)) (old : List ℤ) (rest : List (List ℤ)) → IsWoken l.design l.plan old l.initial.env.items before l.rows l.initial.woken.marks → DeltasFrom l.design (state_of l.held l.rows) l.initial.env.items rest
+      → Counted l.design (state_of l.held l.rows) l.plan l.env.items l.woken.marks l.counts.deltas l.counts.runs (deltas_of l.design before l.rows old (l.initial.env.items ∷ rest)) (runs_of l.design before l.rows old (l.initial.env.items ∷ rest));
   few_deltas : l.counts.deltas ≤ l.counter;
-  few_runs : l.counts.runs ≤ l.counter * length l.design.processes;
+  few_runs : l.counts.runs ≤ l.counter * l.plan.agents;
   steps : l.steps ≡ l.initial.steps + l.counts.runs;
 }

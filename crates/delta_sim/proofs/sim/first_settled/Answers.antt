@@ -1,10 +1,10 @@
-use Rattle.std.proofs.Common.{◌≡◌, ◌∙◌, ◌<◌, ◌+◌, ap, sym, subst, ℕ, true, false, length, slice_index_or}
+use Rattle.std.proofs.Common.{◌∙◌, ◌+◌, ap, arith, sym, subst, length}
 use Rattle.comb_graph.specs.Laws.{FitsState}
 use Rattle.design_ir.specs.Settled.{Settled}
 use Rattle.design_ir.proofs.NumbersFit.{FitsSignals}
 use Rattle.delta_sim.specs.Plans.{IsPlan, Rests}
 use Rattle.delta_sim.specs.Settling.{EndsIn}
-use Rattle.delta_sim.specs.Standing.{IsFresh, AreNumbersOf}
+use Rattle.delta_sim.specs.Standing.{IsFresh, AreNumbersOf, AreRowsOf}
 use Rattle.delta_sim.proofs.Applying.{vec_whole}
 use Rattle.delta_sim.proofs.Beginning.{numbers, fit, first_ends, first_rests}
 use Rattle.delta_sim.proofs.Lives.{first_rows, move_state}
@@ -46,9 +46,20 @@ settle-requires-clause-rests g c =
     let d = c.args.design.now in
     let i = c.sim.inside in
     let fresh = subst (IsFresh d) (sym c.sim.view_is) c.requires.fresh in
-    let all = subst (λ n. (k : ℕ) → k < n → slice_index_or c.wake_all.new.waits.marks k false ≡ true) c.len.ensures c.wake_all.ensures.all in
-    let rests = first_rests d c.count.ensures.rules c.processes.ensures.rules i.held.items fresh.held i.rows.items fresh.rows i.env.items fresh.env fresh.same c.requires.ports (length i.numbers.items) i.plan c.wake_all.new.waits.marks fresh.plan all in
-    move_state (λ st. Rests d st i.plan.tasks c.wake_all.new.waits.marks i.env.items) i.held.items c.as_slice.result.now i.rows.items c.as_slice-2.result.now c.as_slice.ensures.value c.as_slice-2.ensures.value rests
+    let rests = first_rests d c.count.ensures.rules c.processes.ensures.rules i.held.items fresh.held i.rows.items fresh.rows i.env.items fresh.env fresh.same (length i.numbers.items) i.plan c.wake_all.new.waits.marks fresh.plan c.wake_all.ensures.all in
+    move_state (λ st. Rests d st i.plan c.wake_all.new.waits.marks i.env.items) i.held.items c.as_slice.result.now i.rows.items c.as_slice-2.result.now c.as_slice.ensures.value c.as_slice-2.ensures.value rests
+
+pub settle-requires-clause-rows : goal.settle-requires-clause-rows
+settle-requires-clause-rows g c =
+    let d = c.args.design.now in
+    let i = c.sim.inside in
+    let fresh = subst (IsFresh d) (sym c.sim.view_is) c.requires.fresh in
+    subst (AreRowsOf d) (sym c.as_slice-2.ensures.value) (first_rows d i.rows.items c.count.ensures.rules c.processes.ensures.rules fresh.rows)
+
+pub settle-requires-clause-most : goal.settle-requires-clause-most
+settle-requires-clause-most g c =
+    let fresh = subst (IsFresh c.args.design.now) (sym c.sim.view_is) c.requires.fresh in
+    omega (arith, fresh.few_bits)
 
 pub settle-requires-clause-ends : goal.settle-requires-clause-ends
 settle-requires-clause-ends g c =
@@ -71,10 +82,13 @@ returns-clause-of_design g c =
       env = record { count = c.settle.ensures.signals; fits = c.settle.ensures.fits };
       settled = move_state (λ st. Settled d st c.settle.new.env.items) c.as_slice.result.now i.held.items c.as_slice-2.result.now i.rows.items (sym c.as_slice.ensures.value) (sym c.as_slice-2.ensures.value) c.settle.ensures.settled;
       longest = fresh.longest;
+      few_bits = fresh.few_bits;
       plan = subst (λ n. IsPlan d n i.plan) (sym c.settle.ensures.count) fresh.plan;
       numbers = c.settle.ensures.numbers;
       next = subst (AreNumbersOf d) (sym (vec_whole i.next.len c.settle.new.next i.next.items next_long)) (record { count = c.settle.ensures.next; fits = c.settle.ensures.next_fits });
       waits = c.settle.ensures.waits;
       then = c.settle.ensures.then;
       woken = c.settle.ensures.woken;
+      noted = fresh.noted;
+      changed = fresh.changed;
     }

@@ -1,0 +1,13 @@
+use Rattle.std.proofs.Common.{◌≡◌, ◌<◌, ℕ, drop, length, pos, slice_get, slice_index_or, Some}
+use Rattle.std.specs.List.{flat_map}
+use Rattle.design_ir.specs.declared.memory.MemWrite.{MemWrite}
+use Rattle.design_ir.specs.Rows.{row_at}
+use Rattle.delta_sim.specs.Ports.{AreKnown, write_exprs}
+use Rattle.delta_sim.proofs.ports.note_all.Given as goal
+
+abbrev pub invariant-loop-i : goal.invariant-loop-i
+invariant-loop-i l = record {
+  long : length l.room.items ≡ length l.initial.room.items;
+  known : AreKnown l.design.pool l.env l.nums (flat_map write_exprs (drop l.i l.m.writes));
+  noted : (j : ℕ) (w : MemWrite) → j < l.i → slice_get l.m.writes j ≡ Some w → slice_index_or l.room.items j (pos 0) ≡ row_at l.design.pool l.env l.rows w.addr;
+}
