@@ -1,7 +1,10 @@
 mod DesignSides
 pub mod DesignSound
+pub mod DomainTests
 pub mod Marks
-mod NoResets
+pub mod MemoryTests
+pub mod NoResets
 mod Ports
 mod Statements
 mod TargetSides
+pub mod Widths

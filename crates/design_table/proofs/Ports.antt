@@ -1,7 +1,7 @@
 -- Ports that are apart and shown.
 use Rattle.std.specs.Prelude.{◌≡◌, refl, ℕ, ◌<◌, ◌≤◌, ◌==◌, ◌&&◌, ◌||◌, nat_eq, nat_lt, nat_le, Bool, true, false, not, IsTrue, List, [], ◌∷◌, map, length, All}
-use Rattle.std.specs.List.{AllByRecursion, IsDistinct, list_any, list_all}
-use Rattle.std.proofs.Common.{sym, ap, arith, inl, append-nil}
+use Rattle.std.specs.List.{AllByRecursion, IsDistinct, list_all}
+use Rattle.std.proofs.Common.{sym, arith, inl, append-nil}
 use Rattle.std.proofs.lemmas.Bool.{false≢true, and_parts, eq-eqb}
 use Rattle.std.proofs.lemmas.List.Elements.{All-nil, All-cons}
 use Rattle.lists.specs.Names.{starts_name, continues_name, IsName, IsPublicName}
@@ -9,7 +9,7 @@ use Rattle.lists.specs.Texts.{text_eq}
 use Rattle.design_ir.specs.declared.port.Port.{Port}
 use Rattle.design_ir.specs.Pools.{Pooled}
 use Rattle.design_ir.specs.Values.{signal_form}
-use Rattle.design_table.specs.Tests.{is_name, is_apart, are_apart, is_shown}
+use Rattle.design_table.specs.Tests.{is_name, is_apart, are_apart, is_shown, is_input_of}
 
 -- ---- names
 
@@ -19,7 +19,7 @@ all_of_test test (x ∷ xs) e =
     let r = and_parts (test x) (list_all test xs) e in
     All-cons (λ b. IsTrue (test b)) x xs r.0 (all_of_test test xs r.1)
 
-name_is : (name : List ℕ) → is_name name ≡ true → IsName name
+pub name_is : (name : List ℕ) → is_name name ≡ true → IsName name
 name_is [] e = absurd (false≢true e)
 name_is (b ∷ bs) e =
     let r = and_parts (starts_name b) (list_all continues_name bs) e in
@@ -38,7 +38,7 @@ public_name name e = record {
 
 -- ---- apart
 
-not_true : (b : Bool) → not b ≡ true → b ≡ false
+pub not_true : (b : Bool) → not b ≡ true → b ≡ false
 not_true true e = absurd (false≢true e)
 not_true false e = refl
 
@@ -97,10 +97,6 @@ or_second false b e = e
 and_of : (a b : Bool) → a ≡ true → b ≡ true → (a && b) ≡ true
 and_of true b e f = f
 and_of false b e f = absurd (false≢true e)
-
--- one of these is the port of this signal as an input
-abbrev pub is_input_of : List Port → ℕ → Bool
-is_input_of ps s = list_any (λ (p : Port). p.is_input && (p.sig.0 == s)) ps
 
 inputs_among : (all ps : List Port) → ((s : ℕ) → is_input_of ps s ≡ true → is_input_of all s ≡ true) → AllByRecursion (λ (p : Port). IsTrue p.is_input → is_input_of all p.sig.0 ≡ true) ps
 inputs_among all [] h = tt

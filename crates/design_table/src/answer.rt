@@ -1,15 +1,14 @@
 // What is said of a design.
-ghost use Rattle.std.specs.Prelude.{◌≡◌, []};
 ghost use Rattle.comb_graph.specs.Rankings.{IsRanking};
 
 use crate::events::played;
 use crate::lines::{split_first, words_of};
 use crate::numbers::small;
-use crate::reader::read_design;
+use crate::reader::{Case, read_case};
 use crate::stop::Stop;
 use amh_host::Place;
 use comb_graph::{GraphStop, RankedBit, Ranks, rank};
-use design_ir::{Design, SigId};
+use design_ir::{Design, ExprId, SigId};
 use std::alloc::Global;
 
 /// The name of a design and the answer for it.
@@ -23,8 +22,8 @@ pub fn answer(alloc: Global, lines: &[String]) -> Result<String, Stop> {
 }
 
 fn lines_said(alloc: Global, lines: &[String]) -> Result<String, Stop> {
-    let design = read_design(alloc, lines)?;
-    design_said(alloc, &design, lines)
+    let case = read_case(alloc, lines)?;
+    case_said(alloc, &case, lines)
 }
 
 /// The name of a design, which stands in its first line.
@@ -39,11 +38,10 @@ pub fn name_of(alloc: Global, lines: &[String]) -> Result<String, Stop> {
     }
 }
 
-fn design_said(alloc: Global, design: &Design, lines: &[String]) -> Result<String, Stop>
-    requires { design.now.memories ≡ [] }
-{
+fn case_said(alloc: Global, case: &Case, lines: &[String]) -> Result<String, Stop> {
+    let design = &case.design;
     match rank(alloc, design) {
-        Ok(ranks) => accepted_said(alloc, design, &ranks, lines),
+        Ok(ranks) => accepted_said(alloc, design, case.asked.as_slice(), &ranks, lines),
         Err(GraphStop::Loop { sig, bit, place }) => loop_said(alloc, design, sig, bit, place),
         Err(GraphStop::NoMemory) => Err(Stop::NoMemory),
     }
@@ -67,11 +65,11 @@ fn loop_said(
 fn accepted_said(
     alloc: Global,
     design: &Design,
+    asked: &[Option<ExprId>],
     ranks: &Ranks,
     lines: &[String],
 ) -> Result<String, Stop>
-    requires flat { design.now.memories ≡ [] }
-    requires ranked { IsRanking design.now ranks.now }
+    requires { IsRanking design.now ranks.now }
 {
     let mut said = format!(in alloc; "accepted {} {}", ranks.longest(), ranks.order().len())?;
     for line in lines {
@@ -82,7 +80,7 @@ fn accepted_said(
             _ => {}
         }
     }
-    said.push_str(played(alloc, design, ranks, lines)?.as_str())?;
+    said.push_str(played(alloc, design, asked, ranks, lines)?.as_str())?;
     Ok(said)
 }
 
@@ -90,13 +88,18 @@ fn accepted_said(
 fn order_said(alloc: Global, design: &Design, ranks: &Ranks) -> Result<String, Stop> {
     let mut said = String::from_str(alloc, " order")?;
     for b in ranks.order().as_slice() {
-        if b.sig.0 < design.signals() {
-            let name = design.sig_at(b.sig).name.as_str();
-            let bit = b.bit;
-            said.push_str(format!(in alloc; " {name}.{bit}")?.as_str())?;
-        }
+        said.push_str(bit_said(alloc, design, *b)?.as_str())?;
     }
     Ok(said)
+}
+
+fn bit_said(alloc: Global, design: &Design, b: RankedBit) -> Result<String, Stop> {
+    if b.sig.0 >= design.signals() {
+        return Err(Stop::NoCase);
+    }
+    let name = design.sig_at(b.sig).name.as_str();
+    let bit = b.bit;
+    Ok(format!(in alloc; " {name}.{bit}")?)
 }
 
 // Whether these bits stand in the order, each behind the one before it.

@@ -27,8 +27,8 @@ fn all_continue(bytes: &[u8]) -> bool
     bytes.iter().all(|b| continues_name(*b))
 }
 
-// Whether a text is a name.
-fn is_name(name: &[u8]) -> bool
+/// Whether a text is a name.
+pub fn is_name(name: &[u8]) -> bool
     ensures { result ≡ is_name name.now }
 {
     match name {

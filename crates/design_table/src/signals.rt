@@ -1,4 +1,4 @@
-// The signals of a design of the table.
+// The signals of a design of the table, and its domains.
 ghost use Rattle.std.specs.Prelude.{◌≡◌, IfOk};
 
 use crate::form::signal;
@@ -7,24 +7,25 @@ use crate::pool::Sheet;
 use crate::stop::Stop;
 use amh_bits::Int;
 use amh_host::{Items, NoMemory, Text};
-use design_ir::{ExprId, Port, Ports, Sig, SigId};
+use design_ir::{Domain, Domains, ExprId, Port, Ports, Sig, SigId};
 use shape_rules::Shape;
 use std::alloc::Global;
 
-/// Signals with their expressions so far. Each signal is a port of its name, and the clocked ones are marked.
+/// Signals with their expressions so far. Each signal is a port of its name. Its side is 0 where combinational statements
+/// drive it, and behind that come the domains in order.
 #[derive(Drop)]
 pub struct Signals {
     pub sheet: Sheet,
     pub ports: Ports,
-    pub clocked: Vec<bool>,
+    pub sides: Vec<usize>,
+    pub domains: Domains,
 }
 
 // Where a signal is driven.
 #[derive(Clone, Copy, PartialEq, Eq)]
 enum Driver {
-    Comb,
-    Sync,
     Input,
+    Side(usize),
 }
 
 impl Signals {
@@ -33,7 +34,8 @@ impl Signals {
         let mut signals = Signals {
             sheet: Sheet::new(alloc),
             ports: Items::new(alloc),
-            clocked: Vec::new(alloc),
+            sides: Vec::new(alloc),
+            domains: Items::new(alloc),
         };
         let bit = Shape {
             width: 1,
@@ -63,7 +65,11 @@ impl Signals {
             sig,
             is_input: driver == Driver::Input,
         })?;
-        self.clocked.push(driver == Driver::Sync)?;
+        let side = match driver {
+            Driver::Input => 0,
+            Driver::Side(side) => side,
+        };
+        self.sides.push(side)?;
         Ok(())
     }
 
@@ -75,12 +81,58 @@ impl Signals {
             _ => return Err(Stop::NoCase),
         };
         let driver = match driver {
-            "comb" => Driver::Comb,
-            "sync" => Driver::Sync,
+            "comb" => Driver::Side(0),
             "input" => Driver::Input,
-            _ => return Err(Stop::NoCase),
+            domain => Driver::Side(self.side(alloc, domain)?),
         };
         self.add(alloc, name, shape(width, sign)?, driver, integer(init)?)
+    }
+
+    /// The side of the domain of a name. Where no line defines `sync`, it is the domain of `clk` without a reset.
+    pub fn side(&mut self, alloc: Global, name: &str) -> Result<usize, Stop> {
+        let found = self.domains.as_slice().iter().position(|d| d.name.is(name));
+        if let Some(d) = found {
+            return Ok(d + 1);
+        }
+        if name != "sync" {
+            return Err(Stop::NoCase);
+        }
+        self.define(alloc, &["sync", "clk", "rising"])?;
+        Ok(self.domains.len())
+    }
+
+    /// The domain of a line behind the word `domain`.
+    pub fn define(&mut self, alloc: Global, words: &[&str]) -> Result<(), Stop> {
+        let [name, clock, edge, reset @ ..] = words else {
+            return Err(Stop::NoCase);
+        };
+        let (rst, async_reset) = self.reset(reset)?;
+        let domain = Domain {
+            name: copied(alloc, name)?,
+            clk: self.known(clock)?,
+            rst,
+            falling: is_falling(edge)?,
+            async_reset,
+        };
+        Ok(self.domains.push(domain)?)
+    }
+
+    // The reset of a domain, and whether it is asynchronous.
+    fn reset(&self, words: &[&str]) -> Result<(Option<SigId>, bool), Stop> {
+        match words {
+            [] => Ok((None, false)),
+            ["sync", name] => Ok((Some(self.known(name)?), false)),
+            ["async", name] => Ok((Some(self.known(name)?), true)),
+            _ => Err(Stop::NoCase),
+        }
+    }
+
+    // The signal of a name that is there.
+    fn known(&self, name: &str) -> Result<SigId, Stop> {
+        match self.named(name) {
+            Some(s) => Ok(s),
+            None => Err(Stop::NoCase),
+        }
     }
 
     /// The signal of a name.
@@ -98,6 +150,15 @@ impl Signals {
             return Err(Stop::NoCase);
         };
         signal(&mut self.sheet, s)
+    }
+}
+
+// Whether this is the falling edge.
+fn is_falling(edge: &str) -> Result<bool, Stop> {
+    match edge {
+        "rising" => Ok(false),
+        "falling" => Ok(true),
+        _ => Err(Stop::NoCase),
     }
 }
 

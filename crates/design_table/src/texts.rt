@@ -1,10 +1,8 @@
 // The RTLIL texts of the designs that are accepted.
-ghost use Rattle.std.specs.Prelude.{◌≡◌, []};
-ghost use Rattle.design_ir.specs.Rising.{AllRisingSync};
 ghost use Rattle.comb_graph.specs.Rankings.{IsRanking};
 
 use crate::answer::name_of;
-use crate::reader::read_design;
+use crate::reader::read_case;
 use crate::stop::Stop;
 use amh_host::{HostStop, MemoryHost};
 use comb_graph::{GraphStop, Ranks, rank};
@@ -25,7 +23,7 @@ pub fn text(alloc: Global, lines: &[String]) -> Result<String, Stop> {
 }
 
 fn design_text(alloc: Global, lines: &[String]) -> Result<String, Stop> {
-    let design = read_design(alloc, lines)?;
+    let design = read_case(alloc, lines)?.design;
     match rank(alloc, &design) {
         Ok(ranks) => lowered(alloc, &design, &ranks),
         Err(GraphStop::Loop { .. }) => Err(Stop::NoCase),
@@ -35,9 +33,7 @@ fn design_text(alloc: Global, lines: &[String]) -> Result<String, Stop> {
 
 // The RTLIL text of a design.
 fn lowered(alloc: Global, design: &Design, ranks: &Ranks) -> Result<String, Stop>
-    requires flat { design.now.memories ≡ [] }
-    requires rising { AllRisingSync design.now }
-    requires ranked { IsRanking design.now ranks.now }
+    requires { IsRanking design.now ranks.now }
 {
     let module = lower(alloc, design, ranks)?;
     let mut host = MemoryHost::new(alloc);

@@ -7,5 +7,5 @@ pub new-requires : goal.new-requires
 new-requires c =
     let s = c.args.signals in
     let columns = c.in_ok-columns.ensures ∙ ap (map column_of) c.as_slice.ensures in
-    rw (c.in_ok-processes.ensures, c.in_ok-domains.ensures, columns, c.new-memories.ensures)
-    (design_sound s.sheet.pool s.ports s.clocked.items c.args.comb c.args.sync s.sheet.clear c.requires.signals c.requires.comb c.requires.sync)
+    rw columns
+    (design_sound s.sheet.pool s.ports s.sides.items s.domains c.args.processes c.args.memories s.sheet.clear c.requires.signals c.requires.domains c.requires.there c.requires.sides c.requires.few c.requires.memories)
