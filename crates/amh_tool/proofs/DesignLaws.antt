@@ -1,12 +1,12 @@
 -- From what the parts of a design file gave to what the file stands for.
-use Rattle.std.specs.Prelude.{◌≡◌, refl, ℕ, ◌+◌, ◌≤◌, ◌<◌, ◌⊎◌, ◌==◌, false, List, length, take, count_by, Option, None, Some, MatchOption, Result, Ok, Err, IsUtf8}
+use Rattle.std.specs.Prelude.{◌≡◌, refl, ℕ, ◌+◌, ◌≤◌, ◌<◌, ◌⊎◌, ◌==◌, false, List, length, take, count_by, Option, None, Some, Result, Ok, Err, IsUtf8}
 use Rattle.std.specs.Str.{chars, IsValidUpTo}
 use Rattle.std.specs.Str.Lossy.{utf8_valid_len}
 use Rattle.std.proofs.Common.{sym, subst, arith, inl, inr}
 use Rattle.std.proofs.lemmas.Bool.{le-ltb, lt-ltb, eq-eqb, eqb-true, false_from_ne_true}
 use Rattle.std.proofs.lemmas.Str.{utf8_valid_len-IsUtf8, utf8_valid_len-IsValidUpTo}
 use Rattle.amh_host.specs.declared.place.Place.{Place}
-use Rattle.amh_host.specs.declared.place.Kind.TheVariants.{Text, Subset, Raised, Loop as a_loop, Limit}
+use Rattle.amh_host.specs.declared.place.Kind.TheVariants.{Text, Subset, Loop as a_loop, Limit}
 use Rattle.py_lexer.specs.declared.line.Line.{Line}
 use Rattle.py_lexer.specs.Lines.{logical_lines}
 use Rattle.py_tree.specs.Steps.{Steps}
@@ -17,14 +17,13 @@ use Rattle.design_ir.specs.Circuits.{Circuit}
 use Rattle.comb_graph.specs.Orders.{IsOrder}
 use Rattle.comb_graph.specs.Laws.{OrderedHaveNoLoop}
 use Rattle.comb_graph.specs.Refusals.{IsTold}
-use Rattle.netlist.specs.Beyond.{first_beyond}
 use Rattle.elab_eval.specs.declared.refusal.ElabStop.{ElabStop}
 use Rattle.elab_eval.specs.declared.refusal.ElabStop.TheVariants as elab
 use Rattle.elab_eval.specs.Elaborates.{Found as Elab_found, Comes, IsElaborated as Comes_to}
 use Rattle.amh_tool.specs.declared.refusal.DesignStop.{DesignStop}
 use Rattle.amh_tool.specs.declared.refusal.DesignStop.TheVariants.{Refused, Spent, NoMemory}
-use Rattle.amh_tool.specs.Designs.{Designed, gives, refuses, spends, refusal, line_start, budget, ComesTo, IsCut, IsDesigned, IsElaborated, IsUnparsed, IsLowered, IsRanked}
-use Rattle.amh_tool.specs.DesignGives.{Found, DesignGives, CutGives, LinesGive, ProgramGives, LoweringGives, RankGives, stop_seen}
+use Rattle.amh_tool.specs.Designs.{Designed, gives, refuses, spends, refusal, line_start, budget, ComesTo, IsCut, IsDesigned, IsElaborated, IsUnparsed, IsRanked}
+use Rattle.amh_tool.specs.DesignGives.{Found, DesignGives, CutGives, LinesGive, ProgramGives, RankGives, stop_seen}
 use Rattle.amh_tool.specs.declared.design_text.Ranked.{Ranked}
 
 found_weaker : (P Q : Designed → Type 0) (given : Result Ranked DesignStop) → ((x : Designed) → P x → Q x) → Found P given → Found Q given
@@ -78,27 +77,16 @@ pub LinesGive-program : (text : List ℕ) (lines : List Line) (body : Steps) (gi
 LinesGive-program text lines body given program h =
     found_weaker (ComesTo body) (λ found. IsElaborated text lines found ⊎ IsUnparsed text lines found) given (LinesGive-parsed text lines body program) h
 
--- a program with a design, which is lowered
-pub ProgramGives-design : (body : Steps) (left : ℕ) (f : Elab_found) (given : Result Ranked DesignStop) → Comes body budget left (Ok f) → LoweringGives f.circuit given → ProgramGives body given
-ProgramGives-design body left f given h lowers =
-    found_weaker (IsLowered f.circuit) (ComesTo body) given (λ found lowered. record { came = Ok f; used = h.used; elaborates = h.outcome; checked = lowered }) lowers
+-- a program with a design, which is ranked
+pub ProgramGives-design : (body : Steps) (left : ℕ) (f : Elab_found) (given : Result Ranked DesignStop) → Comes body budget left (Ok f) → RankGives f.circuit given → ProgramGives body given
+ProgramGives-design body left f given h ranks =
+    found_weaker (IsRanked f.circuit) (ComesTo body) given (λ found ranked. record { came = Ok f; used = h.used; elaborates = h.outcome; checked = ranked }) ranks
 
 -- a program that is refused, or whose budget is spent
 pub ProgramGives-stop : (body : Steps) (left : ℕ) (stop : ElabStop) → Comes_to body budget left (Err stop) → ProgramGives body (Err (stop_seen stop))
 ProgramGives-stop body left (elab.Refused kind place) h = record { came = Err (elab.Refused kind place); used = h.used; elaborates = h.outcome; checked = refl }
 ProgramGives-stop body left (elab.Spent place) h = record { came = Err (elab.Spent place); used = h.used; elaborates = h.outcome; checked = refl }
 ProgramGives-stop body left elab.NoMemory h = tt
-
--- ---- what can be lowered
-
-pub LoweringGives-none : (c : Circuit) (given : Result Ranked DesignStop) → None ≡ first_beyond c → RankGives c given → LoweringGives c given
-LoweringGives-none c given none h =
-    found_weaker (IsRanked c) (IsLowered c) given
-    (λ found ranked. subst (λ (o : Option Place). MatchOption o (IsRanked c found) (λ place. found ≡ refuses (refusal Raised place))) none ranked) h
-
-pub IsLowered-beyond : (c : Circuit) (place : Place) → Some place ≡ first_beyond c → IsLowered c (refuses (refusal Raised place))
-IsLowered-beyond c place some =
-    subst (λ (o : Option Place). MatchOption o (IsRanked c (refuses (refusal Raised place))) (λ p. refuses (refusal Raised place) ≡ refuses (refusal Raised p))) some refl
 
 -- ---- the order of bits
 

@@ -1,11 +1,11 @@
 -- The bytes of a design file stand for one design, for one refusal, or for one spent budget.
-use Rattle.std.specs.Prelude.{◌≡◌, refl, ℕ, ◌==◌, nat_lt, Bool, true, false, List, length, Option, None, Some, MatchOption, Result, Ok, Err}
+use Rattle.std.specs.Prelude.{◌≡◌, refl, ℕ, ◌==◌, nat_lt, Bool, true, false, List, length, Option, None, Some, Result, Ok, Err}
 use Rattle.std.specs.Bool.{MatchBool}
 use Rattle.std.specs.Str.{chars}
 use Rattle.std.specs.Str.Lossy.{utf8_valid_len}
 use Rattle.std.proofs.Common.{sym, ◌∙◌, ap, subst, arith, inl, inr}
 use Rattle.amh_host.specs.declared.place.Place.{Place}
-use Rattle.amh_host.specs.declared.place.Kind.TheVariants.{Text, Subset, Raised, Limit}
+use Rattle.amh_host.specs.declared.place.Kind.TheVariants.{Text, Subset, Limit}
 use Rattle.py_lexer.specs.declared.line.Line.{Line}
 use Rattle.py_lexer.specs.Lines.{logical_lines}
 use Rattle.py_tree.specs.Steps.{Steps}
@@ -14,11 +14,10 @@ use Rattle.py_parser.specs.Parsing.{file_lines, words_line, IsRefusedAt}
 use Rattle.design_ir.specs.Targets.{Bit}
 use Rattle.design_ir.specs.Circuits.{Circuit}
 use Rattle.comb_graph.specs.Refusals.{IsUpTo, IsLeastLoop, loop_place}
-use Rattle.netlist.specs.Beyond.{first_beyond}
 use Rattle.elab_eval.specs.declared.refusal.ElabStop.{ElabStop}
 use Rattle.elab_eval.specs.declared.refusal.ElabStop.TheVariants as elab
 use Rattle.elab_eval.specs.Elaborates.{Found, OneOutcome as One_elaboration}
-use Rattle.amh_tool.specs.Designs.{Designed, gives, refuses, spends, refusal, line_start, budget, bad_line, IsLoopTold, IsRanked, IsLowered, IsChecked, ComesTo, IsElaborated, IsUnparsed, IsCut, IsText, IsDesigned}
+use Rattle.amh_tool.specs.Designs.{Designed, gives, refuses, spends, refusal, line_start, budget, bad_line, IsLoopTold, IsRanked, IsChecked, ComesTo, IsElaborated, IsUnparsed, IsCut, IsText, IsDesigned}
 use Rattle.amh_tool.proofs.LinePlaces.{place_by_words}
 use Rattle.amh_tool.proofs.RefusedLines.{refused_once, program_stands}
 
@@ -60,15 +59,8 @@ ranked_once c (spends p) y h k = absurd h
 
 -- ---- programs
 
-lowered_at : (c : Circuit) (o : Option Place) → Once (λ found. MatchOption o (IsRanked c found) (λ place. found ≡ refuses (refusal Raised place)))
-lowered_at c None = ranked_once c
-lowered_at c (Some place) = once_equal (refuses (refusal Raised place))
-
-lowered_once : (c : Circuit) → Once (IsLowered c)
-lowered_once c = lowered_at c (first_beyond c)
-
 checked_once : (x : Result Found ElabStop) → Once (IsChecked x)
-checked_once (Ok f) = lowered_once f.circuit
+checked_once (Ok f) = ranked_once f.circuit
 checked_once (Err (elab.Refused kind place)) = once_equal (refuses (refusal kind place))
 checked_once (Err (elab.Spent place)) = once_equal (spends place)
 checked_once (Err elab.NoMemory) = λ x y h k. absurd h

@@ -9,7 +9,7 @@ use Rattle.elab_eval.specs.declared.refusal.ElabStop.{ElabStop}
 use Rattle.elab_eval.specs.declared.refusal.ElabStop.TheVariants as elab
 use Rattle.amh_tool.specs.declared.refusal.DesignStop.{DesignStop}
 use Rattle.amh_tool.specs.declared.refusal.DesignStop.TheVariants.{Refused, Spent, NoMemory}
-use Rattle.amh_tool.specs.Designs.{Designed, refusal, gives, refuses, spends, IsDesigned, IsCut, IsElaborated, IsUnparsed, ComesTo, IsLowered, IsRanked}
+use Rattle.amh_tool.specs.Designs.{Designed, refusal, gives, refuses, spends, IsDesigned, IsCut, IsElaborated, IsUnparsed, ComesTo, IsRanked}
 use Rattle.amh_tool.specs.declared.design_text.Ranked.{Ranked}
 
 -- a design, a refusal or a spent budget is what is found; want of memory may come at any point
@@ -30,9 +30,6 @@ LinesGive text lines given = Found (λ found. IsElaborated text lines found ⊎ 
 
 abbrev pub ProgramGives : Steps → Result Ranked DesignStop → Type 0
 ProgramGives body given = Found (ComesTo body) given
-
-abbrev pub LoweringGives : Circuit → Result Ranked DesignStop → Type 0
-LoweringGives c given = Found (IsLowered c) given
 
 abbrev pub RankGives : Circuit → Result Ranked DesignStop → Type 0
 RankGives c given = Found (IsRanked c) given

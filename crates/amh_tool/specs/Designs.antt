@@ -1,12 +1,12 @@
 -- What the bytes of a design file stand for: a design, or why there is none.
 -- Source: this project's own rule (docs/RULES.md).
-use Rattle.std.specs.Prelude.{◌≡◌, ◌+◌, ◌==◌, ◌⊎◌, nat_lt, ℕ, List, length, take, count_by, MatchOption, Result, Ok, Err}
+use Rattle.std.specs.Prelude.{◌≡◌, ◌+◌, ◌==◌, ◌⊎◌, nat_lt, ℕ, List, length, take, count_by, Result, Ok, Err}
 use Rattle.std.specs.Bool.{MatchBool}
 use Rattle.std.specs.Str.{chars}
 use Rattle.std.specs.Str.Lossy.{utf8_valid_len}
 use Rattle.amh_host.specs.declared.place.Place.{Place}
 use Rattle.amh_host.specs.declared.place.Kind.{Kind}
-use Rattle.amh_host.specs.declared.place.Kind.TheVariants.{Text, Subset, Raised, Loop as a_loop, Limit}
+use Rattle.amh_host.specs.declared.place.Kind.TheVariants.{Text, Subset, Loop as a_loop, Limit}
 use Rattle.py_lexer.specs.declared.line.Line.{Line}
 use Rattle.py_lexer.specs.Lines.{logical_lines}
 use Rattle.py_tree.specs.Steps.{Steps}
@@ -16,7 +16,6 @@ use Rattle.design_ir.specs.Targets.{Bit}
 use Rattle.design_ir.specs.Loops.{Loop}
 use Rattle.design_ir.specs.Circuits.{Circuit}
 use Rattle.comb_graph.specs.Refusals.{IsTold}
-use Rattle.netlist.specs.Beyond.{first_beyond}
 use Rattle.elab_eval.specs.declared.refusal.ElabStop.{ElabStop}
 use Rattle.elab_eval.specs.declared.refusal.ElabStop.TheVariants as elab
 use Rattle.elab_eval.specs.Elaborates.{Found, Elaborates}
@@ -52,13 +51,6 @@ IsRanked c (gives d) = IsLoopless c d
 IsRanked c (refuses r) = IsLoopTold c r
 IsRanked c (spends place) = ⊥
 
--- ---- what cannot be lowered yet
-
--- A memory cannot be lowered yet. What is still to come is refused as `raised`, as a name is that elaboration does not serve yet; a
--- memory has no place of its own. (This project's own rule.)
-abbrev pub IsLowered : Circuit → Designed → Type 0
-IsLowered c found = MatchOption (first_beyond c) (IsRanked c found) (λ place. found ≡ refuses (refusal Raised place))
-
 -- ---- the program
 
 -- how many units of cost a program has
@@ -67,7 +59,7 @@ budget = 10_000_000
 
 -- what elaboration comes to leads to this; want of memory is no answer of a file
 abbrev pub IsChecked : Result Found ElabStop → Designed → Type 0
-IsChecked (Ok f) found = IsLowered f.circuit found
+IsChecked (Ok f) found = IsRanked f.circuit found
 IsChecked (Err (elab.Refused kind place)) found = found ≡ refuses (refusal kind place)
 IsChecked (Err (elab.Spent place)) found = found ≡ spends place
 IsChecked (Err elab.NoMemory) found = ⊥

@@ -1,8 +1,7 @@
 -- The outcome that the program found.
 -- Internal: no rule of the language.
-use Rattle.std.specs.Prelude.{◌≡◌, []}
+use Rattle.std.specs.Prelude.{◌≡◌}
 use Rattle.design_ir.specs.Legal.{AllLegal}
-use Rattle.design_ir.specs.Rising.{AllRisingSync}
 use Rattle.comb_graph.specs.Rankings.{IsRanking}
 use Rattle.amh_tool.specs.Boards.{board_of}
 use Rattle.amh_tool.specs.Trace.{timed, Done}
@@ -12,11 +11,9 @@ use Rattle.amh_tool.specs.declared.accept.Accepted.{Accepted}
 use Rattle.amh_tool.specs.declared.accept.Verdict.{Verdict}
 use Rattle.amh_tool.specs.declared.accept.Verdict.TheVariants as verdict
 
--- the ranks are the design's, and the design can be lowered and simulated
+-- the ranks are the design's
 pub record IsReady (r : Ranked) : Type 0 where
   pub ranking : IsRanking r.design r.ranks
-  pub flat : r.design.memories ≡ []
-  pub rising : AllRisingSync r.design
 
 abbrev pub accepted_seen : Accepted → Outcome
 accepted_seen a = Accepts a.ranked.design (timed 1 a.events) Done

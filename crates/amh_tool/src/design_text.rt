@@ -1,11 +1,10 @@
 // From the bytes of a design file to its design, with the order of its bits.
-ghost use Rattle.std.specs.Prelude.{◌≡◌, ◌≤◌, ◌+◌, ◌==◌, [], length, count_by, IfOk};
+ghost use Rattle.std.specs.Prelude.{◌≡◌, ◌≤◌, ◌+◌, ◌==◌, length, count_by, IfOk};
 ghost use Rattle.std.specs.Str.{chars};
 ghost use Rattle.py_lexer.specs.Lines.{logical_lines};
 ghost use Rattle.py_tree.specs.Programs.{program_of};
-ghost use Rattle.design_ir.specs.Rising.{AllRisingSync};
 ghost use Rattle.amh_tool.specs.Designs.{line_start, refusal, budget};
-ghost use Rattle.amh_tool.specs.DesignGives.{DesignGives, CutGives, LinesGive, ProgramGives, LoweringGives, RankGives, stop_seen};
+ghost use Rattle.amh_tool.specs.DesignGives.{DesignGives, CutGives, LinesGive, ProgramGives, RankGives, stop_seen};
 ghost use Rattle.amh_tool.specs.Verdicts.{IsReady};
 
 use crate::refusal::{DesignStop, Refusal};
@@ -13,7 +12,6 @@ use amh_host::{Budget, Kind, Place, Steps};
 use comb_graph::{GraphStop, Ranks, ordered_have_no_loop, rank};
 use design_ir::Design;
 use elab_eval::{ElabStop, elaborate};
-use netlist::first_beyond;
 use py_lexer::{LexStop, Lines, cut_lines};
 use py_parser::{ParseStop, parse};
 use py_tree::Program;
@@ -34,8 +32,8 @@ pub struct Ranked {
 /// Reads a design file.
 ///
 /// Refused are bytes that are no UTF-8, as `Text` at the line of the first of them, then what has no logical lines and
-/// the first line that the grammar does not allow, as `Subset`, then what elaboration refuses, then what cannot be lowered
-/// yet, as `Raised`, and then a bit that needs itself, as `Loop`.
+/// the first line that the grammar does not allow, as `Subset`, then what elaboration refuses, and then a bit that needs
+/// itself, as `Loop`.
 pub fn read_design<L: Ledger>(
     alloc: Global,
     bytes: &[u8],
@@ -128,7 +126,7 @@ fn read_program<L: Ledger>(
 {
     let mut left = Budget { left: BUDGET };
     match elaborate(alloc, program, &mut left, steps) {
-        Ok(elaborated) => read_circuit(alloc, elaborated.design),
+        Ok(elaborated) => rank_design(alloc, elaborated.design),
         Err(stop) => Err(design_stop(stop)),
     }
 }
@@ -144,22 +142,8 @@ fn design_stop(stop: ElabStop) -> DesignStop
     }
 }
 
-// The design, where it can be lowered and none of its bits needs itself.
-fn read_circuit(alloc: Global, design: Design) -> Result<Ranked, DesignStop>
-    requires { AllRisingSync design }
-    ensures given { LoweringGives design result }
-    ensures ready { IfOk result IsReady }
-{
-    match first_beyond(&design) {
-        Some(place) => Err(refused(Kind::Raised, place)),
-        None => rank_design(alloc, design),
-    }
-}
-
 // The design with the order of its bits, where none needs itself.
 fn rank_design(alloc: Global, design: Design) -> Result<Ranked, DesignStop>
-    requires flat { design.memories ≡ [] }
-    requires rising { AllRisingSync design }
     ensures given { RankGives design result }
     ensures ready { IfOk result IsReady }
 {

@@ -16,7 +16,8 @@ ghost use Rattle.amh_tool.specs.Verdicts.{IsFitting};
 
 use crate::accept::Accepted;
 use crate::board::Shown;
-use crate::trace_lines::{column_line, done_line, first_line, head_line, row_line};
+use crate::trace_lines::{column_line, done_line, head_line, push_first, push_row};
+use amh_bits::Int;
 use amh_host::{Host, HostStop, NoMemory, Steps};
 use comb_graph::ordered_have_one_history;
 use delta_sim::Sim;
@@ -37,12 +38,31 @@ pub fn write_trace<H: Host>(
     ensures cause { HasCause (H.faults host.old) (H.faults host.new) result }
 {
     has_one_history(accepted);
-    let sim = Sim::start(alloc, &accepted.ranked.design, &accepted.ranked.ranks)?;
-    let first = first_line(alloc, &accepted.board, sim.values())?;
+    let mut sim = Sim::start(alloc, &accepted.ranked.design, &accepted.ranked.ranks)?;
+    write_lines(alloc, host, name, accepted, &mut sim)
+}
+
+// The lines of the trace, from the design before any event on. The simulator is lent, so that no end of this has to give
+// back what it has.
+fn write_lines<H: Host>(
+    alloc: Global,
+    host: &mut H,
+    name: &str,
+    accepted: &Accepted,
+    sim: &mut Sim,
+) -> Result<(), HostStop>
+    requires fitting { IsFitting accepted.now }
+    requires first { Stands accepted.now.ranked.design [] sim.old }
+    ensures text { (text : List ℕ) × IsTrace text accepted.now.ranked.design (timed 1 accepted.now.events) Done × Writes name.now text result (H.seen host.old) (H.seen host.new) }
+    ensures cause { HasCause (H.faults host.old) (H.faults host.new) result }
+{
+    has_one_history(accepted);
+    let mut first = Vec::new(alloc);
+    push_first(&mut first, &accepted.board, sim.values())?;
     host.start(name)?;
     host.put(name, head_line())?;
     put_columns(alloc, host, name, accepted.board.columns.as_slice())?;
-    host.put(name, first.as_bytes())?;
+    host.put(name, first.as_slice())?;
     put_rows(alloc, host, name, accepted, sim)?;
     host.put(name, done_line())
 }
@@ -73,43 +93,46 @@ fn put_columns<H: Host>(
     Ok(())
 }
 
-// A row for each event, from the design before any of them on.
+// A row for each event, from the design before any of them on. The room of a line, and of the numbers before an event,
+// serves for all of them.
 fn put_rows<H: Host>(
     alloc: Global,
     host: &mut H,
     name: &str,
     accepted: &Accepted,
-    sim: Sim,
+    sim: &mut Sim,
 ) -> Result<(), HostStop>
     requires fitting { IsFitting accepted.now }
-    requires first { Stands accepted.now.ranked.design [] sim }
-    ensures done { (envs : List (List ℤ)) → History accepted.now.ranked.design accepted.now.events (sim.env ∷ envs)
-        → Adds (written name.now) (row_lines accepted.now.board (timed 1 accepted.now.events) sim.env envs) result (H.seen host.old) (H.seen host.new) }
+    requires first { Stands accepted.now.ranked.design [] sim.old }
+    ensures done { (envs : List (List ℤ)) → History accepted.now.ranked.design accepted.now.events (sim.old.env ∷ envs)
+        → Adds (written name.now) (row_lines accepted.now.board (timed 1 accepted.now.events) sim.old.env envs) result (H.seen host.old) (H.seen host.new) }
     ensures cause { HasCause (H.faults host.old) (H.faults host.new) result }
 {
     has_one_history(accepted);
-    let mut sim = sim;
+    let mut before = Vec::new(alloc);
+    let mut line = Vec::new(alloc);
     let mut time = 0;
     for event in accepted.events.as_slice() {
         time += 1;
-        let before = Vec::from_slice(alloc, sim.values())?;
-        apply(&mut sim, &accepted.ranked.design, event)?;
-        let line = row_line(
-            alloc,
+        before.clear();
+        before.extend_from_slice(sim.values())?;
+        apply(sim, &accepted.ranked.design, event)?;
+        line.clear();
+        push_row(
+            &mut line,
             &accepted.board,
             time,
             event,
             before.as_slice(),
             sim.values(),
         )?;
-        host.put(name, line.as_bytes())?;
+        host.put(name, line.as_slice())?;
     }
     Ok(())
 }
 
-// What an event does, with a counter of steps of its own: nothing is said yet of how many a simulator takes.
+// What an event does, with a counter of steps of its own, which nobody reads here.
 fn apply(sim: &mut Sim, design: &Design, event: &Event) -> Result<(), NoMemory>
-    requires flat { design.now.memories ≡ [] }
     requires legal { IsLegal design.now event.now }
     requires of_design { IsSimOf design.now sim.old }
     ensures of_design { IsSimOf design.now sim.new }
@@ -126,7 +149,6 @@ fn counted_apply<L: Ledger>(
     blank: Blank,
 ) -> Result<(), NoMemory>
     requires blank { (blank.name ≡ L.name) × (blank.parts ≡ L.parts) × (0 < L.parts) }
-    requires flat { design.now.memories ≡ [] }
     requires legal { IsLegal design.now event.now }
     requires of_design { IsSimOf design.now sim.old }
     ensures of_design { IsSimOf design.now sim.new }

@@ -1,5 +1,6 @@
 // The text of an event.
-ghost use Rattle.std.specs.Prelude.{◌≡◌, ◌++◌, IfOk, OnOk, codes, if◌then◌else◌, slice_get, string_bytes};
+ghost use Rattle.std.specs.Prelude.{◌≡◌, ◌++◌, OnOk, Some, codes, if◌then◌else◌, slice_get};
+ghost use Rattle.amh_bits.specs.Decimals.{int_text};
 ghost use Rattle.std.specs.List.{flat_map};
 ghost use Rattle.shape_rules.specs.Operators.{is_zero};
 ghost use Rattle.design_ir.specs.declared.ids.DomainId.{DomainId};
@@ -9,29 +10,43 @@ ghost use Rattle.amh_tool.specs.Trace.{event_text, edge_field, name_of};
 use crate::board::{Board, Shown};
 use amh_bits::Int;
 use design_ir::{Domain, DomainId, Event, SigId};
-use std::alloc::{AllocError, Global};
-use std::fmt::Write;
+use itoa::Buffer;
+use std::alloc::AllocError;
 
-/// What happened, where the signals had these numbers before.
+/// Adds what happened, where the signals had these numbers before.
 #[tactic(auto, unfolding(crate::specs::Trace::event_text))]
-pub fn event_text(
-    alloc: Global,
+pub fn push_event(
+    text: &mut Vec<u8>,
     board: &Board,
     before: &[Int],
     event: &Event,
-) -> Result<String, AllocError>
-    ensures { IfOk result (λ text. string_bytes text ≡ event_text board.now before.now event.now) }
+) -> Result<(), AllocError>
+    ensures { OnOk result (text.new.items ≡ text.old.items ++ event_text board.now before.now event.now) }
 {
     match event {
         Event::Set { sig, value } => {
-            let name = name_of(board.columns.as_slice(), *sig);
-            format!(in alloc; "set {name} {value}")
+            text.extend_from_slice(b"set ")?;
+            text.extend_from_slice(name_of(board.columns.as_slice(), *sig).as_bytes())?;
+            text.push(b' ')?;
+            push_number(text, *value)
         }
         Event::Edge(clocks) => {
-            let edges = edge_fields(alloc, board.domains.as_slice(), before, clocks.as_slice())?;
-            format!(in alloc; "edge{edges}")
+            text.extend_from_slice(b"edge")?;
+            push_edges(text, board.domains.as_slice(), before, clocks.as_slice())
         }
     }
+}
+
+/// Adds the numeral of a number.
+#[tactic(auto, unfolding(amh_bits::specs::Decimals::int_text))]
+pub fn push_number(text: &mut Vec<u8>, n: Int) -> Result<(), AllocError>
+    ensures { OnOk result (text.new.items ≡ text.old.items ++ int_text n) }
+{
+    if n.negative {
+        text.push(b'-')?;
+    }
+    let mut digits = Buffer::new();
+    text.extend_from_slice(digits.format(n.size).as_bytes())
 }
 
 /// The number of a signal in an environment, and 0 where it has none.
@@ -56,42 +71,48 @@ fn name_of(columns: &[Shown], sig: SigId) -> &str
     ""
 }
 
-// The clocks of these domains, each with its edge.
-fn edge_fields(
-    alloc: Global,
+// Adds the clocks of these domains, each with its edge.
+fn push_edges(
+    text: &mut Vec<u8>,
     domains: &[Domain],
     before: &[Int],
     clocks: &[DomainId],
-) -> Result<String, AllocError>
-    ensures { IfOk result (λ text. string_bytes text ≡ flat_map (λ (d : DomainId). edge_field before.now (slice_get domains.now d.0)) clocks.now) }
+) -> Result<(), AllocError>
+    ensures { OnOk result (text.new.items ≡ text.old.items ++ flat_map (λ (d : DomainId). edge_field before.now (slice_get domains.now d.0)) clocks.now) }
 {
-    let mut text = String::new(alloc);
     for d in clocks {
-        push_edge(&mut text, domains, before, *d)?;
+        push_edge(text, domains, before, *d)?;
     }
-    Ok(text)
+    Ok(())
 }
 
 fn push_edge(
-    text: &mut String,
+    text: &mut Vec<u8>,
     domains: &[Domain],
     before: &[Int],
     d: DomainId,
 ) -> Result<(), AllocError>
-    ensures { OnOk result (string_bytes text.new ≡ string_bytes text.old ++ edge_field before.now (slice_get domains.now d.0)) }
+    ensures { OnOk result (text.new.items ≡ text.old.items ++ edge_field before.now (slice_get domains.now d.0)) }
 {
-    let Some(domain) = domains.get(d.0 as usize) else {
-        return Ok(());
-    };
-    let name = domain.name.as_str();
-    let sign = edge_sign(number_of(before, domain.clk));
-    write!(text, " {name}{sign}")?;
+    match domains.get(d.0 as usize) {
+        Some(domain) => push_clock(text, domain, before),
+        None => Ok(()),
+    }
+}
+
+// Adds the clock of a domain with its edge.
+fn push_clock(text: &mut Vec<u8>, domain: &Domain, before: &[Int]) -> Result<(), AllocError>
+    ensures { OnOk result (text.new.items ≡ text.old.items ++ edge_field before.now (Some domain.now)) }
+{
+    text.push(b' ')?;
+    text.extend_from_slice(domain.name.as_str().as_bytes())?;
+    text.extend_from_slice(edge_sign(number_of(before, domain.clk)))?;
     Ok(())
 }
 
 // A clock at 0 rises, and each other one falls.
-fn edge_sign(clock: Int) -> &'static str
+fn edge_sign(clock: Int) -> &'static [u8]
     ensures { result.now ≡ (if is_zero clock then codes "+" else codes "-") }
 {
-    if clock.size == 0 { "+" } else { "-" }
+    if clock.size == 0 { b"+" } else { b"-" }
 }

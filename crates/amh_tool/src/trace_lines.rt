@@ -1,15 +1,17 @@
 // The lines of a trace.
 ghost use Rattle.std.specs.Prelude.{◌≡◌, ◌++◌, IfOk, OnOk, string_bytes};
 ghost use Rattle.std.specs.List.{flat_map};
+ghost use Rattle.amh_bits.specs.Decimals.{int_text};
+ghost use Rattle.design_ir.specs.Circuits.{at};
 ghost use Rattle.amh_tool.specs.Trace.{head_line, done_line, column_line, shape_text, first_line, row_line, all_fields, changed_field, changed_fields, field};
 
 use crate::board::{Board, Shown};
-use crate::trace_events::{event_text, number_of};
+use crate::trace_events::{number_of, push_event, push_number};
 use amh_bits::Int;
 use design_ir::Event;
+use itoa::Buffer;
 use shape_rules::Shape;
 use std::alloc::{AllocError, Global};
-use std::fmt::Write;
 
 /// The first line of every trace.
 #[tactic(auto, unfolding(crate::specs::Trace::head_line))]
@@ -46,59 +48,64 @@ fn shape_text(alloc: Global, shape: Shape) -> Result<String, AllocError>
     format!(in alloc; "{sign}{width}")
 }
 
-/// The line of the numbers before any event: those of all columns.
+/// Adds the line of the numbers before any event: those of all columns.
 #[tactic(auto, unfolding(crate::specs::Trace::first_line))]
-pub fn first_line(alloc: Global, board: &Board, first: &[Int]) -> Result<String, AllocError>
-    ensures { IfOk result (λ line. string_bytes line ≡ first_line board.now first.now) }
+pub fn push_first(text: &mut Vec<u8>, board: &Board, first: &[Int]) -> Result<(), AllocError>
+    ensures { OnOk result (text.new.items ≡ text.old.items ++ first_line board.now first.now) }
 {
-    let fields = all_fields(alloc, board.columns.as_slice(), first)?;
-    format!(in alloc; "0 init |{fields}\n")
+    text.extend_from_slice(b"0 init |")?;
+    push_fields(text, board.columns.as_slice(), first)?;
+    text.push(b'\n')?;
+    Ok(())
 }
 
-/// The line of an event: its time, what happened, and the columns whose numbers it changed.
+/// Adds the line of an event: its time, what happened, and the columns whose numbers it changed.
 #[tactic(auto, unfolding(crate::specs::Trace::row_line))]
-pub fn row_line(
-    alloc: Global,
+pub fn push_row(
+    text: &mut Vec<u8>,
     board: &Board,
     time: u64,
     event: &Event,
     before: &[Int],
     now: &[Int],
-) -> Result<String, AllocError>
-    ensures { IfOk result (λ line. string_bytes line ≡ row_line board.now (record { time = time; event = event.now }) before.now now.now) }
+) -> Result<(), AllocError>
+    ensures { OnOk result (text.new.items ≡ text.old.items ++ row_line board.now (record { time = time; event = event.now }) before.now now.now) }
 {
-    let event = event_text(alloc, board, before, event)?;
-    let fields = changed_fields(alloc, board.columns.as_slice(), before, now)?;
-    format!(in alloc; "{time} {event} |{fields}\n")
+    let mut digits = Buffer::new();
+    text.extend_from_slice(digits.format(time).as_bytes())?;
+    text.push(b' ')?;
+    push_event(text, board, before, event)?;
+    text.extend_from_slice(b" |")?;
+    push_changes(text, board.columns.as_slice(), before, now)?;
+    text.push(b'\n')?;
+    Ok(())
 }
 
-fn all_fields(alloc: Global, columns: &[Shown], env: &[Int]) -> Result<String, AllocError>
-    ensures { IfOk result (λ text. string_bytes text ≡ all_fields columns.now env.now) }
+fn push_fields(text: &mut Vec<u8>, columns: &[Shown], env: &[Int]) -> Result<(), AllocError>
+    ensures { OnOk result (text.new.items ≡ text.old.items ++ all_fields columns.now env.now) }
 {
-    let mut text = String::new(alloc);
     for x in columns {
-        push_field(&mut text, x.name.as_str(), number_of(env, x.sig))?;
+        push_field(text, x.name.as_str(), number_of(env, x.sig))?;
     }
-    Ok(text)
+    Ok(())
 }
 
-fn changed_fields(
-    alloc: Global,
+fn push_changes(
+    text: &mut Vec<u8>,
     columns: &[Shown],
     before: &[Int],
     now: &[Int],
-) -> Result<String, AllocError>
-    ensures { IfOk result (λ text. string_bytes text ≡ changed_fields columns.now before.now now.now) }
+) -> Result<(), AllocError>
+    ensures { OnOk result (text.new.items ≡ text.old.items ++ changed_fields columns.now before.now now.now) }
 {
-    let mut text = String::new(alloc);
     for x in columns {
-        push_change(&mut text, x, before, now)?;
+        push_change(text, x, before, now)?;
     }
-    Ok(text)
+    Ok(())
 }
 
-fn push_change(text: &mut String, x: &Shown, before: &[Int], now: &[Int]) -> Result<(), AllocError>
-    ensures { OnOk result (string_bytes text.new ≡ string_bytes text.old ++ changed_field before.now now.now x.now) }
+fn push_change(text: &mut Vec<u8>, x: &Shown, before: &[Int], now: &[Int]) -> Result<(), AllocError>
+    ensures { OnOk result (text.new.items ≡ text.old.items ++ changed_field before.now now.now x.now) }
 {
     let value = number_of(now, x.sig);
     if number_of(before, x.sig) == value {
@@ -108,9 +115,11 @@ fn push_change(text: &mut String, x: &Shown, before: &[Int], now: &[Int]) -> Res
 }
 
 #[tactic(auto, unfolding(crate::specs::Trace::field))]
-fn push_field(text: &mut String, name: &str, value: Int) -> Result<(), AllocError>
-    ensures { OnOk result (string_bytes text.new ≡ string_bytes text.old ++ field name.now value) }
+fn push_field(text: &mut Vec<u8>, name: &str, value: Int) -> Result<(), AllocError>
+    ensures { OnOk result (text.new.items ≡ text.old.items ++ field name.now value) }
 {
-    write!(text, " {name}={value}")?;
-    Ok(())
+    text.push(b' ')?;
+    text.extend_from_slice(name.as_bytes())?;
+    text.push(b'=')?;
+    push_number(text, value)
 }

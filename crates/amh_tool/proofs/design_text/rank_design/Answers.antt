@@ -7,4 +7,4 @@ pub returns-in-Ok-clause-given : goal.returns-in-Ok-clause-given
 returns-in-Ok-clause-given c = IsRanked-order c.args.design (map bit_of c.in-Ok.ranks.order) c.ordered_have_no_loop.ensures c.in-Ok.ensures.ranks.order
 
 pub returns-in-Ok-clause-ready : goal.returns-in-Ok-clause-ready
-returns-in-Ok-clause-ready c = record { ranking = c.in-Ok.ensures.ranks; flat = c.requires.flat; rising = c.requires.rising }
+returns-in-Ok-clause-ready c = record { ranking = c.in-Ok.ensures.ranks }

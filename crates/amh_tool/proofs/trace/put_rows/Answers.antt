@@ -1,4 +1,4 @@
-use Rattle.std.proofs.Common.{◌≡◌, ◌∙◌, ◌+◌, ◌++◌, ◌∷◌, [], ap, sym, subst, refl, List, ℕ, drop, string_bytes}
+use Rattle.std.proofs.Common.{◌≡◌, ◌∙◌, ◌+◌, ◌++◌, ◌∷◌, [], ap, sym, subst, refl, List, ℕ, drop}
 use Rattle.std.proofs.lemmas.List.{drop_all}
 use Rattle.std.proofs.lemmas.Result.{err_from_is_err_and}
 use Rattle.amh_host.specs.Seen.{written}
@@ -22,8 +22,8 @@ loop-event-init g c =
       so_far = [];
       seen = sym (written-nil c.args.name.now (g.H.Host.seen c.args.host.now));
       rest = λ envs history.
-          subst (λ es. GoesOn a.ranked.design a.board 0 es c.args.sim [] (row_lines a.board (timed 1 a.events) c.args.sim.env envs)) (sym events)
-          (goes_from_first a.ranked.design a.board a.events c.args.sim envs c.requires.first history);
+          subst (λ es. GoesOn a.ranked.design a.board 0 es c.args.sim.now [] (row_lines a.board (timed 1 a.events) c.args.sim.now.env envs)) (sym events)
+          (goes_from_first a.ranked.design a.board a.events c.args.sim.now envs c.requires.first history);
     }
 
 pub apply-requires-clause-legal : goal.apply-requires-clause-legal
@@ -37,8 +37,8 @@ apply-requires-clause-legal g c =
     let legal = subst (AllLegal d) (sym c.as_slice-event-items.ensures) c.requires.fitting.legal in
     (legal_next d v.gone (drop i items) (drop (i + 1) items) items e split v.whole legal).0
 
-pub returns-in_err-before-clause-done : goal.returns-in_err-before-clause-done
-returns-in_err-before-clause-done g c = λ envs history.
+pub returns-in_err-extend_from_slice-clause-done : goal.returns-in_err-extend_from_slice-clause-done
+returns-in_err-extend_from_slice-clause-done g c = λ envs history.
     let p = err_from_is_err_and c.from_residual.result c.from_residual.ensures.1 in
     let v = c.loop-event.invariant in
     let a = c.args.accepted.now in
@@ -51,9 +51,9 @@ returns-in_err-apply-clause-done g c = λ envs history.
     let a = c.args.accepted.now in
     rw p.1 (rows_front c.args.name.now v.so_far _ a.ranked.design a.board c.loop-event.time _ c.loop-event.sim (g.H.Host.seen c.args.host.now) (g.H.Host.seen c.loop-event.host) v.seen (v.rest envs history))
 
-pub returns-in_err-line-clause-done : goal.returns-in_err-line-clause-done
-returns-in_err-line-clause-done g c = λ envs history.
-    let p = err_from_is_err_and c.from_residual-in_err-line.result c.from_residual-in_err-line.ensures.1 in
+pub returns-in_err-push_row-clause-done : goal.returns-in_err-push_row-clause-done
+returns-in_err-push_row-clause-done g c = λ envs history.
+    let p = err_from_is_err_and c.from_residual-in_err-push_row.result c.from_residual-in_err-push_row.ensures.1 in
     let v = c.loop-event.invariant in
     let a = c.args.accepted.now in
     rw p.1 (rows_front c.args.name.now v.so_far _ a.ranked.design a.board c.loop-event.time _ c.loop-event.sim (g.H.Host.seen c.args.host.now) (g.H.Host.seen c.loop-event.host) v.seen (v.rest envs history))
@@ -73,13 +73,13 @@ returns-in_err-put-clause-done g c = λ envs history.
     let split = drop_at items i e c.loop-event-test.true c.event-item.is in
     let legal = legal_next d v.gone (drop i items) more items e split v.whole (subst (AllLegal d) (sym c.as_slice-event-items.ensures) c.requires.fitting.legal) in
     let stands = c.in_ok-apply.ensures.lives v.gone v.stands in
-    let line = string_bytes c.in_ok-line.line in
-    let before = c.as_slice.ensures.value ∙ c.in_ok-before.ensures.items ∙ c.values.ensures in
-    let made : line ≡ row_line a.board (record { time = c.loop-event.time + 1; event = e }) old.env new.env = c.in_ok-line.ensures ∙ (λ j. row_line a.board (record { time = c.loop-event.time + 1; event = e }) (before j) (c.values-in-loop-event.ensures j)) in
+    let line = c.push_row.new.text.items in
+    let before : c.as_slice.result.now ≡ old.env = c.as_slice.ensures.value ∙ c.in_ok-extend_from_slice.ensures.items ∙ (λ j. c.clear.ensures.items j ++ c.values.ensures j) in
+    let made : line ≡ row_line a.board (record { time = c.loop-event.time + 1; event = e }) old.env new.env = c.in_ok-push_row.ensures ∙ (λ j. c.clear-in-loop-event.ensures.items j ++ row_line a.board (record { time = c.loop-event.time + 1; event = e }) (before j) (c.values-in-loop-event.ensures j)) in
     let next = goes_on d a.board c.loop-event.time v.gone (drop i items) more e old new v.so_far line _ split (c.has_one_history.ensures (v.gone ++ e ∷ []) legal.1) v.stands stands made (v.rest envs history) in
     let s = g.H.Host.seen c.loop-event.host in
     let t = g.H.Host.seen c.put.new.self in
-    let added : AddsFront (written c.args.name.now) line s t = subst (λ (b : List ℕ). AddsFront (written c.args.name.now) b s t) c.as_bytes.ensures.value c.in_err-put.ensures.done in
+    let added : AddsFront (written c.args.name.now) line s t = subst (λ (b : List ℕ). AddsFront (written c.args.name.now) b s t) c.as_slice-in-loop-event.ensures.value c.in_err-put.ensures.done in
     rw p.1 (row_front c.args.name.now v.so_far line _ d a.board (c.loop-event.time + 1) more new (g.H.Host.seen c.args.host.now) s t v.seen added next)
 
 pub loop-event-preserved : goal.loop-event-preserved
@@ -96,9 +96,9 @@ loop-event-preserved g c =
     let split = drop_at items i e c.loop-event-test.true c.event-item.is in
     let legal = legal_next d v.gone (drop i items) more items e split v.whole (subst (AllLegal d) (sym c.as_slice-event-items.ensures) c.requires.fitting.legal) in
     let stands = c.in_ok-apply.ensures.lives v.gone v.stands in
-    let line = string_bytes c.in_ok-line.line in
-    let before = c.as_slice.ensures.value ∙ c.in_ok-before.ensures.items ∙ c.values.ensures in
-    let made : line ≡ row_line a.board (record { time = c.loop-event.time + 1; event = e }) old.env new.env = c.in_ok-line.ensures ∙ (λ j. row_line a.board (record { time = c.loop-event.time + 1; event = e }) (before j) (c.values-in-loop-event.ensures j)) in
+    let line = c.push_row.new.text.items in
+    let before : c.as_slice.result.now ≡ old.env = c.as_slice.ensures.value ∙ c.in_ok-extend_from_slice.ensures.items ∙ (λ j. c.clear.ensures.items j ++ c.values.ensures j) in
+    let made : line ≡ row_line a.board (record { time = c.loop-event.time + 1; event = e }) old.env new.env = c.in_ok-push_row.ensures ∙ (λ j. c.clear-in-loop-event.ensures.items j ++ row_line a.board (record { time = c.loop-event.time + 1; event = e }) (before j) (c.values-in-loop-event.ensures j)) in
     record {
       faults = c.in_ok-put.ensures.cause.ok ∙ v.faults;
       time = ap (λ (n : ℕ). n + 1) v.time;
@@ -106,7 +106,7 @@ loop-event-preserved g c =
       whole = gone_next v.gone (drop i items) more items e split v.whole;
       stands = stands;
       so_far = v.so_far ++ line;
-      seen = c.in_ok-put.ensures.done ∙ (λ j. written c.args.name.now (c.as_bytes.ensures.value j) (v.seen j)) ∙ written-written c.args.name.now v.so_far line (g.H.Host.seen c.args.host.now);
+      seen = c.in_ok-put.ensures.done ∙ (λ j. written c.args.name.now (c.as_slice-in-loop-event.ensures.value j) (v.seen j)) ∙ written-written c.args.name.now v.so_far line (g.H.Host.seen c.args.host.now);
       rest = λ envs history. goes_on d a.board c.loop-event.time v.gone (drop i items) more e old new v.so_far line _ split (c.has_one_history.ensures (v.gone ++ e ∷ []) legal.1) v.stands stands made (v.rest envs history);
     }
 
