@@ -156,15 +156,16 @@ def compare(folder, design, events, rows, rtlil):
     """How many numbers are the same, and what differs."""
     (folder / "t.il").write_text(rtlil)
     asked, wanted, clock = [], [], 0
+    driven = [name for name in design.registers if re.search(rf"connect \\Q \\{name}\n", rtlil)]
     for k, row in enumerate(rows):
-        given = [(f"{name}.q", row[name]) for name in design.registers] + [(name, row[name]) for name in design.inputs]
+        given = [(f"{name}.q", row[name]) for name in driven] + [(name, row[name]) for name in design.inputs]
         sets = " ".join(f"-set {name} {bits(v, design.width(name.removesuffix('.q')))}" for name, v in given)
         names = [*design.first, *design.second]
         shows = [(name, row[name]) for name in names]
         if k < len(events) and events[k] == "edge":
             clock = 1 - clock
             if clock == 1:
-                shows += [(f"{name}.d", rows[k + 1][name]) for name in design.registers]
+                shows += [(f"{name}.d", rows[k + 1][name]) for name in driven]
         asked.append(f"eval {sets} " + " ".join(f"-show {name}" for name, _ in shows))
         wanted += shows
     script = "read_rtlil t.il; hierarchy -check -top top; check -assert; expose -evert-dff top; cd top; " + "; ".join(asked)
@@ -205,4 +206,5 @@ def main():
     return 1 if wrong else 0
 
 
-sys.exit(main())
+if __name__ == "__main__":
+    sys.exit(main())

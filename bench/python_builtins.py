@@ -162,7 +162,8 @@ def called(run, builtin, args, keywords, place):
     if name == "init base":
         return run.init_base(builtin.this, args, keywords, place)
     if name == "init nothing":
-        return run.at(place, lambda: wants(not args and not keywords))
+        given = len(args) + (1 if builtin.bound else 0)
+        return run.at(place, lambda: wants(given == 1 and not keywords))
     run.at(place, lambda: wants(not keywords))
     args = ([builtin.this] if builtin.bound else []) + args
     if name == "len" and len(args) == 1 and isinstance(args[0], Thing):
@@ -242,9 +243,9 @@ def refuse_limit():
     raise Refusal("limit")
 
 
-def of_range(first, end=None, step=1):
-    if end is None:
-        first, end = 0, first
+def of_range(first, *others):
+    wants(len(others) < 3)
+    first, end, step = (0, first, 1) if not others else (first, others[0], others[1] if len(others) == 2 else 1)
     wants(all(is_number(n) for n in (first, end, step)) and step != 0)
     return range(int(first), int(end), int(step))
 

@@ -12,7 +12,7 @@ import math
 import python_builtins
 from python_values import (
     Builtin, Class, Dict, Function, LONGEST, List, Object, Refusal, Thing, Time, Tuple,
-    elements, in_quotes, shown, truth,
+    elements, in_quotes, is_key, shown, truth,
 )
 
 CALLS = 200
@@ -82,7 +82,7 @@ def bound_names(body):
     for stmt in body:
         if isinstance(stmt, ast.Assign):
             names += [name for target in stmt.targets for name in target_names(target)]
-        elif isinstance(stmt, (ast.AnnAssign, ast.AugAssign)):
+        elif isinstance(stmt, ast.AugAssign) or isinstance(stmt, ast.AnnAssign) and (stmt.simple or stmt.value is not None):
             names += target_names(stmt.target)
         elif isinstance(stmt, ast.For):
             names += target_names(stmt.target) + bound_names(stmt.body)
@@ -307,6 +307,8 @@ class Run:
 
     def do_ImportFrom(self, stmt, place):
         for alias in stmt.names:
+            if alias.name == "*" and self.here.scope is not self.module:
+                raise Stop("raised", place)
             kind, value = self.ask("Import", [], [stmt.module, alias.name], place)
             if (kind == "bind") != (alias.name == "*"):
                 return
@@ -335,7 +337,7 @@ class Run:
         scope = self.here.scope
         if scope.is_class or scope.parent is None:
             note = self.value(stmt.annotation)
-            if isinstance(stmt.target, ast.Name):
+            if stmt.simple:
                 scope.notes.append((stmt.target.id, note))
 
     def do_AugAssign(self, stmt, place):
@@ -363,7 +365,18 @@ class Run:
         if sign == "+" and isinstance(old, List):
             python_builtins.extend(self, old, value, place)
             return old
+        if sign == "*" and isinstance(old, List):
+            return self.repeat(old, value, place)
         return self.operate(sign, old, value, place)
+
+    def repeat(self, row, times, place):
+        """A list that becomes its items so many times; what it grows by is counted."""
+        items = self.at(place, python_builtins.operated, "*", row, times, None).items
+        if len(items) > LONGEST:
+            raise Stop("limit", place)
+        self.grow(max(0, len(items) - len(row.items)), place)
+        row.items = items
+        return row
 
     def do_If(self, stmt, place):
         if self.test(stmt.test):
@@ -455,15 +468,15 @@ class Run:
         bases = self.positional(stmt.bases, place)
         keywords = self.by_keyword(stmt.keywords, place)
         base = bases[0] if bases else None
+        outer = self.here
+        self.here = Here(outer.scope.class_body(set(bound_names(stmt.body))))
+        self.block(stmt.body)
+        scope, self.here = self.here.scope, outer
         if len(bases) > 1 or not (not bases or isinstance(base, (Class, Thing))):
             raise Stop("raised", place)
         over = self.bottom(base)
         if keywords and not isinstance(over, Thing):
             raise Stop("raised", place)
-        outer = self.here
-        self.here = Here(outer.scope.class_body(set(bound_names(stmt.body))))
-        self.block(stmt.body)
-        scope, self.here = self.here.scope, outer
         made = Class(base, dict(scope.names))
         self.grow(1 + len(made.attributes), place)
         scope.parent.cell.append(made)
@@ -576,8 +589,14 @@ class Run:
 
     def of_DictComp(self, node, place, name):
         self.spend(1, place)
-        pairs = self.comprehended(node, place, lambda: [(self.value(node.key), self.value(node.value))])
+        pairs = self.comprehended(node, place, lambda: [self.pair(node, place)])
         return self.fresh(self.at(place, python_builtins.dict_of, pairs), place)
+
+    def pair(self, node, place):
+        key, value = self.value(node.key), self.value(node.value)
+        if not is_key(key):
+            raise Stop("raised", place)
+        return key, value
 
     def comprehended(self, node, place, element):
         each = node.generators[0]
@@ -768,6 +787,8 @@ class Run:
     def method(self, value, this, bound):
         if isinstance(value, Function) and not value.bound:
             return Function(value.node, value.defaults, value.scope, this, bound)
+        if isinstance(value, Builtin) and value.name == "init nothing" and not value.bound:
+            return Builtin("init nothing", this, None, bound)
         return value
 
     def attribute(self, of, name, place):
@@ -792,6 +813,8 @@ class Run:
                 found, known = self.inherited(name, of.of if isinstance(of, Object) else of)
                 if known:
                     return self.method(found, of, True) if isinstance(of, Object) else self.method(found, None, False)
+                if name == "__init__" and not isinstance(found, Thing):
+                    return Builtin("init nothing", of, None, True) if isinstance(of, Object) else Builtin("init nothing")
                 if not isinstance(found, Thing):
                     raise Stop("raised", place)
                 asked = of

@@ -27,7 +27,10 @@ def shown(value, depth=DEEPEST):
 
 
 def leaf(value):
-    functions = (types.FunctionType, types.BuiltinFunctionType, types.MethodType, type)
+    functions = (
+        types.FunctionType, types.BuiltinFunctionType, types.MethodType, types.WrapperDescriptorType, types.MethodWrapperType,
+        type,
+    )
     if isinstance(value, functions):
         return "function"
     return in_quotes(value) if isinstance(value, str) else repr(value)

@@ -60,6 +60,8 @@ def bits(value, width):
 
 def compare(folder, a, b):
     operators = taken(a, b)
+    if not operators:
+        return 0, []
     pairs = list(itertools.product(corners(a), corners(b)))
     (folder / "t.py").write_text(design(a, b, operators))
     (folder / "t.stim").write_text("".join(f"set a {x}\nset b {y}\n" for x, y in pairs))
