@@ -22,8 +22,18 @@ pub fn compute(design: &Design, exprs: &[ExprId], env: &[Int], nums: &mut Vec<In
     let _ = design.count();
     for e in exprs {
         let n = number(design, env, nums.as_slice(), *e);
-        nums[e.0 as usize] = n;
+        overwrite(&mut nums[e.0 as usize], n);
     }
+}
+
+/// Puts an integer into its place, part by part, so that what lies between its parts is not copied.
+#[inline(always)]
+pub fn overwrite(place: &mut Int, n: Int)
+    ensures { place.new ≡ n }
+{
+    place.negative = false;
+    place.size = n.size;
+    place.negative = n.negative;
 }
 
 // The integer of an expression, by those of the expressions that it names.

@@ -50,6 +50,7 @@ mod wake;
 mod write;
 mod written;
 
+pub use compute::overwrite;
 pub use growth::growth_keeps_simulators;
 pub use laws::words_are_rows;
 pub use settle::Counts;

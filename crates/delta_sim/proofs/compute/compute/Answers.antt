@@ -11,11 +11,11 @@ loop-e-preserved c =
     let nums : List ℤ = c.loop-e.nums.items in
     let e : ExprId = slice_index_or list i (record { 0 = 0 }) in
     let is = get_at list i (record { 0 = 0 }) c.loop-e-test.true in
-    let value = rw c.as_slice.ensures.value at c.number-n.ensures in
+    let number = rw c.as_slice.ensures.value at c.number-n.ensures in
     record {
       long = length-set nums e.0 _ ∙ c.loop-e.invariant.long;
-      fitting = fitting_next p c.args.env.now c.count.ensures.rules c.requires.fits (length c.args.nums.now.items) list c.requires.program nums c.loop-e.invariant.fitting c.loop-e.invariant.long i e is c.loop-e.invariant.known c.number-n.result value;
-      known = known_next p c.args.env.now c.count.ensures.rules c.requires.fits (length c.args.nums.now.items) list c.requires.program nums c.loop-e.invariant.fitting c.loop-e.invariant.long i e is c.loop-e.invariant.known c.number-n.result value;
+      fitting = fitting_next p c.args.env.now c.count.ensures.rules c.requires.fits (length c.args.nums.now.items) list c.requires.program nums c.loop-e.invariant.fitting c.loop-e.invariant.long i e is c.loop-e.invariant.known c.overwrite.new.place (λ x there. c.overwrite.ensures ∙ number x there);
+      known = known_next p c.args.env.now c.count.ensures.rules c.requires.fits (length c.args.nums.now.items) list c.requires.program nums c.loop-e.invariant.fitting c.loop-e.invariant.long i e is c.loop-e.invariant.known c.overwrite.new.place (λ x there. c.overwrite.ensures ∙ number x there);
     }
 
 pub returns-clause-read : goal.returns-clause-read
