@@ -1,6 +1,7 @@
 mod TraceSamples
 pub mod BoardLaws
 pub mod TraceLaws
+pub mod LaneLaws
 pub mod Refused
 pub mod TextLineLaws
 pub mod ScriptWordLaws

@@ -5,6 +5,7 @@ pub mod Script
 pub mod ScriptParts
 pub mod ScriptGives
 pub mod Trace
+pub mod Lanes
 pub mod Plan
 pub mod Designs
 pub mod DesignGives

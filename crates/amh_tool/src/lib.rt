@@ -24,6 +24,7 @@ mod script_words;
 mod text_lines;
 mod texts;
 mod trace;
+mod trace_columns;
 mod trace_events;
 mod trace_lines;
 

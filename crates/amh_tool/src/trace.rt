@@ -16,7 +16,8 @@ ghost use Rattle.amh_tool.specs.Verdicts.{IsFitting};
 
 use crate::accept::Accepted;
 use crate::board::Shown;
-use crate::trace_lines::{column_line, done_line, head_line, push_first, push_row};
+use crate::trace_columns::{lanes_of, push_rest};
+use crate::trace_lines::{column_line, done_line, head_line, push_first, push_front};
 use amh_bits::Int;
 use amh_host::{Host, HostStop, NoMemory, Steps};
 use comb_graph::ordered_have_one_history;
@@ -93,8 +94,8 @@ fn put_columns<H: Host>(
     Ok(())
 }
 
-// A row for each event, from the design before any of them on. The room of a line, and of the numbers before an event,
-// serves for all of them.
+// A row for each event, from the design before any of them on. The room of a line serves for all of them, and so do the
+// columns, which keep the numbers that they had last.
 fn put_rows<H: Host>(
     alloc: Global,
     host: &mut H,
@@ -109,23 +110,15 @@ fn put_rows<H: Host>(
     ensures cause { HasCause (H.faults host.old) (H.faults host.new) result }
 {
     has_one_history(accepted);
-    let mut before = Vec::new(alloc);
+    let mut lanes = lanes_of(alloc, accepted.board.columns.as_slice(), sim.values())?;
     let mut line = Vec::new(alloc);
     let mut time = 0;
     for event in accepted.events.as_slice() {
         time += 1;
-        before.clear();
-        before.extend_from_slice(sim.values())?;
-        apply(sim, &accepted.ranked.design, event)?;
         line.clear();
-        push_row(
-            &mut line,
-            &accepted.board,
-            time,
-            event,
-            before.as_slice(),
-            sim.values(),
-        )?;
+        push_front(&mut line, &accepted.board, time, event, sim.values())?;
+        apply(sim, &accepted.ranked.design, event)?;
+        push_rest(&mut line, &mut lanes, sim.values())?;
         host.put(name, line.as_slice())?;
     }
     Ok(())

@@ -10,7 +10,7 @@ ghost use Rattle.amh_tool.specs.Trace.{event_text, edge_field, name_of};
 use crate::board::{Board, Shown};
 use amh_bits::Int;
 use design_ir::{Domain, DomainId, Event, SigId};
-use itoa::Buffer;
+use number_text::push_int;
 use std::alloc::AllocError;
 
 /// Adds what happened, where the signals had these numbers before.
@@ -28,7 +28,7 @@ pub fn push_event(
             text.extend_from_slice(b"set ")?;
             text.extend_from_slice(name_of(board.columns.as_slice(), *sig).as_bytes())?;
             text.push(b' ')?;
-            push_number(text, *value)
+            push_int(text, *value)
         }
         Event::Edge(clocks) => {
             text.extend_from_slice(b"edge")?;
@@ -37,24 +37,15 @@ pub fn push_event(
     }
 }
 
-/// Adds the numeral of a number.
-#[tactic(auto, unfolding(amh_bits::specs::Decimals::int_text))]
-pub fn push_number(text: &mut Vec<u8>, n: Int) -> Result<(), AllocError>
-    ensures { OnOk result (text.new.items ≡ text.old.items ++ int_text n) }
-{
-    if n.negative {
-        text.push(b'-')?;
-    }
-    let mut digits = Buffer::new();
-    text.extend_from_slice(digits.format(n.size).as_bytes())
-}
-
 /// The number of a signal in an environment, and 0 where it has none.
 pub fn number_of(env: &[Int], sig: SigId) -> Int
     ensures { result ≡ at env.now sig.0 }
 {
     match env.get(sig.0 as usize) {
-        Some(n) => *n,
+        Some(n) => Int {
+            negative: n.negative,
+            size: n.size,
+        },
         None => Int::of_u128(0),
     }
 }

@@ -3,13 +3,14 @@ ghost use Rattle.std.specs.Prelude.{◌≡◌, ◌++◌, IfOk, OnOk, string_byte
 ghost use Rattle.std.specs.List.{flat_map};
 ghost use Rattle.amh_bits.specs.Decimals.{int_text};
 ghost use Rattle.design_ir.specs.Circuits.{at};
-ghost use Rattle.amh_tool.specs.Trace.{head_line, done_line, column_line, shape_text, first_line, row_line, all_fields, changed_field, changed_fields, field};
+ghost use Rattle.amh_tool.specs.Lanes.{row_head};
+ghost use Rattle.amh_tool.specs.Trace.{head_line, done_line, column_line, shape_text, first_line, all_fields, field};
 
 use crate::board::{Board, Shown};
-use crate::trace_events::{number_of, push_event, push_number};
+use crate::trace_events::{number_of, push_event};
 use amh_bits::Int;
 use design_ir::Event;
-use itoa::Buffer;
+use number_text::{push_decimal, push_int};
 use shape_rules::Shape;
 use std::alloc::{AllocError, Global};
 
@@ -59,25 +60,20 @@ pub fn push_first(text: &mut Vec<u8>, board: &Board, first: &[Int]) -> Result<()
     Ok(())
 }
 
-/// Adds the line of an event: its time, what happened, and the columns whose numbers it changed.
-#[tactic(auto, unfolding(crate::specs::Trace::row_line))]
-pub fn push_row(
+/// Adds the front of the line of an event: its time, and what happened.
+pub fn push_front(
     text: &mut Vec<u8>,
     board: &Board,
     time: u64,
     event: &Event,
     before: &[Int],
-    now: &[Int],
 ) -> Result<(), AllocError>
-    ensures { OnOk result (text.new.items ≡ text.old.items ++ row_line board.now (record { time = time; event = event.now }) before.now now.now) }
+    ensures { OnOk result (text.new.items ≡ text.old.items ++ row_head board.now (record { time = time; event = event.now }) before.now) }
 {
-    let mut digits = Buffer::new();
-    text.extend_from_slice(digits.format(time).as_bytes())?;
+    push_decimal(text, time as u128)?;
     text.push(b' ')?;
     push_event(text, board, before, event)?;
     text.extend_from_slice(b" |")?;
-    push_changes(text, board.columns.as_slice(), before, now)?;
-    text.push(b'\n')?;
     Ok(())
 }
 
@@ -90,30 +86,6 @@ fn push_fields(text: &mut Vec<u8>, columns: &[Shown], env: &[Int]) -> Result<(),
     Ok(())
 }
 
-fn push_changes(
-    text: &mut Vec<u8>,
-    columns: &[Shown],
-    before: &[Int],
-    now: &[Int],
-) -> Result<(), AllocError>
-    ensures { OnOk result (text.new.items ≡ text.old.items ++ changed_fields columns.now before.now now.now) }
-{
-    for x in columns {
-        push_change(text, x, before, now)?;
-    }
-    Ok(())
-}
-
-fn push_change(text: &mut Vec<u8>, x: &Shown, before: &[Int], now: &[Int]) -> Result<(), AllocError>
-    ensures { OnOk result (text.new.items ≡ text.old.items ++ changed_field before.now now.now x.now) }
-{
-    let value = number_of(now, x.sig);
-    if number_of(before, x.sig) == value {
-        return Ok(());
-    }
-    push_field(text, x.name.as_str(), value)
-}
-
 #[tactic(auto, unfolding(crate::specs::Trace::field))]
 fn push_field(text: &mut Vec<u8>, name: &str, value: Int) -> Result<(), AllocError>
     ensures { OnOk result (text.new.items ≡ text.old.items ++ field name.now value) }
@@ -121,5 +93,5 @@ fn push_field(text: &mut Vec<u8>, name: &str, value: Int) -> Result<(), AllocErr
     text.push(b' ')?;
     text.extend_from_slice(name.as_bytes())?;
     text.push(b'=')?;
-    push_number(text, value)
+    push_int(text, value)
 }

@@ -1,13 +1,24 @@
-use Rattle.std.proofs.Common.{◌≡◌, ◌∙◌, ◌+◌, ◌++◌, ◌∷◌, [], ap, sym, subst, refl, List, ℕ, drop}
-use Rattle.std.proofs.lemmas.List.{drop_all}
+use Rattle.std.proofs.Common.{◌≡◌, ◌∙◌, ◌+◌, ◌++◌, ◌∷◌, [], ap, sym, subst, refl, List, ℕ, drop, map, length, arith}
+use Rattle.std.proofs.lemmas.List.{drop_all, length-map}
+use Rattle.std.specs.List.{flat_map}
 use Rattle.std.proofs.lemmas.Result.{err_from_is_err_and}
 use Rattle.amh_host.specs.Seen.{written}
 use Rattle.amh_host.specs.Calls.{AddsFront}
 use Rattle.amh_host.proofs.SeenLaws.{written-nil, written-written}
 use Rattle.design_ir.specs.Legal.{AllLegal}
-use Rattle.amh_tool.specs.Trace.{row_line, row_lines, timed}
+use Rattle.delta_sim.proofs.Grouping.{front_taken}
+use Rattle.amh_tool.specs.Lanes.{lanes_at, lane_text, moved, row_head}
+use Rattle.amh_tool.specs.Trace.{Row, line_feed, row_line, row_lines, timed}
+use Rattle.amh_tool.proofs.LaneLaws.{lanes_moved, row_line-parts}
 use Rattle.amh_tool.proofs.TraceLaws.{GoesOn, drop_at, gone_next, legal_next, goes_from_first, goes_on, rows_front, row_front, rows_whole}
 use Rattle.amh_tool.proofs.trace.put_rows.Goals as goal
+
+pub returns-in_err-lanes-clause-done : goal.returns-in_err-lanes-clause-done
+returns-in_err-lanes-clause-done g c = λ envs history.
+    let p = err_from_is_err_and c.from_residual.result c.from_residual.ensures.1 in
+    let a = c.args.accepted.now in
+    let old = g.H.Host.seen c.args.host.now in
+    rw p.1 (rows_front c.args.name.now [] _ a.ranked.design a.board 0 a.events c.args.sim.now old old (sym (written-nil c.args.name.now old)) (goes_from_first a.ranked.design a.board a.events c.args.sim.now envs c.requires.first history))
 
 pub loop-event-init : goal.loop-event-init
 loop-event-init g c =
@@ -19,6 +30,7 @@ loop-event-init g c =
       gone = [];
       whole = refl;
       stands = c.requires.first;
+      shown = c.in_ok-lanes.ensures ∙ (λ j. lanes_at (c.as_slice.ensures j) (c.values.ensures j));
       so_far = [];
       seen = sym (written-nil c.args.name.now (g.H.Host.seen c.args.host.now));
       rest = λ envs history.
@@ -37,9 +49,9 @@ apply-requires-clause-legal g c =
     let legal = subst (AllLegal d) (sym c.as_slice-event-items.ensures) c.requires.fitting.legal in
     (legal_next d v.gone (drop i items) (drop (i + 1) items) items e split v.whole legal).0
 
-pub returns-in_err-extend_from_slice-clause-done : goal.returns-in_err-extend_from_slice-clause-done
-returns-in_err-extend_from_slice-clause-done g c = λ envs history.
-    let p = err_from_is_err_and c.from_residual.result c.from_residual.ensures.1 in
+pub returns-in_err-push_front-clause-done : goal.returns-in_err-push_front-clause-done
+returns-in_err-push_front-clause-done g c = λ envs history.
+    let p = err_from_is_err_and c.from_residual-in_err-push_front.result c.from_residual-in_err-push_front.ensures.1 in
     let v = c.loop-event.invariant in
     let a = c.args.accepted.now in
     rw p.1 (rows_front c.args.name.now v.so_far _ a.ranked.design a.board c.loop-event.time _ c.loop-event.sim (g.H.Host.seen c.args.host.now) (g.H.Host.seen c.loop-event.host) v.seen (v.rest envs history))
@@ -51,9 +63,9 @@ returns-in_err-apply-clause-done g c = λ envs history.
     let a = c.args.accepted.now in
     rw p.1 (rows_front c.args.name.now v.so_far _ a.ranked.design a.board c.loop-event.time _ c.loop-event.sim (g.H.Host.seen c.args.host.now) (g.H.Host.seen c.loop-event.host) v.seen (v.rest envs history))
 
-pub returns-in_err-push_row-clause-done : goal.returns-in_err-push_row-clause-done
-returns-in_err-push_row-clause-done g c = λ envs history.
-    let p = err_from_is_err_and c.from_residual-in_err-push_row.result c.from_residual-in_err-push_row.ensures.1 in
+pub returns-in_err-push_rest-clause-done : goal.returns-in_err-push_rest-clause-done
+returns-in_err-push_rest-clause-done g c = λ envs history.
+    let p = err_from_is_err_and c.from_residual-in_err-push_rest.result c.from_residual-in_err-push_rest.ensures.1 in
     let v = c.loop-event.invariant in
     let a = c.args.accepted.now in
     rw p.1 (rows_front c.args.name.now v.so_far _ a.ranked.design a.board c.loop-event.time _ c.loop-event.sim (g.H.Host.seen c.args.host.now) (g.H.Host.seen c.loop-event.host) v.seen (v.rest envs history))
@@ -73,9 +85,13 @@ returns-in_err-put-clause-done g c = λ envs history.
     let split = drop_at items i e c.loop-event-test.true c.event-item.is in
     let legal = legal_next d v.gone (drop i items) more items e split v.whole (subst (AllLegal d) (sym c.as_slice-event-items.ensures) c.requires.fitting.legal) in
     let stands = c.in_ok-apply.ensures.lives v.gone v.stands in
-    let line = c.push_row.new.text.items in
-    let before : c.as_slice.result.now ≡ old.env = c.as_slice.ensures.value ∙ c.in_ok-extend_from_slice.ensures.items ∙ (λ j. c.clear.ensures.items j ++ c.values.ensures j) in
-    let made : line ≡ row_line a.board (record { time = c.loop-event.time + 1; event = e }) old.env new.env = c.in_ok-push_row.ensures ∙ (λ j. c.clear-in-loop-event.ensures.items j ++ row_line a.board (record { time = c.loop-event.time + 1; event = e }) (before j) (c.values-in-loop-event.ensures j)) in
+    let line = c.push_rest.new.text.items in
+    let before = c.values-in-loop-event.ensures in
+    let now = c.values-in-loop-event-2.ensures in
+    let row : Row = record { time = c.loop-event.time + 1; event = e } in
+    let front : c.push_front.new.text.items ≡ row_head a.board row old.env = c.in_ok-push_front.ensures ∙ (λ j. c.clear.ensures.items j ++ row_head a.board row (before j)) in
+    let lanes = c.deref_mut.ensures.value ∙ v.shown in
+    let made : line ≡ row_line a.board row old.env new.env = c.in_ok-push_rest.ensures.text ∙ (λ j. front j ++ (flat_map (lane_text (now j)) (lanes j) ++ line_feed)) ∙ row_line-parts a.board row old.env new.env in
     let next = goes_on d a.board c.loop-event.time v.gone (drop i items) more e old new v.so_far line _ split (c.has_one_history.ensures (v.gone ++ e ∷ []) legal.1) v.stands stands made (v.rest envs history) in
     let s = g.H.Host.seen c.loop-event.host in
     let t = g.H.Host.seen c.put.new.self in
@@ -96,15 +112,21 @@ loop-event-preserved g c =
     let split = drop_at items i e c.loop-event-test.true c.event-item.is in
     let legal = legal_next d v.gone (drop i items) more items e split v.whole (subst (AllLegal d) (sym c.as_slice-event-items.ensures) c.requires.fitting.legal) in
     let stands = c.in_ok-apply.ensures.lives v.gone v.stands in
-    let line = c.push_row.new.text.items in
-    let before : c.as_slice.result.now ≡ old.env = c.as_slice.ensures.value ∙ c.in_ok-extend_from_slice.ensures.items ∙ (λ j. c.clear.ensures.items j ++ c.values.ensures j) in
-    let made : line ≡ row_line a.board (record { time = c.loop-event.time + 1; event = e }) old.env new.env = c.in_ok-push_row.ensures ∙ (λ j. c.clear-in-loop-event.ensures.items j ++ row_line a.board (record { time = c.loop-event.time + 1; event = e }) (before j) (c.values-in-loop-event.ensures j)) in
+    let line = c.push_rest.new.text.items in
+    let before = c.values-in-loop-event.ensures in
+    let now = c.values-in-loop-event-2.ensures in
+    let row : Row = record { time = c.loop-event.time + 1; event = e } in
+    let front : c.push_front.new.text.items ≡ row_head a.board row old.env = c.in_ok-push_front.ensures ∙ (λ j. c.clear.ensures.items j ++ row_head a.board row (before j)) in
+    let lanes = c.deref_mut.ensures.value ∙ v.shown in
+    let made : line ≡ row_line a.board row old.env new.env = c.in_ok-push_rest.ensures.text ∙ (λ j. front j ++ (flat_map (lane_text (now j)) (lanes j) ++ line_feed)) ∙ row_line-parts a.board row old.env new.env in
+    let same : c.loop-event.lanes.len ≡ length c.push_rest.new.lanes = omega (arith, c.deref_mut.ensures.len, ap length c.in_ok-push_rest.ensures.lanes ∙ length-map c.deref_mut.result.now (moved c.values-in-loop-event-2.result.now)) in
     record {
       faults = c.in_ok-put.ensures.cause.ok ∙ v.faults;
       time = ap (λ (n : ℕ). n + 1) v.time;
       gone = v.gone ++ e ∷ [];
       whole = gone_next v.gone (drop i items) more items e split v.whole;
       stands = stands;
+      shown = front_taken c.loop-event.lanes.len c.push_rest.new.lanes _ same ∙ c.in_ok-push_rest.ensures.lanes ∙ (λ j. map (moved (now j)) (lanes j)) ∙ lanes_moved a.board.columns old.env new.env;
       so_far = v.so_far ++ line;
       seen = c.in_ok-put.ensures.done ∙ (λ j. written c.args.name.now (c.as_slice-in-loop-event.ensures.value j) (v.seen j)) ∙ written-written c.args.name.now v.so_far line (g.H.Host.seen c.args.host.now);
       rest = λ envs history. goes_on d a.board c.loop-event.time v.gone (drop i items) more e old new v.so_far line _ split (c.has_one_history.ensures (v.gone ++ e ∷ []) legal.1) v.stands stands made (v.rest envs history);

@@ -3,6 +3,7 @@ use Rattle.amh_host.specs.Seen.{written}
 use Rattle.design_ir.specs.declared.event.Event.{Event}
 use Rattle.design_ir.specs.Histories.{History}
 use Rattle.delta_sim.specs.Standing.{Stands}
+use Rattle.amh_tool.specs.Lanes.{lanes_at}
 use Rattle.amh_tool.specs.Trace.{row_lines, timed}
 use Rattle.amh_tool.proofs.TraceLaws.{GoesOn}
 use Rattle.amh_tool.proofs.trace.put_rows.Given as goal
@@ -14,6 +15,7 @@ invariant-loop-event g l = record {
   gone : List Event;
   whole : gone ++ drop l.event-index l.event-items ≡ l.event-items;
   stands : Stands l.accepted.ranked.design gone l.sim;
+  shown : l.lanes.items ≡ lanes_at l.accepted.board.columns l.sim.env;
   so_far : List ℕ;
   seen : g.H.Host.seen l.host ≡ written l.name so_far (g.H.Host.seen l.fn.host);
   rest : (envs : List (List ℤ)) → History l.accepted.ranked.design l.accepted.events (l.fn.sim.env ∷ envs)
