@@ -1,7 +1,8 @@
 #!/usr/bin/env python3
-"""Prints how many events a second are simulated and traced: of registers that all change at each edge, and of a chain of
-combinational signals behind an input that toggles; beside it the same of `vvp` with its VCD, where `iverilog` is there:
-`simulation.py [NAMES]`, NAMES being the fronts of the names of the cases to run.
+"""Prints how many events a second are simulated and traced: of registers that all change at each edge, of a chain of
+combinational signals behind an input that toggles, and of a register beside such a chain where nothing changes; beside it
+the same of `vvp` with its VCD, where `iverilog` is there: `simulation.py [NAMES]`, NAMES being the fronts of the names of
+the cases to run.
 
 The time of an event is that of a run with many events less that of one with none, over their count. The columns behind it
 are how many signals change a second, and the ratio to `vvp`. No part of the gate; AMH_TOOL names another built program.
@@ -35,11 +36,20 @@ def chain(count):
     return design, lambda k: f"set s0 {1 - k % 2}", f"  reg s0 = 0;\n{wires}", "s0 = ~s0;", count
 
 
+def still(count):
+    """A register that counts, beside an input that stays and so many signals of which each is driven from the one before."""
+    design, _, body, _, _ = chain(count)
+    design = design.replace("top = m\n", 'n = Signal(16, name="n")\nm.d.sync += n.eq(n + 1)\ntop = m\n')
+    return design, lambda k: "edge sync", f"  reg clk = 0;\n  reg [15:0] n = 0;\n{body}  always @(posedge clk) n <= n + 1;\n", "clk = ~clk;", 0.5
+
+
 CASES = [
     ("10 registers", registers, 10, 200000),
     ("100 registers", registers, 100, 20000),
     ("1000 registers", registers, 1000, 2000),
     ("chain of 4000", chain, 4000, 100),
+    ("still chain of 1", still, 1, 200000),
+    ("still chain of 4000", still, 4000, 20000),
 ]
 
 
@@ -78,7 +88,7 @@ def main():
                 continue
             design, line, body, step, changes = make(count)
             ours = rate(lambda n: tool_seconds(folder, design, line, n), events)
-            shown = f"{name:16} {ours:12.0f} events/s {ours * changes:12.0f} changes/s"
+            shown = f"{name:20} {ours:12.0f} events/s {ours * changes:12.0f} changes/s"
             if beside:
                 theirs = rate(lambda n: other_seconds(folder, body, step, n), events)
                 shown += f"  vvp {theirs:12.0f} events/s  ratio {ours / theirs:6.2f}"

@@ -134,7 +134,7 @@ fn memory(alloc: Global, words: &[&str]) -> Result<Memory, Stop> {
         return Err(Stop::NoCase);
     };
     let depth = natural(depth)?;
-    if depth > 64 || numbers.len() > depth as usize {
+    if depth > 4_096 || numbers.len() > depth as usize {
         return Err(Stop::NoCase);
     }
     let depth = depth as u32;
