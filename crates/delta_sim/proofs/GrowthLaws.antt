@@ -230,6 +230,7 @@ module _ (c : Circuit) (q : Pooled) (rules : IsPool c.pool) (design : IsDesign c
       woken = h.woken;
       noted = h.noted;
       changed = h.changed;
+      moved = record { count = h.moved.count ∙ sym (ap length more.signals); once = h.moved.once };
     }
 
     reaches_more : (es : List Event) (st : State) (env : List ℤ) → Reaches c es st env → Reaches d es st env

@@ -22,6 +22,7 @@ pub mod Programs
 pub mod ReadMarks
 pub mod BitTurns
 pub mod Waking
+pub mod Moving
 pub mod Taking
 pub mod Resting
 pub mod DeltaSteps

@@ -111,6 +111,12 @@ pub record Wakes (table : List (List ℕ)) (old new : List ℤ) (was is : List B
   pub wakes : (s k : ℕ) → at old s ≢ at new s → is_among (readers_of table s) k ≡ true → slice_index_or is k false ≡ true
   pub sound : (k : ℕ) → slice_index_or is k false ≡ true → (slice_index_or was k false ≡ true) ⊎ ((s : ℕ) × (at old s ≢ at new s) × (is_among (readers_of table s) k ≡ true))
 
+-- the signals that have other numbers now are noted, as those are that were noted before
+pub record Notes (old new : List ℤ) (was is : List Bool) : Type 0 where
+  pub count : length is ≡ length was
+  pub stays : (s : ℕ) → slice_index_or was s false ≡ true → slice_index_or is s false ≡ true
+  pub notes : (s : ℕ) → at old s ≢ at new s → slice_index_or is s false ≡ true
+
 -- these signals with their numbers from others
 abbrev pub taken : List ℤ → List ℕ → List ℤ → List ℤ
 taken from [] env = env

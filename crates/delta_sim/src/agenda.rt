@@ -49,6 +49,14 @@ impl Agenda {
         self.len
     }
 
+    /// Those that wait.
+    pub fn items(&self) -> &[usize]
+        ensures list { result.now ≡ self.now.list }
+        ensures rules { IsWaiting self.now }
+    {
+        &self.list[..self.len]
+    }
+
     /// One of those that wait.
     pub fn get(&self, i: usize) -> usize
         requires { i < length self.now.list }

@@ -5,7 +5,7 @@ ghost use Rattle.design_ir.specs.Circuits.{State, at, is_among};
 ghost use Rattle.design_ir.specs.Settled.{delta};
 ghost use Rattle.design_ir.proofs.NumbersFit.{FitsSignals};
 ghost use Rattle.comb_graph.specs.Laws.{FitsState};
-ghost use Rattle.delta_sim.specs.Plans.{IsPlan, IsTable, Rests, Wakes, IsUntouched, outs_at};
+ghost use Rattle.delta_sim.specs.Plans.{IsPlan, IsTable, Notes, Rests, Wakes, IsUntouched, outs_at};
 ghost use Rattle.delta_sim.specs.Standing.{AreRowsOf};
 ghost use Rattle.delta_sim.specs.Tasks.{AreFitting};
 
@@ -17,8 +17,8 @@ use crate::wake::take;
 use amh_bits::Int;
 use design_ir::{Design, Exprs};
 
-/// Runs the tasks that wait, all from the same numbers; then their signals take what they came to, and the tasks wait
-/// that read a signal whose number changed.
+/// Runs the tasks that wait, all from the same numbers; then their signals take what they came to, the tasks wait that
+/// read a signal whose number changed, and that signal is noted.
 pub fn delta(
     design: &Design,
     plan: &Plan,
@@ -29,6 +29,7 @@ pub fn delta(
     waits: &mut Agenda,
     then: &mut Agenda,
     woken: &mut Agenda,
+    moved: &mut Agenda,
 )
     requires plan { IsPlan design.now (length nums.old.items) plan.now }
     requires rows { AreRowsOf design.now rows.now }
@@ -40,6 +41,7 @@ pub fn delta(
     requires waits { length waits.old.marks ≡ plan.now.jobs }
     requires then { then.old ≡ record { marks = replicate plan.now.jobs false; list = [] } }
     requires woken { length woken.old.marks ≡ plan.now.agents }
+    requires moved { length moved.old.marks ≡ length design.now.pool.signals }
     ensures env { (st : State) → FitsState design.now st → st.rows ≡ rows.now → Rests design.now st plan.now waits.old.marks env.old.items → env.new.items ≡ delta design.now st env.old.items }
     ensures count { length nums.new.items ≡ length nums.old.items }
     ensures numbers { AreFitting design.now.pool nums.new.items }
@@ -48,11 +50,12 @@ pub fn delta(
     ensures waits { Wakes plan.now.readers env.old.items env.new.items (replicate plan.now.jobs false) waits.new.marks }
     ensures then { then.new ≡ record { marks = replicate plan.now.jobs false; list = [] } }
     ensures woken { Wakes plan.now.processes env.old.items env.new.items woken.old.marks woken.new.marks }
+    ensures moved { Notes env.old.items env.new.items moved.old.marks moved.new.marks }
 {
     let _ = design.count();
     let _ = design.processes();
     run_all(design, plan, rows, waits, env.as_slice(), nums, next);
-    take_all(plan, waits, next, env, then, woken);
+    take_all(plan, waits, next, env, then, woken, moved);
     waits.clear();
     std::mem::swap(waits, then);
 }
@@ -96,9 +99,11 @@ fn take_all(
     env: &mut Vec<Int>,
     then: &mut Agenda,
     woken: &mut Agenda,
+    moved: &mut Agenda,
 )
     requires tasks { IsTable (length env.old.items) (length then.old.marks) plan.now.readers }
     requires processes { IsTable (length env.old.items) (length woken.old.marks) plan.now.processes }
+    requires moved { length moved.old.marks ≡ length env.old.items }
     requires waits { length waits.now.marks ≡ plan.now.jobs }
     requires jobs { plan.now.jobs ≡ length plan.now.tasks + length plan.now.reads }
     requires below { (j : ℕ) → AllByRecursion (λ s. s < length env.old.items) (outs_at plan.now j) }
@@ -108,8 +113,9 @@ fn take_all(
     ensures taken { (j s : ℕ) → slice_index_or waits.now.marks j false ≡ true → is_among (outs_at plan.now j) s ≡ true → at env.new.items s ≡ at next.now s }
     ensures waits { Wakes plan.now.readers env.old.items env.new.items then.old.marks then.new.marks }
     ensures woken { Wakes plan.now.processes env.old.items env.new.items woken.old.marks woken.new.marks }
+    ensures moved { Notes env.old.items env.new.items moved.old.marks moved.new.marks }
 {
     for i in 0..waits.len() {
-        take(plan, plan.outs(waits.get(i)), next, env, then, woken);
+        take(plan, plan.outs(waits.get(i)), next, env, then, woken, moved);
     }
 }

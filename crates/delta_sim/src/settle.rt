@@ -4,7 +4,7 @@ ghost use Rattle.design_ir.specs.Histories.{DeltasFrom};
 ghost use Rattle.design_ir.specs.Settled.{Settled};
 ghost use Rattle.design_ir.proofs.NumbersFit.{FitsSignals};
 ghost use Rattle.comb_graph.specs.Laws.{FitsState};
-ghost use Rattle.delta_sim.specs.Plans.{IsPlan, Rests};
+ghost use Rattle.delta_sim.specs.Plans.{IsPlan, Notes, Rests};
 ghost use Rattle.delta_sim.specs.Settling.{EndsIn, AreCounts, IsWoken, nobody};
 ghost use Rattle.delta_sim.specs.Standing.{AreRowsOf, state_of};
 ghost use Rattle.delta_sim.specs.Tasks.{AreFitting};
@@ -26,7 +26,8 @@ pub struct Counts {
     pub runs: u64,
 }
 
-/// Settles the state that is held, one step for each run of a process or of a read port without a clock.
+/// Settles the state that is held, one step for each run of a process or of a read port without a clock, and notes the
+/// signals whose numbers change.
 pub fn settle<L: Ledger>(
     design: &Design,
     plan: &Plan,
@@ -39,6 +40,7 @@ pub fn settle<L: Ledger>(
     waits: &mut Agenda,
     then: &mut Agenda,
     woken: &mut Agenda,
+    moved: &mut Agenda,
     steps: &mut Steps<L>,
 ) -> Counts
     requires plan { IsPlan design.now (length nums.old.items) plan.now }
@@ -52,6 +54,7 @@ pub fn settle<L: Ledger>(
     requires waits { length waits.old.marks ≡ plan.now.jobs }
     requires then { then.old ≡ nobody plan.now.jobs }
     requires woken { length woken.old.marks ≡ plan.now.agents }
+    requires moved { length moved.old.marks ≡ length design.now.pool.signals }
     requires rests { Rests design.now (state_of held.now rows.now) plan.now waits.old.marks env.old.items }
     requires ends { EndsIn design.now (state_of held.now rows.now) env.old.items most }
     requires most { most ≤ 2 ^ 22 + 2 }
@@ -65,6 +68,7 @@ pub fn settle<L: Ledger>(
     ensures waits { waits.new ≡ nobody plan.now.jobs }
     ensures then { then.new ≡ nobody plan.now.jobs }
     ensures woken { woken.new ≡ nobody plan.now.agents }
+    ensures moved { Notes env.old.items env.new.items moved.old.marks moved.new.marks }
     ensures counts { (before : List (List ℤ)) (old : List ℤ) (rest : List (List ℤ)) → IsWoken design.now plan.now old env.old.items before rows.now woken.old.marks → DeltasFrom design.now (state_of held.now rows.now) env.old.items rest → AreCounts design.now before rows.now old (env.old.items ∷ rest) result.deltas result.runs }
     ensures steps { steps.new ≡ steps.old + result.runs }
 {
@@ -81,7 +85,9 @@ pub fn settle<L: Ledger>(
             waits.clear();
             return counts;
         }
-        delta(design, plan, rows, env, nums, next, waits, then, woken);
+        delta(
+            design, plan, rows, env, nums, next, waits, then, woken, moved,
+        );
     }
     counts
 }

@@ -8,7 +8,7 @@ ghost use Rattle.design_ir.specs.Values.{num};
 ghost use Rattle.comb_graph.specs.Rankings.{IsRanking};
 ghost use Rattle.delta_sim.specs.Evaluations.{eval_room};
 ghost use Rattle.delta_sim.specs.Settling.{nobody};
-ghost use Rattle.delta_sim.specs.Standing.{IsFresh, IsSimOf, Settles, Stands};
+ghost use Rattle.delta_sim.specs.Standing.{IsFresh, IsSimOf, Settles, Stands, Tells};
 
 use crate::agenda::Agenda;
 use crate::event::hold;
@@ -46,6 +46,7 @@ pub struct Sim {
     woken: Agenda,
     noted: Vec<Int>,
     changed: Agenda,
+    moved: Agenda,
     room: Room,
 }
 
@@ -54,7 +55,7 @@ impl Model for Sim {
 
     ghost Value = { Simulated };
 
-    ghost view = { λ s. record { held = s.held.items; rows = s.rows.items; env = s.env.items; counts = s.counts; longest = s.longest; plan = s.plan; numbers = s.numbers.items; next = s.next.items; waits = s.waits; then = s.then; woken = s.woken; noted = s.noted.items; changed = s.changed } };
+    ghost view = { λ s. record { held = s.held.items; rows = s.rows.items; env = s.env.items; counts = s.counts; longest = s.longest; plan = s.plan; numbers = s.numbers.items; next = s.next.items; waits = s.waits; then = s.then; woken = s.woken; noted = s.noted.items; changed = s.changed; moved = s.moved } };
 }
 
 impl Sim {
@@ -84,6 +85,7 @@ impl Sim {
             woken: spare.woken,
             noted: spare.noted,
             changed: spare.changed,
+            moved: spare.moved,
             room: Room::new(alloc)?,
         };
         run_in_order(
@@ -114,6 +116,7 @@ impl Sim {
         ensures of_design { IsSimOf design.now self.new }
         ensures lives { (events : List Event) → Stands design.now events self.old → MatchResult result (λ _. Stands design.now (events ++ event.now ∷ []) self.new) (λ _. Stands design.now events self.new) }
         ensures counts { Settles design.now self.old self.new }
+        ensures moved { Tells design.now self.old self.new }
         ensures steps { steps.new ≡ steps.old + self.new.counts.runs }
     {
         let _ = design.count();
@@ -130,12 +133,14 @@ impl Sim {
             &mut self.noted,
             &mut self.changed,
         );
+        self.moved.clear();
         take_given(
             &self.plan,
             self.held.as_slice(),
             &mut self.env,
             &mut self.waits,
             &mut self.woken,
+            &mut self.moved,
         );
         wake_ports(&self.plan, &self.changed, &mut self.waits, &mut self.woken);
         self.changed.clear();
@@ -151,8 +156,10 @@ impl Sim {
             &mut self.waits,
             &mut self.then,
             &mut self.woken,
+            &mut self.moved,
             steps,
         );
+        let _ = self.moved.items();
         Ok(())
     }
 
@@ -181,6 +188,14 @@ impl Sim {
         ensures { result.now ≡ self.now.env }
     {
         self.env.as_slice()
+    }
+
+    /// The signals whose numbers the last event changed, each once, in no order; some of them may have their old numbers
+    /// again.
+    pub fn moved(&self) -> &[usize]
+        ensures { result.now ≡ self.now.moved.list }
+    {
+        self.moved.items()
     }
 
     /// In how many deltas of the last event a process or a read port without a clock ran.
@@ -222,12 +237,14 @@ fn first_settled<L: Ledger>(sim: &mut Sim, design: &Design, blank: Blank)
         &mut sim.waits,
         &mut sim.then,
         &mut sim.woken,
+        &mut sim.moved,
         &mut steps,
     );
+    sim.moved.clear();
 }
 
 // The room in which events are carried out: the integers of expressions, what tasks leave, which tasks and processes
-// wait, the rows at the addresses of a memory's write ports, and which memories changed.
+// wait, the rows at the addresses of a memory's write ports, and which memories and signals changed.
 #[derive(Drop)]
 struct Spare {
     numbers: Vec<Int>,
@@ -237,6 +254,7 @@ struct Spare {
     woken: Agenda,
     noted: Vec<Int>,
     changed: Agenda,
+    moved: Agenda,
 }
 
 // Room in which nothing waits. No memory has more than 64 ports.
@@ -248,6 +266,7 @@ fn spare_room(alloc: Global, design: &Design, plan: &Plan, held: &[Int]) -> Resu
     ensures woken { IfOk result (λ s. s.woken ≡ nobody plan.now.agents) }
     ensures noted { IfOk result (λ s. 64 ≤ length s.noted.items) }
     ensures changed { IfOk result (λ s. s.changed ≡ nobody (length design.now.memories)) }
+    ensures moved { IfOk result (λ s. s.moved ≡ nobody (length design.now.pool.signals)) }
 {
     Ok(Spare {
         numbers: zeros(alloc, design.count() as usize)?,
@@ -257,6 +276,7 @@ fn spare_room(alloc: Global, design: &Design, plan: &Plan, held: &[Int]) -> Resu
         woken: Agenda::new(alloc, plan.agents)?,
         noted: zeros(alloc, 64)?,
         changed: Agenda::new(alloc, design.memories().len())?,
+        moved: Agenda::new(alloc, design.signals() as usize)?,
     })
 }
 

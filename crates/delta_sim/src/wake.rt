@@ -4,15 +4,15 @@ ghost use Rattle.std.specs.List.{AllByRecursion};
 ghost use Rattle.design_ir.specs.Circuits.{at};
 ghost use Rattle.delta_sim.specs.Driven.{numbers_of};
 ghost use Rattle.delta_sim.specs.Given.{marked};
-ghost use Rattle.delta_sim.specs.Plans.{IsTable, Wakes, WakesPorts, taken};
+ghost use Rattle.delta_sim.specs.Plans.{IsTable, Notes, Wakes, WakesPorts, taken};
 
 use crate::agenda::Agenda;
 use crate::plan::Plan;
 use amh_bits::Int;
 use design_ir::SigId;
 
-/// These signals take their numbers from others, and what reads one of them whose number is another one now waits: its
-/// tasks, and its processes.
+/// These signals take their numbers from others. Those whose number is another one now are noted, and what reads one of
+/// them waits: its tasks, and its processes.
 pub fn take(
     plan: &Plan,
     signals: &[SigId],
@@ -20,17 +20,20 @@ pub fn take(
     env: &mut Vec<Int>,
     waits: &mut Agenda,
     woken: &mut Agenda,
+    moved: &mut Agenda,
 )
     requires tasks { IsTable (length env.old.items) (length waits.old.marks) plan.now.readers }
     requires processes { IsTable (length env.old.items) (length woken.old.marks) plan.now.processes }
+    requires moved { length moved.old.marks ≡ length env.old.items }
     requires below { AllByRecursion (λ s. s < length env.old.items) (numbers_of signals.now) }
     requires long { length from.now ≡ length env.old.items }
     ensures env { env.new.items ≡ taken from.now (numbers_of signals.now) env.old.items }
     ensures waits { Wakes plan.now.readers env.old.items env.new.items waits.old.marks waits.new.marks }
     ensures woken { Wakes plan.now.processes env.old.items env.new.items woken.old.marks woken.new.marks }
+    ensures moved { Notes env.old.items env.new.items moved.old.marks moved.new.marks }
 {
     for s in signals {
-        take_one(plan, *s, from, env, waits, woken);
+        take_one(plan, *s, from, env, waits, woken, moved);
     }
 }
 
@@ -41,16 +44,19 @@ pub fn take_given(
     env: &mut Vec<Int>,
     waits: &mut Agenda,
     woken: &mut Agenda,
+    moved: &mut Agenda,
 )
     requires tasks { IsTable (length env.old.items) (length waits.old.marks) plan.now.readers }
     requires processes { IsTable (length env.old.items) (length woken.old.marks) plan.now.processes }
+    requires moved { length moved.old.marks ≡ length env.old.items }
     requires below { AllByRecursion (λ s. s < length env.old.items) (numbers_of plan.now.given) }
     requires long { length held.now ≡ length env.old.items }
     ensures env { env.new.items ≡ taken held.now (numbers_of plan.now.given) env.old.items }
     ensures waits { Wakes plan.now.readers env.old.items env.new.items waits.old.marks waits.new.marks }
     ensures woken { Wakes plan.now.processes env.old.items env.new.items woken.old.marks woken.new.marks }
+    ensures moved { Notes env.old.items env.new.items moved.old.marks moved.new.marks }
 {
-    take(plan, plan.given.as_slice(), held, env, waits, woken);
+    take(plan, plan.given.as_slice(), held, env, waits, woken, moved);
 }
 
 /// The read ports of the memories whose rows changed now wait, and so they do among the processes.
@@ -89,14 +95,17 @@ fn take_one(
     env: &mut Vec<Int>,
     waits: &mut Agenda,
     woken: &mut Agenda,
+    moved: &mut Agenda,
 )
     requires tasks { IsTable (length env.old.items) (length waits.old.marks) plan.now.readers }
     requires processes { IsTable (length env.old.items) (length woken.old.marks) plan.now.processes }
+    requires moved { length moved.old.marks ≡ length env.old.items }
     requires there { s.0 < length env.old.items }
     requires long { length from.now ≡ length env.old.items }
     ensures env { env.new.items ≡ slice_set env.old.items s.0 (at from.now s.0) }
     ensures waits { Wakes plan.now.readers env.old.items env.new.items waits.old.marks waits.new.marks }
     ensures woken { Wakes plan.now.processes env.old.items env.new.items woken.old.marks woken.new.marks }
+    ensures moved { Notes env.old.items env.new.items moved.old.marks moved.new.marks }
 {
     let i = s.0 as usize;
     let number = from[i];
@@ -104,6 +113,7 @@ fn take_one(
         return;
     }
     env[i] = number;
+    moved.mark(i);
     mark_all(plan.readers.get(i).as_slice(), waits);
     mark_all(plan.processes.get(i).as_slice(), woken);
 }

@@ -2,6 +2,7 @@ use Rattle.std.proofs.Common.{◌≡◌, ◌<◌, ◌∙◌, sym, ap, subst, ari
 use Rattle.std.specs.List.{AllByRecursion}
 use Rattle.delta_sim.specs.Plans.{outs_at, taken}
 use Rattle.delta_sim.proofs.DeltaSteps.{kept_turn, taken_turn, once_taken}
+use Rattle.delta_sim.proofs.Moving.{notes_more}
 use Rattle.delta_sim.proofs.Taking.{taken_length}
 use Rattle.delta_sim.proofs.Waking.{wakes_more}
 use Rattle.delta_sim.proofs.delta.take_all.Goals as goal
@@ -28,4 +29,5 @@ loop-i-preserved c =
       taken = taken_turn plan list i from env new e below c.loop-i.invariant.taken;
       waits = wakes_more plan.readers first env new c.args.then.now.marks c.loop-i.then.marks c.take.new.waits.marks once.1 c.loop-i.invariant.waits c.take.ensures.waits;
       woken = wakes_more plan.processes first env new c.args.woken.now.marks c.loop-i.woken.marks c.take.new.woken.marks once.1 c.loop-i.invariant.woken c.take.ensures.woken;
+      moved = notes_more first env new c.args.moved.now.marks c.loop-i.moved.marks c.take.new.moved.marks c.loop-i.invariant.moved c.take.ensures.moved;
     }

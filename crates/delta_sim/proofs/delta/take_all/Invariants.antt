@@ -1,6 +1,6 @@
 use Rattle.std.proofs.Common.{◌≡◌, ◌⊎◌, ℕ, true, false, length, take}
 use Rattle.design_ir.specs.Circuits.{at, is_among}
-use Rattle.delta_sim.specs.Plans.{Wakes, outs_at}
+use Rattle.delta_sim.specs.Plans.{Notes, Wakes, outs_at}
 use Rattle.delta_sim.proofs.delta.take_all.Given as goal
 
 abbrev pub invariant-loop-i : goal.invariant-loop-i
@@ -11,4 +11,5 @@ invariant-loop-i l = record {
   taken : (j s : ℕ) → is_among (take l.i l.waits.list) j ≡ true → is_among (outs_at l.plan j) s ≡ true → at l.env.items s ≡ at l.next s;
   waits : Wakes l.plan.readers l.initial.env.items l.env.items l.initial.then.marks l.then.marks;
   woken : Wakes l.plan.processes l.initial.env.items l.env.items l.initial.woken.marks l.woken.marks;
+  moved : Notes l.initial.env.items l.env.items l.initial.moved.marks l.moved.marks;
 }

@@ -6,6 +6,7 @@ use Rattle.delta_sim.specs.Settling.{nobody}
 use Rattle.delta_sim.specs.Standing.{state_of}
 use Rattle.delta_sim.specs.Waiting.{Waiting}
 use Rattle.delta_sim.proofs.Counting.{few_agents}
+use Rattle.delta_sim.proofs.Moving.{notes_none, notes_more}
 use Rattle.delta_sim.proofs.Resting.{rests_next}
 use Rattle.delta_sim.proofs.Settles.{idle_of, left_first, left_turn, left_next, idle_settles, count_here, count_next, count_end, runs_fit, runs_next, awake, one_most}
 use Rattle.delta_sim.proofs.Waits.{count_most, replicate_length}
@@ -25,6 +26,7 @@ loop-init g c =
       waits = c.requires.waits;
       then = c.requires.then;
       woken = c.requires.woken;
+      moved = notes_none c.args.env.now.items c.args.moved.now.marks;
       rests = c.requires.rests;
       left = left_first d st c.args.env.now.items c.args.waits.now.marks c.args.most c.requires.ends;
       counts = λ before old rest wakes are. record { rows = before; old = old; rest = rest; are = are; wakes = wakes; many_deltas = omega arith; many_runs = omega arith };
@@ -63,6 +65,7 @@ returns-then-len-eq0 g c =
       waits = c.clear-then-len-eq0.ensures ∙ ap nobody c.loop.invariant.waits;
       then = c.loop.invariant.then;
       woken = c.clear.ensures ∙ ap nobody c.loop.invariant.woken;
+      moved = c.loop.invariant.moved;
       counts = λ before old rest wakes are.
           let here = count_here d st c.processes.ensures.rules (length c.loop.nums.items) c.args.plan.now plan c.loop.env.items c.loop.woken.marks c.len-count.result c.loop.counts.deltas c.loop.counts.runs _ _ c.requires.rows.count c.loop.invariant.woken (c.len-count.ensures.count ∙ c.len-count.ensures.rules.count) (c.loop.invariant.counts before old rest wakes are) in
           let all = count_end d st c.loop.env.items _ _ _ _ settled here in
@@ -84,6 +87,7 @@ delta-requires g c =
       waits = c.loop.invariant.waits;
       then = c.loop.invariant.then;
       woken = ap (λ (w : Waiting). length w.marks) (c.clear.ensures ∙ ap nobody c.loop.invariant.woken) ∙ replicate_length false c.args.plan.now.agents;
+      moved = c.loop.invariant.moved.count ∙ c.requires.moved;
     }
 
 pub loop-preserved : goal.loop-preserved
@@ -114,6 +118,7 @@ loop-preserved g c =
       waits = c.delta.ensures.waits.count ∙ replicate_length false c.args.plan.now.jobs;
       then = c.delta.ensures.then;
       woken = woken.count ∙ replicate_length false n;
+      moved = notes_more c.args.env.now.items env new c.args.moved.now.marks c.loop.moved.marks c.delta.new.moved.marks c.loop.invariant.moved c.delta.ensures.moved;
       rests = rests_next d rules design (length c.loop.nums.items) c.loop.invariant.numbers.few c.args.plan.now plan st env new (replicate c.args.plan.now.jobs false) c.delta.new.waits.marks c.requires.rows.count e long (delta_length d st rules design new) c.delta.ensures.waits;
       left = left_next d st c.args.plan.now.readers c.args.plan.now.jobs env new c.loop.waits.marks c.delta.new.waits.marks c.args.most c.loop.counter c.loop.invariant.left some e c.delta.ensures.waits;
       counts = λ before old rest wakes are.

@@ -1,7 +1,7 @@
 use Rattle.std.proofs.Common.{◌≡◌, ◌+◌, ◌*◌, ◌≤◌, ◌∷◌, List, ℤ, length}
 use Rattle.design_ir.specs.Histories.{DeltasFrom}
 use Rattle.design_ir.proofs.NumbersFit.{FitsSignals}
-use Rattle.delta_sim.specs.Plans.{Rests}
+use Rattle.delta_sim.specs.Plans.{Notes, Rests}
 use Rattle.delta_sim.specs.Settling.{IsWoken, nobody}
 use Rattle.delta_sim.specs.Standing.{state_of}
 use Rattle.delta_sim.specs.Tasks.{AreFitting}
@@ -20,6 +20,7 @@ invariant-loop g l = record {
   waits : length l.waits.marks ≡ l.plan.jobs;
   then : l.then ≡ nobody l.plan.jobs;
   woken : length l.woken.marks ≡ l.plan.agents;
+  moved : Notes l.initial.env.items l.env.items l.initial.moved.marks l.moved.marks;
   rests : Rests l.design (state_of l.held l.rows) l.plan l.waits.marks l.env.items;
   left : Left l.design (state_of l.held l.rows) l.env.items l.waits.marks l.most l.counter;
   counts : (before : List (List ℤ)) (old : List ℤ) (rest : List (List ℤ)) → IsWoken l.design l.plan old l.initial.env.items before l.rows l.initial.woken.marks → DeltasFrom l.design (state_of l.held l.rows) l.initial.env.items rest

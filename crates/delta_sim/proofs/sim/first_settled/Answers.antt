@@ -1,13 +1,16 @@
-use Rattle.std.proofs.Common.{◌∙◌, ◌+◌, ap, arith, sym, subst, length}
+use Rattle.std.proofs.Common.{◌∙◌, ◌+◌, ap, arith, sym, subst, false, length}
 use Rattle.comb_graph.specs.Laws.{FitsState}
 use Rattle.design_ir.specs.Settled.{Settled}
 use Rattle.design_ir.proofs.NumbersFit.{FitsSignals}
 use Rattle.delta_sim.specs.Plans.{IsPlan, Rests}
 use Rattle.delta_sim.specs.Settling.{EndsIn}
+use Rattle.delta_sim.specs.Waiting.{Waiting}
 use Rattle.delta_sim.specs.Standing.{IsFresh, AreNumbersOf, AreRowsOf}
 use Rattle.delta_sim.proofs.Applying.{vec_whole}
 use Rattle.delta_sim.proofs.Beginning.{numbers, fit, first_ends, first_rests}
 use Rattle.delta_sim.proofs.Lives.{first_rows, move_state}
+use Rattle.delta_sim.proofs.Moving.{no_signals}
+use Rattle.delta_sim.proofs.Waits.{replicate_length}
 use Rattle.delta_sim.proofs.sim.first_settled.Goals as goal
 
 pub settle-requires-clause-state : goal.settle-requires-clause-state
@@ -40,6 +43,12 @@ settle-requires-clause-next_fits g c =
     let d = c.args.design.now in
     let fresh = subst (IsFresh d) (sym c.sim.view_is) c.requires.fresh in
     subst (FitsSignals d.pool) (sym c.deref_mut.ensures.value) fresh.next.fits
+
+pub settle-requires-clause-moved : goal.settle-requires-clause-moved
+settle-requires-clause-moved g c =
+    let d = c.args.design.now in
+    let fresh = subst (IsFresh d) (sym c.sim.view_is) c.requires.fresh in
+    ap (λ (w : Waiting). length w.marks) fresh.moved ∙ replicate_length false (length d.pool.signals)
 
 pub settle-requires-clause-rests : goal.settle-requires-clause-rests
 settle-requires-clause-rests g c =
@@ -91,4 +100,5 @@ returns-clause-of_design g c =
       woken = c.settle.ensures.woken;
       noted = fresh.noted;
       changed = fresh.changed;
+      moved = no_signals d c.clear.new.self (length c.settle.new.moved.marks) c.clear.ensures (c.settle.ensures.moved.count ∙ ap (λ (w : Waiting). length w.marks) fresh.moved ∙ replicate_length false (length d.pool.signals));
     }

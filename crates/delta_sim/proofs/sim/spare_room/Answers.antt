@@ -12,3 +12,6 @@ returns-clause-noted c = omega (arith, ap length c.in_ok-zeros-2.ensures ∙ zer
 
 pub returns-clause-changed : goal.returns-clause-changed
 returns-clause-changed c = c.in_ok-new-4.ensures ∙ ap nobody (c.len.ensures ∙ ap length c.memories.ensures)
+
+pub returns-clause-moved : goal.returns-clause-moved
+returns-clause-moved c = c.in_ok-new-5.ensures ∙ ap nobody c.signals.ensures

@@ -2,6 +2,7 @@ use Rattle.std.proofs.Common.{◌<◌, length, subst, sym, ap, ◌∙◌, slice_
 use Rattle.std.specs.List.{AllByRecursion}
 use Rattle.design_ir.specs.declared.ids.SigId.{SigId}
 use Rattle.delta_sim.proofs.Likes.{numbers_at}
+use Rattle.delta_sim.proofs.Moving.{notes_more}
 use Rattle.delta_sim.proofs.Taking.{take_turn, once_more, once_between}
 use Rattle.delta_sim.proofs.Turns.{any_default}
 use Rattle.delta_sim.proofs.Waking.{wakes_more}
@@ -27,4 +28,5 @@ loop-s-preserved c =
       all = take_turn from signals i s env new _ c.loop-s-test.true is c.take_one.ensures.env c.loop-s.invariant.all;
       waits = wakes_more c.args.plan.now.readers first env new c.args.waits.now.marks c.loop-s.waits.marks c.take_one.new.waits.marks once c.loop-s.invariant.waits c.take_one.ensures.waits;
       woken = wakes_more c.args.plan.now.processes first env new c.args.woken.now.marks c.loop-s.woken.marks c.take_one.new.woken.marks once c.loop-s.invariant.woken c.take_one.ensures.woken;
+      moved = notes_more first env new c.args.moved.now.marks c.loop-s.moved.marks c.take_one.new.moved.marks c.loop-s.invariant.moved c.take_one.ensures.moved;
     }

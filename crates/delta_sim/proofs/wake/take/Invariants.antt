@@ -2,7 +2,7 @@ use Rattle.std.proofs.Common.{◌≡◌, ◌<◌, ◌⊎◌, ℕ, length, drop}
 use Rattle.std.specs.List.{AllByRecursion}
 use Rattle.design_ir.specs.Circuits.{at}
 use Rattle.delta_sim.specs.Driven.{numbers_of}
-use Rattle.delta_sim.specs.Plans.{Wakes, taken}
+use Rattle.delta_sim.specs.Plans.{Notes, Wakes, taken}
 use Rattle.delta_sim.proofs.wake.take.Given as goal
 
 abbrev pub invariant-loop-s : goal.invariant-loop-s
@@ -13,4 +13,5 @@ invariant-loop-s l = record {
   all : taken l.from (numbers_of (drop l.s-index l.signals)) l.env.items ≡ taken l.from (numbers_of l.signals) l.initial.env.items;
   waits : Wakes l.plan.readers l.initial.env.items l.env.items l.initial.waits.marks l.waits.marks;
   woken : Wakes l.plan.processes l.initial.env.items l.env.items l.initial.woken.marks l.woken.marks;
+  moved : Notes l.initial.env.items l.env.items l.initial.moved.marks l.moved.marks;
 }

@@ -2,6 +2,7 @@ use Rattle.std.proofs.Common.{◌≢◌, ◌<◌, ℕ, [], pos, length, subst, s
 use Rattle.std.specs.List.{AllByRecursion}
 use Rattle.design_ir.specs.Circuits.{at}
 use Rattle.delta_sim.specs.Given.{marked}
+use Rattle.delta_sim.proofs.Moving.{notes_one}
 use Rattle.delta_sim.proofs.Taking.{readers_below}
 use Rattle.delta_sim.proofs.Turns.{any_default}
 use Rattle.delta_sim.proofs.Waking.{wakes_one}
@@ -42,3 +43,10 @@ returns-clause-woken c =
     let now = c.index.ensures ∙ any_default env s c.index.result.now (pos 0) c.requires.there in
     let other : at env s ≢ c.index-from-i.result = λ e. c.if-not-differs.ensures.other refl (now ∙ e) in
     wakes_one table (length env) (length c.args.woken.now.marks) env s c.index-from-i.result c.args.woken.now.marks c.mark_all-2.new.waits.marks c.requires.processes refl c.requires.there other (c.mark_all-2.ensures ∙ ap (λ xs. marked xs c.args.woken.now.marks) list)
+
+pub mark-requires : goal.mark-requires
+mark-requires c = subst (λ n. c.args.s.0 < n) (sym c.requires.moved) c.requires.there
+
+pub returns-clause-moved : goal.returns-clause-moved
+returns-clause-moved c =
+    notes_one c.args.env.now.items c.args.s.0 c.index-from-i.result c.args.moved.now.marks c.mark.new.self.marks c.requires.moved c.requires.there c.mark.ensures.marks

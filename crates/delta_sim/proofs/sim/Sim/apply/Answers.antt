@@ -6,12 +6,13 @@ use Rattle.design_ir.specs.Settled.{Settled}
 use Rattle.design_ir.specs.Steps.{step}
 use Rattle.design_ir.proofs.NumbersFit.{FitsSignals}
 use Rattle.delta_sim.specs.Driven.{numbers_of}
-use Rattle.delta_sim.specs.Plans.{taken, Rests, IsTable, IsPlan, Wakes}
+use Rattle.delta_sim.specs.Plans.{taken, Notes, Rests, IsTable, IsPlan, Wakes}
 use Rattle.delta_sim.specs.Settling.{AreCounts, EndsIn, IsWoken, nobody}
-use Rattle.delta_sim.specs.Standing.{Simulated, IsSimOf, Settles, Stands, state_of, AreNumbersOf, AreRowsOf}
+use Rattle.delta_sim.specs.Standing.{Simulated, IsSimOf, Settles, Stands, Tells, state_of, AreNumbersOf, AreRowsOf, AreSignals}
 use Rattle.delta_sim.specs.Waiting.{Waiting}
 use Rattle.delta_sim.proofs.Applying.{begins, vec_whole}
 use Rattle.delta_sim.proofs.Lives.{happened, move_state, same_state, step_numbers, step_rows}
+use Rattle.delta_sim.proofs.Moving.{no_signals, notes_more, tells}
 use Rattle.delta_sim.proofs.Waits.{replicate_length}
 use Rattle.delta_sim.proofs.sim.Sim.apply.Goals as goal
 
@@ -45,6 +46,7 @@ take_given-requires g c =
       processes = subst (λ n. IsTable n (length i.woken.marks) i.plan.processes) (sym of.env.count) (subst (λ b. IsTable (length d.pool.signals) b i.plan.processes) (sym woken_long) of.plan.processes);
       below = subst (λ n. AllByRecursion (λ s. s < n) (numbers_of i.plan.given)) (sym of.env.count) of.plan.given_below;
       long = ap length c.as_slice-2.ensures.value ∙ held_long ∙ (step_numbers d c.count.ensures.rules c.processes.ensures.rules i.held.items i.rows.items i.env.items c.args.event.now c.requires.legal of.held of.rows).count ∙ sym of.env.count;
+      moved = (no_signals d c.clear.new.self (length i.moved.marks) c.clear.ensures of.moved.count).count ∙ sym of.env.count;
     }
 
 pub wake_ports-requires : goal.wake_ports-requires
@@ -80,6 +82,13 @@ settle-self-inside-requires-clause-woken g c =
     let i = c.self.inside in
     let of = subst (IsSimOf d) (sym c.self.view_is) c.requires.of_design in
     (c.wake_ports.ensures.woken (length d.processes) of.plan.agents).count ∙ c.take_given.ensures.woken.count ∙ ap (λ (w : Waiting). length w.marks) of.woken ∙ replicate_length false i.plan.agents
+
+pub settle-self-inside-requires-clause-moved : goal.settle-self-inside-requires-clause-moved
+settle-self-inside-requires-clause-moved g c =
+    let d = c.args.design.now in
+    let i = c.self.inside in
+    let of = subst (IsSimOf d) (sym c.self.view_is) c.requires.of_design in
+    c.take_given.ensures.moved.count ∙ (no_signals d c.clear.new.self (length i.moved.marks) c.clear.ensures of.moved.count).count
 
 pub settle-self-inside-requires-clause-most : goal.settle-self-inside-requires-clause-most
 settle-self-inside-requires-clause-most g c =
@@ -190,7 +199,8 @@ returns-clause-of_design g c =
       then = c.settle-self-inside.ensures.then;
       woken = c.settle-self-inside.ensures.woken;
       noted = omega (arith, of.noted, c.hold.ensures.room);
-      changed = c.clear.ensures ∙ ap nobody c.hold.ensures.changed_count;
+      changed = c.clear-2.ensures ∙ ap nobody c.hold.ensures.changed_count;
+      moved = record { count = c.settle-self-inside.ensures.moved.count ∙ c.take_given.ensures.moved.count ∙ (no_signals d c.clear.new.self (length i.moved.marks) c.clear.ensures of.moved.count).count; once = c.items.ensures.rules };
     }
 
 pub returns-clause-lives : goal.returns-clause-lives
@@ -221,7 +231,8 @@ returns-clause-lives g c = λ events stands.
       then = c.settle-self-inside.new.then;
       woken = c.settle-self-inside.new.woken;
       noted = c.hold.new.room.items;
-      changed = c.clear.new.self;
+      changed = c.clear-2.new.self;
+      moved = c.settle-self-inside.new.moved;
     } in
     let is_sim : IsSimOf d new = record {
       held = begun.held_of;
@@ -237,9 +248,10 @@ returns-clause-lives g c = λ events stands.
       then = c.settle-self-inside.ensures.then;
       woken = c.settle-self-inside.ensures.woken;
       noted = omega (arith, of.noted, c.hold.ensures.room);
-      changed = c.clear.ensures ∙ ap nobody c.hold.ensures.changed_count;
+      changed = c.clear-2.ensures ∙ ap nobody c.hold.ensures.changed_count;
+      moved = record { count = c.settle-self-inside.ensures.moved.count ∙ c.take_given.ensures.moved.count ∙ (no_signals d c.clear.new.self (length i.moved.marks) c.clear.ensures of.moved.count).count; once = c.items.ensures.rules };
     } in
-    let was : Simulated = record { held = i.held.items; rows = i.rows.items; env = i.env.items; counts = i.counts; longest = i.longest; plan = i.plan; numbers = i.numbers.items; next = i.next.items; waits = i.waits; then = i.then; woken = i.woken; noted = i.noted.items; changed = i.changed } in
+    let was : Simulated = record { held = i.held.items; rows = i.rows.items; env = i.env.items; counts = i.counts; longest = i.longest; plan = i.plan; numbers = i.numbers.items; next = i.next.items; waits = i.waits; then = i.then; woken = i.woken; noted = i.noted.items; changed = i.changed; moved = i.moved } in
     happened d events c.args.event.now was new is_sim (same_state (step d (state_of i.held.items i.rows.items) i.env.items c.args.event.now) held rows held_is rows_is) settled (subst (Stands d events) (sym c.self.view_is) stands)
 
 pub returns-clause-counts : goal.returns-clause-counts
@@ -282,8 +294,36 @@ returns-clause-counts g c =
       then = c.settle-self-inside.new.then;
       woken = c.settle-self-inside.new.woken;
       noted = c.hold.new.room.items;
-      changed = c.clear.new.self;
+      changed = c.clear-2.new.self;
+      moved = c.settle-self-inside.new.moved;
     } in
-    let was : Simulated = record { held = i.held.items; rows = i.rows.items; env = i.env.items; counts = i.counts; longest = i.longest; plan = i.plan; numbers = i.numbers.items; next = i.next.items; waits = i.waits; then = i.then; woken = i.woken; noted = i.noted.items; changed = i.changed } in
+    let was : Simulated = record { held = i.held.items; rows = i.rows.items; env = i.env.items; counts = i.counts; longest = i.longest; plan = i.plan; numbers = i.numbers.items; next = i.next.items; waits = i.waits; then = i.then; woken = i.woken; noted = i.noted.items; changed = i.changed; moved = i.moved } in
     let here : Settles d was new = record { deltas = first ∷ rest; are = begun.deltas rest begun.ends.are; counts = counted } in
     subst (λ (s : Simulated). Settles d s new) c.self.view_is here
+
+pub returns-clause-moved : goal.returns-clause-moved
+returns-clause-moved g c =
+    let d = c.args.design.now in
+    let i = c.self.inside in
+    let of = subst (IsSimOf d) (sym c.self.view_is) c.requires.of_design in
+    let new : Simulated = record {
+      held = c.hold.new.held.items;
+      rows = c.hold.new.rows.items;
+      env = c.settle-self-inside.new.env.items;
+      counts = c.settle-self-inside.result;
+      longest = c.self.inside.longest;
+      plan = c.self.inside.plan;
+      numbers = c.settle-self-inside.new.nums.items;
+      next = take c.self.inside.next.len (c.settle-self-inside.new.next ++ drop (length c.settle-self-inside.new.next) c.self.inside.next.items);
+      waits = c.settle-self-inside.new.waits;
+      then = c.settle-self-inside.new.then;
+      woken = c.settle-self-inside.new.woken;
+      noted = c.hold.new.room.items;
+      changed = c.clear-2.new.self;
+      moved = c.settle-self-inside.new.moved;
+    } in
+    let was : Simulated = record { held = i.held.items; rows = i.rows.items; env = i.env.items; counts = i.counts; longest = i.longest; plan = i.plan; numbers = i.numbers.items; next = i.next.items; waits = i.waits; then = i.then; woken = i.woken; noted = i.noted.items; changed = i.changed; moved = i.moved } in
+    let cleared : AreSignals d c.clear.new.self = no_signals d c.clear.new.self (length i.moved.marks) c.clear.ensures of.moved.count in
+    let are : AreSignals d new.moved = record { count = c.settle-self-inside.ensures.moved.count ∙ c.take_given.ensures.moved.count ∙ cleared.count; once = c.items.ensures.rules } in
+    let notes = notes_more i.env.items c.take_given.new.env.items c.settle-self-inside.new.env.items c.clear.new.self.marks c.take_given.new.moved.marks c.settle-self-inside.new.moved.marks c.take_given.ensures.moved c.settle-self-inside.ensures.moved in
+    subst (λ (s : Simulated). Tells d s new) c.self.view_is (tells d was new c.clear.new.self.marks are notes)

@@ -58,6 +58,7 @@ first_settled-requires-clause-fresh c =
       woken = c.in_ok-spare.ensures.woken;
       noted = c.in_ok-spare.ensures.noted;
       changed = c.in_ok-spare.ensures.changed;
+      moved = c.in_ok-spare.ensures.moved;
     }
 
 pub returns : goal.returns
