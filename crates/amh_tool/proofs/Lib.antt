@@ -2,6 +2,7 @@ mod TraceSamples
 pub mod BoardLaws
 pub mod TraceLaws
 pub mod LaneLaws
+mod StripeLaws
 pub mod Refused
 pub mod TextLineLaws
 pub mod ScriptWordLaws

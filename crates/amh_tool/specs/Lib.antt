@@ -6,6 +6,7 @@ pub mod ScriptParts
 pub mod ScriptGives
 pub mod Trace
 pub mod Lanes
+pub mod Stripes
 pub mod Plan
 pub mod Designs
 pub mod DesignGives

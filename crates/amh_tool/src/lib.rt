@@ -27,6 +27,7 @@ mod trace;
 mod trace_columns;
 mod trace_events;
 mod trace_lines;
+mod trace_stripes;
 
 pub use laws::outcomes_are_one;
 pub use playing::play;

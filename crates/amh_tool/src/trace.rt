@@ -9,15 +9,15 @@ ghost use Rattle.design_ir.specs.declared.event.Event.{Event};
 ghost use Rattle.design_ir.specs.Histories.{History};
 ghost use Rattle.design_ir.specs.Legal.{IsLegal, AllLegal};
 ghost use Rattle.comb_graph.specs.Laws.{HasOneHistory};
-ghost use Rattle.delta_sim.specs.Standing.{IsSimOf, Stands};
+ghost use Rattle.delta_sim.specs.Standing.{IsSimOf, Stands, Tells};
 ghost use Rattle.amh_tool.specs.Headline.{IsTrace};
 ghost use Rattle.amh_tool.specs.Trace.{timed, column_line, row_lines, Done};
 ghost use Rattle.amh_tool.specs.Verdicts.{IsFitting};
 
 use crate::accept::Accepted;
 use crate::board::Shown;
-use crate::trace_columns::{lanes_of, push_rest};
 use crate::trace_lines::{column_line, done_line, head_line, push_first, push_front};
+use crate::trace_stripes::Stripes;
 use amh_bits::Int;
 use amh_host::{Host, HostStop, NoMemory, Steps};
 use comb_graph::ordered_have_one_history;
@@ -110,7 +110,7 @@ fn put_rows<H: Host>(
     ensures cause { HasCause (H.faults host.old) (H.faults host.new) result }
 {
     has_one_history(accepted);
-    let mut lanes = lanes_of(alloc, accepted.board.columns.as_slice(), sim.values())?;
+    let mut stripes = Stripes::of(alloc, accepted.board.columns.as_slice(), sim.values())?;
     let mut line = Vec::new(alloc);
     let mut time = 0;
     for event in accepted.events.as_slice() {
@@ -118,7 +118,7 @@ fn put_rows<H: Host>(
         line.clear();
         push_front(&mut line, &accepted.board, time, event, sim.values())?;
         apply(sim, &accepted.ranked.design, event)?;
-        push_rest(&mut line, &mut lanes, sim.values())?;
+        stripes.push_rest(&mut line, sim.moved(), sim.values())?;
         host.put(name, line.as_slice())?;
     }
     Ok(())
@@ -130,6 +130,7 @@ fn apply(sim: &mut Sim, design: &Design, event: &Event) -> Result<(), NoMemory>
     requires of_design { IsSimOf design.now sim.old }
     ensures of_design { IsSimOf design.now sim.new }
     ensures lives { (events : List Event) → Stands design.now events sim.old → MatchResult result (λ _. Stands design.now (events ++ event.now ∷ []) sim.new) (λ _. Stands design.now events sim.new) }
+    ensures moved { Tells design.now sim.old sim.new }
 {
     counted_apply::<Brand>(sim, design, event, Blank::new(1))
 }
@@ -146,6 +147,7 @@ fn counted_apply<L: Ledger>(
     requires of_design { IsSimOf design.now sim.old }
     ensures of_design { IsSimOf design.now sim.new }
     ensures lives { (events : List Event) → Stands design.now events sim.old → MatchResult result (λ _. Stands design.now (events ++ event.now ∷ []) sim.new) (λ _. Stands design.now events sim.new) }
+    ensures moved { Tells design.now sim.old sim.new }
 {
     let mut steps = Steps::<L>::new(blank);
     sim.apply(design, event, &mut steps)

@@ -2,7 +2,6 @@
 ghost use Rattle.std.specs.Prelude.{◌≡◌, ◌++◌, ◌∷◌, [], map, IfOk, OnOk};
 ghost use Rattle.std.specs.List.{flat_map};
 ghost use Rattle.amh_tool.specs.Lanes.{label_of, lane_at, lanes_at, lane_text, moved};
-ghost use Rattle.amh_tool.specs.Trace.{line_feed};
 
 use crate::board::Shown;
 use crate::trace_events::number_of;
@@ -52,17 +51,8 @@ fn label_of(alloc: Global, name: &str) -> Result<Text, NoMemory>
     Ok(label)
 }
 
-/// Adds what is left of the line of an event: the columns whose numbers it changed.
-pub fn push_rest(text: &mut Vec<u8>, lanes: &mut [Lane], now: &[Int]) -> Result<(), AllocError>
-    ensures text { OnOk result (text.new.items ≡ text.old.items ++ (flat_map (lane_text now.now) lanes.old ++ line_feed)) }
-    ensures lanes { OnOk result (lanes.new ≡ map (moved now.now) lanes.old) }
-{
-    push_changes(text, lanes, now)?;
-    text.push(b'\n')?;
-    Ok(())
-}
-
-fn push_changes(text: &mut Vec<u8>, lanes: &mut [Lane], now: &[Int]) -> Result<(), AllocError>
+/// Adds the columns whose numbers are other ones now.
+pub fn push_changes(text: &mut Vec<u8>, lanes: &mut [Lane], now: &[Int]) -> Result<(), AllocError>
     ensures text { OnOk result (text.new.items ≡ text.old.items ++ flat_map (lane_text now.now) lanes.old) }
     ensures lanes { OnOk result (lanes.new ≡ map (moved now.now) lanes.old) }
 {

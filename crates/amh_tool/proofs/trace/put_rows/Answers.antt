@@ -1,20 +1,21 @@
-use Rattle.std.proofs.Common.{◌≡◌, ◌∙◌, ◌+◌, ◌++◌, ◌∷◌, [], ap, sym, subst, refl, List, ℕ, drop, map, length, arith}
-use Rattle.std.proofs.lemmas.List.{drop_all, length-map}
-use Rattle.std.specs.List.{flat_map}
+use Rattle.std.proofs.Common.{◌≡◌, ◌∙◌, ◌+◌, ◌++◌, ◌∷◌, [], ap, sym, subst, refl, List, ℕ, drop, length, map}
+use Rattle.std.proofs.lemmas.List.{drop_all}
+use Rattle.std.specs.List.{AllByRecursion, flat_map}
 use Rattle.std.proofs.lemmas.Result.{err_from_is_err_and}
 use Rattle.amh_host.specs.Seen.{written}
 use Rattle.amh_host.specs.Calls.{AddsFront}
 use Rattle.amh_host.proofs.SeenLaws.{written-nil, written-written}
 use Rattle.design_ir.specs.Legal.{AllLegal}
-use Rattle.delta_sim.proofs.Grouping.{front_taken}
 use Rattle.amh_tool.specs.Lanes.{lanes_at, lane_text, moved, row_head}
 use Rattle.amh_tool.specs.Trace.{Row, line_feed, row_line, row_lines, timed}
+use Rattle.amh_tool.specs.Stripes.{IsNoted, grid, joined}
+use Rattle.amh_tool.proofs.StripeLaws.{noted_at}
 use Rattle.amh_tool.proofs.LaneLaws.{lanes_moved, row_line-parts}
 use Rattle.amh_tool.proofs.TraceLaws.{GoesOn, drop_at, gone_next, legal_next, goes_from_first, goes_on, rows_front, row_front, rows_whole}
 use Rattle.amh_tool.proofs.trace.put_rows.Goals as goal
 
-pub returns-in_err-lanes-clause-done : goal.returns-in_err-lanes-clause-done
-returns-in_err-lanes-clause-done g c = λ envs history.
+pub returns-in_err-stripes-clause-done : goal.returns-in_err-stripes-clause-done
+returns-in_err-stripes-clause-done g c = λ envs history.
     let p = err_from_is_err_and c.from_residual.result c.from_residual.ensures.1 in
     let a = c.args.accepted.now in
     let old = g.H.Host.seen c.args.host.now in
@@ -30,7 +31,9 @@ loop-event-init g c =
       gone = [];
       whole = refl;
       stands = c.requires.first;
-      shown = c.in_ok-lanes.ensures ∙ (λ j. lanes_at (c.as_slice.ensures j) (c.values.ensures j));
+      shown = c.in_ok-stripes.ensures.lanes ∙ (λ j. lanes_at (c.as_slice.ensures j) (c.values.ensures j));
+      found = c.in_ok-stripes.ensures.found;
+      many = c.in_ok-stripes.ensures.count ∙ ap length c.values.ensures ∙ c.requires.first.of_design.env.count;
       so_far = [];
       seen = sym (written-nil c.args.name.now (g.H.Host.seen c.args.host.now));
       rest = λ envs history.
@@ -70,6 +73,21 @@ returns-in_err-push_rest-clause-done g c = λ envs history.
     let a = c.args.accepted.now in
     rw p.1 (rows_front c.args.name.now v.so_far _ a.ranked.design a.board c.loop-event.time _ c.loop-event.sim (g.H.Host.seen c.args.host.now) (g.H.Host.seen c.loop-event.host) v.seen (v.rest envs history))
 
+pub push_rest-requires-clause-found : goal.push_rest-requires-clause-found
+push_rest-requires-clause-found g c = c.loop-event.invariant.found
+
+pub push_rest-requires-clause-noted : goal.push_rest-requires-clause-noted
+push_rest-requires-clause-noted g c =
+    let v = c.loop-event.invariant in
+    let a = c.args.accepted.now in
+    let count = length c.loop-event.stripes.shown.items in
+    let new = c.apply.new.sim in
+    let stripes = joined (grid c.loop-event.stripes.stripes.items) in
+    let noted = noted_at count a.ranked.design c.loop-event.sim new a.board.columns v.many c.apply.ensures.moved in
+    let shown = subst (λ xs. AllByRecursion (IsNoted count new.moved.list new.env) xs) (sym v.shown) noted in
+    let told = subst (λ ss. AllByRecursion (IsNoted count ss new.env) stripes) (sym c.moved.ensures) shown in
+    subst (λ env. AllByRecursion (IsNoted count c.moved.result.now env) stripes) (sym c.values-in-loop-event-2.ensures) told
+
 pub returns-in_err-put-clause-done : goal.returns-in_err-put-clause-done
 returns-in_err-put-clause-done g c = λ envs history.
     let p = err_from_is_err_and c.from_residual-in_err-put.result c.from_residual-in_err-put.ensures.1 in
@@ -90,8 +108,7 @@ returns-in_err-put-clause-done g c = λ envs history.
     let now = c.values-in-loop-event-2.ensures in
     let row : Row = record { time = c.loop-event.time + 1; event = e } in
     let front : c.push_front.new.text.items ≡ row_head a.board row old.env = c.in_ok-push_front.ensures ∙ (λ j. c.clear.ensures.items j ++ row_head a.board row (before j)) in
-    let lanes = c.deref_mut.ensures.value ∙ v.shown in
-    let made : line ≡ row_line a.board row old.env new.env = c.in_ok-push_rest.ensures.text ∙ (λ j. front j ++ (flat_map (lane_text (now j)) (lanes j) ++ line_feed)) ∙ row_line-parts a.board row old.env new.env in
+    let made : line ≡ row_line a.board row old.env new.env = c.in_ok-push_rest.ensures.text ∙ (λ j. front j ++ (flat_map (lane_text (now j)) (v.shown j) ++ line_feed)) ∙ row_line-parts a.board row old.env new.env in
     let next = goes_on d a.board c.loop-event.time v.gone (drop i items) more e old new v.so_far line _ split (c.has_one_history.ensures (v.gone ++ e ∷ []) legal.1) v.stands stands made (v.rest envs history) in
     let s = g.H.Host.seen c.loop-event.host in
     let t = g.H.Host.seen c.put.new.self in
@@ -117,16 +134,16 @@ loop-event-preserved g c =
     let now = c.values-in-loop-event-2.ensures in
     let row : Row = record { time = c.loop-event.time + 1; event = e } in
     let front : c.push_front.new.text.items ≡ row_head a.board row old.env = c.in_ok-push_front.ensures ∙ (λ j. c.clear.ensures.items j ++ row_head a.board row (before j)) in
-    let lanes = c.deref_mut.ensures.value ∙ v.shown in
-    let made : line ≡ row_line a.board row old.env new.env = c.in_ok-push_rest.ensures.text ∙ (λ j. front j ++ (flat_map (lane_text (now j)) (lanes j) ++ line_feed)) ∙ row_line-parts a.board row old.env new.env in
-    let same : c.loop-event.lanes.len ≡ length c.push_rest.new.lanes = omega (arith, c.deref_mut.ensures.len, ap length c.in_ok-push_rest.ensures.lanes ∙ length-map c.deref_mut.result.now (moved c.values-in-loop-event-2.result.now)) in
+    let made : line ≡ row_line a.board row old.env new.env = c.in_ok-push_rest.ensures.text ∙ (λ j. front j ++ (flat_map (lane_text (now j)) (v.shown j) ++ line_feed)) ∙ row_line-parts a.board row old.env new.env in
     record {
       faults = c.in_ok-put.ensures.cause.ok ∙ v.faults;
       time = ap (λ (n : ℕ). n + 1) v.time;
       gone = v.gone ++ e ∷ [];
       whole = gone_next v.gone (drop i items) more items e split v.whole;
       stands = stands;
-      shown = front_taken c.loop-event.lanes.len c.push_rest.new.lanes _ same ∙ c.in_ok-push_rest.ensures.lanes ∙ (λ j. map (moved (now j)) (lanes j)) ∙ lanes_moved a.board.columns old.env new.env;
+      shown = c.in_ok-push_rest.ensures.lanes ∙ (λ j. map (moved (now j)) (v.shown j)) ∙ lanes_moved a.board.columns old.env new.env;
+      found = c.in_ok-push_rest.ensures.found;
+      many = c.push_rest.ensures.count ∙ v.many;
       so_far = v.so_far ++ line;
       seen = c.in_ok-put.ensures.done ∙ (λ j. written c.args.name.now (c.as_slice-in-loop-event.ensures.value j) (v.seen j)) ∙ written-written c.args.name.now v.so_far line (g.H.Host.seen c.args.host.now);
       rest = λ envs history. goes_on d a.board c.loop-event.time v.gone (drop i items) more e old new v.so_far line _ split (c.has_one_history.ensures (v.gone ++ e ∷ []) legal.1) v.stands stands made (v.rest envs history);

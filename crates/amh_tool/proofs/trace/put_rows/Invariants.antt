@@ -1,9 +1,10 @@
-use Rattle.std.proofs.Common.{◌≡◌, ◌++◌, ◌∷◌, drop, ℕ, ℤ, List}
+use Rattle.std.proofs.Common.{◌≡◌, ◌++◌, ◌∷◌, drop, length, ℕ, ℤ, List}
 use Rattle.amh_host.specs.Seen.{written}
 use Rattle.design_ir.specs.declared.event.Event.{Event}
 use Rattle.design_ir.specs.Histories.{History}
 use Rattle.delta_sim.specs.Standing.{Stands}
 use Rattle.amh_tool.specs.Lanes.{lanes_at}
+use Rattle.amh_tool.specs.Stripes.{AreFound, grid, joined}
 use Rattle.amh_tool.specs.Trace.{row_lines, timed}
 use Rattle.amh_tool.proofs.TraceLaws.{GoesOn}
 use Rattle.amh_tool.proofs.trace.put_rows.Given as goal
@@ -15,7 +16,9 @@ invariant-loop-event g l = record {
   gone : List Event;
   whole : gone ++ drop l.event-index l.event-items ≡ l.event-items;
   stands : Stands l.accepted.ranked.design gone l.sim;
-  shown : l.lanes.items ≡ lanes_at l.accepted.board.columns l.sim.env;
+  shown : joined (grid l.stripes.stripes.items) ≡ lanes_at l.accepted.board.columns l.sim.env;
+  found : AreFound l.stripes.shown.items 0 (grid l.stripes.stripes.items);
+  many : length l.stripes.shown.items ≡ length l.accepted.ranked.design.pool.signals;
   so_far : List ℕ;
   seen : g.H.Host.seen l.host ≡ written l.name so_far (g.H.Host.seen l.fn.host);
   rest : (envs : List (List ℤ)) → History l.accepted.ranked.design l.accepted.events (l.fn.sim.env ∷ envs)
