@@ -49,7 +49,7 @@ CASES = [
     ("1000 registers", registers, 1000, 2000),
     ("chain of 4000", chain, 4000, 100),
     ("still chain of 1", still, 1, 200000),
-    ("still chain of 4000", still, 4000, 20000),
+    ("still chain of 4000", still, 4000, 200000),
 ]
 
 
