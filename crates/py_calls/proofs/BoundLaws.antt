@@ -1,8 +1,13 @@
 -- Laws of names that are bound, and of attributes that are set, one after the other.
-use Rattle.std.proofs.Common.{◌≡◌, ℕ, ◌+◌, ◌<◌, ◌≤◌, ap, ◌∙◌, sym, subst, List, [], ◌∷◌, length, get_or, drop, Some, Result, Ok, Err}
+use Rattle.std.proofs.Common.{◌≡◌, ℕ, ◌+◌, ◌<◌, ◌≤◌, ap, ◌∙◌, sym, subst, List, [], ◌∷◌, length, get_or, drop, map, Option, Some, Result, Ok, Err}
 use Rattle.std.proofs.lemmas.List.{drop_more, drop_all}
 use Rattle.amh_host.specs.declared.place.Place.{Place}
-use Rattle.py_tree.specs.Programs.{steps_of}
+use Rattle.py_tree.specs.declared.stmt.Param.{Param}
+use Rattle.py_tree.specs.declared.stmt.Param.TheVariants as param
+use Rattle.py_tree.specs.declared.expr.Expr.{Expr}
+use Rattle.py_frames.specs.Functions.{named_val}
+use Rattle.py_calls.specs.Meeting.{met_of}
+use Rattle.py_tree.specs.Programs.{steps_of, parameter_of}
 use Rattle.py_tree.specs.Steps.{Steps}
 use Rattle.py_values.specs.declared.val.Val.{Val}
 use Rattle.py_values.specs.declared.val.ObjId.{ObjId}
@@ -30,12 +35,6 @@ use Rattle.py_frames.proofs.CallLaws.{same_runs}
 
 -- ---- one step of each walk
 
-bound-step : (frozen : Made) (scope : ℕ) (heap : Made) (names : List NamedVal) (i : ℕ) (x : NamedVal) → i < length names → x ≡ get_or names i x → names_bound frozen scope heap (drop i names) ≡ after_set (scope_bound (seen frozen heap) scope x.name x.val) (λ more. names_bound frozen scope more (drop (i + 1) names))
-bound-step frozen scope heap names i x e q = ap (names_bound frozen scope heap) (drop_more names i x e ∙ ap (λ z. z ∷ drop (i + 1) names) (sym q))
-
-pub bound_goes : (frozen : Made) (scope : ℕ) (heap more : Made) (names : List NamedVal) (i : ℕ) (x : NamedVal) (t : Unit {0}) → i < length names → x ≡ get_or names i x → scope_bound (seen frozen heap) scope x.name x.val ≡ Ok (t, more) → names_bound frozen scope more (drop (i + 1) names) ≡ names_bound frozen scope heap (drop i names)
-bound_goes frozen scope heap more names i x t e q h = sym (bound-step frozen scope heap names i x e q ∙ ap (λ z. after_set z (λ m. names_bound frozen scope m (drop (i + 1) names))) h)
-
 answers-set : (e : ValueStop) (owed : Result (Unit {0} × Made) ValueStop) (f : Made → Result Made ValueStop) → Answers {A = Unit {0} × Made} (Err e) owed → Answers {A = Made} (Err e) (after_set owed f)
 answers-set refusal.Raised owed f h = ap (λ z. after_set z f) h
 answers-set refusal.Width owed f h = ap (λ z. after_set z f) h
@@ -46,13 +45,39 @@ answers-set refusal.NoMemory owed f h = tt
 answers-same : (e : ValueStop) (owed same : Result Made ValueStop) → owed ≡ same → Answers {A = Made} (Err e) owed → Answers {A = Made} (Err e) same
 answers-same e owed same q h = let P : Result Made ValueStop → Type 0 = λ z. Answers {A = Made} (Err e) z in subst P q h
 
-pub bound_stops : (frozen : Made) (scope : ℕ) (heap : Made) (names : List NamedVal) (i : ℕ) (x : NamedVal) (e : ValueStop) → i < length names → x ≡ get_or names i x → Answers {A = Unit {0} × Made} (Err e) (scope_bound (seen frozen heap) scope x.name x.val) → Answers {A = Made} (Err e) (names_bound frozen scope heap (drop i names))
-bound_stops frozen scope heap names i x v e q h = answers-same v (after_set (scope_bound (seen frozen heap) scope x.name x.val) (λ more. names_bound frozen scope more (drop (i + 1) names))) (names_bound frozen scope heap (drop i names)) (sym (bound-step frozen scope heap names i x e q)) (answers-set v (scope_bound (seen frozen heap) scope x.name x.val) (λ more. names_bound frozen scope more (drop (i + 1) names)) h)
+-- one parameter of them
+met-step : (params : List Param) (i : ℕ) (p : Param) (vs : List Val) → i < length params → p ≡ get_or params i p → met_of (map parameter_of (drop i params)) vs ≡ met_of (parameter_of p ∷ map parameter_of (drop (i + 1) params)) vs
+met-step params i p vs e q = ap (λ z. met_of (map parameter_of z) vs) (drop_more params i p e ∙ ap (λ z. z ∷ drop (i + 1) params) (sym q))
 
-pub bound_ends : (frozen : Made) (scope : ℕ) (heap : Made) (names : List NamedVal) (i : ℕ) → length names ≤ i → names_bound frozen scope heap (drop i names) ≡ Ok heap
-bound_ends frozen scope heap names i e = ap (names_bound frozen scope heap) (drop_all i names e)
+-- one that has a name, and a value
+named-step : (params : List Param) (i : ℕ) (p : Param) (place : Place) (n : List ℕ) (a d : Option Expr) (vals : List Val) (next : ℕ) (v : Val) → i < length params → p ≡ get_or params i p → p ≡ param.Named place n a d → next < length vals → v ≡ get_or vals next v → met_of (map parameter_of (drop i params)) (drop next vals) ≡ named_val n v ∷ met_of (map parameter_of (drop (i + 1) params)) (drop (next + 1) vals)
+named-step params i p place n a d vals next v e q s l w =
+    met-step params i p (drop next vals) e q ∙ ap (λ z. met_of (parameter_of z ∷ map parameter_of (drop (i + 1) params)) (drop next vals)) s
+    ∙ ap (met_of (parameter_of (param.Named place n a d) ∷ map parameter_of (drop (i + 1) params))) (drop_more vals next v l ∙ ap (λ z. z ∷ drop (next + 1) vals) (sym w))
 
-pub ruleset bound_steps = (bound_goes, bound_stops, bound_ends)
+pub star_skipped : (frozen : Made) (scope : ℕ) (heap : Made) (params : List Param) (i : ℕ) (p : Param) (place : Place) (vs : List Val) → i < length params → p ≡ get_or params i p → p ≡ param.Star place → names_bound frozen scope heap (met_of (map parameter_of (drop (i + 1) params)) vs) ≡ names_bound frozen scope heap (met_of (map parameter_of (drop i params)) vs)
+star_skipped frozen scope heap params i p place vs e q s =
+    ap (names_bound frozen scope heap) (sym (met-step params i p vs e q ∙ ap (λ z. met_of (parameter_of z ∷ map parameter_of (drop (i + 1) params)) vs) s))
+
+pub bound_goes : (frozen : Made) (scope : ℕ) (heap more : Made) (params : List Param) (i : ℕ) (p : Param) (place : Place) (n : List ℕ) (a d : Option Expr) (vals : List Val) (next : ℕ) (v : Val) (t : Unit {0}) → i < length params → p ≡ get_or params i p → p ≡ param.Named place n a d → next < length vals → v ≡ get_or vals next v → scope_bound (seen frozen heap) scope n v ≡ Ok (t, more) → names_bound frozen scope more (met_of (map parameter_of (drop (i + 1) params)) (drop (next + 1) vals)) ≡ names_bound frozen scope heap (met_of (map parameter_of (drop i params)) (drop next vals))
+bound_goes frozen scope heap more params i p place n a d vals next v t e q s l w h =
+    sym (ap (names_bound frozen scope heap) (named-step params i p place n a d vals next v e q s l w) ∙ ap (λ z. after_set z (λ m. names_bound frozen scope m (met_of (map parameter_of (drop (i + 1) params)) (drop (next + 1) vals)))) h)
+
+pub bound_stops : (frozen : Made) (scope : ℕ) (heap : Made) (params : List Param) (i : ℕ) (p : Param) (place : Place) (n : List ℕ) (a d : Option Expr) (vals : List Val) (next : ℕ) (v : Val) (e : ValueStop) → i < length params → p ≡ get_or params i p → p ≡ param.Named place n a d → next < length vals → v ≡ get_or vals next v → Answers {A = Unit {0} × Made} (Err e) (scope_bound (seen frozen heap) scope n v) → Answers {A = Made} (Err e) (names_bound frozen scope heap (met_of (map parameter_of (drop i params)) (drop next vals)))
+bound_stops frozen scope heap params i p place n a d vals next v e l q s k w h =
+    let rest = met_of (map parameter_of (drop (i + 1) params)) (drop (next + 1) vals) in
+    answers-same e (after_set (scope_bound (seen frozen heap) scope n v) (λ more. names_bound frozen scope more rest)) (names_bound frozen scope heap (met_of (map parameter_of (drop i params)) (drop next vals)))
+      (sym (ap (names_bound frozen scope heap) (named-step params i p place n a d vals next v l q s k w))) (answers-set e (scope_bound (seen frozen heap) scope n v) (λ more. names_bound frozen scope more rest) h)
+
+-- no value is left
+pub bound_past : (frozen : Made) (scope : ℕ) (heap : Made) (params : List Param) (i : ℕ) (p : Param) (place : Place) (n : List ℕ) (a d : Option Expr) (vals : List Val) (next : ℕ) → i < length params → p ≡ get_or params i p → p ≡ param.Named place n a d → length vals ≤ next → names_bound frozen scope heap (met_of (map parameter_of (drop i params)) (drop next vals)) ≡ Ok heap
+bound_past frozen scope heap params i p place n a d vals next e q s l =
+    ap (names_bound frozen scope heap) (met-step params i p (drop next vals) e q ∙ ap (λ z. met_of (parameter_of z ∷ map parameter_of (drop (i + 1) params)) (drop next vals)) s ∙ ap (met_of (parameter_of (param.Named place n a d) ∷ map parameter_of (drop (i + 1) params))) (drop_all next vals l))
+
+pub bound_ends : (frozen : Made) (scope : ℕ) (heap : Made) (params : List Param) (i : ℕ) (vs : List Val) → length params ≤ i → names_bound frozen scope heap (met_of (map parameter_of (drop i params)) vs) ≡ Ok heap
+bound_ends frozen scope heap params i vs e = ap (λ z. names_bound frozen scope heap (met_of (map parameter_of z) vs)) (drop_all i params e)
+
+pub ruleset bound_steps = (star_skipped, bound_goes, bound_stops, bound_past, bound_ends)
 
 set-step : (frozen : Made) (o : ℕ) (heap : Made) (names : List NamedVal) (i : ℕ) (x : NamedVal) → i < length names → x ≡ get_or names i x → attributes_set frozen o heap (drop i names) ≡ after_set (attribute_set (seen frozen heap) o x.name x.val) (λ more. attributes_set frozen o more (drop (i + 1) names))
 set-step frozen o heap names i x e q = ap (attributes_set frozen o heap) (drop_more names i x e ∙ ap (λ z. z ∷ drop (i + 1) names) (sym q))

@@ -4,7 +4,7 @@ use Rattle.amh_host.specs.declared.place.Place.{Place}
 use Rattle.py_tree.specs.declared.stmt.Function.{Function, out-Function, fold_out-Function}
 use Rattle.py_tree.specs.Programs.{steps_of, body_of, kind_step_seen, block_seen, branch_seen, function_seen, stmt_seen}
 use Rattle.py_tree.specs.Tree.{Tree}
-use Rattle.py_tree.specs.Steps.{Step, Steps, Body, Fun}
+use Rattle.py_tree.specs.Steps.{Step, Steps, Body, Fun, Parameter}
 use Rattle.py_values.specs.declared.val.Val.{Val}
 use Rattle.py_values.specs.declared.val.ScopeId.{ScopeId}
 use Rattle.py_values.specs.declared.val.ValueStop.{ValueStop}
@@ -89,15 +89,24 @@ found_some fns frozen r x y budget at_place b own f args keywords place e h = sa
 pub found_none : (fns : Functions) (frozen : Made) (r : Result Now Halt) (x y : Going) (budget : ℕ) (at_place : Place) (f : Func) (args : List Val) (keywords : List NamedVal) (place : Place) → None ≡ option_map described (function_at at_place (steps_of fns.program)) → GoesOn fns frozen r x y budget (λ k. stop cause.Raised place) → GoesOn fns frozen r x y budget (λ k. body_entered (runs_at k.program k.frozen x.state.here.room) (function_at at_place k.program) f args keywords place)
 found_none fns frozen r x y budget at_place f args keywords place e h = same_runs fns frozen r x y budget (λ k. stop cause.Raised place) (λ k. body_entered (runs_at k.program k.frozen x.state.here.room) (function_at at_place k.program) f args keywords place) (λ w. ap (λ (z : Option Body). body_entered (runs_at (steps_of fns.program) frozen x.state.here.room) z f args keywords place w x.state) (sym (found-none (function_at at_place (steps_of fns.program)) e))) h
 
-pub met_some : (fns : Functions) (frozen : Made) (r : Result Now Halt) (x y : Going) (budget : ℕ) (b : Body) (f : Func) (args vals : List Val) (keywords met : List NamedVal) (place : Place) → vals ≡ with_this f.this args → Some met ≡ parameters_met (parameters_of b) vals keywords f.defaults → GoesOn fns frozen r x y budget (λ k. (runs_at k.program k.frozen x.state.here.room).run_body f vals met b place) → GoesOn fns frozen r x y budget (λ k. body_entered (runs_at k.program k.frozen x.state.here.room) (Some b) f args keywords place)
-met_some fns frozen r x y budget b f args vals keywords met place e1 e2 h =
+pub in_order_goes : (fns : Functions) (frozen : Made) (r : Result Now Halt) (x y : Going) (budget : ℕ) (b : Body) (f : Func) (args vals : List Val) (keywords met : List NamedVal) (place : Place) → vals ≡ with_this f.this args → Some met ≡ parameters_met (parameters_of b) vals keywords f.defaults → GoesOn fns frozen r x y budget (λ k. (runs_at k.program k.frozen x.state.here.room).run_body f vals met b place) → GoesOn fns frozen r x y budget (λ k. body_entered (runs_at k.program k.frozen x.state.here.room) (Some b) f args keywords place)
+in_order_goes fns frozen r x y budget b f args vals keywords met place e1 e2 h =
     same_goes fns frozen r x y budget (λ z k. with_met (parameters_met (parameters_of b) z keywords f.defaults) place (λ m. (runs_at k.program k.frozen x.state.here.room).run_body f z m b place)) vals (with_this f.this args) e1
     (same_goes fns frozen r x y budget (λ z k. with_met z place (λ m. (runs_at k.program k.frozen x.state.here.room).run_body f vals m b place)) (Some met) (parameters_met (parameters_of b) vals keywords f.defaults) e2 h)
 
-pub met_none : (fns : Functions) (frozen : Made) (r : Result Now Halt) (x y : Going) (budget : ℕ) (b : Body) (f : Func) (args vals : List Val) (keywords : List NamedVal) (place : Place) → vals ≡ with_this f.this args → None ≡ parameters_met (parameters_of b) vals keywords f.defaults → GoesOn fns frozen r x y budget (λ k. stop cause.Raised place) → GoesOn fns frozen r x y budget (λ k. body_entered (runs_at k.program k.frozen x.state.here.room) (Some b) f args keywords place)
-met_none fns frozen r x y budget b f args vals keywords place e1 e2 h =
-    same_goes fns frozen r x y budget (λ z k. with_met (parameters_met (parameters_of b) z keywords f.defaults) place (λ m. (runs_at k.program k.frozen x.state.here.room).run_body f z m b place)) vals (with_this f.this args) e1
-    (same_goes fns frozen r x y budget (λ z k. with_met z place (λ m. (runs_at k.program k.frozen x.state.here.room).run_body f vals m b place)) None (parameters_met (parameters_of b) vals keywords f.defaults) e2 h)
+pub entered_goes : (fns : Functions) (frozen : Made) (r : Result Now Halt) (x y : Going) (budget : ℕ) (b : Body) (f : Func) (args vals : List Val) (keywords : List NamedVal) (place : Place) → vals ≡ with_this f.this args → GoesOn fns frozen r x y budget (λ k. with_met (parameters_met (parameters_of b) vals keywords f.defaults) place (λ met. (runs_at k.program k.frozen x.state.here.room).run_body f vals met b place)) → GoesOn fns frozen r x y budget (λ k. body_entered (runs_at k.program k.frozen x.state.here.room) (Some b) f args keywords place)
+entered_goes fns frozen r x y budget b f args vals keywords place e h =
+    same_goes fns frozen r x y budget (λ z k. with_met (parameters_met (parameters_of b) z keywords f.defaults) place (λ m. (runs_at k.program k.frozen x.state.here.room).run_body f z m b place)) vals (with_this f.this args) e h
+
+pub ruleset entered_rules = (in_order_goes, entered_goes)
+
+pub met_some : (fns : Functions) (frozen : Made) (r : Result Now Halt) (x y : Going) (budget : ℕ) (ps : List Parameter) (b : Body) (f : Func) (args defaults : List Val) (keywords met : List NamedVal) (place : Place) → Some met ≡ parameters_met ps args keywords defaults → GoesOn fns frozen r x y budget (λ k. (runs_at k.program k.frozen x.state.here.room).run_body f args met b place) → GoesOn fns frozen r x y budget (λ k. with_met (parameters_met ps args keywords defaults) place (λ met. (runs_at k.program k.frozen x.state.here.room).run_body f args met b place))
+met_some fns frozen r x y budget ps b f args defaults keywords met place e h =
+    same_goes fns frozen r x y budget (λ z k. with_met z place (λ m. (runs_at k.program k.frozen x.state.here.room).run_body f args m b place)) (Some met) (parameters_met ps args keywords defaults) e h
+
+pub met_none : (fns : Functions) (frozen : Made) (r : Result Now Halt) (x y : Going) (budget : ℕ) (ps : List Parameter) (b : Body) (f : Func) (args defaults : List Val) (keywords : List NamedVal) (place : Place) → None ≡ parameters_met ps args keywords defaults → GoesOn fns frozen r x y budget (λ k. stop cause.Raised place) → GoesOn fns frozen r x y budget (λ k. with_met (parameters_met ps args keywords defaults) place (λ met. (runs_at k.program k.frozen x.state.here.room).run_body f args met b place))
+met_none fns frozen r x y budget ps b f args defaults keywords place e h =
+    same_goes fns frozen r x y budget (λ z k. with_met z place (λ m. (runs_at k.program k.frozen x.state.here.room).run_body f args m b place)) None (parameters_met ps args keywords defaults) e h
 
 pub ruleset met_rules = (met_some, met_none)
 

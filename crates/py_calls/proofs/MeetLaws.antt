@@ -1,6 +1,8 @@
 -- Laws of arguments that meet parameters.
-use Rattle.std.proofs.Common.{◌≡◌, ℕ, ◌+◌, ◌<◌, ◌≤◌, arith, refl, ap, ◌∙◌, sym, append_assoc, List, [], ◌∷◌, ◌++◌, length, get_or, drop, map, Option, Some, None, Result, Ok, Err, IfOk, Bool, true, false, if◌then◌else◌}
+use Rattle.std.proofs.Common.{◌≡◌, ℕ, ◌+◌, ◌<◌, ◌≤◌, arith, refl, ap, ◌∙◌, sym, append_assoc, List, [], ◌∷◌, ◌++◌, length, get_or, drop, map, Option, Some, None, Result, Ok, Err, IfOk, Bool, true, false, ◌&&◌, suc, option_map, if◌then◌else◌}
 use Rattle.std.proofs.lemmas.List.{drop_more, drop_all}
+use Rattle.std.proofs.lemmas.Bool.{false≢true}
+use Rattle.std.specs.List.{list_all}
 use Rattle.lists.specs.Texts.{text_eq}
 use Rattle.amh_host.specs.declared.place.Place.{Place}
 use Rattle.lists.specs.declared.items.NoMemory.{NoMemory}
@@ -13,7 +15,7 @@ use Rattle.py_values.specs.declared.val.Val.TheVariants as val
 use Rattle.py_frames.specs.declared.request.NamedVal.{NamedVal}
 use Rattle.py_calls.specs.declared.call_meet.Meeting.{Meeting}
 use Rattle.py_frames.specs.Functions.{is_given, taken_keyword, parameters_met, named_val, by_keyword, with_first, default_value, defaults_behind}
-use Rattle.py_calls.specs.Meeting.{behind_met, meeting_on, if_met, taken_on}
+use Rattle.py_calls.specs.Meeting.{behind_met, meeting_on, if_met, taken_on, is_named, met_of}
 
 -- ---- keywords
 
@@ -148,3 +150,81 @@ pub meeting_stops : (m new : Meeting) (args defaults : List Val) (p : Param) (pa
 meeting_stops m new args defaults p params i b whole e q h t w = sym (sym w ∙ met-step m args defaults p params i e q ∙ h (map parameter_of (drop (i + 1) params)) ∙ ap (λ (z : Bool). if_met z (meeting_on new args defaults (map parameter_of (drop (i + 1) params)))) t)
 
 pub ruleset meeting_rules = (meeting_begins, meeting_ends, meeting_more, meeting_named, meeting_goes, meeting_stops)
+
+-- ---- the values of the parameters
+
+both-true : (a b : Bool) → (a && b) ≡ true → (a ≡ true) × (b ≡ true)
+both-true true b e = (refl, e)
+both-true false b e = absurd (false≢true e)
+
+one-met : (q : Parameter) (ps : List Parameter) (v : Val) (vs defaults : List Val) → is_named q ≡ true → ((ds : List Val) → parameters_met ps vs [] ds ≡ Some (met_of ps vs)) → parameters_met (q ∷ ps) (v ∷ vs) [] defaults ≡ Some (met_of (q ∷ ps) (v ∷ vs))
+one-met (Named p n a d) ps v vs defaults e h = ap (with_first (named_val n v)) (h (defaults_behind d defaults))
+one-met (Star p) ps v vs defaults e h = absurd (false≢true e)
+
+in-order : (params : List Param) (args : List Val) → length params ≡ length args → list_all (λ p. is_named (parameter_of p)) params ≡ true → (defaults : List Val) → parameters_met (map parameter_of params) args [] defaults ≡ Some (met_of (map parameter_of params) args)
+in-order [] [] l e defaults = refl
+in-order [] (v ∷ vs) l e defaults = absurd (omega (arith, l))
+in-order (p ∷ params) [] l e defaults = absurd (omega (arith, l))
+in-order (p ∷ params) (v ∷ vs) l e defaults =
+    let named = both-true (is_named (parameter_of p)) (list_all (λ p. is_named (parameter_of p)) params) e in
+    one-met (parameter_of p) (map parameter_of params) v vs defaults named.0 (in-order params vs (omega (arith, l)) named.1)
+
+pub in_order_met : (params : List Param) (args : List Val) (keywords : List NamedVal) → length keywords ≡ 0 → length params ≡ length args → list_all (λ p. is_named (parameter_of p)) params ≡ true → (defaults : List Val) → parameters_met (map parameter_of params) args keywords defaults ≡ Some (met_of (map parameter_of params) args)
+in_order_met params args [] k l e defaults = in-order params args l e defaults
+in_order_met params args (x ∷ xs) k l e defaults = absurd (omega (arith, k))
+
+one-count : (q : Parameter) (ps : List Parameter) (v : Val) (vs : List Val) → is_named q ≡ true → length (met_of ps vs) ≡ length vs → length (met_of (q ∷ ps) (v ∷ vs)) ≡ length (v ∷ vs)
+one-count (Named p n a d) ps v vs e h = ap suc h
+one-count (Star p) ps v vs e h = absurd (false≢true e)
+
+pub in_order_count : (params : List Param) (args : List Val) → length params ≡ length args → list_all (λ p. is_named (parameter_of p)) params ≡ true → length (met_of (map parameter_of params) args) ≡ length args
+in_order_count [] [] l e = refl
+in_order_count [] (v ∷ vs) l e = absurd (omega (arith, l))
+in_order_count (p ∷ params) [] l e = absurd (omega (arith, l))
+in_order_count (p ∷ params) (v ∷ vs) l e =
+    let named = both-true (is_named (parameter_of p)) (list_all (λ p. is_named (parameter_of p)) params) e in
+    one-count (parameter_of p) (map parameter_of params) v vs named.0 (in_order_count params vs (omega (arith, l)) named.1)
+
+-- parameters with their values, from the values alone
+abbrev again : List Parameter → List NamedVal → List NamedVal
+again ps met = met_of ps (map (λ (x : NamedVal). x.val) met)
+
+again-first : (p : Place) (n : List ℕ) (a d : Perhaps) (ps : List Parameter) (v : Val) (o : Option (List NamedVal)) → option_map (again ps) o ≡ o → option_map (again (Named p n a d ∷ ps)) (with_first (named_val n v) o) ≡ with_first (named_val n v) o
+again-first p n a d ps v None h = refl
+again-first p n a d ps v (Some met) h = ap (with_first (named_val n v)) h
+
+again-if : (b : Bool) (ps : List Parameter) (o : Option (List NamedVal)) → option_map (again ps) o ≡ o → option_map (again ps) (if b then None else o) ≡ (if b then None else o)
+again-if true ps o h = refl
+again-if false ps o h = h
+
+again-keyword : (p : Place) (n : List ℕ) (a d : Perhaps) (ps : List Parameter) (taken : Option (Val × List NamedVal)) (default : Option Val) (keywords : List NamedVal) (rest : List NamedVal → Option (List NamedVal)) → ((others : List NamedVal) → option_map (again ps) (rest others) ≡ rest others) → option_map (again (Named p n a d ∷ ps)) (by_keyword n taken default keywords rest) ≡ by_keyword n taken default keywords rest
+again-keyword p n a d ps None None keywords rest h = refl
+again-keyword p n a d ps None (Some v) keywords rest h = again-first p n a d ps v (rest keywords) (h keywords)
+again-keyword p n a d ps (Some x) default keywords rest h = again-first p n a d ps x.0 (rest x.1) (h x.1)
+
+met-again : (ps : List Parameter) (args : List Val) (keywords : List NamedVal) (defaults : List Val) → option_map (again ps) (parameters_met ps args keywords defaults) ≡ parameters_met ps args keywords defaults
+met-again [] [] [] defaults = refl
+met-again [] [] (x ∷ xs) defaults = refl
+met-again [] (v ∷ vs) keywords defaults = refl
+met-again (Star p ∷ ps) [] keywords defaults = met-again ps [] keywords defaults
+met-again (Star p ∷ ps) (v ∷ vs) keywords defaults = refl
+met-again (Named p n a d ∷ ps) [] keywords defaults =
+    again-keyword p n a d ps (taken_keyword n [] keywords) (default_value d defaults) keywords (λ others. parameters_met ps [] others (defaults_behind d defaults)) (λ others. met-again ps [] others (defaults_behind d defaults))
+met-again (Named p n a d ∷ ps) (v ∷ vs) keywords defaults =
+    again-if (is_given n keywords) (Named p n a d ∷ ps) (with_first (named_val n v) (parameters_met ps vs keywords (defaults_behind d defaults)))
+      (again-first p n a d ps v (parameters_met ps vs keywords (defaults_behind d defaults)) (met-again ps vs keywords (defaults_behind d defaults)))
+
+pub value_met : (ps : List Parameter) (args vals : List Val) (keywords met : List NamedVal) (defaults : List Val) → vals ≡ map (λ (x : NamedVal). x.val) met → Some met ≡ parameters_met ps args keywords defaults → Some (met_of ps vals) ≡ parameters_met ps args keywords defaults
+value_met ps args vals keywords met defaults e q = ap (λ (vs : List Val). Some (met_of ps vs)) e ∙ ap (option_map (again ps)) q ∙ met-again ps args keywords defaults
+
+length-vals : (met : List NamedVal) → length (map (λ (x : NamedVal). x.val) met) ≡ length met
+length-vals [] = refl
+length-vals (x ∷ xs) = ap suc (length-vals xs)
+
+pub value_count : (ps : List Parameter) (args vals : List Val) (keywords met : List NamedVal) (defaults : List Val) → vals ≡ map (λ (x : NamedVal). x.val) met → Some met ≡ parameters_met ps args keywords defaults → length (met_of ps vals) ≡ length vals
+value_count ps args vals keywords met defaults e q =
+    let same : Some (met_of ps vals) ≡ Some met = value_met ps args vals keywords met defaults e q ∙ sym q in
+    let one : met_of ps vals ≡ met = cc in
+    ap length one ∙ sym (ap length e ∙ length-vals met)
+
+pub ruleset value_rules = (value_met, value_count, in_order_met, in_order_count)

@@ -1,11 +1,11 @@
 -- Words for arguments that meet parameters, one after the other.
 -- Internal: no rule of the language.
-use Rattle.std.specs.Prelude.{ℕ, Bool, if◌then◌else◌, List, ◌++◌, drop, Option, Some, None}
-use Rattle.py_tree.specs.Steps.{Parameter}
+use Rattle.std.specs.Prelude.{ℕ, Bool, true, false, if◌then◌else◌, List, [], ◌∷◌, ◌++◌, drop, Option, Some, None}
+use Rattle.py_tree.specs.Steps.{Parameter, Named, Star}
 use Rattle.py_values.specs.declared.val.Val.{Val}
 use Rattle.py_frames.specs.declared.request.NamedVal.{NamedVal}
 use Rattle.py_calls.specs.declared.call_meet.Meeting.{Meeting}
-use Rattle.py_frames.specs.Functions.{parameters_met, taken_keyword}
+use Rattle.py_frames.specs.Functions.{parameters_met, taken_keyword, named_val}
 
 -- behind those that were met before
 abbrev pub behind_met : List NamedVal → Option (List NamedVal) → Option (List NamedVal)
@@ -24,3 +24,15 @@ if_met b more = if b then more else None
 abbrev pub taken_on : Option Val → List ℕ → List NamedVal → List NamedVal → Option (Val × List NamedVal)
 taken_on None name before keywords = taken_keyword name before keywords
 taken_on (Some v) name before keywords = Some (v, before ++ keywords)
+
+-- whether a parameter is no star
+abbrev pub is_named : Parameter → Bool
+is_named (Named p n a d) = true
+is_named (Star p) = false
+
+-- the parameters that have a name, each with its value of these
+abbrev pub met_of : List Parameter → List Val → List NamedVal
+met_of [] vs = []
+met_of (Star p ∷ ps) vs = met_of ps vs
+met_of (Named p n a d ∷ ps) [] = []
+met_of (Named p n a d ∷ ps) (v ∷ vs) = named_val n v ∷ met_of ps vs

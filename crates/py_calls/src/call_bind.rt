@@ -1,5 +1,7 @@
 // Names that are bound, or become attributes, one after the other.
-ghost use Rattle.std.specs.Prelude.{◌≡◌};
+ghost use Rattle.std.specs.Prelude.{◌≡◌, map};
+ghost use Rattle.py_tree.specs.Programs.{parameter_of};
+ghost use Rattle.py_calls.specs.Meeting.{met_of};
 ghost use Rattle.py_values.specs.Runs.{Answers};
 ghost use Rattle.py_frames.specs.Doing.{give};
 ghost use Rattle.py_frames.specs.Values.{attributes_bound};
@@ -12,22 +14,31 @@ use py_frames::functions::Functions;
 use py_frames::going::{Going, told};
 use py_frames::request::{NamedVal, NamedVals};
 use py_frames::state::{Got, Halt};
+use py_tree::Param;
 use py_values::{Frozen, Heap, ObjId, ScopeId, Val, ValueStop};
 
-/// Names are bound in a scope.
+/// The parameters that have a name are bound to values in a scope, in order.
 #[tactic(auto, using(crate::proofs::BoundLaws::bound_steps))]
-pub fn names_bound(
+pub fn params_bound(
     heap: &mut Heap,
     frozen: &Frozen,
     scope: ScopeId,
-    names: &[NamedVal],
+    params: &[Param],
+    vals: &[Val],
 ) -> Result<(), ValueStop>
-    ensures { Answers (left_heap result heap.new) (names_bound frozen.now scope.0 heap.old names.now) }
+    ensures { Answers (left_heap result heap.new) (names_bound frozen.now scope.0 heap.old (met_of (map parameter_of params.now) vals.now)) }
 {
-    for x in names {
-        let bound = heap.bind(frozen, scope, x.name.as_str(), x.val);
-        if let Err(e) = bound {
-            return Err(e);
+    let mut next = 0;
+    for param in params {
+        if let Param::Named { name, .. } = param {
+            if next == vals.len() {
+                return Ok(());
+            }
+            let bound = heap.bind(frozen, scope, name.as_str(), vals[next]);
+            if let Err(e) = bound {
+                return Err(e);
+            }
+            next += 1;
         }
     }
     Ok(())

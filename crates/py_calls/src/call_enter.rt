@@ -1,17 +1,18 @@
 // Calls of functions with a body: a new scope, in which the parameters are bound and the body runs.
-ghost use Rattle.std.specs.Prelude.{◌≡◌, ◌<◌, ◌≤◌, OnOk, IfOk, Some};
-ghost use Rattle.py_tree.specs.Programs.{steps_of, body_of};
+ghost use Rattle.std.specs.Prelude.{◌≡◌, ◌<◌, ◌≤◌, length, map, OnOk, IfOk, Some};
+ghost use Rattle.py_tree.specs.Programs.{steps_of, body_of, parameter_of};
 ghost use Rattle.py_values.specs.Heaps.{seen, func_at};
-ghost use Rattle.py_frames.specs.Functions.{function_at};
+ghost use Rattle.py_frames.specs.Functions.{function_at, parameters_met};
 ghost use Rattle.py_frames.specs.Own.{function_names};
-ghost use Rattle.py_frames.specs.Statements.{first_of, body_entered, code_entered, func_entered, entered};
+ghost use Rattle.py_frames.specs.Statements.{first_of, with_met, body_entered, code_entered, func_entered, entered};
 ghost use Rattle.py_calls.specs.Entering.{runs_at, runs_under};
+ghost use Rattle.py_calls.specs.Meeting.{met_of};
 ghost use Rattle.py_frames.specs.Tables.{IsTable};
 ghost use Rattle.py_frames.specs.Frames.{GoesOn};
 
-use crate::call_bind::names_bound;
+use crate::call_bind::params_bound;
 use crate::call_kind::with_this;
-use crate::call_meet::parameters_met;
+use crate::call_meet::{is_in_order, values_met};
 use amh_host::{NoMemory, Place};
 use py_frames::block::run_block;
 use py_frames::call_leaf::{raise, vals_of};
@@ -20,7 +21,7 @@ use py_frames::functions::{Functions, KnownFunction};
 use py_frames::going::{Going, stopped, told};
 use py_frames::request::{Cause, NamedVals};
 use py_frames::state::{Halt, Here};
-use py_tree::Block;
+use py_tree::{Block, Param};
 use py_values::{Code, Frozen, Func, FuncId, Val, Vals};
 use std::mem::replace;
 
@@ -87,21 +88,23 @@ fn body_run(
     known: &KnownFunction,
     f: &Func,
     args: &Vals,
-    met: &NamedVals,
+    params: &[Param],
+    vals: &[Val],
     place: Place,
     budget: u64,
 ) -> Result<Now, Halt>
     requires room { going.old.state.used < budget }
     requires own { known.now.own ≡ function_names (body_of known.now.function.value) }
     requires table { IsTable functions.now }
-    ensures moves { GoesOn functions.now frozen.now result going.old going.new budget (λ k. (runs_at k.program k.frozen going.old.state.here.room).run_body f.now args.now met.now (body_of known.now.function.value) place) }
+    requires count { length (met_of (map parameter_of params.now) vals.now) ≡ length vals.now }
+    ensures moves { GoesOn functions.now frozen.now result going.old going.new budget (λ k. (runs_at k.program k.frozen going.old.state.here.room).run_body f.now args.now (met_of (map parameter_of params.now) vals.now) (body_of known.now.function.value) place) }
     ensures left { OnOk result (going.new.state.used < budget) }
     ensures grows { going.old.state.used ≤ going.new.state.used }
 {
     let Some(room) = going.state.here.room.checked_sub(1) else {
         return Err(stopped(Cause::Limit, place));
     };
-    let Some(bound) = going.state.bound.checked_add(met.len() as u64) else {
+    let Some(bound) = going.state.bound.checked_add(vals.len() as u64) else {
         return Err(Halt::NoMemory);
     };
     let Ok(own) = known.own.share() else {
@@ -118,7 +121,7 @@ fn body_run(
         notes: NamedVals::new(going.alloc),
         room,
     };
-    match names_bound(&mut going.state.heap, frozen, scope, met.as_slice()) {
+    match params_bound(&mut going.state.heap, frozen, scope, params, vals) {
         Ok(()) => body_begun(
             going,
             functions,
@@ -132,8 +135,55 @@ fn body_run(
     }
 }
 
-// The arguments of a call meet the parameters of a function, whose body then runs.
+// Arguments that are not as many in order as parameters meet them, and then the body runs.
 #[tactic(auto, using(crate::proofs::EnterLaws::met_rules, py_frames::proofs::BeginLaws::turn_rules))]
+fn body_met(
+    going: &mut Going,
+    functions: &Functions,
+    frozen: &Frozen,
+    known: &KnownFunction,
+    f: &Func,
+    args: &Vals,
+    keywords: NamedVals,
+    params: &[Param],
+    place: Place,
+    budget: u64,
+) -> Result<Now, Halt>
+    requires room { going.old.state.used < budget }
+    requires own { known.now.own ≡ function_names (body_of known.now.function.value) }
+    requires table { IsTable functions.now }
+    ensures moves { GoesOn functions.now frozen.now result going.old going.new budget (λ k. with_met (parameters_met (map parameter_of params.now) args.now keywords f.now.defaults) place (λ met. (runs_at k.program k.frozen going.old.state.here.room).run_body f.now args.now met (body_of known.now.function.value) place)) }
+    ensures left { OnOk result (going.new.state.used < budget) }
+    ensures grows { going.old.state.used ≤ going.new.state.used }
+{
+    let Ok(met) = values_met(
+        going.alloc,
+        params,
+        args.as_slice(),
+        keywords,
+        f.defaults.as_slice(),
+    ) else {
+        return Err(Halt::NoMemory);
+    };
+    match met {
+        Some(vals) => body_run(
+            going,
+            functions,
+            frozen,
+            known,
+            f,
+            args,
+            params,
+            vals.as_slice(),
+            place,
+            budget,
+        ),
+        None => raise(going, functions, frozen, place, budget),
+    }
+}
+
+// The arguments of a call meet the parameters of a function, whose body then runs.
+#[tactic(auto, using(crate::proofs::EnterLaws::entered_rules, py_frames::proofs::BeginLaws::turn_rules))]
 fn body_entered(
     going: &mut Going,
     functions: &Functions,
@@ -155,21 +205,24 @@ fn body_entered(
     let Ok(args) = with_this(going.alloc, f.this, args) else {
         return Err(Halt::NoMemory);
     };
-    let Ok(met) = parameters_met(
-        going.alloc,
-        known.function.params.as_slice(),
-        args.as_slice(),
-        keywords,
-        f.defaults.as_slice(),
-    ) else {
-        return Err(Halt::NoMemory);
-    };
-    match met {
-        Some(met) => body_run(
-            going, functions, frozen, known, f, &args, &met, place, budget,
-        ),
-        None => raise(going, functions, frozen, place, budget),
+    let params = known.function.params.as_slice();
+    if is_in_order(params, args.as_slice(), keywords.as_slice()) {
+        return body_run(
+            going,
+            functions,
+            frozen,
+            known,
+            f,
+            &args,
+            params,
+            args.as_slice(),
+            place,
+            budget,
+        );
     }
+    body_met(
+        going, functions, frozen, known, f, &args, keywords, params, place, budget,
+    )
 }
 
 // The function whose `def` statement stands at a place is entered.

@@ -197,8 +197,8 @@ pub fn with_this(alloc: Global, this: Option<Val>, args: Vals) -> Result<Vals, N
     }
 }
 
-// The values of arguments by keyword.
-fn named_vals(alloc: Global, keywords: &[NamedVal]) -> Result<Vals, NoMemory>
+/// The values of arguments by keyword, or of parameters.
+pub fn named_vals(alloc: Global, keywords: &[NamedVal]) -> Result<Vals, NoMemory>
     ensures { IfOk result (λ vals. vals ≡ named_vals keywords.now) }
 {
     let mut vals = Vals::new(alloc);

@@ -1,5 +1,6 @@
 // How the arguments of a call meet the parameters of a function.
-ghost use Rattle.std.specs.Prelude.{◌≡◌, ◌∷◌, ◌++◌, ◌≤◌, [], map, length, drop, IfOk, List, Option};
+ghost use Rattle.std.specs.Prelude.{◌≡◌, ◌∷◌, ◌++◌, ◌≤◌, [], map, length, drop, IfOk, IfSome, IsTrue, Some, List, Option};
+ghost use Rattle.std.specs.List.{list_all};
 ghost use Rattle.std.specs.Option.{option_map};
 ghost use Rattle.amh_host.specs.declared.place.Place.{Place};
 ghost use Rattle.py_tree.specs.Seen.{tree};
@@ -8,13 +9,14 @@ ghost use Rattle.py_tree.specs.Programs.{parameter_of};
 ghost use Rattle.py_tree.specs.Steps.{Parameter, Named};
 ghost use Rattle.py_frames.specs.Functions.{is_given, taken_keyword, parameters_met, named_val, by_keyword, default_value, defaults_behind};
 ghost use Rattle.py_frames.specs.declared.request.NamedVal.{NamedVal};
-ghost use Rattle.py_calls.specs.Meeting.{meeting_on, if_met, behind_met};
+ghost use Rattle.py_calls.specs.Meeting.{meeting_on, if_met, behind_met, is_named, met_of};
 
+use crate::call_kind::named_vals;
 use amh_host::{NoMemory, Text};
 use py_frames::keyword::is_given;
 use py_frames::request::{NamedVal, NamedVals};
 use py_tree::{Expr, Name, Param};
-use py_values::Val;
+use py_values::{Val, Vals};
 use std::alloc::Global;
 
 /// How far the parameters of a function have met arguments.
@@ -199,9 +201,57 @@ fn default_behind(default: &Option<Expr>, defaults: &[Val], at: usize) -> usize
     }
 }
 
-/// The parameters with their values; none where an argument is too many, is given twice or lacks.
+/// Whether the parameters meet the arguments one for one, with none by keyword and no default.
+pub fn is_in_order(params: &[Param], args: &[Val], keywords: &[NamedVal]) -> bool
+    ensures met { IsTrue result → (defaults : List Val) → parameters_met (map parameter_of params.now) args.now keywords.now defaults ≡ Some (met_of (map parameter_of params.now) args.now) }
+    ensures count { IsTrue result → length (met_of (map parameter_of params.now) args.now) ≡ length args.now }
+{
+    keywords.len() == 0 && params.len() == args.len() && are_named(params)
+}
+
+fn are_named(params: &[Param]) -> bool
+    ensures { result ≡ list_all (λ p. is_named (parameter_of p)) params.now }
+{
+    params.iter().all(|p| is_named(p))
+}
+
+fn is_named(param: &Param) -> bool
+    ensures { result ≡ is_named (parameter_of param.now) }
+{
+    match param {
+        Param::Named { .. } => true,
+        Param::Star(_) => false,
+    }
+}
+
+/// The values of the parameters that have a name, in their order; none where an argument is too many, is given twice or
+/// lacks.
+#[tactic(auto, using(crate::proofs::MeetLaws::value_rules))]
+pub fn values_met(
+    alloc: Global,
+    params: &[Param],
+    args: &[Val],
+    keywords: NamedVals,
+    defaults: &[Val],
+) -> Result<Option<Vals>, NoMemory>
+    ensures met { IfOk result (λ vals. option_map (met_of (map parameter_of params.now)) vals ≡ parameters_met (map parameter_of params.now) args.now keywords defaults.now) }
+    ensures count { IfOk result (λ vals. IfSome vals (λ vs. length (met_of (map parameter_of params.now) vs) ≡ length vs)) }
+{
+    let Ok(met) = parameters_met(alloc, params, args, keywords, defaults) else {
+        return Err(NoMemory);
+    };
+    let Some(met) = met else {
+        return Ok(None);
+    };
+    match named_vals(alloc, met.as_slice()) {
+        Ok(vals) => Ok(Some(vals)),
+        Err(_) => Err(NoMemory),
+    }
+}
+
+// The parameters with their values; none where an argument is too many, is given twice or lacks.
 #[tactic(auto, using(crate::proofs::MeetLaws::meeting_rules))]
-pub fn parameters_met(
+fn parameters_met(
     alloc: Global,
     params: &[Param],
     args: &[Val],
