@@ -172,3 +172,13 @@ awake w h some idle = some (h.count ∙ ap (count_by (λ b. b)) (all_false w.mar
 
 pub one_most : (n : ℕ) → one_if_some n ≤ 1
 one_most n = either (λ k. k ≤ 1) (n == 0) 0 1 (omega arith) (omega arith)
+
+
+-- no more deltas are counted than there are environments
+deltas_from_few : (c : Circuit) (rows : List (List ℤ)) (old : List ℤ) (envs : List (List ℤ)) → deltas_from c rows old envs ≤ length envs
+deltas_from_few c rows old [] = omega arith
+deltas_from_few c rows old (env ∷ more) = omega (arith, one_most (woken c rows rows old env), deltas_from_few c rows env more)
+
+pub deltas_of_few : (c : Circuit) (rows after : List (List ℤ)) (old : List ℤ) (envs : List (List ℤ)) → deltas_of c rows after old envs ≤ length envs
+deltas_of_few c rows after old [] = omega arith
+deltas_of_few c rows after old (first ∷ more) = omega (arith, one_most (woken c rows after old first), deltas_from_few c after first more)

@@ -102,8 +102,8 @@ impl Sim {
         Ok(sim)
     }
 
-    /// What an event does. It takes no memory and is always Ok, and takes one step for each run of a process or of a read
-    /// port without a clock.
+    /// What an event does. It takes no memory and is always Ok, takes one step for each run of a process or of a read port
+    /// without a clock, and has at most one delta more than there are bits on the longest chain of needs.
     pub fn apply<L: Ledger>(
         &mut self,
         design: &Design,
@@ -116,6 +116,7 @@ impl Sim {
         ensures of_design { IsSimOf design.now self.new }
         ensures lives { (events : List Event) → Stands design.now events self.old → MatchResult result (λ _. Stands design.now (events ++ event.now ∷ []) self.new) (λ _. Stands design.now events self.new) }
         ensures counts { Settles design.now self.old self.new }
+        ensures few { self.new.counts.deltas ≤ self.new.longest + 1 }
         ensures moved { Tells design.now self.old self.new }
         ensures steps { steps.new ≡ steps.old + self.new.counts.runs }
     {

@@ -1,4 +1,4 @@
-use Rattle.std.proofs.Common.{◌≡◌, ◌+◌, ◌∙◌, ◌∷◌, sym, ap, arith, subst, false, ◌<◌, ◌++◌, take, drop, length}
+use Rattle.std.proofs.Common.{◌≡◌, ◌+◌, ◌∙◌, ◌∷◌, sym, ap, arith, subst, false, ◌<◌, ◌≤◌, ◌++◌, take, drop, length}
 use Rattle.std.specs.List.{AllByRecursion}
 use Rattle.design_ir.specs.Histories.{DeltasFrom}
 use Rattle.comb_graph.specs.Laws.{FitsState}
@@ -13,6 +13,7 @@ use Rattle.delta_sim.specs.Waiting.{Waiting}
 use Rattle.delta_sim.proofs.Applying.{begins, vec_whole}
 use Rattle.delta_sim.proofs.Lives.{happened, move_state, same_state, step_numbers, step_rows}
 use Rattle.delta_sim.proofs.Moving.{no_signals, notes_more, tells}
+use Rattle.delta_sim.proofs.Settles.{deltas_of_few}
 use Rattle.delta_sim.proofs.Waits.{replicate_length}
 use Rattle.delta_sim.proofs.sim.Sim.apply.Goals as goal
 
@@ -300,6 +301,36 @@ returns-clause-counts g c =
     let was : Simulated = record { held = i.held.items; rows = i.rows.items; env = i.env.items; counts = i.counts; longest = i.longest; plan = i.plan; numbers = i.numbers.items; next = i.next.items; waits = i.waits; then = i.then; woken = i.woken; noted = i.noted.items; changed = i.changed; moved = i.moved } in
     let here : Settles d was new = record { deltas = first ∷ rest; are = begun.deltas rest begun.ends.are; counts = counted } in
     subst (λ (s : Simulated). Settles d s new) c.self.view_is here
+
+pub returns-clause-few : goal.returns-clause-few
+returns-clause-few g c =
+    let d = c.args.design.now in
+    let i = c.self.inside in
+    let of = subst (IsSimOf d) (sym c.self.view_is) c.requires.of_design in
+    let held = c.hold.new.held.items in
+    let rows = c.hold.new.rows.items in
+    let first = c.take_given.new.env.items in
+    let marks = c.wake_ports.new.waits.marks in
+    let held_is = c.hold.ensures.held ∙ ap (λ xs. (step d (state_of i.held.items i.rows.items) xs c.args.event.now).held) c.as_slice.ensures.value in
+    let rows_is = c.hold.ensures.rows ∙ ap (λ xs. (step d (state_of i.held.items i.rows.items) xs c.args.event.now).rows) c.as_slice.ensures.value in
+    let first_is = c.take_given.ensures.env ∙ ap (λ xs. taken xs (numbers_of i.plan.given) i.env.items) c.as_slice-2.ensures.value in
+    let begun = begins d c.count.ensures.rules c.processes.ensures.rules _ of c.args.event.now c.requires.legal c.deltas_are_few.ensures held rows first i.waits.marks c.take_given.new.waits.marks marks c.hold.new.changed.marks held_is rows_is first_is c.take_given.ensures.waits c.wake_ports.ensures.waits c.hold.ensures.changed in
+    let rest = begun.ends.rest in
+    let none = ap (λ (w : Waiting). w.marks) of.woken in
+    let woken : IsWoken d i.plan i.env.items first i.rows.items rows c.wake_ports.new.woken.marks = record {
+      many = of.rows.count;
+      between = c.take_given.new.woken.marks;
+      changed = c.hold.new.changed.marks;
+      signals = subst (λ was. Wakes i.plan.processes i.env.items first was c.take_given.new.woken.marks) none c.take_given.ensures.woken;
+      ports = c.wake_ports.ensures.woken (length d.processes) of.plan.agents;
+      are_changed = c.hold.ensures.changed;
+    } in
+    let wakes = subst (λ ys. IsWoken d i.plan i.env.items first i.rows.items ys c.wake_ports.new.woken.marks) (sym c.as_slice-4.ensures.value) woken in
+    let are = move_state (λ st. DeltasFrom d st first rest) held c.as_slice-3.result.now rows c.as_slice-4.result.now c.as_slice-3.ensures.value c.as_slice-4.ensures.value begun.ends.are in
+    let counts = c.settle-self-inside.ensures.counts i.rows.items i.env.items rest wakes are in
+    let counted = subst (λ ys. AreCounts d i.rows.items ys i.env.items (first ∷ rest) c.settle-self-inside.result.deltas c.settle-self-inside.result.runs) c.as_slice-4.ensures.value counts in
+    let few : length (first ∷ rest) ≤ i.longest + 1 = omega (arith, begun.ends.few) in
+    omega (arith, few, counted.many_deltas, deltas_of_few d i.rows.items rows i.env.items (first ∷ rest))
 
 pub returns-clause-moved : goal.returns-clause-moved
 returns-clause-moved g c =
