@@ -173,7 +173,6 @@ awake w h some idle = some (h.count ∙ ap (count_by (λ b. b)) (all_false w.mar
 pub one_most : (n : ℕ) → one_if_some n ≤ 1
 one_most n = either (λ k. k ≤ 1) (n == 0) 0 1 (omega arith) (omega arith)
 
-
 -- no more deltas are counted than there are environments
 deltas_from_few : (c : Circuit) (rows : List (List ℤ)) (old : List ℤ) (envs : List (List ℤ)) → deltas_from c rows old envs ≤ length envs
 deltas_from_few c rows old [] = omega arith
