@@ -60,7 +60,7 @@ fn counted_run<L: Ledger>(
         program,
         frozen: Frozen::empty(alloc),
         machine: Machine::start(alloc, program)?,
-        stands: Stands::InBody,
+        phase: Phase::Body,
         requests: Requests::new(alloc),
         left: Budget {
             left: question.budget,
@@ -70,12 +70,12 @@ fn counted_run<L: Ledger>(
     run.said(question)
 }
 
-// Where a run stands: whether the body goes on, has ended, or has made room for a testbench over what it made.
+// What a run evaluates: the body, nothing more since the body has ended, or a testbench over what the body made.
 #[derive(Clone, Copy, PartialEq, Eq, Drop)]
-enum Stands {
-    InBody,
-    BehindBody,
-    InBench,
+enum Phase {
+    Body,
+    BodyEnded,
+    Bench,
 }
 
 // A program that runs, what it asked so far, and how many units are left.
@@ -85,7 +85,7 @@ struct Run<'a, L: Ledger> {
     program: &'a Program,
     frozen: Frozen,
     machine: Machine,
-    stands: Stands,
+    phase: Phase,
     requests: Requests,
     left: Budget,
     steps: Steps<L>,
@@ -99,7 +99,7 @@ impl<'a, L: Ledger> Run<'a, L> {
         let mut run = self;
         let mut said = run.said_after(Answer::Begin)?;
         if question.answers.is_empty() {
-            return run.with_cost(&said, question.budget);
+            return run.with_cost(said.as_str(), question.budget);
         }
         for spelled in question.answers.split(';') {
             said.push_str(" / ")?;
@@ -112,11 +112,11 @@ impl<'a, L: Ledger> Run<'a, L> {
             };
             said.push_str(run.said_after(answer)?.as_str())?;
         }
-        run.with_cost(&said, question.budget)
+        run.with_cost(said.as_str(), question.budget)
     }
 
     // What came of a question, and the units that were spent.
-    fn with_cost(&self, said: &String, budget: u64) -> Result<String, Stop> {
+    fn with_cost(&self, said: &str, budget: u64) -> Result<String, Stop> {
         let cost = budget.saturating_sub(self.left.left);
         Ok(format!(in self.alloc; "{said} cost {cost}")?)
     }
@@ -130,15 +130,15 @@ impl<'a, L: Ledger> Run<'a, L> {
             program,
             frozen,
             machine,
-            stands,
+            phase,
             requests,
             left,
             steps,
         } = self;
-        let frozen = match stands {
-            Stands::InBody => return Err(Stop::NoCase),
-            Stands::BehindBody => machine.freeze(),
-            Stands::InBench => frozen,
+        let frozen = match phase {
+            Phase::Body => return Err(Stop::NoCase),
+            Phase::BodyEnded => machine.freeze(),
+            Phase::Bench => frozen,
         };
         let machine = Machine::bench(alloc, &frozen, callee, ctx)?;
         Ok(Run {
@@ -146,7 +146,7 @@ impl<'a, L: Ledger> Run<'a, L> {
             program,
             frozen,
             machine,
-            stands: Stands::InBench,
+            phase: Phase::Bench,
             requests,
             left,
             steps,
@@ -165,8 +165,8 @@ impl<'a, L: Ledger> Run<'a, L> {
                 Ok(said)
             }
             Turn::Ended(v) => {
-                if self.stands == Stands::InBody {
-                    self.stands = Stands::BehindBody;
+                if self.phase == Phase::Body {
+                    self.phase = Phase::BodyEnded;
                 }
                 end_said(self.alloc, &self.machine, &self.frozen, v)
             }

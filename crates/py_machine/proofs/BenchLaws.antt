@@ -25,8 +25,8 @@ use Rattle.py_machine.specs.Starts.{bench_called}
 -- the thing is the one argument
 pub called_alone : (fns : Functions) (frozen : Made) (r : Result Now Halt) (x y : Going) (budget : ℕ) (callee : Val) (ctx : Hw) (args : List Val) (keywords : List NamedVal) (place : Place) → args ≡ val.Hw ctx ∷ [] → keywords ≡ [] → GoesOn fns frozen r x y budget (λ k. k.call callee args keywords place) → GoesOn fns frozen r x y budget (λ k. k.call callee (val.Hw ctx ∷ []) [] place)
 called_alone fns frozen r x y budget callee ctx args keywords place e1 e2 h =
-    same_goes fns frozen r x y budget (λ (vs : List Val) k. k.call callee vs [] place) args (val.Hw ctx ∷ []) e1
-    (same_goes fns frozen r x y budget (λ (ks : List NamedVal) k. k.call callee args ks place) keywords [] e2 h)
+    same_goes fns frozen r x y budget (λ vs k. k.call callee vs [] place) args (val.Hw ctx ∷ []) e1
+    (same_goes fns frozen r x y budget (λ ks k. k.call callee args ks place) keywords [] e2 h)
 
 -- whether the function is `async`, and where it stands, as the machine tells it
 bench_chosen : (fns : Functions) (frozen : Made) (r : Result Now Halt) (x y : Going) (budget : ℕ) (callee : Val) (ctx : Hw) (b : Bool) (place : Place) → b ≡ is_async_in (steps_of fns.program) (seen frozen x.state.heap) callee → place ≡ callee_place (seen frozen x.state.heap) origin callee → GoesOn fns frozen r x y budget (λ k. choose b (k.call callee (val.Hw ctx ∷ []) [] place) (stop Raised place)) → GoesOn fns frozen r x y budget (λ k. bench_called k callee ctx)

@@ -182,8 +182,7 @@ brings start fns frozen given a x st z budget (Ok (Waits r act (suc n))) opened 
         counted,
         (λ v b more lt e.
             came_total start fns frozen given a x st opened stands v (b ∷ more) (omega (arith, grows, lt)) (e ∙ then_more given a (b ∷ more)) ∙ moves v lt
-            ∙ ap (finish (steps_of fns.program) frozen z.state.here.room z.frames v) (one_answer (known (steps_of fns.program) frozen z.state.here.room) n act r v z.state b (ap (λ (l : List Answer). slice_get l z.state.taken) e ∙ ap (slice_get ((given ++ a ∷ []) ++ b ∷ more)) counted ∙ slice_get_at (given ++ a ∷ []) b more)),
-        ),
+            ∙ ap (finish (steps_of fns.program) frozen z.state.here.room z.frames v) (one_answer (known (steps_of fns.program) frozen z.state.here.room) n act r v z.state b (ap (λ (l : List Answer). slice_get l z.state.taken) e ∙ ap (slice_get ((given ++ a ∷ []) ++ b ∷ more)) counted ∙ slice_get_at (given ++ a ∷ []) b more))),
       );
       waits = refl;
       taken = counted;

@@ -35,9 +35,13 @@ abbrev pub AreOf : Steps → Option Functions → Type 0
 AreOf program None = ⊤
 AreOf program (Some f) = IsTable f × (steps_of f.program ≡ program)
 
--- a machine of a program; that of a testbench is told its program by the first call
+-- a machine of a program
 abbrev pub IsOf : Steps → Machine → Type 0
 IsOf program m = AreOf program m.functions
+
+-- a machine that is told its program by the first answer
+abbrev pub IsOfAny : Machine → Type 0
+IsOfAny m = (program : Steps) → IsOf program m
 
 -- an answer is taken by the act that asked at a place
 abbrev pub reply : Known → ℕ → Act → Place → Answer → Doing
@@ -153,6 +157,10 @@ Resumed over program frozen a result before behind left = ResumedFrom file_body 
 
 abbrev pub StandsForBench : Steps → Made → Val → Hw → List Answer → Machine → Type 0
 StandsForBench program frozen callee ctx given m = StandsFrom (bench_call callee ctx) program frozen given m.going m.stage
+
+-- before the first answer, with which its program comes
+abbrev pub StandsBeforeBench : Made → Val → Hw → Machine → Type 0
+StandsBeforeBench frozen callee ctx m = (program : Steps) → StandsForBench program frozen callee ctx [] m
 
 abbrev pub BenchResumed : Option Turn → Steps → Made → Answer → Turn → Machine → Machine → ℕ → Type 0
 BenchResumed over program frozen a result before behind left =

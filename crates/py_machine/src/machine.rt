@@ -1,6 +1,5 @@
 // The machine: a program from its begin to its end, by the answers that it is given.
 ghost use Rattle.std.specs.Prelude.{◌≡◌, ◌<◌, ◌≤◌, ◌+◌, ◌-◌, [], IfOk, OnOk, MatchResult, None, Some, Ok};
-ghost use Rattle.py_tree.specs.Steps.{Steps};
 ghost use Rattle.py_frames.specs.declared.state.Halt.TheVariants as halt;
 ghost use Rattle.py_frames.specs.declared.request.Turn.TheVariants as turn;
 ghost use Rattle.py_machine.specs.declared.machine.Stage.TheVariants as stage;
@@ -12,7 +11,7 @@ ghost use Rattle.py_frames.specs.Tables.{IsTable};
 ghost use Rattle.py_frames.specs.Turns.{Rests};
 ghost use Rattle.py_tree.specs.Programs.{program_of, steps_of};
 ghost use Rattle.py_values.specs.Heaps.{nothing, seen, row_at, text_at};
-ghost use Rattle.py_machine.specs.Lives.{AreOf, IsOf, Stands, StandsForBench, Resumed, BenchResumed, ResumedFrom, KeepsBudget, again, worth};
+ghost use Rattle.py_machine.specs.Lives.{AreOf, IsOf, IsOfAny, Stands, StandsBeforeBench, Resumed, BenchResumed, ResumedFrom, KeepsBudget, again, worth};
 
 use crate::bench::{bench_begun, bench_state};
 use crate::reply::answered;
@@ -80,14 +79,9 @@ impl Machine {
     }
 
     /// A machine before a testbench: a function of what stands before it, which is called with the thing `ctx`.
-    pub fn bench(
-        alloc: Global,
-        _frozen: &Frozen,
-        callee: Val,
-        ctx: Hw,
-    ) -> Result<Machine, NoMemory>
-        ensures of { IfOk result (λ m. (program : Steps) → IsOf program m) }
-        ensures stands { IfOk result (λ m. (program : Steps) → StandsForBench program _frozen.now callee ctx [] m) }
+    pub fn bench(alloc: Global, _frozen: &Frozen, callee: Val, ctx: Hw) -> Result<Machine, NoMemory>
+        ensures of { IfOk result IsOfAny }
+        ensures stands { IfOk result (StandsBeforeBench _frozen.now callee ctx) }
         ensures before { IfOk result (λ m. m.stage ≡ stage.BeforeBench callee ctx) }
         ensures unused { IfOk result (λ m. m.going.state.used ≡ 0) }
     {
@@ -344,7 +338,9 @@ fn answer_goes(
             )
         }
         Stage::Before => file_begun(going, functions, frozen, budget),
-        Stage::BeforeBench { callee, ctx } => bench_begun(going, functions, frozen, callee, *ctx, budget),
+        Stage::BeforeBench { callee, ctx } => bench_begun(
+            going, functions, frozen, callee, *ctx, budget,
+        ),
         _ => Err(Halt::NoMemory),
     }
 }
