@@ -42,5 +42,3 @@ bench_async fns frozen r x y budget callee ctx b place e t at_place h = bench_ch
 
 pub bench_plain : (fns : Functions) (frozen : Made) (r : Result Now Halt) (x y : Going) (budget : ℕ) (callee : Val) (ctx : Hw) (b : Bool) (place : Place) → b ≡ is_async_in (steps_of fns.program) (seen frozen x.state.heap) callee → b ≡ false → place ≡ callee_place (seen frozen x.state.heap) origin callee → GoesOn fns frozen r x y budget (λ k. stop Raised place) → GoesOn fns frozen r x y budget (λ k. bench_called k callee ctx)
 bench_plain fns frozen r x y budget callee ctx b place e t at_place h = bench_chosen fns frozen r x y budget callee ctx false place (sym t ∙ e) at_place h
-
-pub ruleset bench_rules = (bench_async, bench_plain)

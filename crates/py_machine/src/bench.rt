@@ -43,7 +43,6 @@ pub fn bench_state(alloc: Global) -> State
 }
 
 /// A testbench begins: its function is called with a thing, unless it is none that is `async`.
-#[tactic(auto, using(crate::proofs::BenchLaws::bench_rules))]
 pub fn bench_begun(
     going: &mut Going,
     functions: &Functions,

@@ -99,7 +99,7 @@ impl Machine {
     /// Goes on by an answer, to the next request or to the end. The first answer begins the program's body or the testbench,
     /// and each later one is that of the request that waits. The program of a testbench is the one whose body made what is
     /// frozen. What is spent is taken from `left`; `Stopped` with `Spent` comes where the cost reaches it. After the end, a
-    /// stop or want of memory each call answers the same. Each turn ticks `steps`.
+    /// stop or want of memory each call answers the same. Each answer that is taken ticks `steps`, and so does each turn.
     #[tactic(auto, using(crate::proofs::LifeLaws::resume_rules))]
     pub fn resume<L: Ledger>(
         &mut self,
@@ -116,11 +116,13 @@ impl Machine {
         ensures bench { BenchResumed (again self.old.stage) (program_of program.now) frozen.now answer result self.old self.new left.old.left }
         ensures left { left.new.left ≡ self.old.going.state.used + left.old.left - self.new.going.state.used }
         ensures ticks { steps.old ≤ steps.new }
+        ensures answer { again self.old.stage ≡ None → steps.old < steps.new }
         ensures kept { KeepsBudget result (self.old.going.state.used + left.old.left) (self.new.going.state.used + left.new.left) }
     {
         if let Some(turn) = self.again() {
             return turn;
         }
+        steps.tick();
         let Ok(functions) = self.functions_of(program) else {
             self.stage = Stage::NoMemory;
             return Turn::NoMemory;
