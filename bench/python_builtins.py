@@ -174,6 +174,8 @@ def called(run, builtin, args, keywords, place):
     if name == "sum" and adds_things(args):
         return run.added(args[1] if len(args) == 2 else 0, run.at(place, elements, args[0]), place)
     work = globals().get("of_" + name)
+    if name == "pop":
+        run.change(args[0] if args else None, place)
     if name in ("append", "insert", "extend"):
         return grown(run, name, args, place)
     value = run.at(place, work, *checked(run, work, args, place))
@@ -219,6 +221,7 @@ def grown(run, name, args, place):
     of = args[0]
     if name == "extend":
         return extend(run, of, args[1], place)
+    run.change(of, place)
     if name == "insert":
         run.at(place, lambda: wants(is_number(args[1])))
     if len(of.items) + 1 > 65536:
@@ -233,6 +236,7 @@ def grown(run, name, args, place):
 
 def extend(run, of, value, place):
     more = run.at(place, elements, value)
+    run.change(of, place)
     if len(of.items) + len(more) > 65536:
         run.at(place, refuse_limit)
     run.grow(len(more), place)

@@ -37,11 +37,44 @@ class Waits(Exception):
     """All answers are used up."""
 
 
+class Begins(Exception):
+    """A testbench begins where an answer would come."""
+
+    def __init__(self, words):
+        self.words = words
+
+
 class Leaves(Exception):
     """A block is left before its end."""
 
     def __init__(self, how, value=None):
         self.how, self.value = how, value
+
+
+def reachable(values):
+    """All values that can be reached from some, by their numbers, so that none of them ends."""
+    found, left = {}, list(values)
+    while left:
+        value = left.pop()
+        if id(value) not in found:
+            found[id(value)] = value
+            left += inner(value)
+    return found
+
+
+def inner(value):
+    """The values in a value."""
+    if isinstance(value, (List, Tuple)):
+        return value.items
+    if isinstance(value, Dict):
+        return list(value.items.values())
+    if isinstance(value, Object):
+        return [value.of, *value.attributes.values()]
+    if isinstance(value, Class):
+        return [value.base, *value.attributes.values()]
+    if isinstance(value, Function):
+        return [value.this, *value.defaults.values()]
+    return []
 
 
 class Scope:
@@ -116,27 +149,56 @@ class Run:
         self.here = Here(self.module)
         self.builtins = {}
         self.made_texts = self.made_items = 0
+        self.frozen = {}
 
     # ---- the whole
 
     def told(self):
         """All that comes, and the cost."""
-        last = None
+        work = self.body
         try:
-            try:
-                self.block(self.tree.body)
-                names = list(self.module.names.items())
-                kind, value = self.ask("BodyEnd", [v for _, v in names], [n for n, _ in names], (1, 1))
-                last = f"ended {shown(value)}"
-            except Stop as stop:
-                last = f"stopped {stop.cause} {stop.place[0]}:{stop.place[1]}"
-            self.said.append(last)
-            while self.answers:
-                self.answers.pop(0)
-                self.said.append(last)
+            while work:
+                words = self.comes_of(work)
+                work = words and self.testbench(*[self.meant(word) for word in words])
         except Waits:
             pass
         return " / ".join(self.said) + f" cost {self.used}"
+
+    def body(self):
+        self.block(self.tree.body)
+        names = list(self.module.names.items())
+        return self.ask("BodyEnd", [v for _, v in names], [n for n, _ in names], (1, 1))[1]
+
+    def testbench(self, callee, ctx):
+        """The call of a function with a thing, over all that was made."""
+        self.frozen = self.frozen or reachable([*self.module.names.values(), *(v for vals, _ in self.requests for v in vals)])
+        self.here, self.calls = Here(self.module), 0
+        place = self.place(callee.node) if isinstance(callee, Function) else (1, 1)
+        return lambda: self.called_alone(callee, ctx, place)
+
+    def called_alone(self, callee, ctx, place):
+        self.at(place, python_builtins.wants, self.is_async(callee))
+        return self.enter(callee, [ctx], {}, place)
+
+    def comes_of(self, work):
+        """Says what work comes to, and again for each answer behind it; gives the words of a testbench that begins instead."""
+        try:
+            last = f"ended {shown(work())}"
+        except Stop as stop:
+            last = f"stopped {stop.cause} {stop.place[0]}:{stop.place[1]}"
+        except Begins as begins:
+            return begins.words
+        self.said.append(last)
+        while self.answers:
+            kind, *words = self.answers.pop(0).split()
+            if kind == "bench":
+                return words
+            self.said.append(last)
+        return None
+
+    def change(self, value, place):
+        """What is frozen is not changed."""
+        self.at(place, python_builtins.wants, id(value) not in self.frozen)
 
     def place(self, node):
         line = self.lines[node.lineno - 1].encode()
@@ -198,7 +260,10 @@ class Run:
         self.said.append(f"{act}({inner}) {place[0]}:{place[1]}")
         if not self.answers:
             raise Waits
-        return self.answers.pop(0).split()
+        words = self.answers.pop(0).split()
+        if words[0] == "bench":
+            raise Begins(words[1:])
+        return words
 
     def ask(self, act, vals, names, place):
         """Asks, until an answer is no call."""
@@ -372,6 +437,7 @@ class Run:
     def repeat(self, row, times, place):
         """A list that becomes its items so many times; what it grows by is counted."""
         items = self.at(place, python_builtins.operated, "*", row, times, None).items
+        self.change(row, place)
         if len(items) > LONGEST:
             raise Stop("limit", place)
         self.grow(max(0, len(items) - len(row.items)), place)
@@ -770,6 +836,7 @@ class Run:
         if isinstance(of, Thing):
             self.ask("SetIndex", [of, index, value], [], place)
             return
+        self.change(of, place)
         grew = self.at(place, python_builtins.index_set, of, index, value)
         if grew:
             self.grow(1, place)
@@ -831,6 +898,7 @@ class Run:
         if isinstance(of, Thing):
             self.ask("SetAttribute", [of, value], [name], place)
         elif isinstance(of, (Object, Class)):
+            self.change(of, place)
             if name not in of.attributes:
                 self.grow(1, place)
             of.attributes[name] = value

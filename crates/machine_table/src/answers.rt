@@ -7,16 +7,43 @@ use crate::requests::Requests;
 use crate::values::value_of;
 use amh_host::Text;
 use py_machine::{Answer, Cause, NamedVal, NamedVals};
-use py_values::Vals;
+use py_values::{Hw, Val, Vals};
 use std::alloc::Global;
 use table_text::{Stop, split_first, text_of, words_of};
 
-/// The answer that words stand for, behind these requests.
-pub fn answer_of(alloc: Global, requests: &Requests, spelled: &str) -> Result<Answer, Stop> {
+/// What comes next: an answer, or a testbench that begins.
+#[derive(Drop)]
+pub enum Given {
+    Answer(Answer),
+    Bench { callee: Val, ctx: Hw },
+}
+
+/// What words stand for, behind these requests.
+pub fn given_of(alloc: Global, requests: &Requests, spelled: &str) -> Result<Given, Stop> {
     let words = words_of(alloc, spelled)?;
     let Some((kind, rest)) = split_first(words.as_slice()) else {
         return Err(Stop::NoCase);
     };
+    match (kind, rest) {
+        ("bench", [callee, ctx]) => bench_of(value_of(requests, callee)?, value_of(requests, ctx)?),
+        _ => Ok(Given::Answer(answer_of(alloc, requests, kind, rest)?)),
+    }
+}
+
+// A testbench is called with a thing.
+fn bench_of(callee: Val, ctx: Val) -> Result<Given, Stop> {
+    match ctx {
+        Val::Hw(ctx) => Ok(Given::Bench { callee, ctx }),
+        _ => Err(Stop::NoCase),
+    }
+}
+
+fn answer_of(
+    alloc: Global,
+    requests: &Requests,
+    kind: &str,
+    rest: &[&str],
+) -> Result<Answer, Stop> {
     match (kind, rest) {
         ("begin", []) => Ok(Answer::Begin),
         ("give", [v]) => Ok(Answer::Give(value_of(requests, v)?)),

@@ -10,6 +10,9 @@
 //! - `bind NAME VALUE NAME VALUE ..`, `call VALUE VALUE ..`, with the function first, `through VALUE`;
 //! - `refuse CAUSE`, with `raised`, `width`, `limit`, `assert` or `spent`, and `begin`, which begins nothing anew.
 //!
+//! Where the body has ended, `bench FUNCTION THING` freezes what it made and begins a testbench, also behind another one. It
+//! counts as an answer, and so do those to what the testbench asks. The units are of the body and all testbenches together.
+//!
 //! A value is `None`, `True`, `False`, a number, `#N` for the thing N, `ceil_log2`, `bits_for`, `R.K` for value K of request R,
 //! both from 0, or `R:NAME` for the value with this name of request R.
 //!

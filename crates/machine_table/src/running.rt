@@ -4,7 +4,7 @@ ghost use Rattle.py_tree.specs.Programs.{program_of};
 ghost use Rattle.py_machine.specs.Lives.{IsOf, Resumed, again};
 ghost use Rattle.machine_table.specs.Words.{place_said};
 
-use crate::answers::answer_of;
+use crate::answers::{Given, given_of};
 use crate::question::Question;
 use crate::requests::Requests;
 use crate::said::{end_said, request_said, stop_said};
@@ -13,7 +13,7 @@ use py_lexer::{LexStop, cut_lines};
 use py_machine::{Answer, Machine, Turn};
 use py_parser::{ParseStop, parse};
 use py_tree::Program;
-use py_values::Frozen;
+use py_values::{Frozen, Hw, Val};
 use std::alloc::Global;
 use std::marker::Brand;
 use std::sync::ledger::{Blank, Ledger};
@@ -55,20 +55,27 @@ fn counted_run<L: Ledger>(
 ) -> Result<String, Stop>
     requires { (blank.name ≡ L.name) × (blank.parts ≡ L.parts) × (0 < L.parts) }
 {
-    let mut run = Run {
+    let run = Run {
         alloc,
         program,
         frozen: Frozen::empty(alloc),
         machine: Machine::start(alloc, program)?,
+        phase: Phase::Body,
         requests: Requests::new(alloc),
         left: Budget {
             left: question.budget,
         },
         steps: Steps::<L>::new(blank),
     };
-    let said = run.said(question.answers)?;
-    let cost = question.budget.saturating_sub(run.left.left);
-    Ok(format!(in alloc; "{said} cost {cost}")?)
+    run.said(question)
+}
+
+// What a run evaluates: the body, nothing more since the body has ended, or a testbench over what the body made.
+#[derive(Clone, Copy, PartialEq, Eq, Drop)]
+enum Phase {
+    Body,
+    BodyEnded,
+    Bench,
 }
 
 // A program that runs, what it asked so far, and how many units are left.
@@ -78,26 +85,72 @@ struct Run<'a, L: Ledger> {
     program: &'a Program,
     frozen: Frozen,
     machine: Machine,
+    phase: Phase,
     requests: Requests,
     left: Budget,
     steps: Steps<L>,
 }
 
-impl<L: Ledger> Run<'_, L> {
-    // What comes of all answers.
-    fn said(&mut self, answers: &str) -> Result<String, Stop>
-        requires { IsOf (program_of self.old.program.now) self.old.machine }
+impl<'a, L: Ledger> Run<'a, L> {
+    // What comes of all answers, and what it costs.
+    fn said(self, question: &Question) -> Result<String, Stop>
+        requires { IsOf (program_of self.program.now) self.machine }
     {
-        let mut said = self.said_after(Answer::Begin)?;
-        if answers.is_empty() {
-            return Ok(said);
+        let mut run = self;
+        let mut said = run.said_after(Answer::Begin)?;
+        if question.answers.is_empty() {
+            return run.with_cost(said.as_str(), question.budget);
         }
-        for spelled in answers.split(';') {
-            let answer = answer_of(self.alloc, &self.requests, spelled)?;
+        for spelled in question.answers.split(';') {
             said.push_str(" / ")?;
-            said.push_str(self.said_after(answer)?.as_str())?;
+            let answer = match given_of(run.alloc, &run.requests, spelled)? {
+                Given::Answer(answer) => answer,
+                Given::Bench { callee, ctx } => {
+                    run = run.before_bench(callee, ctx)?;
+                    Answer::Begin
+                }
+            };
+            said.push_str(run.said_after(answer)?.as_str())?;
         }
-        Ok(said)
+        run.with_cost(said.as_str(), question.budget)
+    }
+
+    // What came of a question, and the units that were spent.
+    fn with_cost(&self, said: &str, budget: u64) -> Result<String, Stop> {
+        let cost = budget.saturating_sub(self.left.left);
+        Ok(format!(in self.alloc; "{said} cost {cost}")?)
+    }
+
+    // A testbench is to begin over what the body made, which has ended.
+    fn before_bench(self, callee: Val, ctx: Hw) -> Result<Run<'a, L>, Stop>
+        ensures { IfOk result (λ run. IsOf (program_of run.program.now) run.machine) }
+    {
+        let Run {
+            alloc,
+            program,
+            frozen,
+            machine,
+            phase,
+            requests,
+            left,
+            steps,
+        } = self;
+        let frozen = match phase {
+            Phase::Body => return Err(Stop::NoCase),
+            Phase::BodyEnded => machine.freeze(),
+            Phase::Bench => frozen,
+        };
+        let machine = Machine::bench(alloc, &frozen, callee, ctx)?;
+        Ok(Run {
+            alloc,
+            program,
+            frozen,
+            machine,
+            phase: Phase::Bench,
+            requests,
+            left,
+            steps,
+        })
     }
 
     // What comes of an answer.
@@ -111,7 +164,12 @@ impl<L: Ledger> Run<'_, L> {
                 self.requests.push(request)?;
                 Ok(said)
             }
-            Turn::Ended(v) => end_said(self.alloc, &self.machine, &self.frozen, v),
+            Turn::Ended(v) => {
+                if self.phase == Phase::Body {
+                    self.phase = Phase::BodyEnded;
+                }
+                end_said(self.alloc, &self.machine, &self.frozen, v)
+            }
             Turn::Stopped(stop) => stop_said(self.alloc, stop),
             Turn::NoMemory => Ok(String::from_str(self.alloc, "no memory")?),
         }

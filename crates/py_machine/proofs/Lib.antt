@@ -1,3 +1,4 @@
 pub mod ReplyLaws
 pub mod TurnLaws
+pub mod BenchLaws
 pub mod LifeLaws

@@ -11,18 +11,14 @@ use Rattle.py_frames.specs.declared.frame.Now.TheVariants.{Begin, Run, Came, Wai
 use Rattle.py_frames.specs.declared.going.Going.{Going}
 use Rattle.py_machine.specs.declared.machine.Stage.{Stage}
 use Rattle.py_machine.specs.declared.machine.Stage.TheVariants as stage
-use Rattle.py_frames.specs.Doing.{Doing, Known, and_then}
-use Rattle.py_frames.specs.Statements.{run_all}
-use Rattle.py_frames.specs.Whole.{body_ended}
+use Rattle.py_frames.specs.Doing.{Doing, Known}
+use Rattle.py_machine.specs.Starts.{body_means, bench_called}
 use Rattle.py_machine.specs.Lives.{reply, next_taken, worth}
 
--- the file's body, and then its end
-abbrev pub body_means : Known → Doing
-body_means k = and_then (run_all k k.program) (body_ended k)
-
--- the first answer begins the body, and a later one goes to the request that waits
+-- the first answer begins the body or the testbench, and a later one goes to the request that waits
 abbrev pub meant_by : Stage → Answer → Known → Doing
 meant_by stage.Before a k = body_means k
+meant_by (stage.BeforeBench callee ctx) a k = bench_called k callee ctx
 meant_by (stage.Waiting act place n) a k = reply k n act place a
 meant_by (stage.Ended v) a k = body_means k
 meant_by (stage.Stopped stop) a k = body_means k

@@ -1,3 +1,4 @@
+pub mod Starts
 pub mod Lives
 pub mod Replying
 pub mod Ends

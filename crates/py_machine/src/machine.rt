@@ -1,17 +1,19 @@
 // The machine: a program from its begin to its end, by the answers that it is given.
-ghost use Rattle.std.specs.Prelude.{◌≡◌, ◌<◌, ◌≤◌, ◌+◌, ◌-◌, [], IfOk, OnOk, MatchResult, None, Ok};
+ghost use Rattle.std.specs.Prelude.{◌≡◌, ◌<◌, ◌≤◌, ◌+◌, ◌-◌, [], IfOk, OnOk, MatchResult, None, Some, Ok};
 ghost use Rattle.py_frames.specs.declared.state.Halt.TheVariants as halt;
 ghost use Rattle.py_frames.specs.declared.request.Turn.TheVariants as turn;
 ghost use Rattle.py_machine.specs.declared.machine.Stage.TheVariants as stage;
 ghost use Rattle.py_frames.specs.declared.frame.Now.TheVariants.{Waits};
-ghost use Rattle.py_machine.specs.Brought.{body_means, meant_by, took, turn_of, stage_of, KeepsTaken};
+ghost use Rattle.py_machine.specs.Starts.{Start, body_means};
+ghost use Rattle.py_machine.specs.Brought.{meant_by, took, turn_of, stage_of, KeepsTaken};
 ghost use Rattle.py_frames.specs.Frames.{GoesOn, now_means};
 ghost use Rattle.py_frames.specs.Tables.{IsTable};
 ghost use Rattle.py_frames.specs.Turns.{Rests};
-ghost use Rattle.py_tree.specs.Programs.{program_of};
+ghost use Rattle.py_tree.specs.Programs.{program_of, steps_of};
 ghost use Rattle.py_values.specs.Heaps.{nothing, seen, row_at, text_at};
-ghost use Rattle.py_machine.specs.Lives.{IsOf, Stands, Resumed, KeepsBudget, again, worth};
+ghost use Rattle.py_machine.specs.Lives.{AreOf, IsOf, IsOfAny, Stands, StandsBeforeBench, Resumed, BenchResumed, ResumedFrom, KeepsBudget, again, worth};
 
+use crate::bench::{bench_begun, bench_state};
 use crate::reply::answered;
 use crate::turn::go;
 use amh_host::{Budget, NoMemory, Place, Steps};
@@ -24,14 +26,17 @@ use py_frames::request::{Act, Answer, Cause, Request, Stop, Turn};
 use py_frames::start::first_state;
 use py_frames::state::{Got, Halt, State};
 use py_tree::Program;
-use py_values::{Frozen, ObjId, StrId, Val};
+use py_values::{Frozen, Hw, ObjId, StrId, Val};
 use std::alloc::Global;
+use std::mem::replace;
 use std::sync::ledger::Ledger;
 
 /// Where a machine stands between two answers.
 #[derive(Drop)]
 pub enum Stage {
     Before,
+    /// Before a testbench: this function is to be called with this thing.
+    BeforeBench { callee: Val, ctx: Hw },
     /// A request of this act at this place waits; so many functions may still be begun for it.
     Waiting { act: Act, place: Place, rounds: u64 },
     Ended(Val),
@@ -42,7 +47,8 @@ pub enum Stage {
 /// An evaluation of a program that goes on where it stopped.
 #[derive(Drop)]
 pub struct Machine {
-    pub functions: Functions,
+    /// None before the first answer to a testbench, with which its program comes.
+    pub functions: Option<Functions>,
     pub going: Going,
     pub stage: Stage,
 }
@@ -60,7 +66,7 @@ impl Machine {
         };
         match first_state(alloc) {
             Ok(state) => Ok(Machine {
-                functions,
+                functions: Some(functions),
                 going: Going {
                     alloc,
                     frames: Frames::new(alloc),
@@ -72,9 +78,28 @@ impl Machine {
         }
     }
 
-    /// Goes on by an answer, to the next request or to the end. The first answer begins the program, and each later
-    /// one is that of the request that waits. What is spent is taken from `left`; `Stopped` with `Spent` comes where the
-    /// cost reaches it. After the end, a stop or want of memory each call answers the same. Each turn ticks `steps`.
+    /// A machine before a testbench: a function of what stands before it, which is called with the thing `ctx`.
+    pub fn bench(alloc: Global, _frozen: &Frozen, callee: Val, ctx: Hw) -> Result<Machine, NoMemory>
+        ensures of { IfOk result IsOfAny }
+        ensures stands { IfOk result (StandsBeforeBench _frozen.now callee ctx) }
+        ensures before { IfOk result (λ m. m.stage ≡ stage.BeforeBench callee ctx) }
+        ensures unused { IfOk result (λ m. m.going.state.used ≡ 0) }
+    {
+        Ok(Machine {
+            functions: None,
+            going: Going {
+                alloc,
+                frames: Frames::new(alloc),
+                state: bench_state(alloc),
+            },
+            stage: Stage::BeforeBench { callee, ctx },
+        })
+    }
+
+    /// Goes on by an answer, to the next request or to the end. The first answer begins the program's body or the testbench,
+    /// and each later one is that of the request that waits. The program of a testbench is the one whose body made what is
+    /// frozen. What is spent is taken from `left`; `Stopped` with `Spent` comes where the cost reaches it. After the end, a
+    /// stop or want of memory each call answers the same. Each answer that is taken ticks `steps`, and so does each turn.
     #[tactic(auto, using(crate::proofs::LifeLaws::resume_rules))]
     pub fn resume<L: Ledger>(
         &mut self,
@@ -88,20 +113,62 @@ impl Machine {
         requires units { again self.old.stage ≡ None → 0 < left.old.left }
         ensures of { IsOf (program_of program.now) self.new }
         ensures comes { Resumed (again self.old.stage) (program_of program.now) frozen.now answer result self.old self.new left.old.left }
+        ensures bench { BenchResumed (again self.old.stage) (program_of program.now) frozen.now answer result self.old self.new left.old.left }
         ensures left { left.new.left ≡ self.old.going.state.used + left.old.left - self.new.going.state.used }
         ensures ticks { steps.old ≤ steps.new }
+        ensures answer { again self.old.stage ≡ None → steps.old < steps.new }
         ensures kept { KeepsBudget result (self.old.going.state.used + left.old.left) (self.new.going.state.used + left.new.left) }
     {
         if let Some(turn) = self.again() {
             return turn;
         }
+        steps.tick();
+        let Ok(functions) = self.functions_of(program) else {
+            self.stage = Stage::NoMemory;
+            return Turn::NoMemory;
+        };
+        let turn = self.goes_on(&functions, frozen, answer, left, steps);
+        self.functions = Some(functions);
+        turn
+    }
+
+    // The functions of the program, which a testbench is told by its first answer. They are to be put back.
+    fn functions_of(&mut self, program: &Program) -> Result<Functions, NoMemory>
+        requires { IsOf (program_of program.now) self.old }
+        ensures of { IfOk result (λ f. AreOf (program_of program.now) (Some f)) }
+        ensures taken_out { self.new ≡ record self.old { functions = None } }
+    {
+        match replace(&mut self.functions, None) {
+            Some(functions) => Ok(functions),
+            None => Functions::of(self.going.alloc, &program.body),
+        }
+    }
+
+    // The turns that an answer brings, and what is told of them.
+    #[tactic(auto, using(crate::proofs::LifeLaws::turned_rules))]
+    fn goes_on<L: Ledger>(
+        &mut self,
+        functions: &Functions,
+        frozen: &Frozen,
+        answer: Answer,
+        left: &mut Budget,
+        steps: &mut Steps<L>,
+    ) -> Turn
+        requires table { IsTable functions.now }
+        requires over { again self.old.stage ≡ None }
+        requires units { 0 < left.old.left }
+        ensures comes { (start : Start) → ResumedFrom start None (steps_of functions.now.program) frozen.now answer result self.old self.new left.old.left }
+        ensures left { left.new.left ≡ self.old.going.state.used + left.old.left - self.new.going.state.used }
+        ensures ticks { steps.old ≤ steps.new }
+        ensures kept { KeepsBudget result (self.old.going.state.used + left.old.left) (self.new.going.state.used + left.new.left) }
+    {
         let Some(budget) = self.going.state.used.checked_add(left.left) else {
             self.stage = Stage::NoMemory;
             return Turn::NoMemory;
         };
         let rest = replied(
             &mut self.going,
-            &self.functions,
+            functions,
             frozen,
             &self.stage,
             answer,
@@ -118,6 +185,7 @@ impl Machine {
     {
         match &self.stage {
             Stage::Before => None,
+            Stage::BeforeBench { .. } => None,
             Stage::Waiting { .. } => None,
             Stage::Ended(v) => Some(Turn::Ended(*v)),
             Stage::Stopped(stop) => Some(Turn::Stopped(*stop)),
@@ -272,6 +340,9 @@ fn answer_goes(
             )
         }
         Stage::Before => file_begun(going, functions, frozen, budget),
+        Stage::BeforeBench { callee, ctx } => bench_begun(
+            going, functions, frozen, callee, *ctx, budget,
+        ),
         _ => Err(Halt::NoMemory),
     }
 }
