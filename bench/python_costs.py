@@ -10,6 +10,7 @@ import fractions
 import math
 
 import python_builtins
+import python_private
 from python_values import (
     Builtin, Class, Dict, Function, LONGEST, List, Object, Refusal, Thing, Time, Tuple,
     elements, in_quotes, is_key, shown, truth,
@@ -141,7 +142,7 @@ class Here:
 class Run:
     def __init__(self, text, budget, answers):
         self.lines = text.splitlines()
-        self.tree = ast.parse(text)
+        self.tree = python_private.tree_of(text)
         self.budget, self.used, self.calls = budget, 0, 0
         self.answers = list(answers)
         self.said, self.requests = [], []

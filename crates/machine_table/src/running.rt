@@ -11,6 +11,7 @@ use crate::said::{end_said, request_said, stop_said};
 use amh_host::{Budget, Place, Steps};
 use py_lexer::{LexStop, cut_lines};
 use py_machine::{Answer, Machine, Turn};
+use private_names::mangled;
 use py_parser::{ParseStop, parse};
 use py_tree::Program;
 use py_values::{Frozen, Hw, Val};
@@ -34,7 +35,10 @@ pub fn said_of(alloc: Global, question: &Question) -> Result<String, Stop> {
         Err(LexStop::NoMemory) => return Err(Stop::NoMemory),
     };
     match parse(alloc, text, &lines) {
-        Ok(program) => counted_run::<Brand>(alloc, question, &program, Blank::new(1)),
+        Ok(program) => {
+            let program = mangled(alloc, &program)?;
+            counted_run::<Brand>(alloc, question, &program, Blank::new(1))
+        }
         Err(ParseStop::Subset(place)) => refused(alloc, place),
         Err(ParseStop::NoMemory) => Err(Stop::NoMemory),
     }
