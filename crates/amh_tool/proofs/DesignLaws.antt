@@ -69,13 +69,13 @@ LinesGive-unparsed text lines place h = inr (record { place = place; refused = h
 
 -- ---- programs
 
-LinesGive-parsed : (text : List ℕ) (lines : List Line) (body : Steps) → IsProgram (file_lines text lines) body → (found : Designed) → ComesTo body found → IsElaborated text lines found ⊎ IsUnparsed text lines found
+LinesGive-parsed : (text : List ℕ) (lines : List Line) (body : Steps) → IsProgram (file_lines text lines) body → (found : Designed) → ComesTo (mangled_program body) found → IsElaborated text lines found ⊎ IsUnparsed text lines found
 LinesGive-parsed text lines body program found h = inl (record { body = body; program = program; comes = h })
 
 -- a program gives what it comes to
-pub LinesGive-program : (text : List ℕ) (lines : List Line) (body : Steps) (given : Result Ranked DesignStop) → IsProgram (file_lines text lines) body → ProgramGives body given → LinesGive text lines given
+pub LinesGive-program : (text : List ℕ) (lines : List Line) (body : Steps) (given : Result Ranked DesignStop) → IsProgram (file_lines text lines) body → ProgramGives (mangled_program body) given → LinesGive text lines given
 LinesGive-program text lines body given program h =
-    found_weaker (ComesTo body) (λ found. IsElaborated text lines found ⊎ IsUnparsed text lines found) given (LinesGive-parsed text lines body program) h
+    found_weaker (ComesTo (mangled_program body)) (λ found. IsElaborated text lines found ⊎ IsUnparsed text lines found) given (LinesGive-parsed text lines body program) h
 
 -- a program with a design, which is ranked
 pub ProgramGives-design : (body : Steps) (left : ℕ) (f : Elab_found) (given : Result Ranked DesignStop) → Comes body budget left (Ok f) → RankGives f.circuit given → ProgramGives body given

@@ -76,7 +76,7 @@ module _ (one_elaboration : One_elaboration) (one_program : OneProgram) (front_o
   elaborated_once : (text : List ℕ) (lines : List Line) → Once (IsElaborated text lines)
   elaborated_once text lines x y h k =
       let body : h.body ≡ k.body = one_program (file_lines text lines) h.body k.body h.program k.program in
-      comes_once one_elaboration k.body x y (subst (λ (b : Steps). ComesTo b x) body h.comes) k.comes
+      comes_once one_elaboration (mangled_program k.body) x y (subst (λ (b : Steps). ComesTo (mangled_program b) x) body h.comes) k.comes
 
   refused_at_once : (text cs : List ℕ) (lines : List Line) → logical_lines cs ≡ Ok lines → Once (IsRefusedAt text lines)
   refused_at_once text cs lines cut x y h k =

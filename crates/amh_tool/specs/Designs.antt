@@ -71,11 +71,11 @@ pub record ComesTo (body : Steps) (found : Designed) : Type 0 where
   pub elaborates : Elaborates body budget came used
   pub checked : IsChecked came found
 
--- the lines stand for a program, which is elaborated
+-- the lines stand for a program, which is elaborated once its private names are written out
 pub record IsElaborated (text : List ℕ) (lines : List Line) (found : Designed) : Type 0 where
   pub body : Steps
   pub program : IsProgram (file_lines text lines) body
-  pub comes : ComesTo body found
+  pub comes : ComesTo (mangled_program body) found
 
 -- the lines stand for no program
 pub record IsUnparsed (text : List ℕ) (lines : List Line) (found : Designed) : Type 0 where

@@ -3,6 +3,7 @@ ghost use Rattle.std.specs.Prelude.{◌≡◌, ◌≤◌, ◌+◌, ◌==◌, len
 ghost use Rattle.std.specs.Str.{chars};
 ghost use Rattle.py_lexer.specs.Lines.{logical_lines};
 ghost use Rattle.py_tree.specs.Programs.{program_of};
+ghost use Rattle.private_names.specs.Programs.{mangled_program};
 ghost use Rattle.amh_tool.specs.Designs.{line_start, refusal, budget};
 ghost use Rattle.amh_tool.specs.DesignGives.{DesignGives, CutGives, LinesGive, ProgramGives, RankGives, stop_seen};
 ghost use Rattle.amh_tool.specs.Verdicts.{IsReady};
@@ -13,6 +14,7 @@ use comb_graph::{GraphStop, Ranks, ordered_have_no_loop, rank};
 use design_ir::Design;
 use elab_eval::{ElabStop, elaborate};
 use py_lexer::{LexStop, Lines, cut_lines};
+use private_names::mangled;
 use py_parser::{ParseStop, parse};
 use py_tree::Program;
 use std::alloc::Global;
@@ -108,9 +110,25 @@ fn read_lines<L: Ledger>(
     ensures counted { steps.old ≤ steps.new }
 {
     match parse(alloc, text, lines) {
-        Ok(program) => read_program(alloc, &program, steps),
+        Ok(program) => read_parsed(alloc, &program, steps),
         Err(ParseStop::Subset(place)) => Err(refused(Kind::Subset, place)),
         Err(ParseStop::NoMemory) => Err(DesignStop::NoMemory),
+    }
+}
+
+// The design of a program as it was written: Python's compiler writes out the private names of its classes.
+fn read_parsed<L: Ledger>(
+    alloc: Global,
+    program: &Program,
+    steps: &mut Steps<L>,
+) -> Result<Ranked, DesignStop>
+    ensures given { ProgramGives (mangled_program (program_of program.now)) result }
+    ensures ready { IfOk result IsReady }
+    ensures counted { steps.old ≤ steps.new }
+{
+    match mangled(alloc, program) {
+        Ok(program) => read_program(alloc, &program, steps),
+        Err(_) => Err(DesignStop::NoMemory),
     }
 }
 

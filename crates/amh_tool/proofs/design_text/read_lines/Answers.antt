@@ -8,7 +8,7 @@ use Rattle.amh_tool.proofs.design_text.read_lines.Goals as goal
 
 pub returns-in-Ok-clause-given : goal.returns-in-Ok-clause-given
 returns-in-Ok-clause-given g c =
-    LinesGive-program c.args.text.now c.args.lines.now (program_of c.in-Ok.program) c.read_program.result c.in-Ok.ensures c.read_program.ensures.given
+    LinesGive-program c.args.text.now c.args.lines.now (program_of c.in-Ok.program) c.read_parsed.result c.in-Ok.ensures c.read_parsed.ensures.given
 
 pub returns-in-Err-Subset-clause-given : goal.returns-in-Err-Subset-clause-given
 returns-in-Err-Subset-clause-given g c =
