@@ -10,6 +10,7 @@ use Rattle.amh_host.specs.declared.place.Kind.TheVariants.{Text, Subset, Loop as
 use Rattle.py_lexer.specs.declared.line.Line.{Line}
 use Rattle.py_lexer.specs.Lines.{logical_lines}
 use Rattle.py_tree.specs.Steps.{Steps}
+use Rattle.private_names.specs.Statements.{mangled_program}
 use Rattle.py_grammar.specs.Blocks.{IsProgram}
 use Rattle.py_parser.specs.Parsing.{file_lines, IsRefusedAt}
 use Rattle.design_ir.specs.Targets.{Bit}

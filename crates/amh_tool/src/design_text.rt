@@ -3,7 +3,7 @@ ghost use Rattle.std.specs.Prelude.{◌≡◌, ◌≤◌, ◌+◌, ◌==◌, len
 ghost use Rattle.std.specs.Str.{chars};
 ghost use Rattle.py_lexer.specs.Lines.{logical_lines};
 ghost use Rattle.py_tree.specs.Programs.{program_of};
-ghost use Rattle.private_names.specs.Programs.{mangled_program};
+ghost use Rattle.private_names.specs.Statements.{mangled_program};
 ghost use Rattle.amh_tool.specs.Designs.{line_start, refusal, budget};
 ghost use Rattle.amh_tool.specs.DesignGives.{DesignGives, CutGives, LinesGive, ProgramGives, RankGives, stop_seen};
 ghost use Rattle.amh_tool.specs.Verdicts.{IsReady};
