@@ -1,3 +1,4 @@
 pub mod Layers
 pub mod Names
 pub mod Rows
+pub mod Outside

@@ -1,2 +1,3 @@
 pub mod Names
-pub mod Mangling
+pub mod Expressions
+pub mod Statements

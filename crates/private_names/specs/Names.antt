@@ -1,6 +1,6 @@
 -- Which names are private, and what becomes of them.
 -- Source: Python reference 6.2.1, Identifiers (Names), "Private name mangling".
-use Rattle.std.specs.Prelude.{ℕ, ◌==◌, ◌&&◌, not, Bool, true, false, if◌then◌else◌, List, [], ◌∷◌, ◌++◌, codes, nat_eq}
+use Rattle.std.specs.Prelude.{ℕ, ◌==◌, ◌&&◌, not, Bool, if◌then◌else◌, List, [], ◌∷◌, ◌++◌, codes, nat_eq}
 use Rattle.std.specs.List.{starts_with, ends_with}
 
 -- an underscore

@@ -3,18 +3,21 @@ ghost use Rattle.std.specs.Prelude.{◌≡◌, IfOk, map, option_map};
 ghost use Rattle.amh_host.specs.declared.place.Place.{Place};
 ghost use Rattle.py_tree.specs.Seen.{tree, kind_tree, link_tree, pair_tree, each_of, trailer_of, argument_of};
 ghost use Rattle.py_tree.specs.Tree.{trees, links, pairs, perhaps, trailers, arguments};
-ghost use Rattle.private_names.specs.Mangling.{mangled, mangled_trees, mangled_links, mangled_pairs, mangled_perhaps, mangled_each, mangled_trailers, mangled_trailer, mangled_arguments, mangled_argument};
+ghost use Rattle.private_names.specs.Expressions.{mangled_tree, mangled_trees, mangled_links, mangled_pairs, mangled_perhaps, mangled_each, mangled_trailers, mangled_trailer, mangled_arguments, mangled_argument};
 
 use crate::class::Class;
 use amh_host::NoMemory;
 use py_tree::{Argument, Comprehension, Expr, ExprKind, Link, Pair, Trailer};
 
 impl Class {
-    /// An expression within the class.
+    /// An expression within the class: one handle more of it, where there is none.
     #[cycle(expr)]
     pub fn expr(&self, e: &Expr) -> Result<Expr, NoMemory>
-        ensures { IfOk result (λ made. tree made ≡ mangled self.now.name (tree e.now)) }
+        ensures { IfOk result (λ made. tree made ≡ mangled_tree self.now.name (tree e.now)) }
     {
+        if self.is_none() {
+            return e.share();
+        }
         let kind = self.kind(&e.kind)?;
         Expr::new(self.alloc, e.place, kind)
     }
@@ -22,7 +25,7 @@ impl Class {
     // What an expression is, within the class, wherever it stands.
     #[cycle(expr)]
     fn kind(&self, kind: &ExprKind) -> Result<ExprKind, NoMemory>
-        ensures { IfOk result (λ made. (p : Place) → kind_tree made p ≡ mangled self.now.name (kind_tree kind.now p)) }
+        ensures { IfOk result (λ made. (p : Place) → kind_tree made p ≡ mangled_tree self.now.name (kind_tree kind.now p)) }
     {
         match kind {
             ExprKind::Name(name) => Ok(ExprKind::Name(self.name(name)?)),
@@ -100,7 +103,7 @@ impl Class {
 
     #[cycle(expr)]
     fn pair(&self, pair: &Pair) -> Result<Pair, NoMemory>
-        ensures { IfOk result (λ made. pair_tree made ≡ (mangled self.now.name (pair_tree pair.now).0, mangled self.now.name (pair_tree pair.now).1)) }
+        ensures { IfOk result (λ made. pair_tree made ≡ (mangled_tree self.now.name (pair_tree pair.now).0, mangled_tree self.now.name (pair_tree pair.now).1)) }
     {
         Ok(Pair {
             key: self.expr(&pair.key)?,

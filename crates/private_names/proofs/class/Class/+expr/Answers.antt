@@ -2,8 +2,9 @@ use Rattle.std.proofs.Common.{◌≡◌, ◌∙◌, ap, arith}
 use Rattle.std.proofs.lemmas.Result.{IfOk-weaker}
 use Rattle.py_tree.specs.Seen.{tree, kind_tree}
 use Rattle.py_tree.specs.Tree.{trees, links, pairs, trailers, arguments}
-use Rattle.private_names.specs.Mangling.{mangled}
+use Rattle.private_names.specs.Expressions.{mangled_tree}
 use Rattle.private_names.proofs.Layers.{tree_of_kind}
+use Rattle.private_names.proofs.Outside.{outside}
 use Rattle.private_names.proofs.Rows.{all_made, tree_within, trees_within, link_within, links_within, pair_within, pairs_within, trailer_within, trailers_within, argument_within, arguments_within}
 use Rattle.private_names.proofs.class.Class.+expr.Goals as goal
 
@@ -11,7 +12,13 @@ pub expr-returns : goal.expr-returns
 expr-returns t c =
     let class = c.args.self.now.name in
     let e = c.args.e.now in
-    IfOk-weaker c.new.result _ (λ made. tree made ≡ mangled class (tree e)) (λ made h. h ∙ c.in_ok-kind.ensures e.place ∙ ap (λ k. mangled class (kind_tree k e.place)) c.deref.ensures ∙ ap (mangled class) (tree_of_kind e)) c.new.ensures
+    IfOk-weaker c.new.result _ (λ made. tree made ≡ mangled_tree class (tree e)) (λ made h. h ∙ c.in_ok-kind.ensures e.place ∙ ap (λ k. mangled_tree class (kind_tree k e.place)) c.deref.ensures ∙ ap (mangled_tree class) (tree_of_kind e)) c.new.ensures
+
+pub expr-returns-then-is_none : goal.expr-returns-then-is_none
+expr-returns-then-is_none t c =
+    let class = c.args.self.now.name in
+    let e = c.args.e.now in
+    IfOk-weaker c.share.result _ (λ made. tree made ≡ mangled_tree class (tree e)) (λ made h. h ∙ outside class (tree e) (c.is_none.ensures.0 c.if-is_none.true)) c.share.ensures
 
 pub exprs-returns : goal.exprs-returns
 exprs-returns t c = let class = c.args.self.now.name in ap trees (all_made (tree_within class) c.as_slice-e-items.result.now c.args.all.now.items c.loop-e.e-index _ c.as_slice-e-items.ensures.value (omega (arith, c.loop-e-test.false)) c.loop-e.invariant) ∙ trees_within class c.args.all.now.items

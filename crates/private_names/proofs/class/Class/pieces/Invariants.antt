@@ -1,5 +1,5 @@
 use Rattle.std.proofs.Common.{◌≡◌, map, take}
-use Rattle.private_names.specs.Mangling.{mangled_piece}
+use Rattle.private_names.specs.Expressions.{mangled_piece}
 use Rattle.private_names.proofs.class.Class.pieces.Given as goal
 
 abbrev pub invariant-loop-piece : goal.invariant-loop-piece
