@@ -10,11 +10,13 @@ ghost use Rattle.private_names.specs.Statements.{mangled_program};
 
 mod class;
 mod expressions;
+mod laws;
 mod parts;
 mod statements;
 
 use amh_host::NoMemory;
 use class::Class;
+pub use laws::names_are_private;
 use py_tree::Program;
 use std::alloc::Global;
 

@@ -3,7 +3,7 @@ ghost use Rattle.std.specs.Prelude.{◌≡◌, IfOk, map, option_map};
 ghost use Rattle.amh_host.specs.declared.place.Place.{Place};
 ghost use Rattle.py_tree.specs.Seen.{tree, trailer_of};
 ghost use Rattle.py_tree.specs.Tree.{perhaps};
-ghost use Rattle.py_tree.specs.Steps.{Annotate, For, With, Class as class_step, branches, else_of, bases_of};
+ghost use Rattle.py_tree.specs.Steps.{Annotate, Augment, For, With, Class as class_step, branches, else_of, bases_of};
 ghost use Rattle.py_tree.specs.Programs.{step_of, kind_step, steps_of, branch_of, body_of};
 ghost use Rattle.private_names.specs.Names.{mangled_name};
 ghost use Rattle.private_names.specs.Expressions.{mangled_tree, mangled_perhaps};
@@ -11,7 +11,7 @@ ghost use Rattle.private_names.specs.Statements.{mangled_bases, mangled_step, ma
 
 use crate::class::Class;
 use amh_host::NoMemory;
-use py_tree::{Block, Branch, Expr, Function, Name, Stmt, StmtKind, Trailer};
+use py_tree::{Block, Branch, Expr, Function, Name, Operator, Stmt, StmtKind, Trailer};
 use std::rc::Rc;
 
 impl Class {
@@ -53,24 +53,14 @@ impl Class {
             StmtKind::Assert(e, text) => Ok(StmtKind::Assert(self.expr(e)?, self.optional(text)?)),
             StmtKind::Raise(e) => Ok(StmtKind::Raise(self.expr(e)?)),
             StmtKind::ImportAll(path) => Ok(StmtKind::ImportAll(self.names(path.as_slice())?)),
-            StmtKind::Import(path, all) => Ok(StmtKind::Import(
-                self.path(path)?,
-                self.imports(all)?,
-            )),
-            StmtKind::Assign(targets, e) => Ok(StmtKind::Assign(
-                self.exprs(targets)?,
-                self.expr(e)?,
-            )),
+            StmtKind::Import(of, all) => Ok(StmtKind::Import(self.path(of)?, self.imports(all)?)),
+            StmtKind::Assign(to, e) => Ok(StmtKind::Assign(self.exprs(to)?, self.expr(e)?)),
             StmtKind::Annotate {
                 target,
                 annotation,
                 value,
             } => self.annotate(target, annotation, value),
-            StmtKind::Augment(target, o, e) => Ok(StmtKind::Augment(
-                self.expr(target)?,
-                *o,
-                self.expr(e)?,
-            )),
+            StmtKind::Augment(to, o, e) => self.augment(to, *o, e),
             StmtKind::Evaluate(e) => Ok(StmtKind::Evaluate(self.expr(e)?)),
             StmtKind::If(all, other) => Ok(StmtKind::If(self.branches(all)?, self.other(other)?)),
             StmtKind::While(e, body) => Ok(StmtKind::While(self.expr(e)?, self.block(body)?)),
@@ -89,11 +79,10 @@ impl Class {
                 name,
                 arguments,
                 body,
-            } => self.class(
-                name,
-                arguments,
-                Class::called(self.alloc, name.as_str())?.block(body)?,
-            ),
+            } => {
+                let within = Class::called(self.alloc, name.as_str())?;
+                self.class(name, arguments, within.block(body)?)
+            }
         }
     }
 
@@ -148,6 +137,13 @@ impl Class {
             annotation: self.expr(annotation)?,
             value: self.optional(value)?,
         })
+    }
+
+    fn augment(&self, target: &Expr, sign: Operator, e: &Expr) -> Result<StmtKind, NoMemory>
+        ensures { IfOk result (λ made. (p : Place) → kind_step made p ≡ Augment p (mangled_tree self.now.name (tree target.now)) sign (mangled_tree self.now.name (tree e.now))) }
+    {
+        let target = self.expr(target)?;
+        Ok(StmtKind::Augment(target, sign, self.expr(e)?))
     }
 
     // The statement `for` with this body.
