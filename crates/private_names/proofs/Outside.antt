@@ -1,13 +1,13 @@
 -- Outside of all classes a name stays, and so does whatever has no statement in it.
-use Rattle.std.proofs.Common.{◌≡◌, ◌∙◌, ℕ, false, List, [], ◌∷◌, map, Option, Some, None, option_map, refl, ap}
-use Rattle.std.proofs.lemmas.Bool.{true≢false}
+use Rattle.std.proofs.Common.{◌≡◌, ◌∙◌, ℕ, false, List, [], ◌∷◌, map, Option, Some, None, option_map, refl, sym, ap}
+use Rattle.std.proofs.lemmas.Bool.{true≢false, or_parts}
 use Rattle.py_tree.specs.declared.name.Piece.{Piece}
 use Rattle.py_tree.specs.declared.name.Piece.TheVariants as piece
 use Rattle.py_tree.specs.Tree.{Tree, Name, Number, Decimal_time, Quotient, Str, Format, Constant_value, Tuple, Display, Dict, ListOf, DictOf, Trailed, Await, Power, Unary, Not, Binary, Compare, Boolean, Choice, Each, each, Trailer, Attribute, Call, CallOf, Index, Slice, Argument, Positional, Starred, Keyword, Trees, none, some, Links, no_link, link, Pairs, no_pair, pair, Perhaps, absent, present, Trailers, no_trailer, trailer, Arguments, no_argument, argument}
-use Rattle.py_tree.specs.Steps.{Step, Pass, Break, Continue, Return, Assert, Raise, ImportAll, Import, Assign, Annotate, Augment, Evaluate, If, While, For, With, Def, Class, Import_name}
+use Rattle.py_tree.specs.Steps.{Step, Pass, Break, Continue, Return, Assert, Raise, ImportAll, Import, Assign, Annotate, Augment, Evaluate, If, While, For, With, Def, Class, Import_name, Steps, last, next, Branches, no_branch, branch, Otherwise, nothing_else, otherwise, Body, Fun, Parameter, Named, Star}
 use Rattle.private_names.specs.Names.{mangled_name}
 use Rattle.private_names.specs.Expressions.{mangled_piece, mangled_tree, mangled_trees, mangled_links, mangled_pairs, mangled_perhaps, mangled_each, mangled_trailers, mangled_trailer, mangled_arguments, mangled_argument}
-use Rattle.private_names.specs.Statements.{mangled_path, mangled_import, mangled_step, has_body}
+use Rattle.private_names.specs.Statements.{mangled_path, mangled_import, mangled_parameter, mangled_step, mangled_steps, mangled_branches, mangled_else, mangled_body, mangled_program, has_body, has_class, steps_have_class, branches_have_class, else_has_class, body_has_class}
 
 pub name_outside : (name : List ℕ) → mangled_name [] name ≡ name
 unfolding mangled_name
@@ -126,3 +126,53 @@ outside (c ∷ class) t e = cc
 pub statement_outside : (class : List ℕ) (s : Step) → class ≡ [] → has_body s ≡ false → s ≡ mangled_step class s
 statement_outside [] s e h = step_outside s h
 statement_outside (c ∷ class) s e h = cc
+
+-- ---- programs
+
+parameter_outside : (x : Parameter) → mangled_parameter [] x ≡ x
+parameter_outside (Named p name annotation default_value) = let a = name_outside name in let b = perhaps_outside annotation in let d = perhaps_outside default_value in cc
+parameter_outside (Star p) = refl
+
+parameters_outside : (xs : List Parameter) → map (mangled_parameter []) xs ≡ xs
+parameters_outside [] = refl
+parameters_outside (x ∷ xs) = let a = parameter_outside x in let b = parameters_outside xs in cc
+
+mutual
+  step_stays : (s : Step) → has_class s ≡ false → mangled_step [] s ≡ s
+  step_stays (If p bs b) h = let h2 = or_parts (branches_have_class bs) (else_has_class b) h in let a = branches_stay bs h2.0 in let d = else_stays b h2.1 in cc
+  step_stays (While p e b) h = let a = tree_outside e in let d = steps_stay b h in cc
+  step_stays (For p targets source b) h = let a = tree_outside targets in let d = tree_outside source in let f = steps_stay b h in cc
+  step_stays (With p context target b) h = let a = tree_outside context in let d = perhaps_outside target in let f = steps_stay b h in cc
+  step_stays (Def p f) h = ap (Def p) (body_stays f h)
+  step_stays (Class p name bs b) h = absurd (true≢false h)
+  step_stays (Pass p) h = refl
+  step_stays (Break p) h = refl
+  step_stays (Continue p) h = refl
+  step_stays (Return p e) h = sym (step_outside (Return p e) refl)
+  step_stays (Assert p test message) h = sym (step_outside (Assert p test message) refl)
+  step_stays (Raise p e) h = sym (step_outside (Raise p e) refl)
+  step_stays (ImportAll p path) h = refl
+  step_stays (Import p path names) h = sym (step_outside (Import p path names) refl)
+  step_stays (Assign p targets e) h = sym (step_outside (Assign p targets e) refl)
+  step_stays (Annotate p target annotation e) h = sym (step_outside (Annotate p target annotation e) refl)
+  step_stays (Augment p target o e) h = sym (step_outside (Augment p target o e) refl)
+  step_stays (Evaluate p e) h = sym (step_outside (Evaluate p e) refl)
+
+  steps_stay : (ss : Steps) → steps_have_class ss ≡ false → mangled_steps [] ss ≡ ss
+  steps_stay last h = refl
+  steps_stay (next s ss) h = let h2 = or_parts (has_class s) (steps_have_class ss) h in let a = step_stays s h2.0 in let d = steps_stay ss h2.1 in cc
+
+  branches_stay : (bs : Branches) → branches_have_class bs ≡ false → mangled_branches [] bs ≡ bs
+  branches_stay no_branch h = refl
+  branches_stay (branch test b bs) h = let h2 = or_parts (steps_have_class b) (branches_have_class bs) h in let a = tree_outside test in let d = steps_stay b h2.0 in let f = branches_stay bs h2.1 in cc
+
+  else_stays : (b : Otherwise) → else_has_class b ≡ false → mangled_else [] b ≡ b
+  else_stays nothing_else h = refl
+  else_stays (otherwise b) h = ap otherwise (steps_stay b h)
+
+  body_stays : (f : Body) → body_has_class f ≡ false → mangled_body [] f ≡ f
+  body_stays (Fun p name is_async params result_type b) h = let a = name_outside name in let d = parameters_outside params in let f = perhaps_outside result_type in let g = steps_stay b h in cc
+
+-- a program in which no class stands
+pub program_outside : (ss : Steps) → steps_have_class ss ≡ false → mangled_program ss ≡ ss
+program_outside = steps_stay

@@ -1,17 +1,17 @@
 -- What is proved of private names.
 -- Source: Python reference 6.2.1, Identifiers (Names), "Private name mangling".
-use Rattle.std.specs.Prelude.{◌≡◌, ℕ, List, [], codes}
-use Rattle.py_tree.specs.Tree.{Tree}
+use Rattle.std.specs.Prelude.{◌≡◌, ℕ, false, List, codes}
+use Rattle.py_tree.specs.Steps.{Steps}
 use Rattle.private_names.specs.Names.{mangled_name, without_underscores}
-use Rattle.private_names.specs.Expressions.{mangled_tree}
+use Rattle.private_names.specs.Statements.{mangled_program, steps_have_class}
 
 -- what a name becomes in the body of a class of that name
 abbrev pub named_in : List ℕ → List ℕ → List ℕ
 named_in class name = mangled_name (without_underscores class) name
 
--- an expression stays outside of all classes
-abbrev pub OutsideStays : Type 0
-OutsideStays = (t : Tree) → mangled_tree [] t ≡ t
+-- a program in which no class stands is as it was
+abbrev pub NoClassStays : Type 0
+NoClassStays = (ss : Steps) → steps_have_class ss ≡ false → mangled_program ss ≡ ss
 
 -- names that CPython 3.11 rewrites
 abbrev pub PrivateNames : Type 0

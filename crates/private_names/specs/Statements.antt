@@ -1,7 +1,7 @@
 -- Private names in statements, and in whole programs.
 -- Source: Python reference 6.2.1, Identifiers (Names), "Private name mangling"; 8.7 and 8.8, Function and Class definitions.
 -- What the reference leaves open is as CPython 3.11 compiles it.
-use Rattle.std.specs.Prelude.{ℕ, Bool, true, false, List, [], ◌∷◌, map, option_map}
+use Rattle.std.specs.Prelude.{ℕ, Bool, true, false, ◌||◌, List, [], ◌∷◌, map, option_map}
 use Rattle.py_tree.specs.Steps.{Step, Pass, Break, Continue, Return, Assert, Raise, ImportAll, Import, Assign, Annotate, Augment, Evaluate, If, While, For, With, Def, Class, Steps, last, next, Branches, no_branch, branch, Otherwise, nothing_else, otherwise, Body, Fun, Import_name, Parameter, Named, Star, Bases, no_bases, bases}
 use Rattle.private_names.specs.Names.{mangled_name, without_underscores}
 use Rattle.private_names.specs.Expressions.{mangled_tree, mangled_trees, mangled_perhaps, mangled_trailer}
@@ -89,3 +89,40 @@ has_body (For p targets source b) = true
 has_body (With p context target b) = true
 has_body (Def p f) = true
 has_body (Class p name bs b) = true
+
+-- whether a class stands in it
+abbrev mutual
+  pub has_class : Step → Bool
+  has_class (Pass p) = false
+  has_class (Break p) = false
+  has_class (Continue p) = false
+  has_class (Return p e) = false
+  has_class (Assert p test message) = false
+  has_class (Raise p e) = false
+  has_class (ImportAll p path) = false
+  has_class (Import p path names) = false
+  has_class (Assign p targets e) = false
+  has_class (Annotate p target annotation e) = false
+  has_class (Augment p target o e) = false
+  has_class (Evaluate p e) = false
+  has_class (If p bs b) = branches_have_class bs || else_has_class b
+  has_class (While p e b) = steps_have_class b
+  has_class (For p targets source b) = steps_have_class b
+  has_class (With p context target b) = steps_have_class b
+  has_class (Def p f) = body_has_class f
+  has_class (Class p name bs b) = true
+
+  pub steps_have_class : Steps → Bool
+  steps_have_class last = false
+  steps_have_class (next s ss) = has_class s || steps_have_class ss
+
+  pub branches_have_class : Branches → Bool
+  branches_have_class no_branch = false
+  branches_have_class (branch test b bs) = steps_have_class b || branches_have_class bs
+
+  pub else_has_class : Otherwise → Bool
+  else_has_class nothing_else = false
+  else_has_class (otherwise b) = steps_have_class b
+
+  pub body_has_class : Body → Bool
+  body_has_class (Fun p name is_async params result_type b) = steps_have_class b
