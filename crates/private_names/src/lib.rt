@@ -20,7 +20,7 @@ pub use laws::names_are_private;
 use py_tree::Program;
 use std::alloc::Global;
 
-/// The program with its private names rewritten. It says no memory where there is none.
+/// The program with its private names rewritten, unless memory runs out.
 pub fn mangled(alloc: Global, program: &Program) -> Result<Program, NoMemory>
     ensures { IfOk result (λ made. program_of made ≡ mangled_program (program_of program.now)) }
 {
