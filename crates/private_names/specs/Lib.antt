@@ -1,0 +1,4 @@
+pub mod Names
+pub mod Expressions
+pub mod Statements
+pub mod Laws
