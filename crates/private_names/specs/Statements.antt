@@ -27,8 +27,7 @@ mangled_bases class no_bases = no_bases
 mangled_bases class (bases t) = bases (mangled_trailer class t)
 
 -- a statement within a class. The name of a class and what stands in its brackets are within the class around it, and its
--- body is within it alone. A function is within the class around it. All names of a module are imported by their own names,
--- outside of classes.
+-- body is within it alone. A function is within the class around it. `import *` stays: it stands outside of classes alone.
 abbrev mutual
   pub mangled_step : List ℕ → Step → Step
   mangled_step class (Pass p) = Pass p
