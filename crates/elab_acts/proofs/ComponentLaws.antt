@@ -1,25 +1,22 @@
 -- Steps of the loops over members, classes and names.
-use Rattle.std.specs.Prelude.{◌≡◌, refl, ℕ, zero, suc, ◌+◌, ◌<◌, ◌||◌, ◌&&◌, ◌==◌, ◌≢◌, not, Bool, true, false, cond, List, [], ◌∷◌, ◌++◌, length, drop, reverse, get_or, Option, Some, None, bytes_eq}
+use Rattle.std.specs.Prelude.{◌≡◌, refl, ℕ, ◌+◌, ◌<◌, ◌||◌, ◌&&◌, ◌==◌, ◌≢◌, not, Bool, true, false, cond, List, [], ◌∷◌, ◌++◌, length, drop, get_or, Option, Some, None, bytes_eq}
 use Rattle.std.specs.List.{list_any}
 use Rattle.std.proofs.Common.{sym, ◌∙◌, ap, arith, true≢false}
-use Rattle.std.proofs.lemmas.List.{at_drop_more, append-nil, append_assoc, reverse-append}
+use Rattle.std.proofs.lemmas.List.{at_drop_more, append_assoc}
 use Rattle.std.proofs.lemmas.Bool.{eqb-true}
 use Rattle.std.proofs.lemmas.List.Folds.{list_any-append}
 use Rattle.std.proofs.lemmas.Slice.Eq.{bytes_eq-Decides}
 use Rattle.lists.specs.Texts.{text_eq}
 use Rattle.lists.proofs.TextLaws.{by_equal}
-use Rattle.py_values.specs.declared.val.ObjId.{ObjId}
 use Rattle.py_values.specs.declared.val.Val.{Val}
 use Rattle.py_values.specs.Heaps.{Seen}
 use Rattle.elab_store.specs.declared.members.NamedMember.{NamedMember}
-use Rattle.elab_store.specs.declared.members.ComponentClass.{ComponentClass}
 use Rattle.elab_store.specs.declared.members.Member.{Member}
 use Rattle.elab_acts.specs.Classes.{is_keyword}
 use Rattle.identifiers.specs.Identifiers.{is_identifier}
 use Rattle.elab_store.specs.Stores.{Stored, kept_of}
 use Rattle.elab_acts.specs.ComponentClasses.{member_of, value_before, member_before, behind_members, annotated}
 use Rattle.elab_acts.specs.Interfaces.{are_named, string_in, named_before, members_of_row}
-use Rattle.elab_store.specs.Components.{class_at, base_members, all_members, members_in}
 
 -- ---- names
 

@@ -6,7 +6,7 @@
 --         b: In(1)
 --         y: Out(1)
 --     top = Gate()
-use Rattle.std.specs.Prelude.{◌≡◌, refl, ℕ, true, false, List, [], ◌∷◌, pos, None, codes}
+use Rattle.std.specs.Prelude.{◌≡◌, refl, ℕ, true, false, List, [], ◌∷◌, pos, codes}
 use Rattle.shape_rules.specs.Forms.{unsigned}
 use Rattle.identifiers.proofs.Computing.{identifiers}
 use Rattle.py_values.specs.declared.val.Val.{Val}

@@ -1,17 +1,15 @@
 -- Modules that were told more, and how many statements they then have.
-use Rattle.std.proofs.Common.{◌≡◌, ℕ, zero, suc, ◌+◌, ◌<◌, ◌≤◌, refl, ap, sym, true, false, List, [], ◌∷◌, ◌++◌, length, Option, Some, None, arith, nat_lt}
-use Rattle.std.specs.Prelude.{slice_get, slice_set, slice_index_or}
+use Rattle.std.proofs.Common.{◌≡◌, ℕ, ◌<◌, ◌≤◌, refl, true, false, length, Option, Some, None, arith, nat_lt}
+use Rattle.std.specs.Prelude.{slice_get}
 use Rattle.std.proofs.lemmas.Bool.Decides.{nat_tests}
 use Rattle.py_frames.specs.declared.request.Cause.TheVariants.{Raised, Limit}
-use Rattle.module_dsl.specs.Blocks.{in_switch, blocks_of}
-use Rattle.design_ir.specs.declared.expr.Pattern.{Pattern}
+use Rattle.module_dsl.specs.Blocks.{in_switch}
 use Rattle.module_dsl.specs.declared.refusal.BuildStop.{BuildStop}
 use Rattle.module_dsl.specs.declared.step.Block.{Block}
-use Rattle.module_dsl.specs.Builders.{Built, built_blocks, built_count, leave_refusal, and_left, enter_refusal}
-use Rattle.elab_store.specs.declared.kept.DomainName.{DomainName}
+use Rattle.module_dsl.specs.Builders.{Built, built_blocks, leave_refusal, and_left, enter_refusal}
+use Rattle.design_ir.specs.declared.process.Side.{Side}
 use Rattle.elab_store.specs.declared.kept.Equation.{Equation}
 use Rattle.elab_store.specs.Stores.{Stored, Held}
-use Rattle.elab_store.specs.Kept.{IsStore}
 use Rattle.elab_acts.specs.Blocks.{stop_cause, store_told, with_entered, entering_by, entering, leaving_by, leaving}
 use Rattle.elab_store.proofs.CountLaws.{past_get}
 use Rattle.elab_store.specs.Counts.{statement_count}
@@ -25,7 +23,7 @@ above n h = grind (arith, nat_tests)
 within : (n : ℕ) → n ≤ 65536 → nat_lt 65536 n ≡ false
 within n h = grind (arith, nat_tests)
 
-module _ (m : ℕ) (b : Built) (d : DomainName) (q : Equation) (s : Stored) (at : slice_get s.modules m ≡ Some b) where
+module _ (m : ℕ) (b : Built) (d : Side) (q : Equation) (s : Stored) (at : slice_get s.modules m ≡ Some b) where
   pub told-misplaced : in_switch (built_blocks b).around ≡ true → statement_told m d q (slice_get s.modules m) s ≡ (s, Some Raised)
   told-misplaced i = rw (at, i) refl
 
@@ -35,7 +33,7 @@ module _ (m : ℕ) (b : Built) (d : DomainName) (q : Equation) (s : Stored) (at 
   pub told-given : (n : ℕ) → in_switch (built_blocks b).around ≡ false → statement_count (store_with_statement m b d q s).modules ≡ n → n ≤ 65536 → statement_told m d q (slice_get s.modules m) s ≡ (store_with_statement m b d q s, None)
   told-given n i count few = rw (at, i, count, within n few) refl
 
-pub told-nowhere : (m : ℕ) (d : DomainName) (q : Equation) (s : Stored) → length s.modules ≤ m → statement_told m d q (slice_get s.modules m) s ≡ (s, None)
+pub told-nowhere : (m : ℕ) (d : Side) (q : Equation) (s : Stored) → length s.modules ≤ m → statement_told m d q (slice_get s.modules m) s ≡ (s, None)
 told-nowhere m d q s h = rw (past_get s.modules m h) refl
 
 -- ---- blocks

@@ -1,6 +1,6 @@
 -- What is held stays sound when it grows.
-use Rattle.std.proofs.Common.{◌≡◌, ℕ, zero, suc, ◌<◌, ◌≤◌, refl, ap, ◌∙◌, sym, subst, true, List, [], ◌∷◌, ◌++◌, length, Some, arith}
-use Rattle.std.specs.Prelude.{slice_get, slice_set, codes, IsTrue}
+use Rattle.std.proofs.Common.{◌≡◌, ℕ, zero, suc, ◌<◌, ◌≤◌, ap, ◌∙◌, sym, subst, true, List, [], ◌∷◌, ◌++◌, length, Some, arith}
+use Rattle.std.specs.Prelude.{slice_get, slice_set, IsTrue}
 use Rattle.std.specs.List.{AllByRecursion, list_all}
 use Rattle.std.proofs.lemmas.List.Elements.{All-append}
 use Rattle.std.proofs.lemmas.List.Sums.{AllPass-from_list_all}
@@ -134,6 +134,7 @@ pool_grown h q xs es s e1 e2 names =
       modules = all_each (IsBuilt h.pool) (IsBuilt q) h.store.modules (built_stays h.pool q g) s.modules;
       ports = objects_stay h.pool q h.store.components.objects (omega (arith, ap length e1, length-append h.pool.signals xs)) s.ports;
       machines = all_each (IsMachine h.pool) (IsMachine q) h.store.machines (machine_stays h.pool q g) s.machines;
+      domains = s.domains;
     }
 
 -- things that are sound are put behind the others
@@ -144,6 +145,7 @@ things_grown h ts s held = record {
   modules = s.modules;
   ports = s.ports;
   machines = s.machines;
+  domains = s.domains;
   things = all_and (IsHeld (length h.pool.exprs)) h.store.things ts s.things held;
 }
 
@@ -160,6 +162,7 @@ kept_grown h k s held = record {
   modules = s.modules;
   ports = s.ports;
   machines = s.machines;
+  domains = s.domains;
   kept = all_and (IsKept h.pool) h.store.kept (k ∷ []) s.kept (held, tt);
 }
 
@@ -177,7 +180,7 @@ module_built q (x ∷ bs) zero b h e = let same : x ≡ b = cc in subst (IsBuilt
 module_built q (x ∷ bs) (suc m) b h e = module_built q bs m b h.1 e
 
 pub with_top_sound : (h : Held) (t : Top) → IsSound h → IsSound (record h { store = record h.store { top = t } })
-with_top_sound h t s = record { names = s.names; things = s.things; kept = s.kept; modules = s.modules; ports = s.ports; machines = s.machines }
+with_top_sound h t s = record { names = s.names; things = s.things; kept = s.kept; modules = s.modules; ports = s.ports; machines = s.machines; domains = s.domains }
 
 -- ---- a new thing of this crate
 
@@ -187,14 +190,12 @@ keeping_sound h k s held = record {
   modules = s.modules;
   ports = s.ports;
   machines = s.machines;
+  domains = s.domains;
   things = all_and (IsHeld (length h.pool.exprs)) h.store.things (thing.Kept (length h.store.kept) ∷ []) s.things (tt, tt);
   kept = all_and (IsKept h.pool) h.store.kept (k ∷ []) s.kept (held, tt);
 }
 
 -- ---- names
-
-pub sync_name : IsName (codes "sync")
-sync_name = record { first = 115; rest = codes "ync"; whole = refl; starts = refl; continues = AllPass-from_list_all continues_name (codes "ync") refl }
 
 -- a name with more letters behind it
 pub name_more : (name more : List ℕ) → IsName name → list_all continues_name more ≡ true → IsName (name ++ more)

@@ -1,5 +1,5 @@
 -- What is held stays sound by what state machines do.
-use Rattle.std.proofs.Common.{◌≡◌, ℕ, zero, suc, ◌<◌, ◌≤◌, refl, ap, ◌∙◌, sym, subst, Bool, true, false, List, [], ◌∷◌, ◌++◌, length, Option, Some, None, Result, Ok, Err, ℤ, arith, append-nil}
+use Rattle.std.proofs.Common.{◌≡◌, ℕ, zero, suc, ◌<◌, ◌≤◌, refl, ap, ◌∙◌, sym, subst, Bool, true, false, List, [], ◌∷◌, ◌++◌, length, Option, Some, None, Result, Ok, Err, ℤ, arith, append-nil, true≢false}
 use Rattle.std.specs.Prelude.{◌==◌, if◌then◌else◌, get_or, pos, slice_get, slice_set, codes, ◌&&◌, ◌||◌, not}
 use Rattle.std.specs.List.{AllByRecursion}
 use Rattle.std.proofs.lemmas.List.{length-append}
@@ -42,12 +42,12 @@ use Rattle.elab_store.specs.Calls.{Called}
 use Rattle.elab_store.specs.Stores.{Held, Answered, refused}
 use Rattle.elab_acts.specs.Sides.{part_given}
 use Rattle.elab_store.specs.OpenMachines.{innermost}
-use Rattle.elab_machines.specs.StateMachines.{part_attribute, machine_arguments, machine_said, machine_from, init_said, is_sync, name_said, state_argument, state_said, state_string, stop_told, unless_stopped, chain_ended, modules_begun, with_machine, machine_made, is_placed, machine_begun, register_name, init_name, Moved, unless_refused, with_moved, move_answer, own_moved, number_moved, moved, in_place, is_at_choice, is_at_case, state_made, state_begins, state_ends, is_unsettled, machine_ends, next_refused, next_goes, next_said, next_stored, with_asked, asked_of, ongoing_said, part_called, part_entered, part_left}
+use Rattle.elab_machines.specs.StateMachines.{part_attribute, machine_arguments, machine_said, machine_from, init_said, is_clocked, domain_said, name_said, state_argument, state_said, state_string, stop_told, unless_stopped, chain_ended, modules_begun, with_machine, machine_made, is_placed, machine_begun, register_name, domain_name, init_name, Moved, unless_refused, with_moved, move_answer, own_moved, number_moved, moved, in_place, is_at_choice, is_at_case, state_made, state_begins, state_ends, is_unsettled, machine_ends, next_refused, next_goes, next_said, next_stored, with_asked, asked_of, ongoing_said, part_called, part_entered, part_left}
 use Rattle.elab_store.specs.Sound.{IsKept, IsTold, IsBuilt, IsMachine, IsSound}
 use Rattle.elab_store.proofs.Pools.{IsGrown, signal_there}
 use Rattle.std.proofs.lemmas.Bool.Decides.{nat_tests}
 use Rattle.elab_acts.proofs.EachLaws.{all_each}
-use Rattle.elab_acts.proofs.GrownLaws.{all_and, pool_grown, things_grown, keeping_sound, built_stays, kept_stays, told_module, module_built, machine_stays, sync_name, name_more}
+use Rattle.elab_acts.proofs.GrownLaws.{all_and, pool_grown, things_grown, keeping_sound, built_stays, kept_stays, told_module, module_built, machine_stays, name_more}
 use Rattle.elab_acts.proofs.PortLaws.{objects_stay}
 
 if_sound : (b : Bool) (x y : Answered) → IsSound x.held → IsSound y.held → IsSound (if b then x else y).held
@@ -57,7 +57,7 @@ if_sound false x y h g = g
 -- ---- refusals
 
 told_sound : (p : Place) (h : Held) → IsSound h → IsSound (record h { store = record h.store { told = Some p } })
-told_sound p h t = record { names = t.names; things = t.things; kept = t.kept; modules = t.modules; machines = t.machines; ports = t.ports }
+told_sound p h t = record { names = t.names; things = t.things; kept = t.kept; modules = t.modules; machines = t.machines; domains = t.domains; ports = t.ports }
 
 stop_sound : (p : Place) (why : FsmStop) (h : Held) → IsSound h → IsSound (stop_told p why h).held
 stop_sound p (stop.UndefinedState at) h t = told_sound at h t
@@ -84,15 +84,15 @@ part_attribute_sound (part.Called m) n h t = t
 part_attribute_sound (part.CalledState m) n h t = t
 part_attribute_sound (part.Ongoing m) n h t = t
 
-said_sound : (m : ℕ) (init : Option (Option StrId)) (d : Bool) (name : Option (Option StrId)) (p : Place) (h : Held) → IsSound h → IsSound (machine_said m init d name p h).held
-said_sound m None d name p h t = t
-said_sound m (Some init) false name p h t = t
-said_sound m (Some init) true None p h t = t
-said_sound m (Some init) true (Some name) p h t = keeping_sound h (kept.OfMachine (part.Called (record { of = m; init = init; name = name; place = p }))) t tt
+said_sound : (m : ℕ) (init domain : Option (Option StrId)) (name : Option (Option StrId)) (p : Place) (h : Held) → IsSound h → IsSound (machine_said m init domain name p h).held
+said_sound m None domain name p h t = t
+said_sound m (Some init) None name p h t = t
+said_sound m (Some init) (Some domain) None p h t = t
+said_sound m (Some init) (Some domain) (Some name) p h t = keeping_sound h (kept.OfMachine (part.Called (record { of = m; init = init; domain = domain; name = name; place = p }))) t tt
 
 from_sound : (s : Seen) (m : ℕ) (o : Option MachineArguments) (p : Place) (h : Held) → IsSound h → IsSound (machine_from s m o p h).held
 from_sound s m None p h t = t
-from_sound s m (Some args) p h t = said_sound m (init_said args.init) (is_sync s args.domain) (name_said s args.name) p h t
+from_sound s m (Some args) p h t = said_sound m (init_said args.init) (domain_said s args.domain) (name_said s args.name) p h t
 
 state_said_sound : (m : ℕ) (o : Option StrId) (p : Place) (h : Held) → IsSound h → IsSound (state_said m o p h).held
 state_said_sound m None p h t = t
@@ -126,6 +126,7 @@ moved_sound h k m x y t own built = record {
   kept = t.kept;
   ports = t.ports;
   machines = set_machine y.pool h.store.machines k (record x { machine = y.machine }) t.machines own;
+  domains = t.domains;
   modules = told_module y.pool m y.built h.store.modules built t.modules;
 }
 
@@ -186,8 +187,8 @@ put_before [] x k e lt at = absurd (omega (arith, lt))
 put_before (y ∷ es) x zero e lt at = at
 put_before (y ∷ es) x (suc k) e lt at = put_before es x k e (omega (arith, lt)) at
 
-begun_sound : (m : ℕ) (name : List ℕ) (init : Option (List ℕ)) (p : Place) (h : Held) → IsPool h.pool → IsSound h → is_identifier name ≡ true → IsSound (with_machine m name init p h)
-begun_sound m name init p h rules t named =
+begun_sound : (m : ℕ) (domain name : List ℕ) (init : Option (List ℕ)) (p : Place) (h : Held) → IsPool h.pool → IsSound h → IsName domain → is_identifier name ≡ true → IsSound (with_machine m domain name init p h)
+begun_sound m domain name init p h rules t side named =
     let q : Pooled = with_register h.pool name in
     let u : IsSound (record h { pool = q }) =
     pool_grown h q (no_bits (name ++ codes "_state") ∷ []) (expr.Sig (record { 0 = length h.pool.signals }) ∷ []) t refl refl (name_more name (codes "_state") (identifier_is_name name named) refl, tt) in record {
@@ -196,28 +197,38 @@ begun_sound m name init p h rules t named =
       kept = u.kept;
       modules = chain_sound q m (record { 0 = length h.pool.exprs }) (slice_get h.store.modules m) h.store.modules (omega (arith, length-append h.pool.exprs (expr.Sig (record { 0 = length h.pool.signals }) ∷ []))) (λ b e. module_built q h.store.modules m b u.modules e) u.modules;
       ports = u.ports;
-      machines = all_and (IsMachine q) h.store.machines (record { of = m; machine = machine_at h.pool (codes "sync") init p } ∷ []) u.machines (
+      domains = u.domains;
+      machines = all_and (IsMachine q) h.store.machines (record { of = m; machine = machine_at h.pool domain init p } ∷ []) u.machines (
         record {
           register = get_last h.pool.exprs (expr.Sig (record { 0 = length h.pool.signals }));
           target = target_last (signal_added h.pool (no_bits (name ++ codes "_state"))) (record { 0 = length h.pool.signals });
-          side = sync_name;
+          side = side;
           front = λ k e lt at. fresh_signal h.pool k e rules (put_before h.pool.exprs (expr.Sig (record { 0 = length h.pool.signals })) k e lt at);
         },
         tt,
       );
     }
 
-made_sound : (m : ℕ) (name : List ℕ) (init : Option (List ℕ)) (p : Place) (h : Held) → IsPool h.pool → IsSound h → is_identifier name ≡ true → IsSound (machine_made m name init p h).held
-made_sound m name init p h rules t named =
-    unless_sound (new_refusal h.pool) p _ h t (keeping_sound (with_machine m name init p h) (kept.OfMachine (part.Running (length h.store.machines))) (begun_sound m name init p h rules t named) tt)
+made_sound : (m : ℕ) (domain name : List ℕ) (init : Option (List ℕ)) (p : Place) (h : Held) → IsPool h.pool → IsSound h → IsName domain → is_identifier name ≡ true → IsSound (machine_made m domain name init p h).held
+made_sound m domain name init p h rules t side named =
+    unless_sound (new_refusal h.pool) p _ h t (keeping_sound (with_machine m domain name init p h) (kept.OfMachine (part.Running (length h.store.machines))) (begun_sound m domain name init p h rules t side named) tt)
 
-begins_sound : (m : ℕ) (name : List ℕ) (init : Option (List ℕ)) (p : Place) (h : Held) → IsPool h.pool → IsSound h → IsSound (machine_begun m name init p h).held
-begins_sound m name init p h rules t = by_place (is_placed m (slice_get h.store.modules m) h.store.machines) (is_identifier name) refl
+-- a name of a domain with a clock is a name
+clocked_name : (n : List ℕ) → is_clocked n ≡ true → IsName n
+clocked_name n e = by_test (text_eq n (codes "comb")) (is_identifier n) refl e
   where
-    by_place : (b c : Bool) → is_identifier name ≡ c → IsSound (if not b || not c then refused Raised h else machine_made m name init p h).held
-    by_place false c e = t
-    by_place true false e = t
-    by_place true true e = made_sound m name init p h rules t e
+    by_test : (b c : Bool) → is_identifier n ≡ c → (not b && c) ≡ true → IsName n
+    by_test true c i f = absurd (true≢false (sym f))
+    by_test false c i f = identifier_is_name n (i ∙ f)
+
+begins_sound : (m : ℕ) (domain name : List ℕ) (init : Option (List ℕ)) (p : Place) (h : Held) → IsPool h.pool → IsSound h → IsSound (machine_begun m domain name init p h).held
+begins_sound m domain name init p h rules t = by_place (is_placed m (slice_get h.store.modules m) h.store.machines) (is_clocked domain) (is_identifier name) refl refl
+  where
+    by_place : (b c d : Bool) → is_clocked domain ≡ c → is_identifier name ≡ d → IsSound (if not b || (not c || not d) then refused Raised h else machine_made m domain name init p h).held
+    by_place false c d e f = t
+    by_place true false d e f = t
+    by_place true true false e f = t
+    by_place true true true e f = made_sound m domain name init p h rules t (clocked_name domain e) f
 
 -- ---- what a machine does
 
@@ -319,6 +330,7 @@ pool_sound h sigs t names le =
       kept = all_each (IsKept h.pool) (IsKept q) h.store.kept (kept_stays h.pool q g) t.kept;
       modules = all_each (IsBuilt h.pool) (IsBuilt q) h.store.modules (built_stays h.pool q g) t.modules;
       machines = all_each (IsMachine h.pool) (IsMachine q) h.store.machines (machine_stays h.pool q g) t.machines;
+      domains = t.domains;
       ports = objects_stay h.pool q h.store.components.objects le t.ports;
     }
 
@@ -363,6 +375,7 @@ asked_sound k (Some x) name p h t f =
       kept = u.kept;
       modules = u.modules;
       ports = u.ports;
+      domains = u.domains;
       machines = set_machine q h.store.machines k _ u.machines (record { register = stays.register; target = stays.target; side = stays.side; front = stays.front });
     } in
     unless_sound (ongoing_refusal h.pool x.machine name) p _ h t (things_grown (with_asked k x name p h) (thing.Value (record { 0 = length h.pool.exprs }) ∷ []) after (omega (arith, length-append h.pool.exprs (made ∷ [])), tt))
@@ -389,7 +402,7 @@ next_sound s m n v p h t = if_sound (text_eq n (codes "next")) _ _ (by_name (sta
     by_name (Some x) = move_sound (next_goes m h (text_at s x.0) p) m p h t (next_move_sound h m (text_at s x.0) p t)
 
 pub part_entered_sound : (s : Seen) (x : MachinePart) (h : Held) → IsPool h.pool → IsSound h → IsSound (part_entered s x h).held
-part_entered_sound s (part.Called c) h rules t = begins_sound c.of (register_name s c.name) (init_name s c.init) c.place h rules t
+part_entered_sound s (part.Called c) h rules t = begins_sound c.of (domain_name s c.domain) (register_name s c.name) (init_name s c.init) c.place h rules t
 part_entered_sound s (part.CalledState c) h rules t = move_sound (state_begins (text_at s c.name.0) c.place) c.of c.place h t (state_sound h (text_at s c.name.0) c.place t)
 part_entered_sound s (part.Fsm m) h rules t = t
 part_entered_sound s (part.State m) h rules t = t

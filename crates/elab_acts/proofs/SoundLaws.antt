@@ -21,6 +21,8 @@ use Rattle.design_ir.specs.declared.expr.Expr.{Expr}
 use Rattle.design_ir.specs.declared.expr.Expr.TheVariants as expr
 use Rattle.design_ir.specs.Pools.{Pooled}
 use Rattle.design_ir.specs.Targets.{is_target}
+use Rattle.design_ir.specs.declared.process.Side.{Side}
+use Rattle.design_ir.specs.declared.process.Side.TheVariants.{Comb, Clocked}
 use Rattle.design_ir.specs.declared.expr.Pattern.{Pattern}
 use Rattle.module_dsl.specs.declared.refusal.BuildStop.{BuildStop}
 use Rattle.module_dsl.specs.declared.step.Step.TheVariants.{Assign, Enter, Leave}
@@ -51,12 +53,12 @@ use Rattle.elab_store.specs.declared.shapes.Shaped.{Shaped}
 use Rattle.elab_acts.specs.declared.signals.SignalArguments.{SignalArguments}
 use Rattle.identifiers.specs.Identifiers.{is_identifier}
 use Rattle.identifiers.proofs.NameLaws.{identifier_is_name}
-use Rattle.elab_store.specs.Stores.{Stored, Held, Answered, refused, kept_given, kept_of}
+use Rattle.elab_store.specs.Stores.{Stored, Held, Answered, refused, kept_given, kept_of, naming_domain, side_of}
 use Rattle.elab_store.specs.Calls.{Called}
 use Rattle.elab_acts.specs.Imports.{is_hdl, is_utils, own_named, star_names, hdl_thing, hdl_imported, bound_answer, all_bound, imported, import_answered}
 use Rattle.elab_acts.specs.Signals.{with_module, without_arguments, module_called, formed, call_name, signal_name, signal_init, signal_reset_less, signal_shape, signal_of, signal_passes, with_signal, signal_given, signal_shaped, signal_said, signal_from}
 use Rattle.elab_acts.specs.Equations.{equation_given, equation_made, equated}
-use Rattle.elab_acts.specs.Sides.{side_of, domain_given, is_domain_of, domain_stored, has_no_place, built_with, store_with_statement, statement_refusal, statement_put, statement_told, statements_behind, statements_told, statements_added}
+use Rattle.elab_acts.specs.Sides.{clocked_given, domain_given, is_domain_of, domain_stored, has_no_place, built_with, store_with_statement, statement_refusal, statement_put, statement_told, statements_behind, statements_told, statements_added}
 use Rattle.elab_acts.specs.Blocks.{block_name_given, begin_with, condition_given, condition_called, plain_called, with_patterns, case_given, case_patterns, case_in, case_called, case_subject, block_called, block_of, store_told, with_entered, entering_by, entering, passed, entered_at, block_entered, leaving_by, leaving, left_at, block_left}
 use Rattle.elab_store.specs.declared.kept.BlockName.{BlockName}
 use Rattle.elab_store.specs.declared.kept.BlockName.TheVariants as named
@@ -69,7 +71,7 @@ use Rattle.elab_acts.specs.Libraries.{is_enum, is_data, library_named, thing_nam
 use Rattle.elab_acts.specs.Likes.{liked, like_placed, like_init, own_reset_less, liked_shape, liked_signal}
 use Rattle.elab_store.specs.Sound.{IsEquation, IsBegin, IsKept, IsOpening, IsTold, IsBuilt, IsSound}
 use Rattle.elab_store.proofs.Pools.{IsGrown, target_stays, there_stays}
-use Rattle.elab_acts.proofs.GrownLaws.{all_and, sync_name, pool_grown, things_grown, read_held, keeping_sound, built_stays, told_module, module_built, with_top_sound}
+use Rattle.elab_acts.proofs.GrownLaws.{all_and, pool_grown, things_grown, read_held, keeping_sound, built_stays, told_module, module_built, with_top_sound}
 use Rattle.elab_store.specs.OpenMachines.{in_machine}
 use Rattle.elab_acts.proofs.ComponentSound as component
 
@@ -133,6 +135,7 @@ module_sound c h s =
       kept = s.kept;
       ports = s.ports;
       machines = s.machines;
+      domains = s.domains;
       modules = all_and (IsBuilt h.pool) h.store.modules (record { name = []; steps = [] } ∷ []) s.modules (record { steps = tt }, tt);
     } tt) s
 
@@ -309,7 +312,7 @@ plain_sound m b (v ∷ vs) ns h t i = t
 case_sound : (m : ℕ) (o : Option (List Pattern)) (h : Held) → IsSound h → IsSound (case_given m o h).held
 case_sound m None h t = t
 case_sound m (Some ps) h t =
-    keeping_sound (with_patterns ps h) (kept_as.Block m (begin.Case (length h.store.patterns))) (record { names = t.names; things = t.things; kept = t.kept; modules = t.modules; ports = t.ports; machines = t.machines }) tt
+    keeping_sound (with_patterns ps h) (kept_as.Block m (begin.Case (length h.store.patterns))) (record { names = t.names; things = t.things; kept = t.kept; modules = t.modules; ports = t.ports; machines = t.machines; domains = t.domains }) tt
 
 case_in_sound : (s : Seen) (m : ℕ) (vs : List Val) (o : Option ExprId) (h : Held) → IsSound h → IsSound (case_in s m vs o h).held
 case_in_sound s m vs None h t = keeping_sound h (kept_as.Block m begin.Misplaced) t tt
@@ -369,6 +372,7 @@ entered_sound h m b x t k i = by_expr (condition_made (built_blocks b) x) (openi
       kept = u.kept;
       ports = u.ports;
       machines = u.machines;
+      domains = u.domains;
       modules = told_module q m (and_entered h.pool b x) h.store.modules (record { steps = all_and (IsTold q) b.steps (Enter (opening_of (length h.pool.exprs) x) ∷ []) l.steps (o, tt) }) u.modules;
     }
 
@@ -416,6 +420,7 @@ left_sound h m b t k = record {
   kept = t.kept;
   ports = t.ports;
   machines = t.machines;
+  domains = t.domains;
   modules = told_module h.pool m (and_left b) h.store.modules (record { steps = all_and (IsTold h.pool) b.steps (Leave ∷ []) k.steps (tt, tt) }) t.modules;
 }
 
@@ -445,48 +450,74 @@ leave_sound (Some (kept_as.BlockName m n)) h t = t
 
 -- domains
 
-pub domain_sound : (m : ℕ) (d : Option DomainName) (h : Held) → IsSound h → IsSound (domain_given m d h).held
-domain_sound m None h t = t
-domain_sound m (Some d) h t = keeping_sound h (kept_as.Domain m d) t tt
+naming_sound : (n : List ℕ) (h : Held) → IsSound h → IsName n → IsSound (record h { store = naming_domain n h.store })
+naming_sound n h t name = record {
+  names = t.names;
+  things = t.things;
+  kept = t.kept;
+  modules = t.modules;
+  ports = t.ports;
+  machines = t.machines;
+  domains = all_and IsName h.store.domains (n ∷ []) t.domains (name, tt);
+}
 
-pub stored_sound : (m : ℕ) (d : Option DomainName) (v : Val) (h : Held) → IsSound h → IsSound (domain_stored m d v h).held
-stored_sound m d v h t = if_sound (is_domain_of m d (kept_of h.store v)) _ _ t t
+pub domain_sound : (m : ℕ) (name : Option (List ℕ)) (h : Held) → IsSound h → IsSound (domain_given m name h).held
+domain_sound m None h t = t
+domain_sound m (Some n) h t = if_sound (text_eq n (codes "comb")) _ _ (keeping_sound h (kept_as.Domain m domain.Comb) t tt) (by_test (is_identifier n) refl)
+  where
+    by_test : (b : Bool) → is_identifier n ≡ b → IsSound (if b then clocked_given m n h else refused Raised h).held
+    by_test true e = keeping_sound (record h { store = naming_domain n h.store }) (kept_as.Domain m (domain.Clocked (length h.store.domains))) (naming_sound n h t (identifier_is_name n e)) tt
+    by_test false e = t
+
+pub stored_sound : (m : ℕ) (name : Option (List ℕ)) (v : Val) (h : Held) → IsSound h → IsSound (domain_stored m name v h).held
+stored_sound m name v h t = if_sound (is_domain_of h.store m name (kept_of h.store v)) _ _ t t
 
 -- statements that are added
 
-side_named : (d : DomainName) → IsNamedSide (side_of d)
-side_named domain.Comb = tt
-side_named domain.Sync = sync_name
+named_at : (ns : List (List ℕ)) (k : ℕ) (n : List ℕ) → AllByRecursion IsName ns → slice_get ns k ≡ Some n → IsName n
+named_at [] k n h e = absurd (true≢false (ap is_some (sym e)))
+named_at (x ∷ ns) zero n h e = let same : x ≡ n = cc in subst IsName same h.0
+named_at (x ∷ ns) (suc k) n h e = named_at ns k n h.1 e
 
-put_sound_by : (h : Held) (why : Option Cause) (m : ℕ) (b : Built) (d : DomainName) (q : Equation) → IsSound h → IsBuilt h.pool b → IsEquation h.pool q → IsSound (record h { store = (statement_put why h.store (store_with_statement m b d q h.store)).0 })
-put_sound_by h (Some why) m b d q t k e = t
-put_sound_by h None m b d q t k e = record {
+pub side_named : (s : Stored) (d : DomainName) (x : Side) → AllByRecursion IsName s.domains → side_of s d ≡ Some x → IsNamedSide x
+side_named s domain.Comb x h e = let same : Comb ≡ x = cc in subst IsNamedSide same tt
+side_named s (domain.Clocked k) x h e = by_get (slice_get s.domains k) (named_at s.domains k) e
+  where
+    by_get : (o : Option (List ℕ)) → ((n : List ℕ) → AllByRecursion IsName s.domains → o ≡ Some n → IsName n) → option_map Clocked o ≡ Some x → IsNamedSide x
+    by_get None f is = absurd (true≢false (ap is_some (sym is)))
+    by_get (Some n) f is = let same : Clocked n ≡ x = cc in subst IsNamedSide same (f n h refl)
+
+put_sound_by : (h : Held) (why : Option Cause) (m : ℕ) (b : Built) (d : Side) (q : Equation) → IsSound h → IsBuilt h.pool b → IsNamedSide d → IsEquation h.pool q → IsSound (record h { store = (statement_put why h.store (store_with_statement m b d q h.store)).0 })
+put_sound_by h (Some why) m b d q t k named e = t
+put_sound_by h None m b d q t k named e = record {
   names = t.names;
   things = t.things;
   kept = t.kept;
   ports = t.ports;
   machines = t.machines;
-  modules = told_module h.pool m (built_with b d q) h.store.modules (record { steps = all_and (IsTold h.pool) b.steps (Assign (side_of d) q.target q.value q.place ∷ []) k.steps ((side_named d, e), tt) }) t.modules;
+  domains = t.domains;
+  modules = told_module h.pool m (built_with b d q) h.store.modules (record { steps = all_and (IsTold h.pool) b.steps (Assign d q.target q.value q.place ∷ []) k.steps ((named, e), tt) }) t.modules;
 }
 
-told_sound : (h : Held) (m : ℕ) (d : DomainName) (q : Equation) → IsSound h → IsEquation h.pool q → IsSound (record h { store = (statement_told m d q (slice_get h.store.modules m) h.store).0 })
-told_sound h m d q t e = by_module (slice_get h.store.modules m) refl
+told_sound : (h : Held) (m : ℕ) (d : Side) (q : Equation) → IsSound h → IsNamedSide d → IsEquation h.pool q → IsSound (record h { store = (statement_told m d q (slice_get h.store.modules m) h.store).0 })
+told_sound h m d q t named e = by_module (slice_get h.store.modules m) refl
   where
     by_module : (o : Option Built) → slice_get h.store.modules m ≡ o → IsSound (record h { store = (statement_told m d q o h.store).0 })
     by_module None at = t
-    by_module (Some b) at = put_sound_by h (statement_refusal m b d q h.store) m b d q t (module_built h.pool h.store.modules m b t.modules at) e
+    by_module (Some b) at = put_sound_by h (statement_refusal m b d q h.store) m b d q t (module_built h.pool h.store.modules m b t.modules at) named e
 
-all_told_sound : (h : Held) (m : ℕ) (d : DomainName) (qs : List Equation) → IsSound h → AllByRecursion (IsEquation h.pool) qs → IsSound (record h { store = (statements_told m d qs h.store).0 })
-all_told_sound h m d [] t e = t
-all_told_sound h m d (q ∷ qs) t e = behind (statement_told m d q (slice_get h.store.modules m) h.store) (told_sound h m d q t e.0) (λ s u. all_told_sound (record h { store = s }) m d qs u e.1)
+all_told_sound : (h : Held) (m : ℕ) (d : Side) (qs : List Equation) → IsSound h → IsNamedSide d → AllByRecursion (IsEquation h.pool) qs → IsSound (record h { store = (statements_told m d qs h.store).0 })
+all_told_sound h m d [] t named e = t
+all_told_sound h m d (q ∷ qs) t named e = behind (statement_told m d q (slice_get h.store.modules m) h.store) (told_sound h m d q t named e.0) (λ s u. all_told_sound (record h { store = s }) m d qs u named e.1)
   where
     behind : (x : Stored × Option Cause) → IsSound (record h { store = x.0 }) → ((s : Stored) → IsSound (record h { store = s }) → IsSound (record h { store = (statements_told m d qs s).0 })) → IsSound (record h { store = (statements_behind (statements_told m d qs) x).0 })
     behind (s, None) u f = f s u
     behind (s, Some why) u f = u
 
-pub statements_sound : (x : Val) (m : ℕ) (d : DomainName) (o : Option (List Equation)) (h : Held) → IsSound h → ((qs : List Equation) → o ≡ Some qs → AllByRecursion (IsEquation h.pool) qs) → IsSound (statements_added x m d o h).held
-statements_sound x m d None h t f = t
-statements_sound x m d (Some qs) h t f = if_sound (has_no_place m qs h.store) _ _ t (all_told_sound h m d qs t (f qs refl))
+pub statements_sound : (x : Val) (m : ℕ) (o : Option Side) (es : Option (List Equation)) (h : Held) → IsSound h → ((d : Side) → o ≡ Some d → IsNamedSide d) → ((qs : List Equation) → es ≡ Some qs → AllByRecursion (IsEquation h.pool) qs) → IsSound (statements_added x m o es h).held
+statements_sound x m None es h t named f = t
+statements_sound x m (Some d) None h t named f = t
+statements_sound x m (Some d) (Some qs) h t named f = if_sound (has_no_place m qs h.store) _ _ t (all_told_sound h m d qs t (named d refl) (f qs refl))
 
 -- classes and tops
 

@@ -3,12 +3,12 @@ use Rattle.std.proofs.Common.{◌≡◌, ℕ, zero, suc, ◌+◌, ◌<◌, ◌�
 use Rattle.std.specs.Prelude.{slice_get, slice_index_or}
 use Rattle.std.proofs.Math.Seq.{drop-cons}
 use Rattle.py_frames.specs.declared.request.Cause.{Cause}
-use Rattle.elab_store.specs.declared.kept.DomainName.{DomainName}
+use Rattle.design_ir.specs.declared.process.Side.{Side}
 use Rattle.elab_store.specs.declared.kept.Equation.{Equation}
 use Rattle.elab_store.specs.Stores.{Stored}
 use Rattle.elab_acts.specs.Sides.{statement_told, statements_behind, statements_told}
 
-module _ (m : ℕ) (d : DomainName) (qs : List Equation) (i : ℕ) (q other : Equation) (s : Stored) (below : i < length qs) (is : q ≡ slice_index_or qs i other) where
+module _ (m : ℕ) (d : Side) (qs : List Equation) (i : ℕ) (q other : Equation) (s : Stored) (below : i < length qs) (is : q ≡ slice_index_or qs i other) where
   first : drop i qs ≡ q ∷ drop (i + 1) qs
   first = drop-cons qs i other below ∙ ap (λ y. y ∷ drop (suc i) qs) (sym is) ∙ ap (λ j. q ∷ drop j qs) (sym (add-one i))
 
@@ -22,7 +22,7 @@ module _ (m : ℕ) (d : DomainName) (qs : List Equation) (i : ℕ) (q other : Eq
   pub told-stops : (t : Stored) (why : Cause) (whole : Stored × Option Cause) → (t, Some why) ≡ statement_told m d q (slice_get s.modules m) s → statements_told m d (drop i qs) s ≡ whole → (t, Some why) ≡ whole
   told-stops t why whole told e = step t (Some why) whole told e
 
-pub told-done : (m : ℕ) (d : DomainName) (qs : List Equation) (i : ℕ) (s : Stored) (whole : Stored × Option Cause) → length qs ≤ i → statements_told m d (drop i qs) s ≡ whole → (s, None) ≡ whole
+pub told-done : (m : ℕ) (d : Side) (qs : List Equation) (i : ℕ) (s : Stored) (whole : Stored × Option Cause) → length qs ≤ i → statements_told m d (drop i qs) s ≡ whole → (s, None) ≡ whole
 told-done m d qs i s whole h e = sym (ap (λ xs. statements_told m d xs s) (past qs i h)) ∙ e
   where
     past : (qs : List Equation) (i : ℕ) → length qs ≤ i → drop i qs ≡ []

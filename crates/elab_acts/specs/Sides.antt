@@ -1,6 +1,7 @@
 -- `m.d`, its domains, and statements that are put under them. (Amaranth language guide 0.5, "Modules", "Domains".)
-use Rattle.std.specs.Prelude.{ℕ, zero, suc, nat_lt, ◌==◌, ◌&&◌, Bool, true, false, if◌then◌else◌, List, [], ◌∷◌, ◌++◌, Option, Some, None, option_map, option_and_then, slice_get, slice_set, codes}
+use Rattle.std.specs.Prelude.{ℕ, zero, suc, nat_lt, ◌==◌, ◌&&◌, Bool, true, false, if◌then◌else◌, List, [], ◌∷◌, ◌++◌, length, Option, Some, None, option_map, option_and_then, slice_get, slice_set, codes}
 use Rattle.lists.specs.Texts.{text_eq}
+use Rattle.identifiers.specs.Identifiers.{is_identifier}
 use Rattle.py_values.specs.declared.val.Val.{Val}
 use Rattle.py_values.specs.declared.val.Val.TheVariants as val
 use Rattle.py_values.specs.Heaps.{Seen, text_at, row_at}
@@ -9,10 +10,8 @@ use Rattle.py_frames.specs.declared.request.Answer.TheVariants as answer
 use Rattle.py_frames.specs.declared.request.Cause.{Cause}
 use Rattle.py_frames.specs.declared.request.Cause.TheVariants.{Raised, Limit}
 use Rattle.design_ir.specs.declared.process.Side.{Side}
-use Rattle.design_ir.specs.declared.process.Side.TheVariants.{Comb, Clocked}
 use Rattle.module_dsl.specs.Blocks.{in_switch}
 use Rattle.module_dsl.specs.Builders.{Built, built_blocks, and_given}
-use Rattle.elab_store.specs.declared.kept.DomainName.{DomainName}
 use Rattle.elab_store.specs.declared.kept.DomainName.TheVariants as domain
 use Rattle.elab_store.specs.declared.kept.Equation.{Equation}
 use Rattle.elab_store.specs.declared.kept.Kept.{Kept}
@@ -22,18 +21,9 @@ use Rattle.elab_store.specs.declared.kept.MachinePart.{MachinePart}
 use Rattle.elab_store.specs.OpenMachines.{in_machine}
 use Rattle.elab_machines.specs.StateMachines.{part_named}
 use Rattle.elab_store.specs.Counts.{statement_count}
-use Rattle.elab_store.specs.Stores.{Stored, Held, Answered, refused, given, kept_given, kept_of}
+use Rattle.elab_store.specs.Stores.{Stored, Held, Answered, refused, given, kept_given, kept_of, naming_domain, is_domain}
 
 -- ---- the domains of a module
-
--- `comb` is combinational; other domains than `sync` come with submodules
-abbrev pub domain_named : List ℕ → Option DomainName
-domain_named n =
-    if text_eq n (codes "comb") then Some domain.Comb else (if text_eq n (codes "sync") then Some domain.Sync else None)
-
-abbrev pub side_of : DomainName → Side
-side_of domain.Comb = Comb
-side_of domain.Sync = Clocked (codes "sync")
 
 -- `m.FSM` and `m.State`, and else a block
 abbrev pub part_given : Option MachinePart → Answered → Held → Answered
@@ -45,29 +35,30 @@ abbrev pub module_attribute : ℕ → List ℕ → Held → Answered
 module_attribute m name h =
     if text_eq name (codes "d") then kept_given (kept.Domains m) h else part_given (part_named m name) (block_name_given m (block_named name) h) h
 
--- `m.d.comb` and `m.d["comb"]`
-abbrev pub domain_given : ℕ → Option DomainName → Held → Answered
-domain_given m (Some d) h = kept_given (kept.Domain m d) h
+-- a domain with a clock is named
+abbrev pub clocked_given : ℕ → List ℕ → Held → Answered
+clocked_given m n h = kept_given (kept.Domain m (domain.Clocked (length h.store.domains))) (record h { store = naming_domain n h.store })
+
+-- `m.d.comb` and `m.d["comb"]`: `comb` is combinational, and each other identifier names a domain with a clock
+abbrev pub domain_given : ℕ → Option (List ℕ) → Held → Answered
 domain_given m None h = refused Raised h
+domain_given m (Some n) h =
+    if text_eq n (codes "comb") then kept_given (kept.Domain m domain.Comb) h
+    else (if is_identifier n then clocked_given m n h else refused Raised h)
 
 -- the name that an index is
-abbrev pub index_name : Seen → Val → Option DomainName
-index_name s (val.Str x) = domain_named (text_at s x.0)
+abbrev pub index_name : Seen → Val → Option (List ℕ)
+index_name s (val.Str x) = Some (text_at s x.0)
 index_name s v = None
 
 -- ---- assignment to `m.d.comb`: that of what `+=` gave, which is the same domain of the same module
 
-abbrev pub same_domain : DomainName → DomainName → Bool
-same_domain domain.Comb domain.Comb = true
-same_domain domain.Sync domain.Sync = true
-same_domain d e = false
+abbrev pub is_domain_of : Stored → ℕ → Option (List ℕ) → Option Kept → Bool
+is_domain_of s m (Some name) (Some (kept.Domain n d)) = (n == m) && is_domain s d name
+is_domain_of s m name k = false
 
-abbrev pub is_domain_of : ℕ → Option DomainName → Option Kept → Bool
-is_domain_of m (Some d) (Some (kept.Domain n e)) = (n == m) && same_domain d e
-is_domain_of m d k = false
-
-abbrev pub domain_stored : ℕ → Option DomainName → Val → Held → Answered
-domain_stored m d v h = if is_domain_of m d (kept_of h.store v) then given val.None h else refused Raised h
+abbrev pub domain_stored : ℕ → Option (List ℕ) → Val → Held → Answered
+domain_stored m name v h = if is_domain_of h.store m name (kept_of h.store v) then given val.None h else refused Raised h
 
 -- ---- `+=`
 
@@ -106,14 +97,14 @@ abbrev pub deepest : ℕ
 deepest = 64
 
 -- one statement more, at the end of module m
-abbrev pub built_with : Built → DomainName → Equation → Built
-built_with b d q = and_given b (side_of d) q.target q.value q.place
+abbrev pub built_with : Built → Side → Equation → Built
+built_with b d q = and_given b d q.target q.value q.place
 
-abbrev pub store_with_statement : ℕ → Built → DomainName → Equation → Stored → Stored
+abbrev pub store_with_statement : ℕ → Built → Side → Equation → Stored → Stored
 store_with_statement m b d q s = record s { modules = slice_set s.modules m (built_with b d q) }
 
 -- directly in a `Switch` no statement stands; then comes one statement too many of the design
-abbrev pub statement_refusal : ℕ → Built → DomainName → Equation → Stored → Option Cause
+abbrev pub statement_refusal : ℕ → Built → Side → Equation → Stored → Option Cause
 statement_refusal m b d q s =
     if in_switch (built_blocks b).around then Some Raised
     else (if nat_lt 65536 (statement_count (store_with_statement m b d q s).modules) then Some Limit else None)
@@ -123,7 +114,7 @@ abbrev pub statement_put : Option Cause → Stored → Stored → Stored × Opti
 statement_put (Some why) s t = (s, Some why)
 statement_put None s t = (t, None)
 
-abbrev pub statement_told : ℕ → DomainName → Equation → Option Built → Stored → Stored × Option Cause
+abbrev pub statement_told : ℕ → Side → Equation → Option Built → Stored → Stored × Option Cause
 statement_told m d q (Some b) s = statement_put (statement_refusal m b d q s) s (store_with_statement m b d q s)
 statement_told m d q None s = (s, None)
 
@@ -133,7 +124,7 @@ statements_behind others (s, Some why) = (s, Some why)
 statements_behind others (s, None) = others s
 
 -- statements one after the other, up to the first that is refused
-abbrev pub statements_told : ℕ → DomainName → List Equation → Stored → Stored × Option Cause
+abbrev pub statements_told : ℕ → Side → List Equation → Stored → Stored × Option Cause
 statements_told m d [] s = (s, None)
 statements_told m d (q ∷ qs) s = statements_behind (statements_told m d qs) (statement_told m d q (slice_get s.modules m) s)
 
@@ -148,6 +139,7 @@ abbrev pub has_no_place : ℕ → List Equation → Stored → Bool
 has_no_place m [] s = false
 has_no_place m (q ∷ qs) s = in_machine m s.machines
 
-abbrev pub statements_added : Val → ℕ → DomainName → Option (List Equation) → Held → Answered
-statements_added v m d None h = refused Raised h
-statements_added v m d (Some qs) h = if has_no_place m qs h.store then refused Raised h else record { answer = told_answer v (statements_told m d qs h.store).1; held = record h { store = (statements_told m d qs h.store).0 } }
+abbrev pub statements_added : Val → ℕ → Option Side → Option (List Equation) → Held → Answered
+statements_added v m None qs h = refused Raised h
+statements_added v m (Some d) None h = refused Raised h
+statements_added v m (Some d) (Some qs) h = if has_no_place m qs h.store then refused Raised h else record { answer = told_answer v (statements_told m d qs h.store).1; held = record h { store = (statements_told m d qs h.store).0 } }

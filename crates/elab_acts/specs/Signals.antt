@@ -1,5 +1,5 @@
 -- `Module()` and `Signal(shape=1, *, name=None, init=0, reset_less=False)`. (Amaranth language guide 0.5, "Modules", "Signals".)
-use Rattle.std.specs.Prelude.{ℕ, nat_le, ◌||◌, if◌then◌else◌, Bool, false, List, [], ◌∷◌, ◌++◌, length, ℤ, pos, Option, Some, None, Result, Ok, Err, codes, option_and_then, is_some}
+use Rattle.std.specs.Prelude.{ℕ, nat_le, ◌||◌, if◌then◌else◌, Bool, false, List, [], ◌∷◌, length, ℤ, pos, Option, Some, None, Result, Ok, Err, codes, option_and_then, is_some}
 use Rattle.lists.specs.Texts.{text_eq}
 use Rattle.amh_bits.specs.Patterns.{wrap}
 use Rattle.shape_rules.specs.Forms.{Form, unsigned}
@@ -23,7 +23,7 @@ use Rattle.elab_acts.specs.declared.signals.SignalArguments.{SignalArguments}
 use Rattle.elab_store.specs.declared.kept.Kept.TheVariants as kept
 use Rattle.elab_store.specs.Calls.{Called}
 use Rattle.elab_store.specs.Shapes.{shaped_meant}
-use Rattle.elab_store.specs.Stores.{Stored, store_and_module, Held, Answered, refused, thing_given, kept_given}
+use Rattle.elab_store.specs.Stores.{store_and_module, Held, Answered, refused, thing_given, kept_given}
 
 -- ---- a module
 

@@ -14,10 +14,8 @@ use Rattle.py_values.specs.Heaps.{Seen, row_at, func_at}
 use Rattle.py_values.specs.Objects.{attributes, attribute_in, inherited, first_in}
 use Rattle.py_frames.specs.declared.request.Answer.TheVariants as answer
 use Rattle.py_frames.specs.declared.request.Cause.TheVariants.{Raised}
-use Rattle.elab_store.specs.declared.kept.Kept.{Kept}
-use Rattle.elab_store.specs.declared.kept.Kept.TheVariants as kept
 use Rattle.elab_acts.specs.declared.tops.Calling.{Calling}
-use Rattle.elab_store.specs.Stores.{Stored, with_root, with_object, module_of, Held, Answered, refused, given, kept_of}
+use Rattle.elab_store.specs.Stores.{with_root, with_object, module_of, Held, Answered, refused, given, kept_of}
 
 -- ---- `elaborate` of an object: what is called, and whether with the object first
 

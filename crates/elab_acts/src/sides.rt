@@ -5,78 +5,44 @@ ghost use Rattle.std.specs.List.{AllByRecursion};
 ghost use Rattle.py_values.specs.declared.val.Val.TheVariants as val;
 ghost use Rattle.py_values.specs.Heaps.{seen};
 ghost use Rattle.design_ir.specs.declared.process.Side.{Side as side};
-ghost use Rattle.elab_acts.specs.Sides.{domain_named, side_of, module_attribute, domain_given, index_name, same_domain, is_domain_of, domain_stored, equation_of, row_of_list, equations_in, deepest, collected, statement_told, statements_told, statements_added};
+ghost use Rattle.elab_acts.specs.Sides.{module_attribute, domain_given, index_name, is_domain_of, domain_stored, equation_of, row_of_list, equations_in, deepest, collected, statement_told, statements_told, statements_added};
 ghost use Rattle.elab_store.specs.Sound.{IsSound, IsEquation};
+ghost use Rattle.elab_store.specs.Stores.{side_of};
 ghost use Rattle.elab_store.specs.Held.{held_of, Gives};
 
 use crate::blocks::{block_named, give_block_name};
-use amh_host::Text;
 use design_ir::{Pool, Side};
 use elab_machines::state_machines::part_named;
 use elab_store::kept::{DomainName, Equation, Kept};
 use elab_store::names::is_text;
 use elab_store::store::{Elaboration, Store};
+use identifiers::is_identifier;
 use lists::NoMemory;
 use py_frames::request::{Answer, Cause};
 use py_values::{Frozen, Heap, Val};
-use std::alloc::Global;
 
 /// How deep lists of statements may stand in one another.
 const DEEPEST: u32 = 64;
 
-/// The domain of a name.
-pub fn domain_named(name: &str) -> Option<DomainName>
-    ensures { result ≡ domain_named name.now }
-{
-    if is_text(name, "comb") {
-        Some(DomainName::Comb)
-    } else if is_text(name, "sync") {
-        Some(DomainName::Sync)
-    } else {
-        None
-    }
-}
-
-/// The domain that an index names.
-pub fn index_name(heap: &Heap, frozen: &Frozen, i: Val) -> Option<DomainName>
-    ensures { result ≡ index_name (seen frozen.now heap.now) i }
+/// The name that an index is.
+pub fn index_name<'a>(heap: &'a Heap, frozen: &'a Frozen, i: Val) -> Option<&'a str>
+    ensures { option_copied result ≡ index_name (seen frozen.now heap.now) i }
 {
     match i {
-        Val::Str(x) => domain_named(heap.text(frozen, x)),
+        Val::Str(x) => Some(heap.text(frozen, x)),
         _ => None,
     }
 }
 
-fn same_domain(a: DomainName, b: DomainName) -> bool
-    ensures { result ≡ same_domain a b }
-{
-    match (a, b) {
-        (DomainName::Comb, DomainName::Comb) => true,
-        (DomainName::Sync, DomainName::Sync) => true,
-        _ => false,
-    }
-}
-
-// Whether a thing is this domain of this module.
-fn is_domain_of(of: u32, name: Option<DomainName>, kept: Option<Kept>) -> bool
-    ensures { result ≡ is_domain_of of name kept }
+// Whether a thing is the domain of this name of this module.
+fn is_domain_of(store: &Store, of: u32, name: Option<&str>, kept: Option<Kept>) -> bool
+    ensures { result ≡ is_domain_of store.now of (option_copied name.entry) kept }
 {
     match (name, kept) {
-        (Some(d), Some(Kept::Domain { of: n, name: e })) => n == of && same_domain(d, e),
-        _ => false,
-    }
-}
-
-fn side_of(alloc: Global, name: DomainName) -> Result<Side, NoMemory>
-    ensures { IfOk result (λ s. s ≡ side_of name) }
-{
-    match name {
-        DomainName::Comb => Ok(Side::Comb),
-        DomainName::Sync => {
-            let mut text = Text::new(alloc);
-            text.push("sync")?;
-            Ok(Side::Clocked(text))
+        (Some(text), Some(Kept::Domain { of: n, name: d })) => {
+            n == of && store.is_domain(d, text)
         }
+        _ => false,
     }
 }
 
@@ -131,28 +97,26 @@ fn collect(
 // Gives a module one statement more, and says why it is refused, where it is.
 fn put(
     store: &mut Store,
-    alloc: Global,
     pool: &Pool,
     of: usize,
-    name: DomainName,
+    side: &Side,
     q: &Equation,
 ) -> Result<Option<Cause>, NoMemory>
     requires { IsEquation pool.now q.now }
-    ensures { IfOk result (λ why. (store.new, why) ≡ statement_told of name q.now (slice_get store.old.modules of) store.old) }
+    ensures { IfOk result (λ why. (store.new, why) ≡ statement_told of side.now q.now (slice_get store.old.modules of) store.old) }
 {
     if of >= store.modules.len() {
         return Ok(None);
     }
-    let side = side_of(alloc, name)?;
     let builder = &mut store.modules[of];
     if builder.in_switch() {
         return Ok(Some(Cause::Raised));
     }
-    let added = builder.added_by(&side);
+    let added = builder.added_by(side);
     if added > 65_536 || store.statements as usize > 65_536 - added {
         return Ok(Some(Cause::Limit));
     }
-    match builder.assign(pool, &side, q.target, q.value, q.place) {
+    match builder.assign(pool, side, q.target, q.value, q.place) {
         Ok(()) => {
             store.statements += added as u32;
             Ok(None)
@@ -165,17 +129,16 @@ fn put(
 // Gives a module statements, one after the other, up to the first that is refused.
 fn put_all(
     store: &mut Store,
-    alloc: Global,
     pool: &Pool,
     of: usize,
-    name: DomainName,
+    side: &Side,
     equations: &[Equation],
 ) -> Result<Option<Cause>, NoMemory>
     requires { AllByRecursion (IsEquation pool.now) equations.now }
-    ensures { IfOk result (λ why. (store.new, why) ≡ statements_told of name equations.now store.old) }
+    ensures { IfOk result (λ why. (store.new, why) ≡ statements_told of side.now equations.now store.old) }
 {
     for q in equations {
-        match put(store, alloc, pool, of, name, q)? {
+        match put(store, pool, of, side, q)? {
             None => {}
             Some(why) => return Ok(Some(why)),
         }
@@ -205,26 +168,37 @@ pub fn module_attribute(
 pub fn give_domain(
     elaboration: &mut Elaboration,
     of: u32,
-    name: Option<DomainName>,
+    name: Option<&str>,
 ) -> Result<Answer, NoMemory>
-    ensures { Gives result elaboration.new (domain_given of name (held_of elaboration.old)) }
+    ensures { Gives result elaboration.new (domain_given of (option_copied name.entry) (held_of elaboration.old)) }
 {
-    match name {
-        Some(name) => elaboration.give_kept(Kept::Domain { of, name }),
-        None => elaboration.refuse(Cause::Raised),
+    let Some(text) = name else {
+        return elaboration.refuse(Cause::Raised);
+    };
+    if is_text(text, "comb") {
+        return elaboration.give_kept(Kept::Domain {
+            of,
+            name: DomainName::Comb,
+        });
     }
+    if !is_identifier(elaboration.alloc, text)? {
+        return elaboration.refuse(Cause::Raised);
+    }
+    let name = elaboration.store.name_domain(elaboration.alloc, text)?;
+    elaboration.give_kept(Kept::Domain { of, name })
 }
 
 /// A value is assigned to a domain's name.
 pub fn store_domain(
     elaboration: &mut Elaboration,
     of: u32,
-    name: Option<DomainName>,
+    name: Option<&str>,
     v: &Val,
 ) -> Result<Answer, NoMemory>
-    ensures { Gives result elaboration.new (domain_stored of name v.now (held_of elaboration.old)) }
+    ensures { Gives result elaboration.new (domain_stored of (option_copied name.entry) v.now (held_of elaboration.old)) }
 {
-    if is_domain_of(of, name, elaboration.store.kept_of(*v)) {
+    let kept = elaboration.store.kept_of(*v);
+    if is_domain_of(&elaboration.store, of, name, kept) {
         elaboration.give(Val::None)
     } else {
         elaboration.refuse(Cause::Raised)
@@ -242,8 +216,11 @@ pub fn add_statements(
     v: &Val,
 ) -> Result<Answer, NoMemory>
     requires { IsSound (held_of elaboration.old) }
-    ensures { Gives result elaboration.new (statements_added x.now of name (equations_in deepest (seen frozen.now heap.now) elaboration.old.store v.now) (held_of elaboration.old)) }
+    ensures { Gives result elaboration.new (statements_added x.now of (side_of elaboration.old.store name) (equations_in deepest (seen frozen.now heap.now) elaboration.old.store v.now) (held_of elaboration.old)) }
 {
+    let Some(side) = elaboration.store.side_of(elaboration.alloc, name)? else {
+        return elaboration.refuse(Cause::Raised);
+    };
     let mut equations = Vec::new(elaboration.alloc);
     if !collect(
         &elaboration.store,
@@ -255,28 +232,27 @@ pub fn add_statements(
     )? {
         return elaboration.refuse(Cause::Raised);
     }
-    put_statements(elaboration, x, of, name, equations.as_slice())
+    put_statements(elaboration, x, of, &side, equations.as_slice())
 }
 
 fn put_statements(
     elaboration: &mut Elaboration,
     x: &Val,
     of: u32,
-    name: DomainName,
+    side: &Side,
     equations: &[Equation],
 ) -> Result<Answer, NoMemory>
     requires { AllByRecursion (IsEquation elaboration.old.pool) equations.now }
-    ensures { Gives result elaboration.new (statements_added x.now of name (Some equations.now) (held_of elaboration.old)) }
+    ensures { Gives result elaboration.new (statements_added x.now of (Some side.now) (Some equations.now) (held_of elaboration.old)) }
 {
     if !equations.is_empty() && elaboration.store.in_machine(of) {
         return elaboration.refuse(Cause::Raised);
     }
     let why = put_all(
         &mut elaboration.store,
-        elaboration.alloc,
         &elaboration.pool,
         of as usize,
-        name,
+        side,
         equations,
     )?;
     match why {

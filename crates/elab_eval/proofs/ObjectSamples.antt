@@ -51,6 +51,7 @@ held = record {
     top = no_top;
     components = no_components;
     machines = [];
+    domains = [];
     told = None;
   };
 }

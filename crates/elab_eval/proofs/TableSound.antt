@@ -20,10 +20,10 @@ use Rattle.elab_store.specs.declared.kept.HdlName.{HdlName}
 use Rattle.elab_store.specs.declared.kept.HdlName.TheVariants as hdl
 use Rattle.elab_store.specs.declared.kept.Kept.{Kept}
 use Rattle.elab_store.specs.declared.kept.Kept.TheVariants as kept_as
-use Rattle.elab_store.specs.Stores.{Held, kept_of}
+use Rattle.elab_store.specs.Stores.{Held, kept_of, side_of}
 use Rattle.elab_store.specs.Calls.{Called, called}
 use Rattle.elab_acts.specs.Signals.{signal_arguments}
-use Rattle.elab_acts.specs.Sides.{domain_named, index_name, equations_in, deepest}
+use Rattle.elab_acts.specs.Sides.{index_name, equations_in, deepest}
 use Rattle.elab_acts.specs.Blocks.{block_named}
 use Rattle.elab_acts.specs.Tops.{global}
 use Rattle.elab_eval.specs.Table.{kept_called, equated_by, called_by, call_answered, attribute_of, attribute_answered, attribute_stored, store_answered, index_of, index_answered, index_stored, index_store_answered, added, operator_answered, kept_entered, kept_left, enter_answered, leave_answered, own_answered, only}
@@ -37,7 +37,7 @@ use Rattle.elab_acts.proofs.GrownLaws.{keeping_sound}
 use Rattle.elab_machines.specs.StateMachines.{part_named}
 use Rattle.elab_acts.proofs.MachineSound as machine
 use Rattle.elab_acts.proofs.ComponentSound as component
-use Rattle.elab_acts.proofs.SoundLaws.{if_sound, thing_name_sound, import_sound, module_sound, signal_sound, like_sound, thing_at, eq_sound, block_name_sound, block_call_sound, enter_sound, leave_sound, domain_sound, stored_sound, statements_sound, class_sound, base_sound, body_sound, end_sound}
+use Rattle.elab_acts.proofs.SoundLaws.{if_sound, thing_name_sound, import_sound, module_sound, signal_sound, like_sound, thing_at, eq_sound, block_name_sound, block_call_sound, enter_sound, leave_sound, domain_sound, stored_sound, side_named, statements_sound, class_sound, base_sound, body_sound, end_sound}
 
 -- ---- calls
 
@@ -104,7 +104,7 @@ library_name_sound hdl.Component name h t = t
 attribute_sound : (o : Option Kept) (name : List ℕ) (h : Held) → IsSound h → IsSound (attribute_of o name h).held
 attribute_sound None name h t = t
 attribute_sound (Some (kept_as.Module m)) name h t = if_sound (text_eq name (codes "d")) _ _ (keeping_sound h (kept_as.Domains m) t tt) (machine.part_given_sound (part_named m name) _ h t (block_name_sound m (block_named name) h t))
-attribute_sound (Some (kept_as.Domains m)) name h t = domain_sound m (domain_named name) h t
+attribute_sound (Some (kept_as.Domains m)) name h t = domain_sound m (Some name) h t
 attribute_sound (Some (kept_as.Name m)) name h t = library_name_sound m name h t
 attribute_sound (Some (kept_as.Domain m d)) name h t = t
 attribute_sound (Some (kept_as.Statement m)) name h t = t
@@ -121,7 +121,7 @@ attributes_sound (x ∷ []) (Some n) h t = attribute_sound (kept_of h.store x) n
 attributes_sound (x ∷ y ∷ vs) o h t = t
 
 attribute_stored_sound : (s : Seen) (o : Option Kept) (name : List ℕ) (v : Val) (p : Place) (h : Held) → IsSound h → IsSound (attribute_stored s o name v p h).held
-attribute_stored_sound s (Some (kept_as.Domains m)) name v p h t = stored_sound m (domain_named name) v h t
+attribute_stored_sound s (Some (kept_as.Domains m)) name v p h t = stored_sound m (Some name) v h t
 attribute_stored_sound s None name v p h t = t
 attribute_stored_sound s (Some (kept_as.Module m)) name v p h t = machine.next_sound s m name v p h t
 attribute_stored_sound s (Some (kept_as.Name m)) name v p h t = t
@@ -182,7 +182,7 @@ index_stores_sound s (x ∷ i ∷ v ∷ w ∷ vs) h t = t
 -- ---- operators
 
 added_sound : (s : Seen) (o : Option Kept) (x v : Val) (h : Held) → IsSound h → IsSound (added s o x v h).held
-added_sound s (Some (kept_as.Domain m d)) x v h t = statements_sound x m d (equations_in deepest s h.store v) h t (λ qs e. equations_stand h.pool h.store t.kept deepest s v qs e)
+added_sound s (Some (kept_as.Domain m d)) x v h t = statements_sound x m (side_of h.store d) (equations_in deepest s h.store v) h t (λ y e. side_named h.store d y t.domains e) (λ qs e. equations_stand h.pool h.store t.kept deepest s v qs e)
 added_sound s None x v h t = t
 added_sound s (Some (kept_as.Module m)) x v h t = t
 added_sound s (Some (kept_as.Name m)) x v h t = t

@@ -29,7 +29,7 @@ use Rattle.elab_acts.specs.Equations.{equated}
 use Rattle.elab_acts.specs.Blocks.{block_called, block_entered, block_left}
 use Rattle.amh_host.specs.declared.place.Place.{Place}
 use Rattle.elab_machines.specs.StateMachines.{part_attribute, next_stored, part_called, part_entered, part_left}
-use Rattle.elab_acts.specs.Sides.{module_attribute, domain_named, domain_given, index_name, domain_stored, deepest, equations_in, statements_added}
+use Rattle.elab_acts.specs.Sides.{module_attribute, domain_given, index_name, domain_stored, deepest, equations_in, statements_added}
 use Rattle.elab_acts.specs.Libraries.{wiring_named, library_given, thing_name_given}
 use Rattle.elab_acts.specs.Members.{member_called}
 use Rattle.elab_acts.specs.ComponentClasses.{class_answered}
@@ -85,7 +85,7 @@ name_attribute n name h = refused Raised h
 abbrev pub attribute_of : Option Kept → List ℕ → Held → Answered
 attribute_of (Some (kept.Name n)) name h = name_attribute n name h
 attribute_of (Some (kept.Module m)) name h = module_attribute m name h
-attribute_of (Some (kept.Domains m)) name h = domain_given m (domain_named name) h
+attribute_of (Some (kept.Domains m)) name h = domain_given m (Some name) h
 attribute_of (Some (kept.OfMachine x)) name h = part_attribute x name h
 attribute_of k name h = refused Raised h
 
@@ -95,7 +95,7 @@ attribute_answered vals name h = refused Raised h
 
 -- a domain to its name again, and `m.next`
 abbrev pub attribute_stored : Seen → Option Kept → List ℕ → Val → Place → Held → Answered
-attribute_stored s (Some (kept.Domains m)) name v p h = domain_stored m (domain_named name) v h
+attribute_stored s (Some (kept.Domains m)) name v p h = domain_stored m (Some name) v h
 attribute_stored s (Some (kept.Module m)) name v p h = next_stored s m name v p h
 attribute_stored s k name v p h = refused Raised h
 
@@ -122,7 +122,7 @@ index_store_answered s vals h = refused Raised h
 -- ---- operators: `+=` on a domain
 
 abbrev pub added : Seen → Option Kept → Val → Val → Held → Answered
-added s (Some (kept.Domain m d)) x v h = statements_added x m d (equations_in deepest s h.store v) h
+added s (Some (kept.Domain m d)) x v h = statements_added x m (side_of h.store d) (equations_in deepest s h.store v) h
 added s k x v h = refused Raised h
 
 abbrev pub signed : Seen → Val → Val → List ℕ → Held → Answered

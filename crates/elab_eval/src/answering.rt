@@ -21,9 +21,7 @@ use elab_acts::interfaces::answer_init;
 use elab_acts::libraries::{give_base, give_layout, give_library, wiring_named};
 use elab_acts::likes::{give_like, make_like};
 use elab_acts::member_calls::call_member;
-use elab_acts::sides::{
-    add_statements, domain_named, give_domain, index_name, module_attribute, store_domain,
-};
+use elab_acts::sides::{add_statements, give_domain, index_name, module_attribute, store_domain};
 use elab_acts::signals::{make_module, make_signal};
 use elab_acts::tops::{end_body, end_elaborate};
 use elab_machines::state_machines::{
@@ -113,7 +111,7 @@ fn attribute_of(elaboration: &mut Elaboration, x: &Val, name: &str) -> Result<An
     match elaboration.store.kept_of(*x) {
         Some(Kept::Name(n)) => name_attribute(elaboration, n, name),
         Some(Kept::Module(m)) => module_attribute(elaboration, m, name),
-        Some(Kept::Domains(m)) => give_domain(elaboration, m, domain_named(name)),
+        Some(Kept::Domains(m)) => give_domain(elaboration, m, Some(name)),
         Some(Kept::OfMachine(part)) => part_attribute(elaboration, part, name),
         _ => elaboration.refuse(Cause::Raised),
     }
@@ -168,7 +166,7 @@ fn attribute_stored(
     ensures { Gives result elaboration.new (attribute_stored (seen frozen.now heap.now) (kept_of elaboration.old.store x.now) name.now v.now place (held_of elaboration.old)) }
 {
     match elaboration.store.kept_of(*x) {
-        Some(Kept::Domains(m)) => store_domain(elaboration, m, domain_named(name), v),
+        Some(Kept::Domains(m)) => store_domain(elaboration, m, Some(name), v),
         Some(Kept::Module(m)) => store_next(elaboration, heap, frozen, m, name, v, place),
         _ => elaboration.refuse(Cause::Raised),
     }

@@ -89,6 +89,7 @@ fn part(store: Store, alloc: Global) -> (Option<Builder>, Store)
         top,
         components,
         machines,
+        domains,
         told,
     } = store;
     let root = module_in(modules, top.root);
@@ -101,6 +102,7 @@ fn part(store: Store, alloc: Global) -> (Option<Builder>, Store)
         top,
         components,
         machines,
+        domains,
         told,
     };
     (root, rest)

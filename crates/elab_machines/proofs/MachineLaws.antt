@@ -1,5 +1,5 @@
 -- The walk over a pool before a register gets its shape.
-use Rattle.std.specs.Prelude.{◌≡◌, ◌≢◌, refl, ℕ, zero, suc, ◌+◌, ◌≤◌, ◌&&◌, ◌||◌, ◌==◌, not, ◌<◌, Bool, true, false, List, [], ◌∷◌, ◌++◌, length, slice_get, slice_set, slice_index_or, is_some, nat_lt, Option, Some, None, Result, Ok, Err, drop}
+use Rattle.std.specs.Prelude.{◌≡◌, ◌≢◌, refl, ℕ, zero, suc, ◌+◌, ◌≤◌, ◌&&◌, ◌||◌, ◌==◌, not, ◌<◌, Bool, true, false, List, [], ◌∷◌, ◌++◌, length, slice_get, slice_set, slice_index_or, is_some, nat_lt, Option, Some, None, Result, Ok, Err, drop, codes}
 use Rattle.std.proofs.Common.{sym, ◌∙◌, ap, arith, subst, eqb-true, true≢false, inl, inr}
 use Rattle.std.specs.List.{list_any, list_all}
 use Rattle.std.proofs.lemmas.Bool.{cases_order}
@@ -34,9 +34,16 @@ use Rattle.fsm_lowering.specs.declared.refusal.FsmStop.TheVariants as stop
 use Rattle.fsm_lowering.specs.States.{is_within, number_of}
 use Rattle.fsm_lowering.specs.Calls.{next_stop, stop_where, is_too_many, is_full, and_mention, with_next, ongoing_refusal, and_asked, IsOwed, UnlessMemory}
 use Rattle.elab_store.specs.OpenMachines.{innermost}
-use Rattle.elab_machines.specs.StateMachines.{is_apart, is_unsettled, machine_keywords, Moved, Move, with_moved, move_answer, own_moved, moved, stop_told, is_placed, chain_ended, store_begun, next_goes, asked_of}
+use Rattle.elab_machines.specs.StateMachines.{is_clocked, is_apart, is_unsettled, machine_keywords, Moved, Move, with_moved, move_answer, own_moved, moved, stop_told, is_placed, chain_ended, store_begun, next_goes, asked_of}
 use Rattle.elab_machines.specs.Moves.{IsMoved, moved_as, told_after, asked_after}
 use Rattle.elab_store.proofs.Pools.{signal_there}
+
+-- ---- domains
+
+pub not_comb : (n : List ℕ) → is_clocked n ≡ true → n ≢ codes "comb"
+not_comb n h e = true≢false (sym h ∙ ap is_clocked e)
+
+-- ---- what was made since the register
 
 pub apart_next : (x : Machine) (es : List Expr) (i : ℕ) (e : Expr) (whole : Bool) → slice_get es i ≡ Some e → is_apart x e ≡ true → list_all (is_apart x) (drop i es) ≡ whole → list_all (is_apart x) (drop (i + 1) es) ≡ whole
 apart_next x es i e whole at_i h w = sym (ap (list_all (is_apart x)) (drop_at es i e at_i) ∙ ap (λ b. b && list_all (is_apart x) (drop (i + 1) es)) h) ∙ w

@@ -3,7 +3,7 @@
 --         with m.State("A"):        line 2
 --             m.next = "B"          line 3
 --         with m.State("B"):        line 4
-use Rattle.std.specs.Prelude.{◌≡◌, refl, ℕ, true, false, List, [], ◌∷◌, pos, Some, None, codes}
+use Rattle.std.specs.Prelude.{◌≡◌, refl, ℕ, true, false, [], ◌∷◌, pos, Some, None, codes}
 use Rattle.amh_host.specs.declared.place.Place.{Place}
 use Rattle.shape_rules.specs.Forms.{unsigned}
 use Rattle.identifiers.proofs.Computing.{identifiers}
@@ -25,7 +25,7 @@ held : Held
 held = record nothing_held { store = record nothing_held.store { modules = record { name = []; steps = [] } ∷ [] } }
 
 begun : Answered
-begun = machine_begun 0 (codes "fsm") None (line 1) held
+begun = machine_begun 0 (codes "sync") (codes "fsm") None (line 1) held
 
 in_a : Answered
 in_a = moved (state_begins (codes "A") (line 2)) 0 (line 2) begun.held

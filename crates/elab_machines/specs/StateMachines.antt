@@ -101,21 +101,27 @@ abbrev pub name_said : Seen → Option Val → Option (Option StrId)
 name_said s None = Some None
 name_said s (Some v) = option_map Some (name_string s v)
 
--- other domains than `sync` come with submodules; `comb` has no registers
-abbrev pub is_sync : Seen → Option Val → Bool
-is_sync s None = true
-is_sync s (Some (val.Str x)) = text_eq (text_at s x.0) (codes "sync")
-is_sync s (Some v) = false
+-- an identifier names a domain with a clock, but for `comb`, which has no registers
+abbrev pub is_clocked : List ℕ → Bool
+is_clocked n = not (text_eq n (codes "comb")) && is_identifier n
 
-abbrev pub machine_said : ℕ → Option (Option StrId) → Bool → Option (Option StrId) → Place → Held → Answered
-machine_said m (Some init) true (Some name) p h = kept_given (kept.OfMachine (part.Called (record { of = m; init = init; name = name; place = p }))) h
-machine_said m None d name p h = refused Raised h
-machine_said m (Some init) false name p h = refused Raised h
-machine_said m (Some init) true None p h = refused Raised h
+abbrev pub domain_string : Seen → Val → Option StrId
+domain_string s (val.Str x) = if is_clocked (text_at s x.0) then Some x else None
+domain_string s v = None
+
+abbrev pub domain_said : Seen → Option Val → Option (Option StrId)
+domain_said s None = Some None
+domain_said s (Some v) = option_map Some (domain_string s v)
+
+abbrev pub machine_said : ℕ → Option (Option StrId) → Option (Option StrId) → Option (Option StrId) → Place → Held → Answered
+machine_said m (Some init) (Some domain) (Some name) p h = kept_given (kept.OfMachine (part.Called (record { of = m; init = init; domain = domain; name = name; place = p }))) h
+machine_said m None domain name p h = refused Raised h
+machine_said m (Some init) None name p h = refused Raised h
+machine_said m (Some init) (Some domain) None p h = refused Raised h
 
 abbrev pub machine_from : Seen → ℕ → Option MachineArguments → Place → Held → Answered
 machine_from s m None p h = refused Raised h
-machine_from s m (Some args) p h = machine_said m (init_said args.init) (is_sync s args.domain) (name_said s args.name) p h
+machine_from s m (Some args) p h = machine_said m (init_said args.init) (domain_said s args.domain) (name_said s args.name) p h
 
 -- ---- the call of `m.State`, and of `f.ongoing`: one string
 
@@ -150,6 +156,10 @@ abbrev pub register_name : Seen → Option StrId → List ℕ
 register_name s None = codes "fsm"
 register_name s (Some x) = text_at s x.0
 
+abbrev pub domain_name : Seen → Option StrId → List ℕ
+domain_name s None = codes "sync"
+domain_name s (Some x) = text_at s x.0
+
 abbrev pub init_name : Seen → Option StrId → Option (List ℕ)
 init_name s None = None
 init_name s (Some x) = Some (text_at s x.0)
@@ -170,25 +180,27 @@ store_begun m x s = record s {
 }
 
 -- the register, and the machine without states
-abbrev pub with_machine : ℕ → List ℕ → Option (List ℕ) → Place → Held → Held
-with_machine m name init p h = record { pool = with_register h.pool name; store = store_begun m (machine_at h.pool (codes "sync") init p) h.store }
+abbrev pub with_machine : ℕ → List ℕ → List ℕ → Option (List ℕ) → Place → Held → Held
+with_machine m domain name init p h = record { pool = with_register h.pool name; store = store_begun m (machine_at h.pool domain init p) h.store }
 
 -- `as` binds the machine
-abbrev pub machine_made : ℕ → List ℕ → Option (List ℕ) → Place → Held → Answered
-machine_made m name init p h =
-    unless_stopped (new_refusal h.pool) p (kept_given (kept.OfMachine (part.Running (length h.store.machines))) (with_machine m name init p h)) h
+abbrev pub machine_made : ℕ → List ℕ → List ℕ → Option (List ℕ) → Place → Held → Answered
+machine_made m domain name init p h =
+    unless_stopped (new_refusal h.pool) p (kept_given (kept.OfMachine (part.Running (length h.store.machines))) (with_machine m domain name init p h)) h
 
 -- directly in a `Switch` or in another `FSM` none stands
 abbrev pub is_placed : ℕ → Option Built → List OwnMachine → Bool
 is_placed m None machines = false
 is_placed m (Some b) machines = not (in_switch (built_blocks b).around) && not (in_machine m machines)
 
-abbrev pub machine_begun : ℕ → List ℕ → Option (List ℕ) → Place → Held → Answered
-machine_begun m name init p h =
-    if not (is_placed m (slice_get h.store.modules m) h.store.machines) || not (is_identifier name) then refused Raised h else machine_made m name init p h
+-- the names have the form that the call asked for
+abbrev pub machine_begun : ℕ → List ℕ → List ℕ → Option (List ℕ) → Place → Held → Answered
+machine_begun m domain name init p h =
+    if not (is_placed m (slice_get h.store.modules m) h.store.machines) || (not (is_clocked domain) || not (is_identifier name)) then refused Raised h
+    else machine_made m domain name init p h
 
 abbrev pub machine_entered : Seen → MachineCall → Held → Answered
-machine_entered s c h = machine_begun c.of (register_name s c.name) (init_name s c.init) c.place h
+machine_entered s c h = machine_begun c.of (domain_name s c.domain) (register_name s c.name) (init_name s c.init) c.place h
 
 -- ---- the innermost machine of a module, with its builder
 

@@ -3,7 +3,7 @@ ghost use Rattle.std.specs.Prelude.{◌≡◌, true, ◌<◌, length, map, drop,
 ghost use Rattle.std.specs.Option.{option_copied};
 ghost use Rattle.py_values.specs.Heaps.{seen};
 ghost use Rattle.elab_store.specs.Seen.{called_of};
-ghost use Rattle.elab_machines.specs.StateMachines.{part_named, part_attribute, machine_once, machine_keyword, machine_keywords, machine_placed, machine_arguments, state_string, name_string, init_said, name_said, is_sync, machine_said, machine_from, one_argument, state_argument, state_said, stop_told, register_name, init_name, is_placed, machine_made, machine_begun, machine_entered, state_entered, state_left, machine_left, next_said, next_stored, next_goes, moved, ongoing_said, part_called, part_entered, part_left};
+ghost use Rattle.elab_machines.specs.StateMachines.{part_named, part_attribute, machine_once, machine_keyword, machine_keywords, machine_placed, machine_arguments, state_string, name_string, init_said, name_said, is_clocked, domain_string, domain_said, domain_name, machine_said, machine_from, one_argument, state_argument, state_said, stop_told, register_name, init_name, is_placed, machine_made, machine_begun, machine_entered, state_entered, state_left, machine_left, next_said, next_stored, next_goes, moved, ongoing_said, part_called, part_entered, part_left};
 ghost use Rattle.elab_machines.specs.Moves.{action_moves};
 ghost use Rattle.elab_store.specs.Sound.{IsSound};
 ghost use Rattle.elab_store.specs.Held.{held_of, Gives};
@@ -188,13 +188,50 @@ fn name_said(
     }
 }
 
-fn is_sync(heap: &Heap, frozen: &Frozen, given: Option<Val>) -> bool
-    ensures { result ≡ is_sync (seen frozen.now heap.now) given }
+// Whether a name may be that of a domain with a clock.
+fn is_clocked(alloc: Global, name: &str) -> Result<bool, NoMemory>
+    ensures { IfOk result (λ b. b ≡ is_clocked name.now) }
+{
+    if is_text(name, "comb") {
+        return Ok(false);
+    }
+    is_identifier(alloc, name)
+}
+
+// A string that names a domain with a clock.
+fn domain_string(
+    alloc: Global,
+    heap: &Heap,
+    frozen: &Frozen,
+    v: Val,
+) -> Result<Option<StrId>, NoMemory>
+    ensures { IfOk result (λ name. name ≡ domain_string (seen frozen.now heap.now) v) }
+{
+    let Val::Str(x) = v else {
+        return Ok(None);
+    };
+    if is_clocked(alloc, heap.text(frozen, x))? {
+        Ok(Some(x))
+    } else {
+        Ok(None)
+    }
+}
+
+// The domain, where it is given.
+fn domain_said(
+    alloc: Global,
+    heap: &Heap,
+    frozen: &Frozen,
+    given: Option<Val>,
+) -> Result<Option<Option<StrId>>, NoMemory>
+    ensures { IfOk result (λ said. said ≡ domain_said (seen frozen.now heap.now) given) }
 {
     match given {
-        None => true,
-        Some(Val::Str(x)) => is_text(heap.text(frozen, x), "sync"),
-        _ => false,
+        None => Ok(Some(None)),
+        Some(v) => match domain_string(alloc, heap, frozen, v)? {
+            Some(name) => Ok(Some(Some(name))),
+            None => Ok(None),
+        },
     }
 }
 
@@ -275,13 +312,14 @@ fn call_machine(
     let Some(init) = init_said(args.init) else {
         return elaboration.refuse(Cause::Raised);
     };
-    if !is_sync(heap, frozen, args.domain) {
+    let Some(domain) = domain_said(elaboration.alloc, heap, frozen, args.domain)? else {
         return elaboration.refuse(Cause::Raised);
-    }
+    };
     match name_said(elaboration.alloc, heap, frozen, args.name)? {
         Some(name) => elaboration.give_kept(Kept::OfMachine(MachinePart::Called(MachineCall {
             of,
             init,
+            domain,
             name,
             place,
         }))),
@@ -360,30 +398,37 @@ fn enter_machine(
 ) -> Result<Answer, NoMemory>
     ensures { Gives result elaboration.new (machine_entered (seen frozen.now heap.now) call (held_of elaboration.old)) }
 {
+    let domain = domain_name(heap, frozen, call.domain);
     let name = register_name(heap, frozen, call.name);
     let init = init_name(heap, frozen, call.init);
-    if !has_place(&elaboration.store, call.of) || !is_identifier(elaboration.alloc, name)? {
+    if !has_place(&elaboration.store, call.of) {
         return elaboration.refuse(Cause::Raised);
     }
-    begin_machine(elaboration, call.of, name, init, call.place)
+    if !is_clocked(elaboration.alloc, domain)? || !is_identifier(elaboration.alloc, name)? {
+        return elaboration.refuse(Cause::Raised);
+    }
+    begin_machine(elaboration, call.of, domain, name, init, call.place)
 }
 
 // The register, and the machine without states.
+#[tactic(auto, using(crate::proofs::MachineLaws::not_comb))]
 fn begin_machine(
     elaboration: &mut Elaboration,
     of: u32,
+    domain: &str,
     name: &str,
     init: Option<&str>,
     place: Place,
 ) -> Result<Answer, NoMemory>
-    requires { is_placed of (slice_get elaboration.old.store.modules of) elaboration.old.store.machines ≡ true }
-    ensures { Gives result elaboration.new (machine_made of name.now (option_copied init.entry) place (held_of elaboration.old)) }
+    requires clocked { is_clocked domain.now ≡ true }
+    requires placed { is_placed of (slice_get elaboration.old.store.modules of) elaboration.old.store.machines ≡ true }
+    ensures { Gives result elaboration.new (machine_made of domain.now name.now (option_copied init.entry) place (held_of elaboration.old)) }
 {
     let number = elaboration.store.machines.len();
     match Fsm::new(
         elaboration.alloc,
         &mut elaboration.pool,
-        "sync",
+        domain,
         name,
         init,
         place,
@@ -537,6 +582,16 @@ fn register_name<'a>(heap: &'a Heap, frozen: &'a Frozen, name: Option<StrId>) ->
     match name {
         Some(x) => heap.text(frozen, x),
         None => "fsm",
+    }
+}
+
+// The domain of the register.
+fn domain_name<'a>(heap: &'a Heap, frozen: &'a Frozen, domain: Option<StrId>) -> &'a str
+    ensures { result.now ≡ domain_name (seen frozen.now heap.now) domain }
+{
+    match domain {
+        Some(x) => heap.text(frozen, x),
+        None => "sync",
     }
 }
 

@@ -1,20 +1,10 @@
 -- The members of a class, of which the bases' come first.
-use Rattle.std.specs.Prelude.{◌≡◌, refl, ℕ, zero, suc, ◌+◌, ◌<◌, ◌||◌, ◌&&◌, ◌==◌, ◌≢◌, not, Bool, true, false, cond, List, [], ◌∷◌, ◌++◌, length, drop, reverse, get_or, Option, Some, None, bytes_eq}
-use Rattle.std.specs.List.{list_any}
-use Rattle.std.proofs.Common.{sym, ◌∙◌, ap, arith, true≢false}
-use Rattle.std.proofs.lemmas.List.{at_drop_more, append-nil, append_assoc, reverse-append}
-use Rattle.std.proofs.lemmas.Bool.{eqb-true}
-use Rattle.std.proofs.lemmas.List.Folds.{list_any-append}
-use Rattle.std.proofs.lemmas.Slice.Eq.{bytes_eq-Decides}
-use Rattle.lists.specs.Texts.{text_eq}
-use Rattle.lists.proofs.TextLaws.{by_equal}
+use Rattle.std.specs.Prelude.{◌≡◌, refl, ℕ, zero, suc, List, [], ◌++◌, reverse, Option, Some, None}
+use Rattle.std.proofs.Common.{sym, ◌∙◌, ap}
+use Rattle.std.proofs.lemmas.List.{append-nil, append_assoc, reverse-append}
 use Rattle.py_values.specs.declared.val.ObjId.{ObjId}
-use Rattle.py_values.specs.declared.val.Val.{Val}
-use Rattle.py_values.specs.Heaps.{Seen}
 use Rattle.elab_store.specs.declared.members.NamedMember.{NamedMember}
 use Rattle.elab_store.specs.declared.members.ComponentClass.{ComponentClass}
-use Rattle.elab_store.specs.declared.members.Member.{Member}
-use Rattle.elab_store.specs.Stores.{Stored, kept_of}
 use Rattle.elab_store.specs.Components.{class_at, base_members, all_members, members_in}
 
 -- ---- members of classes

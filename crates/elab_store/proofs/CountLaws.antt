@@ -1,16 +1,9 @@
 -- How many statements modules have.
-use Rattle.std.proofs.Common.{◌≡◌, ℕ, zero, suc, ◌+◌, ◌<◌, ◌≤◌, refl, ap, sym, true, false, List, [], ◌∷◌, ◌++◌, length, Option, Some, None, arith, nat_lt}
+use Rattle.std.proofs.Common.{◌≡◌, ℕ, zero, suc, ◌+◌, ◌<◌, ◌≤◌, refl, ap, sym, List, [], ◌∷◌, ◌++◌, length, Some, None, arith}
 use Rattle.std.specs.Prelude.{slice_get, slice_set, slice_index_or}
-use Rattle.std.proofs.lemmas.Bool.Decides.{nat_tests}
-use Rattle.py_frames.specs.declared.request.Cause.TheVariants.{Raised, Limit}
-use Rattle.module_dsl.specs.Blocks.{in_switch, blocks_of}
+use Rattle.module_dsl.specs.Blocks.{blocks_of}
 use Rattle.design_ir.specs.declared.expr.Pattern.{Pattern}
-use Rattle.module_dsl.specs.declared.refusal.BuildStop.{BuildStop}
-use Rattle.module_dsl.specs.declared.step.Block.{Block}
-use Rattle.module_dsl.specs.Builders.{Built, built_blocks, built_count, leave_refusal, and_left, enter_refusal}
-use Rattle.elab_store.specs.declared.kept.DomainName.{DomainName}
-use Rattle.elab_store.specs.declared.kept.Equation.{Equation}
-use Rattle.elab_store.specs.Stores.{Stored, Held}
+use Rattle.module_dsl.specs.Builders.{Built, built_count}
 use Rattle.elab_store.specs.Kept.{IsStore}
 use Rattle.elab_store.specs.Counts.{statement_count}
 

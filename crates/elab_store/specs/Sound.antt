@@ -108,4 +108,5 @@ pub record IsSound (h : Held) : Type 0 where
   pub kept : AllByRecursion (IsKept h.pool) h.store.kept
   pub modules : AllByRecursion (IsBuilt h.pool) h.store.modules
   pub machines : AllByRecursion (IsMachine h.pool) h.store.machines
+  pub domains : AllByRecursion IsName h.store.domains
   pub ports : AllByRecursion (λ (o : ℕ × List Port). ArePorts h.pool o.1) h.store.components.objects

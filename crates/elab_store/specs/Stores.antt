@@ -1,6 +1,7 @@
 -- What elaboration holds beside the heap of the program: the pool, and the store of things, modules and the top. Which acts change it is said
 -- family by family in the other files.
-use Rattle.std.specs.Prelude.{ℕ, List, [], ◌∷◌, ◌++◌, length, slice_get, Option, Some, None, option_and_then}
+use Rattle.std.specs.Prelude.{ℕ, Bool, List, [], ◌∷◌, ◌++◌, length, slice_get, Option, Some, None, option_and_then, option_map, codes}
+use Rattle.lists.specs.Texts.{text_eq}
 use Rattle.py_values.specs.declared.val.ObjId.{ObjId}
 use Rattle.py_values.specs.declared.val.Val.{Val}
 use Rattle.py_values.specs.declared.val.Val.TheVariants as val
@@ -8,7 +9,10 @@ use Rattle.py_frames.specs.declared.request.Answer.{Answer}
 use Rattle.py_frames.specs.declared.request.Answer.TheVariants as answer
 use Rattle.py_frames.specs.declared.request.Cause.{Cause}
 use Rattle.design_ir.specs.declared.expr.Pattern.{Pattern}
+use Rattle.design_ir.specs.declared.process.Side.{Side}
+use Rattle.design_ir.specs.declared.process.Side.TheVariants.{Comb, Clocked}
 use Rattle.design_ir.specs.Pools.{Pooled}
+use Rattle.design_ir.specs.Circuits.{option_test}
 use Rattle.amh_things.specs.declared.thing.Thing.{Thing}
 use Rattle.amh_things.specs.declared.thing.Thing.TheVariants as thing
 use Rattle.amh_things.specs.Things.{thing_of, kept_number}
@@ -16,6 +20,8 @@ use Rattle.module_dsl.specs.Builders.{Built}
 use Rattle.elab_store.specs.declared.kept.Kept.{Kept}
 use Rattle.elab_store.specs.declared.kept.Kept.TheVariants as kept
 use Rattle.elab_store.specs.declared.kept.Top.{Top}
+use Rattle.elab_store.specs.declared.kept.DomainName.{DomainName}
+use Rattle.elab_store.specs.declared.kept.DomainName.TheVariants as domain
 use Rattle.amh_host.specs.declared.place.Place.{Place}
 use Rattle.elab_store.specs.declared.own_machine.OwnMachine.{OwnMachine}
 use Rattle.elab_store.specs.Components.{Components, no_components}
@@ -34,6 +40,8 @@ pub record Stored : Type 0 where
   pub components : Components
   -- state machines in order of making
   pub machines : List OwnMachine
+  -- the names of domains with a clock by which modules were asked
+  pub domains : List (List ℕ)
   -- where the refusal is told, where this is not the place of the request
   pub told : Option Place
 
@@ -47,7 +55,7 @@ no_top = record { object = None; root = None }
 
 -- before the body of a program
 abbrev pub nothing_held : Held
-nothing_held = record { pool = record { signals = []; exprs = [] }; store = record { things = []; kept = []; modules = []; patterns = []; top = no_top; components = no_components; machines = []; told = None } }
+nothing_held = record { pool = record { signals = []; exprs = [] }; store = record { things = []; kept = []; modules = []; patterns = []; top = no_top; components = no_components; machines = []; domains = []; told = None } }
 
 -- what a request is answered, and what is then held
 pub record Answered : Type 0 where
@@ -91,6 +99,20 @@ kept_given k h = given (next_thing h) (record h { store = store_keeping k h.stor
 -- what a value is kept for, where it is a thing of this crate
 abbrev pub kept_of : Stored → Val → Option Kept
 kept_of s v = option_and_then (slice_get s.kept) (kept_number (thing_of s.things v))
+
+-- ---- domains
+
+abbrev pub naming_domain : List ℕ → Stored → Stored
+naming_domain n s = record s { domains = s.domains ++ n ∷ [] }
+
+abbrev pub side_of : Stored → DomainName → Option Side
+side_of s domain.Comb = Some Comb
+side_of s (domain.Clocked k) = option_map Clocked (slice_get s.domains k)
+
+-- whether a domain has this name
+abbrev pub is_domain : Stored → DomainName → List ℕ → Bool
+is_domain s domain.Comb n = text_eq n (codes "comb")
+is_domain s (domain.Clocked k) n = option_test (λ x. text_eq x n) (slice_get s.domains k)
 
 -- ---- modules and the top
 

@@ -31,7 +31,8 @@ pub enum HdlName {
 #[derive(Clone, Copy, Debug, PartialEq, Eq, Drop)]
 pub enum DomainName {
     Comb,
-    Sync,
+    /// A domain with a clock, by the number of its name among those that the store holds.
+    Clocked(u32),
 }
 
 /// The name of a block, as it is an attribute of a module.
@@ -67,11 +68,12 @@ pub struct Equation {
     pub place: Place,
 }
 
-/// `m.FSM(..)`: the first state and the name, where they were given, and the place of the call.
+/// `m.FSM(..)`: the first state, the domain and the name, where they were given, and the place of the call.
 #[derive(Clone, Copy, Debug, PartialEq, Eq, Drop)]
 pub struct MachineCall {
     pub of: u32,
     pub init: Option<StrId>,
+    pub domain: Option<StrId>,
     pub name: Option<StrId>,
     pub place: Place,
 }
@@ -108,7 +110,7 @@ pub enum Kept {
     Module(u32),
     /// `m.d` of a module.
     Domains(u32),
-    /// `m.d.comb` or `m.d.sync` of a module.
+    /// `m.d.comb`, `m.d.sync` or another domain of a module.
     Domain { of: u32, name: DomainName },
     /// `x.eq(v)`.
     Statement(Equation),

@@ -7,24 +7,26 @@ ghost use Rattle.amh_things.specs.Things.{name_called, thing_of, base_called, la
 ghost use Rattle.amh_things.specs.Meant.{shape_meant, expr_meant, Gives as Meant};
 ghost use Rattle.amh_things.specs.Held.{AreHeld};
 ghost use Rattle.amh_things.specs.Members.{counted};
-ghost use Rattle.elab_store.specs.Stores.{store_and_module};
+ghost use Rattle.elab_store.specs.Stores.{store_and_module, naming_domain, side_of, is_domain};
+ghost use Rattle.elab_store.specs.declared.kept.DomainName.TheVariants as domain;
 ghost use Rattle.elab_store.specs.Components.{no_components};
 ghost use Rattle.elab_store.specs.Stores.{nothing_held, no_top, kept_of, store_with, store_keeping, kept_given, given, refused, refused_at};
 ghost use Rattle.elab_store.specs.Stores.{with_root, with_object, module_of};
 ghost use Rattle.elab_store.specs.Held.{held_of, Gives};
 
 use crate::components::Components;
-use crate::kept::{Kept, Top};
+use crate::kept::{DomainName, Kept, Top};
+use crate::names::is_text;
 use crate::objects::first_object;
 use crate::own_machine::OwnMachine;
 use amh_bits::Int;
-use amh_host::Place;
+use amh_host::{Items, Place, Text};
 use amh_things::comparing::counted;
 use amh_things::meant::{expr_meant, shape_meant};
 use amh_things::plan::{PlanStop, read_as};
 use amh_things::thing::Reading;
 use amh_things::values::Values;
-use design_ir::{ExprId, Patterns, Pool};
+use design_ir::{ExprId, Patterns, Pool, Side};
 use lists::NoMemory;
 use module_dsl::Builder;
 use py_frames::request::{Answer, Cause};
@@ -45,6 +47,7 @@ pub struct Store {
     pub top: Top,
     pub components: Components,
     pub machines: Vec<OwnMachine>,
+    pub domains: Items<Text>,
     pub told: Option<Place>,
 }
 
@@ -55,7 +58,7 @@ impl Model for Store {
 
     ghost Value = { Stored };
 
-    ghost view = { λ a. record { things = a.things; kept = a.kept.items; modules = a.modules.items; patterns = a.patterns.items; top = a.top; components = a.components; machines = a.machines.items; told = a.told } };
+    ghost view = { λ a. record { things = a.things; kept = a.kept.items; modules = a.modules.items; patterns = a.patterns.items; top = a.top; components = a.components; machines = a.machines.items; domains = a.domains; told = a.told } };
 
     ghost invariant = { λ a. IsStore a.statements a.modules.items a.patterns.items };
 }
@@ -63,7 +66,7 @@ impl Model for Store {
 impl Store {
     /// Nothing yet, which takes no memory.
     fn new(alloc: Global) -> Store
-        ensures { result ≡ record { things = []; kept = []; modules = []; patterns = []; top = no_top; components = no_components; machines = []; told = None } }
+        ensures { result ≡ record { things = []; kept = []; modules = []; patterns = []; top = no_top; components = no_components; machines = []; domains = []; told = None } }
     {
         Store {
             things: Values::new(alloc),
@@ -77,6 +80,7 @@ impl Store {
             },
             components: Components::new(alloc),
             machines: Vec::new(alloc),
+            domains: Items::new(alloc),
             told: None,
         }
     }
@@ -149,6 +153,47 @@ impl Store {
     {
         let hw = self.things.put(read_as(reading, e))?;
         Ok(Val::Hw(hw))
+    }
+
+    /// A domain with a clock, by its name.
+    pub fn name_domain(&mut self, alloc: Global, name: &str) -> Result<DomainName, NoMemory>
+        ensures { IfOk result (λ d. (d ≡ domain.Clocked (length self.old.domains)) × (self.new ≡ naming_domain name.now self.old)) }
+    {
+        let number = self.domains.len();
+        if number >= 4_294_967_295 {
+            return Err(NoMemory);
+        }
+        let mut text = Text::new(alloc);
+        text.push(name)?;
+        self.domains.push(text)?;
+        Ok(DomainName::Clocked(number as u32))
+    }
+
+    /// The side of a domain: combinational, or that of its name.
+    pub fn side_of(&self, alloc: Global, name: DomainName) -> Result<Option<Side>, NoMemory>
+        ensures { IfOk result (λ side. side ≡ side_of self.now name) }
+    {
+        let DomainName::Clocked(number) = name else {
+            return Ok(Some(Side::Comb));
+        };
+        if number as usize >= self.domains.len() {
+            return Ok(None);
+        }
+        let mut text = Text::new(alloc);
+        text.push(self.domains.get(number as usize).as_str())?;
+        Ok(Some(Side::Clocked(text)))
+    }
+
+    /// Whether a domain has this name.
+    pub fn is_domain(&self, name: DomainName, text: &str) -> bool
+        ensures { result ≡ is_domain self.now name text.now }
+    {
+        match name {
+            DomainName::Comb => is_text(text, "comb"),
+            DomainName::Clocked(number) => {
+                (number as usize) < self.domains.len() && self.domains.get(number as usize).is(text)
+            }
+        }
     }
 
     /// A new module without statements.

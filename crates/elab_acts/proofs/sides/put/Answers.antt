@@ -2,7 +2,7 @@ use Rattle.std.proofs.Common.{◌≡◌, ◌+◌, ◌<◌, sym, ap, ◌∙◌, t
 use Rattle.std.specs.Prelude.{slice_get, slice_set}
 use Rattle.py_frames.specs.declared.request.Cause.TheVariants.{Raised, Limit}
 use Rattle.module_dsl.specs.Blocks.{in_switch}
-use Rattle.module_dsl.specs.Builders.{Built, built_blocks, built_count, and_given}
+use Rattle.module_dsl.specs.Builders.{Built, built_blocks, built_count}
 use Rattle.elab_store.specs.declared.store.Store.TheInside.{Inside}
 use Rattle.elab_store.specs.Counts.{statement_count}
 use Rattle.elab_store.specs.Stores.{Stored}
@@ -16,9 +16,9 @@ pub returns-then-in_switch : goal.returns-then-in_switch
 returns-then-in_switch c =
     let inside = c.store.inside in
     let b : Built = c.index_mut-builder.result.now in
-    let d = c.args.name in
+    let d = c.args.side.now in
     let q = c.args.q.now in
-    let held : List Built → Stored = λ (bs : List Built). record { things = inside.things; kept = inside.kept.items; modules = bs; patterns = inside.patterns.items; top = inside.top; components = inside.components; machines = inside.machines.items; told = inside.told } in
+    let held : List Built → Stored = λ (bs : List Built). record { things = inside.things; kept = inside.kept.items; modules = bs; patterns = inside.patterns.items; top = inside.top; components = inside.components; machines = inside.machines.items; domains = inside.domains; told = inside.told } in
     let at : slice_get inside.modules.items c.args.of ≡ Some b = at_get inside.modules.items c.args.of b (omega (arith, c.if-of-len.false, c.len.ensures, inside.modules.ok.0)) c.index_mut-builder.ensures.value in
     let i : in_switch (built_blocks b).around ≡ true = sym c.in_switch.ensures ∙ c.if-in_switch.true in
     ap (λ bs. (held bs, Some Raised)) (set_same inside.modules.items c.args.of b c.index_mut-builder.ensures.value)
@@ -28,14 +28,14 @@ pub returns-then-added-gt65536 : goal.returns-then-added-gt65536
 returns-then-added-gt65536 c =
     let inside = c.store.inside in
     let b : Built = c.index_mut-builder.result.now in
-    let d = c.args.name in
+    let d = c.args.side.now in
     let q = c.args.q.now in
-    let held : List Built → Stored = λ (bs : List Built). record { things = inside.things; kept = inside.kept.items; modules = bs; patterns = inside.patterns.items; top = inside.top; components = inside.components; machines = inside.machines.items; told = inside.told } in
-    let seen : Inside → Stored = λ (x : Inside). record { things = x.things; kept = x.kept.items; modules = x.modules.items; patterns = x.patterns.items; top = x.top; components = x.components; machines = x.machines.items; told = x.told } in
+    let held : List Built → Stored = λ (bs : List Built). record { things = inside.things; kept = inside.kept.items; modules = bs; patterns = inside.patterns.items; top = inside.top; components = inside.components; machines = inside.machines.items; domains = inside.domains; told = inside.told } in
+    let seen : Inside → Stored = λ (x : Inside). record { things = x.things; kept = x.kept.items; modules = x.modules.items; patterns = x.patterns.items; top = x.top; components = x.components; machines = x.machines.items; domains = x.domains; told = x.told } in
     let below : c.args.of < length inside.modules.items = omega (arith, c.if-of-len.false, c.len.ensures, inside.modules.ok.0) in
     let at : slice_get inside.modules.items c.args.of ≡ Some b = at_get inside.modules.items c.args.of b below c.index_mut-builder.ensures.value in
     let i : in_switch (built_blocks b).around ≡ false = sym c.in_switch.ensures ∙ c.if-in_switch.false in
-    let more : built_count (built_with b d q) ≡ built_count b + c.added_by-added.result = ap built_count (ap (λ s. and_given b s q.target q.value q.place) (sym c.in_ok-side.ensures)) ∙ c.added_by-added.ensures q.target q.value q.place i in
+    let more : built_count (built_with b d q) ≡ built_count b + c.added_by-added.result = c.added_by-added.ensures q.target q.value q.place i in
     let n = inside.statements + c.added_by-added.result in
     let count : statement_count (store_with_statement c.args.of b d q (held inside.modules.items)).modules ≡ n =
     count_set inside.modules.items c.args.of b (built_with b d q) c.added_by-added.result below c.index_mut-builder.ensures.value more ∙ ap (λ k. k + c.added_by-added.result) (sym c.store.invariant.count) in
@@ -68,14 +68,14 @@ pub returns-in-Ok : goal.returns-in-Ok
 returns-in-Ok c =
     let inside = c.store.inside in
     let b : Built = c.index_mut-builder.result.now in
-    let d = c.args.name in
+    let d = c.args.side.now in
     let q = c.args.q.now in
-    let held : List Built → Stored = λ (bs : List Built). record { things = inside.things; kept = inside.kept.items; modules = bs; patterns = inside.patterns.items; top = inside.top; components = inside.components; machines = inside.machines.items; told = inside.told } in
+    let held : List Built → Stored = λ (bs : List Built). record { things = inside.things; kept = inside.kept.items; modules = bs; patterns = inside.patterns.items; top = inside.top; components = inside.components; machines = inside.machines.items; domains = inside.domains; told = inside.told } in
     let below : c.args.of < length inside.modules.items = omega (arith, c.if-of-len.false, c.len.ensures, inside.modules.ok.0) in
     let at : slice_get inside.modules.items c.args.of ≡ Some b = at_get inside.modules.items c.args.of b below c.index_mut-builder.ensures.value in
     let i : in_switch (built_blocks b).around ≡ false = sym c.in_switch.ensures ∙ c.if-in_switch.false in
-    let made : c.assign.new.self ≡ built_with b d q = c.in-Ok.ensures.given.1 ∙ ap (λ s. and_given b s q.target q.value q.place) c.in_ok-side.ensures in
-    let more : built_count (built_with b d q) ≡ built_count b + c.added_by-added.result = ap built_count (ap (λ s. and_given b s q.target q.value q.place) (sym c.in_ok-side.ensures)) ∙ c.added_by-added.ensures q.target q.value q.place i in
+    let made : c.assign.new.self ≡ built_with b d q = c.in-Ok.ensures.given.1 in
+    let more : built_count (built_with b d q) ≡ built_count b + c.added_by-added.result = c.added_by-added.ensures q.target q.value q.place i in
     let n = inside.statements + c.added_by-added.result in
     let count : statement_count (store_with_statement c.args.of b d q (held inside.modules.items)).modules ≡ n =
     count_set inside.modules.items c.args.of b (built_with b d q) c.added_by-added.result below c.index_mut-builder.ensures.value more ∙ ap (λ k. k + c.added_by-added.result) (sym c.store.invariant.count) in
