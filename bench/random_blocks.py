@@ -12,11 +12,12 @@ def indented(lines):
 
 
 class Blocks:
-    """Statements under blocks: `assigned` gives one, `known` may be read by conditions; `machines` counts state machines, or is None."""
+    """Statements under blocks: `assigned` gives one, `known` may be read by conditions; `machines` counts state machines, or is None, and
+    `clocked` has the domains that they may be of."""
 
-    def __init__(self, dice, assigned, known, shapes, machines):
+    def __init__(self, dice, assigned, known, shapes, machines, clocked):
         self.dice, self.assigned, self.text, self.machines = dice, assigned, Text(dice, known, shapes), machines
-        self.states = []
+        self.states, self.clocked = [], clocked
 
     def body(self, depth):
         lines = []
@@ -83,7 +84,7 @@ class Blocks:
         if states and self.dice.random() < 0.3:
             words.append(f'init="{self.dice.choice(states)}"')
         if self.dice.random() < 0.2:
-            words.append('domain="sync"')
+            words.append(f'domain="{self.clocked[0] if len(self.clocked) == 1 else self.dice.choice(self.clocked)}"')
         if self.dice.random() < 0.4:
             words.append(f'name="{self.dice.choice(["ctl", "ctl", "main"])}"')
         return ", ".join(words)
@@ -95,6 +96,8 @@ class Statements:
     def __init__(self, dice, options, shapes):
         self.dice, self.shapes = dice, shapes
         self.targets = Targets(dice, shapes, options.targets)
+        self.clocked = ["sync", "fast", "slow"] if options.domains else ["sync"]
+        self.sides = {}
         self.has_blocks = options.blocks or options.machines
         self.machines = itertools.count() if options.machines else None
 
@@ -113,16 +116,26 @@ class Statements:
                 lines.append(("comb", f"{self.targets.any_of(s, [], known)}.eq({self.value(known, self.dice.randint(1, 3))})"))
             known = known + [s]
         for s in registers:
-            lines.append(("sync", f"{self.targets.any_of(s, registers, known)}.eq({self.value(known, self.dice.randint(1, 3))})"))
+            side, mates = self.side_of(s, registers)
+            lines.append((side, f"{self.targets.any_of(s, mates, known)}.eq({self.value(known, self.dice.randint(1, 3))})"))
         self.dice.shuffle(lines)
         return lines
+
+    def side_of(self, s, registers):
+        """The domain of a register, and the registers of that domain."""
+        if len(self.clocked) == 1:
+            return "sync", registers
+        for r in registers:
+            if r.name not in self.sides:
+                self.sides[r.name] = self.dice.choice(self.clocked)
+        return self.sides[s.name], [r for r in registers if self.sides[r.name] == self.sides[s.name]]
 
     def in_blocks(self, inputs, outputs, registers):
         """Statements in stages: those of a stage read what stands before it."""
         stages, known = [], inputs + registers
         for s in outputs:
             readable = known + [s] if self.dice.random() < 0.03 else list(known)
-            blocks = Blocks(self.dice, self.assigner(s, registers, readable), readable, self.shapes, self.machines)
+            blocks = Blocks(self.dice, self.assigner(s, registers, readable), readable, self.shapes, self.machines, self.clocked)
             depth = 2 if self.machines else 3
             stages.append([line for _ in range(self.dice.choice([1, 2, 2])) for line in blocks.one(depth)])
             if self.machines and self.dice.random() < 0.4:
@@ -136,6 +149,8 @@ class Statements:
         def assigned():
             value = self.value(readable, self.dice.randint(1, 2))
             if registers and self.dice.random() < 0.3:
-                return "sync", f"{self.targets.any_of(self.dice.choice(registers), registers, readable)}.eq({value})"
+                driven = self.dice.choice(registers)
+                side, mates = self.side_of(driven, registers)
+                return side, f"{self.targets.any_of(driven, mates, readable)}.eq({value})"
             return "comb", f"{self.targets.any_of(s, [], readable)}.eq({value})"
         return assigned

@@ -1,6 +1,6 @@
 #!/usr/bin/env python3
 """Writes random design files, each with a script, into a folder:
-`random_designs.py FOLDER COUNT SEED [--spoiled] [--only NAMES] [--blocks] [--targets] [--machines] [--layouts]`.
+`random_designs.py FOLDER COUNT SEED [--spoiled] [--only NAMES] [--blocks] [--targets] [--machines] [--layouts] [--domains]`.
 
 Each design is a text in the language that amh_tool accepts, with signals of random shapes, statements of `comb` and `sync` over
 random expressions, and a script of events. With `--spoiled` one thing in each text is broken: a token, a width, an argument, a
@@ -8,7 +8,8 @@ driver, a target, and of what the other words bring a block, a state, a field, a
 `module`, `object` and `component`, with commas between. With `--blocks` statements stand under `If`, `Elif`, `Else`, `Switch`, `Case`
 and `Default`; with `--targets` parts at an offset, items by an index, joins and casts are assigned, too. With `--machines` blocks are
 state machines, too, beside and in each other; with `--layouts` signals are views and values of enumerations, whose fields and members
-are read, assigned and matched.
+are read, assigned and matched. With `--domains` registers and state machines are of `sync`, `fast` and `slow`, whose clocks toggle alone
+and together.
 
 The files are K.py and K.stim, K from 0 on, and depend on the seed and the words alone. Two tools that are run over them can be compared.
 """
@@ -121,14 +122,29 @@ def known_to_scripts(dice, inputs, text):
     return inputs if dice.random() < 0.02 else read
 
 
-def script_text(dice, inputs, has_clock, most):
-    """So many events, at most, on these inputs and on the clock."""
+def clocked_in(text):
+    """The domains in which a text has statements, as far as its lines tell."""
+    found = set(re.findall(r"m\.d\.(\w+) \+=", text)) - {"comb"}
+    if "m.next" in text:
+        found |= {name or "sync" for name in re.findall(r'm\.FSM\((?:.*domain="(\w+)")?', text)}
+    return sorted(found)
+
+
+def edge_line(dice, clocked):
+    """An edge of the one domain, or of some of several."""
+    if len(clocked) == 1:
+        return f"edge {clocked[0]}"
+    return "edge " + " ".join(dice.sample(clocked, dice.randint(1, len(clocked))))
+
+
+def script_text(dice, inputs, clocked, most):
+    """So many events, at most, on these inputs and on the clocks of these domains."""
     if not inputs:
-        return ["edge sync"] * most if has_clock else []
+        return [edge_line(dice, clocked) for _ in range(most)] if clocked else []
     lines = []
     for _ in range(dice.randint(2, most)):
-        if has_clock and dice.random() < 0.4:
-            lines.append("edge sync")
+        if clocked and dice.random() < 0.4:
+            lines.append(edge_line(dice, clocked))
             continue
         s = dice.choice(inputs)
         low, high = (-(1 << (s.width - 1)), (1 << (s.width - 1)) - 1) if s.signed else (0, (1 << s.width) - 1)
@@ -142,7 +158,7 @@ def words():
     parser.add_argument("count", metavar="COUNT", type=int)
     parser.add_argument("seed", metavar="SEED", type=int)
     parser.add_argument("--only", metavar="NAMES", default=",".join(TOPS))
-    for name in ("spoiled", "blocks", "targets", "machines", "layouts"):
+    for name in ("spoiled", "blocks", "targets", "machines", "layouts", "domains"):
         parser.add_argument(f"--{name}", action="store_true")
     return parser.parse_args()
 
@@ -156,9 +172,9 @@ def main():
         if options.spoiled:
             lines = spoiled(dice, lines, options)
         text = "\n".join(lines) + "\n"
-        has_clock = "m.d.sync" in text or "m.next" in text
+        clocked = clocked_in(text) if options.domains else ["sync"] if "m.d.sync" in text or "m.next" in text else []
         (options.folder / f"{k}.py").write_text(text)
-        script = script_text(dice, known_to_scripts(dice, inputs, text), has_clock, 24 if options.machines else 12)
+        script = script_text(dice, known_to_scripts(dice, inputs, text), clocked, 24 if options.machines else 12)
         (options.folder / f"{k}.stim").write_text("\n".join(script) + "\n")
 
 
