@@ -55,6 +55,12 @@ def bits(count):
     return HEAD + f's = [Signal(128) for i in range({whole})]\n{last}m.d.sync += [x.eq(~x) for x in s]\ntop = m\n', "edge sync\n" * 10
 
 
+def domains(count):
+    """Domains of a register each, whose clocks toggle together."""
+    names = " ".join(f"d{i}" for i in range(count))
+    return HEAD + f'for i in range({count}):\n    q = Signal(name=f"q{{i}}")\n    m.d[f"d{{i}}"] += q.eq(~q)\ntop = m\n', f"edge {names}\n" * 10
+
+
 def states(count):
     """A machine that goes through its states in turn."""
     return (HEAD + f"with m.FSM():\n    for i in range({count}):\n        with m.State(f\"S{{i}}\"):\n            j = (i + 1) % {count}\n"
@@ -109,6 +115,7 @@ CASES = [
     ("signals, registers", registers, 16384),
     ("signals, written", written_signals, 16384),
     ("bits of signals", bits, 262144),
+    ("domains", domains, 64),
     ("states", states, 256),
     ("expressions, deep", deep, 262144),
     ("expressions, wide", wide, 262144),
