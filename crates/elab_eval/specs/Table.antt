@@ -20,7 +20,7 @@ use Rattle.elab_store.specs.declared.kept.HdlName.{HdlName}
 use Rattle.elab_store.specs.declared.kept.HdlName.TheVariants as hdl
 use Rattle.elab_store.specs.declared.kept.Kept.{Kept}
 use Rattle.elab_store.specs.declared.kept.Kept.TheVariants as kept
-use Rattle.elab_store.specs.Stores.{Held, Answered, refused, kept_of}
+use Rattle.elab_store.specs.Stores.{Held, Answered, refused, kept_of, side_of}
 use Rattle.elab_acts.specs.Imports.{import_answered}
 use Rattle.elab_store.specs.Calls.{Called, called}
 use Rattle.elab_acts.specs.Signals.{module_called, signal_called}
