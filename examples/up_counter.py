@@ -1,6 +1,7 @@
 from amaranth import *
 from amaranth.lib import wiring
 from amaranth.lib.wiring import In, Out
+from amaranth.sim import Simulator
 
 
 class UpCounter(wiring.Component):
@@ -44,4 +45,29 @@ class UpCounter(wiring.Component):
         return m
 
 
-top = UpCounter(3)
+dut = UpCounter(3)
+
+
+async def bench(ctx):
+    # Disabled counter should not overflow.
+    ctx.set(dut.en, 0)
+    for _ in range(5):
+        await ctx.tick()
+        assert not ctx.get(dut.ovf)
+
+    # Once enabled, the counter should overflow behind 3 clock cycles.
+    ctx.set(dut.en, 1)
+    for _ in range(3):
+        await ctx.tick()
+    assert ctx.get(dut.ovf)
+
+    # The overflow should clear in one clock cycle.
+    await ctx.tick()
+    assert not ctx.get(dut.ovf)
+
+
+sim = Simulator(dut)
+sim.add_clock(1e-6)  # 1 MHz
+sim.add_testbench(bench)
+with sim.write_vcd("up_counter.vcd"):
+    sim.run()

@@ -17,7 +17,7 @@ use Rattle.clock_domains.specs.declared.top.TopPorts.TheVariants.{Members, Held,
 use Rattle.clock_domains.specs.Marks.{Flag, is_marked}
 use Rattle.clock_domains.specs.Reads.{is_driven, is_read, read_exprs}
 use Rattle.clock_domains.specs.Resolvable.{AreTopPorts}
-use Rattle.clock_domains.specs.Resolved.{has_width, loose_port, port_of, top_ports, signals_of, domain_ports, ports_of_domain, ports_of}
+use Rattle.clock_domains.specs.Resolved.{has_width, loose_port, port_of, top_ports, signals_of, reset_port, domain_ports, ports_of_domain, ports_of, and_new}
 use Rattle.clock_domains.specs.Chosen.{is_new, held_port, known_port, known_ports, IsKnown, IsSignal, IsResetThere}
 use Rattle.clock_domains.proofs.Lists.{all_imp, all_joined, all_mapped}
 use Rattle.clock_domains.proofs.DriverLaws.{is_driven_none, read_none}
@@ -34,11 +34,12 @@ flag_there marks test n f none s is =
       ]
     ]
 
-pub flags_known : (q : Pooled) (ps : List Process) (driven read : List Bool) → IsPool q → Flag driven (is_driven q ps) → Flag read (is_read q ps) → IsKnown q driven read
-flags_known q ps driven read rules d r = record {
+pub flags_known : (q : Pooled) (own ps : List Process) (mine driven read : List Bool) → IsPool q → Flag mine (is_driven q own) → Flag driven (is_driven q ps) → Flag read (is_read q ps) → IsKnown q mine driven read
+flags_known q own ps mine driven read rules o d r = record {
+  own_size = o.size;
   driven_size = d.size;
   read_size = r.size;
-  driven_there = flag_there driven (is_driven q ps) (length q.signals) d (λ s le. is_driven_none q ps s rules le);
+  own_there = flag_there mine (is_driven q own) (length q.signals) o (λ s le. is_driven_none q own s rules le);
   read_there = flag_there read (is_read q ps) (length q.signals) r (λ s le. read_none q (read_exprs q ps) s rules le);
 }
 
@@ -81,70 +82,94 @@ range_shorter f n m le none =
 
 -- ---- the ports
 
-port_by : (q : Pooled) (s : ℕ) (a b a' b' : Bool) → a ≡ a' → b ≡ b' → (if a then Some (port_of q false s) else (if b then Some (port_of q true s) else None)) ≡ (if a' then Some (port_of q false s) else (if b' then Some (port_of q true s) else None))
-port_by q s a b a' b' e f = ap (λ x. if x then Some (port_of q false s) else (if b then Some (port_of q true s) else None)) e ∙ ap (λ x. if a' then Some (port_of q false s) else (if x then Some (port_of q true s) else None)) f
+port_by : (q : Pooled) (s : ℕ) (a b c a' b' c' : Bool) → a ≡ a' → b ≡ b' → c ≡ c'
+    → (if a then Some (port_of q false s) else (if b && not c then Some (port_of q true s) else None)) ≡ (if a' then Some (port_of q false s) else (if b' && not c' then Some (port_of q true s) else None))
+port_by q s a b c a' b' c' e f g =
+    ap (λ x. if x then Some (port_of q false s) else (if b && not c then Some (port_of q true s) else None)) e
+    ∙ ap (λ x. if a' then Some (port_of q false s) else (if x && not c then Some (port_of q true s) else None)) f
+    ∙ ap (λ x. if a' then Some (port_of q false s) else (if b' && not x then Some (port_of q true s) else None)) g
 
-loose_none : (q : Pooled) (ps : List Process) (s : ℕ) → IsPool q → length q.signals ≤ s → loose_port q ps s ≡ None
-loose_none q ps s rules le = port_by q s (is_driven q ps s) (is_read q ps s) false false (is_driven_none q ps s rules le) (read_none q (read_exprs q ps) s rules le)
+loose_none : (q : Pooled) (own ps : List Process) (s : ℕ) → IsPool q → length q.signals ≤ s → loose_port q own ps s ≡ None
+loose_none q own ps s rules le =
+    port_by q s (is_driven q own s) (is_read q ps s) (is_driven q ps s) false false (is_driven q ps s) (is_driven_none q own s rules le) (read_none q (read_exprs q ps) s rules le) refl
 
-loose_same : (q : Pooled) (ps : List Process) (driven read : List Bool) → IsPool q → Flag driven (is_driven q ps) → Flag read (is_read q ps) → filter_map (known_port q (is_marked driven) (is_marked read)) (range_with_len 0 (length driven)) ≡ top_ports q ps Loose
-loose_same q ps driven read rules d r =
-    let same : (s : ℕ) → s < length driven → known_port q (is_marked driven) (is_marked read) s ≡ loose_port q ps s =
-    λ s low. port_by q s (is_marked driven s) (is_marked read s) (is_driven q ps s) (is_read q ps s) (d.each s (omega (arith, low, d.size))) (r.each s (omega (arith, low, d.size))) in
-    filter_map_agree (known_port q (is_marked driven) (is_marked read)) (loose_port q ps) (range_with_len 0 (length driven)) (range_all (λ s. known_port q (is_marked driven) (is_marked read) s ≡ loose_port q ps s) 0 (length driven) (λ s low high. same s (omega (arith, high))))
-    ∙ range_shorter (loose_port q ps) (length q.signals) (length driven) (omega (arith, rules.few_signals, d.size)) (λ s le. loose_none q ps s rules le)
+loose_same : (q : Pooled) (own ps : List Process) (mine driven read : List Bool) → IsPool q → Flag mine (is_driven q own) → Flag driven (is_driven q ps) → Flag read (is_read q ps)
+    → filter_map (known_port q (is_marked mine) (is_marked driven) (is_marked read)) (range_with_len 0 (length mine)) ≡ top_ports q own ps Loose
+loose_same q own ps mine driven read rules o d r =
+    let same : (s : ℕ) → s < length mine → known_port q (is_marked mine) (is_marked driven) (is_marked read) s ≡ loose_port q own ps s =
+    λ s low. port_by q s (is_marked mine s) (is_marked read s) (is_marked driven s) (is_driven q own s) (is_read q ps s) (is_driven q ps s) (o.each s (omega (arith, low, o.size))) (r.each s (omega (arith, low, o.size))) (d.each s (omega (arith, low, o.size))) in
+    filter_map_agree (known_port q (is_marked mine) (is_marked driven) (is_marked read)) (loose_port q own ps) (range_with_len 0 (length mine)) (range_all (λ s. known_port q (is_marked mine) (is_marked driven) (is_marked read) s ≡ loose_port q own ps s) 0 (length mine) (λ s low high. same s (omega (arith, high))))
+    ∙ range_shorter (loose_port q own ps) (length q.signals) (length mine) (omega (arith, rules.few_signals, o.size)) (λ s le. loose_none q own ps s rules le)
 
-known_same : (q : Pooled) (ps : List Process) (driven read : List Bool) (top : TopPorts) → IsPool q → AreTopPorts q top → Flag driven (is_driven q ps) → Flag read (is_read q ps) → known_ports q driven read top ≡ top_ports q ps top
-known_same q ps driven read (Members given) rules h d r = refl
-known_same q ps driven read (Held given) rules h d r =
+known_same : (q : Pooled) (own ps : List Process) (mine driven read : List Bool) (top : TopPorts) → IsPool q → AreTopPorts q top → Flag mine (is_driven q own) → Flag driven (is_driven q ps) → Flag read (is_read q ps) → known_ports q mine driven read top ≡ top_ports q own ps top
+known_same q own ps mine driven read (Members given) rules h o d r = refl
+known_same q own ps mine driven read (Held given) rules h o d r =
     map_on (held_port (is_marked driven)) (λ (p : Port). record p { is_input = not (is_driven q ps p.sig.0) }) given
     (all_imp (λ p k. ap (λ (b : Bool). record p { is_input = not b }) (d.each p.sig.0 (omega (arith, k.there, rules.few_signals)))) given h.each)
-known_same q ps driven read Loose rules h d r = loose_same q ps driven read rules d r
+known_same q own ps mine driven read Loose rules h o d r = loose_same q own ps mine driven read rules o d r
 
 AreSmall : Pooled → List Port → Type 0
 AreSmall q ports = AllByRecursion (λ (p : Port). p.sig.0 < length q.signals) ports
 
-loose_there : (q : Pooled) (ps : List Process) (a n : ℕ) → a + n ≤ length q.signals → AreSmall q (filter_map (loose_port q ps) (range_with_len a n))
+loose_there : (q : Pooled) (own ps : List Process) (a n : ℕ) → a + n ≤ length q.signals → AreSmall q (filter_map (loose_port q own ps) (range_with_len a n))
 unfolding AreSmall
-loose_there q ps a zero le = tt
-loose_there q ps a (suc n) le = by_port (loose_port q ps a) refl (loose_there q ps (a + 1) n (omega (arith, le)))
+loose_there q own ps a zero le = tt
+loose_there q own ps a (suc n) le = by_port (loose_port q own ps a) refl (loose_there q own ps (a + 1) n (omega (arith, le)))
   where
     by_test : (p : Port) (x y : Bool) → (if x then Some (port_of q false a) else (if y then Some (port_of q true a) else None)) ≡ Some p → p.sig.0 < length q.signals
     by_test p true y e = let same : port_of q false a ≡ p = cc in subst (λ (x : Port). x.sig.0 < length q.signals) same (omega (arith, le))
     by_test p false true e = let same : port_of q true a ≡ p = cc in subst (λ (x : Port). x.sig.0 < length q.signals) same (omega (arith, le))
     by_test p false false e = cc
 
-    by_port : (o : Option Port) → loose_port q ps a ≡ o → AllByRecursion (λ (p : Port). p.sig.0 < length q.signals) (filter_map (loose_port q ps) (range_with_len (a + 1) n)) → AllByRecursion (λ (p : Port). p.sig.0 < length q.signals) (filter_map (loose_port q ps) (range_with_len a (suc n)))
+    by_port : (o : Option Port) → loose_port q own ps a ≡ o → AllByRecursion (λ (p : Port). p.sig.0 < length q.signals) (filter_map (loose_port q own ps) (range_with_len (a + 1) n)) → AllByRecursion (λ (p : Port). p.sig.0 < length q.signals) (filter_map (loose_port q own ps) (range_with_len a (suc n)))
     by_port None e rest = subst (λ xs. AllByRecursion (λ (p : Port). p.sig.0 < length q.signals) xs) (sym (cons_none e)) rest
       where
-        cons_none : loose_port q ps a ≡ None → filter_map (loose_port q ps) (range_with_len a (suc n)) ≡ filter_map (loose_port q ps) (range_with_len (a + 1) n)
-        cons_none e = let r = filter_map (loose_port q ps) (range_with_len (a + 1) n) in cc
-    by_port (Some p) e rest = subst (λ xs. AllByRecursion (λ (p : Port). p.sig.0 < length q.signals) xs) (sym (cons_some e)) (by_test p (is_driven q ps a) (is_read q ps a) e, rest)
+        cons_none : loose_port q own ps a ≡ None → filter_map (loose_port q own ps) (range_with_len a (suc n)) ≡ filter_map (loose_port q own ps) (range_with_len (a + 1) n)
+        cons_none e = let r = filter_map (loose_port q own ps) (range_with_len (a + 1) n) in cc
+    by_port (Some p) e rest = subst (λ xs. AllByRecursion (λ (p : Port). p.sig.0 < length q.signals) xs) (sym (cons_some e)) (by_test p (is_driven q own a) (is_read q ps a && not (is_driven q ps a)) e, rest)
       where
-        cons_some : loose_port q ps a ≡ Some p → filter_map (loose_port q ps) (range_with_len a (suc n)) ≡ p ∷ filter_map (loose_port q ps) (range_with_len (a + 1) n)
-        cons_some e = let r = filter_map (loose_port q ps) (range_with_len (a + 1) n) in cc
+        cons_some : loose_port q own ps a ≡ Some p → filter_map (loose_port q own ps) (range_with_len a (suc n)) ≡ p ∷ filter_map (loose_port q own ps) (range_with_len (a + 1) n)
+        cons_some e = let r = filter_map (loose_port q own ps) (range_with_len (a + 1) n) in cc
 
-pub top_there : (q : Pooled) (ps : List Process) (top : TopPorts) → AreTopPorts q top → AllByRecursion (λ (p : Port). p.sig.0 < length q.signals) (top_ports q ps top)
+pub top_there : (q : Pooled) (own ps : List Process) (top : TopPorts) → AreTopPorts q top → AllByRecursion (λ (p : Port). p.sig.0 < length q.signals) (top_ports q own ps top)
 unfolding AreSmall
-top_there q ps (Members given) h = all_imp (λ p k. k.there) given h.each
-top_there q ps (Held given) h = all_mapped (λ (p : Port). p.sig.0 < length q.signals) (λ (p : Port). record p { is_input = not (is_driven q ps p.sig.0) }) given (all_imp (λ p k. k.there) given h.each)
-top_there q ps Loose h = loose_there q ps 0 (length q.signals) (omega arith)
+top_there q own ps (Members given) h = all_imp (λ p k. k.there) given h.each
+top_there q own ps (Held given) h = all_mapped (λ (p : Port). p.sig.0 < length q.signals) (λ (p : Port). record p { is_input = not (is_driven q ps p.sig.0) }) given (all_imp (λ p k. k.there) given h.each)
+top_there q own ps Loose h = loose_there q own ps 0 (length q.signals) (omega arith)
 
-pub chosen_same : (q : Pooled) (domains : List Domain) (ps : List Process) (is_port driven read : List Bool) (top : TopPorts) → IsPool q → AreTopPorts q top → Flag is_port (is_among (signals_of (domain_ports q domains))) → Flag driven (is_driven q ps) → Flag read (is_read q ps)
-    → domain_ports q domains ++ filter (is_new q (is_marked is_port)) (known_ports q driven read top) ≡ ports_of q domains ps top
-chosen_same q domains ps is_port driven read top rules h f d r =
-    let before = domain_ports q domains in
-    ap (λ xs. before ++ filter (is_new q (is_marked is_port)) xs) (known_same q ps driven read top rules h d r)
+-- ---- the ports of domains
+
+resets_same : (q : Pooled) (driven : List Bool) (test : ℕ → Bool) (o : Option SigId) → IsPool q → Flag driven test → IsResetThere q o → option_map_or (reset_port q (is_marked driven)) o [] ≡ option_map_or (reset_port q test) o []
+resets_same q driven test None rules f h = refl
+resets_same q driven test (Some s) rules f h = ap (λ (b : Bool). if b then [] else port_of q true s.0 ∷ []) (f.each s.0 (omega (arith, h, rules.few_signals)))
+
+pub domains_same : (q : Pooled) (driven : List Bool) (test : ℕ → Bool) (ds : List Domain) → IsPool q → Flag driven test → AllByRecursion (IsSignal q) ds → domain_ports q (is_marked driven) ds ≡ domain_ports q test ds
+domains_same q driven test [] rules f h = refl
+domains_same q driven test (d ∷ ds) rules f h =
+    ap (λ ps. (port_of q true d.clk.0 ∷ ps) ++ domain_ports q (is_marked driven) ds) (resets_same q driven test d.rst rules f h.0.reset)
+    ∙ ap (λ ps. ports_of_domain q test d ++ ps) (domains_same q driven test ds rules f h.1)
+
+reset_there : (q : Pooled) (driven : ℕ → Bool) (o : Option SigId) → IsResetThere q o → AllByRecursion (λ (p : Port). p.sig.0 < length q.signals) (option_map_or (reset_port q driven) o [])
+reset_there q driven None h = tt
+reset_there q driven (Some s) h = split (driven s.0)
+  where
+    split : (b : Bool) → AllByRecursion (λ (p : Port). p.sig.0 < length q.signals) (if b then [] else port_of q true s.0 ∷ [])
+    split true = tt
+    split false = (h, tt)
+
+-- they are signals
+pub domain_there : (q : Pooled) (driven : ℕ → Bool) (ds : List Domain) → AllByRecursion (IsSignal q) ds → AllByRecursion (λ (p : Port). p.sig.0 < length q.signals) (domain_ports q driven ds)
+domain_there q driven [] h = tt
+domain_there q driven (d ∷ ds) h = all_joined (λ (p : Port). p.sig.0 < length q.signals) (ports_of_domain q driven d) (domain_ports q driven ds) (h.0.clock, reset_there q driven d.rst h.0.reset) (domain_there q driven ds h.1)
+
+-- ---- all ports
+
+pub chosen_same : (q : Pooled) (domains : List Domain) (own ps : List Process) (is_port mine driven read : List Bool) (top : TopPorts) → IsPool q → AreTopPorts q top → AllByRecursion (IsSignal q) domains → Flag is_port (is_among (signals_of (domain_ports q (is_marked driven) domains)))
+    → Flag mine (is_driven q own) → Flag driven (is_driven q ps) → Flag read (is_read q ps) → domain_ports q (is_marked driven) domains ++ filter (is_new q (is_marked is_port)) (known_ports q mine driven read top) ≡ ports_of q domains own ps top
+chosen_same q domains own ps is_port mine driven read top rules h signals f o d r =
+    let before = domain_ports q (is_marked driven) domains in
+    ap (λ xs. before ++ filter (is_new q (is_marked is_port)) xs) (known_same q own ps mine driven read top rules h o d r)
     ∙ ap (λ xs. before ++ xs)
-    (filter_agree (is_new q (is_marked is_port)) (λ (p : Port). not (is_among (signals_of before) p.sig.0) && has_width q p.sig.0) (top_ports q ps top)
-    (all_imp (λ p low. ap (λ (b : Bool). not b && has_width q p.sig.0) (f.each p.sig.0 (omega (arith, low, rules.few_signals)))) (top_ports q ps top) (top_there q ps top h)))
-
--- ---- ports of domains are signals
-
-reset_there : (q : Pooled) (o : Option SigId) → IsResetThere q o → AllByRecursion (λ (p : Port). p.sig.0 < length q.signals) (option_map_or (λ (s : SigId). port_of q true s.0 ∷ []) o [])
-reset_there q None h = tt
-reset_there q (Some s) h = (h, tt)
-
-pub domain_there : (q : Pooled) (ds : List Domain) → AllByRecursion (IsSignal q) ds → AllByRecursion (λ (p : Port). p.sig.0 < length q.signals) (domain_ports q ds)
-domain_there q [] h = tt
-domain_there q (d ∷ ds) h = all_joined (λ (p : Port). p.sig.0 < length q.signals) (ports_of_domain q d) (domain_ports q ds) (h.0.clock, reset_there q d.rst h.0.reset) (domain_there q ds h.1)
+    (filter_agree (is_new q (is_marked is_port)) (λ (p : Port). not (is_among (signals_of before) p.sig.0) && has_width q p.sig.0) (top_ports q own ps top)
+    (all_imp (λ p low. ap (λ (b : Bool). not b && has_width q p.sig.0) (f.each p.sig.0 (omega (arith, low, rules.few_signals)))) (top_ports q own ps top) (top_there q own ps top h)))
+    ∙ ap (λ xs. and_new q xs (top_ports q own ps top)) (domains_same q driven (is_driven q ps) domains rules d signals)

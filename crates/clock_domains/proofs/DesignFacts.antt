@@ -1,170 +1,163 @@
--- The design of one module keeps to the rules of designs.
-use Rattle.std.proofs.Common.{◌≡◌, ◌≢◌, ◌⊎◌, inl, inr, ℕ, zero, suc, ◌+◌, ◌-◌, ◌*◌, ◌<◌, ◌≤◌, ◌==◌, nat_eq, nat_lt, Bool, true, false, ◌&&◌, ◌||◌, List, [], ◌∷◌, ◌++◌, map, length, Some, refl, sym, ap, ◌∙◌, subst, arith}
-use Rattle.std.specs.List.{AllByRecursion, IsDistinct, list_any, flat_map, filter_map}
+-- Domains of which no two have a signal in common.
+use Rattle.std.proofs.Common.{◌≡◌, ◌⊎◌, inl, inr, ℕ, ◌==◌, nat_eq, Bool, true, false, ◌&&◌, ◌||◌, if◌then◌else◌, List, [], ◌∷◌, ◌++◌, map, Option, Some, None, refl, sym, ap, ◌∙◌, subst}
+use Rattle.std.specs.List.{AllByRecursion, IsDistinct, list_any, filter_map}
 use Rattle.std.specs.Option.{option_map_or}
-use Rattle.std.proofs.lemmas.Bool.{false≢true, eqb-true, eq-eqb, cases_lt}
-use Rattle.std.proofs.lemmas.Bool.Decides.{nat_tests}
-use Rattle.lists.specs.Texts.{text_eq}
-use Rattle.shape_rules.specs.Forms.{unsigned}
+use Rattle.std.proofs.lemmas.Bool.{eq-eqb}
 use Rattle.design_ir.specs.declared.ids.SigId.{SigId}
-use Rattle.design_ir.specs.declared.signal.Sig.{Sig}
 use Rattle.design_ir.specs.declared.domain.Domain.{Domain}
 use Rattle.design_ir.specs.declared.port.Port.{Port}
-use Rattle.design_ir.specs.declared.process.Side.{Side}
-use Rattle.design_ir.specs.declared.process.Side.TheVariants.{Comb, Clocked}
-use Rattle.design_ir.specs.declared.process.Process.{Process}
 use Rattle.design_ir.specs.Pools.{Pooled}
-use Rattle.design_ir.specs.Values.{signal_form}
-use Rattle.design_ir.specs.Circuits.{option_test}
-use Rattle.design_ir.specs.Designs.{reset_number}
-use Rattle.design_ir.specs.Rising.{IsRisingSync}
-use Rattle.clock_domains.specs.Resolvable.{same_side}
-use Rattle.clock_domains.specs.Resolved.{domain_names, domain_signals, with_domains, domains_from, is_past_limit, port_of, ports_of_domain, domain_ports, signals_of}
-use Rattle.clock_domains.proofs.Lists.{all_imp, any-append, any_none, or_none}
+use Rattle.design_ir.specs.Circuits.{is_among, option_test}
+use Rattle.design_ir.specs.Designs.{reset_number, share}
+use Rattle.clock_domains.specs.Resolvable.{IsDomainOf, IsResetOf, domain_numbers}
+use Rattle.clock_domains.specs.Resolved.{port_of, reset_port, ports_of_domain, domain_ports, signals_of}
+use Rattle.clock_domains.proofs.Lists.{all_imp, all_joined, all_mapped, all_unmapped, any-append, any_none, map-append, none_any, or_none}
+use Rattle.clock_domains.proofs.DesignSound.{distinct_joined, not_flipped, share_flipped}
 
--- ---- few processes
+abbrev pub Apart : Domain → Domain → Type 0
+Apart d e = share (domain_numbers d) (domain_numbers e) ≡ false
 
-no_comb : (ps : List Process) → AllByRecursion (λ s. same_side Comb s ≡ false) (map (λ (p : Process). p.side) ps) → length ps ≡ length (domain_names ps)
-no_comb [] h = refl
-no_comb (p ∷ ps) h = by_side p.side refl (no_comb ps h.1) h.0
-  where
-    by_side : (s : Side) → p.side ≡ s → length ps ≡ length (domain_names ps) → same_side Comb p.side ≡ false → length (p ∷ ps) ≡ length (domain_names (p ∷ ps))
-    by_side Comb e rest none = absurd (false≢true (sym none ∙ ap (same_side Comb) e))
-    by_side (Clocked n) e rest none = ap suc rest ∙ ap (λ (s : Side). length (domain_names (record { side = s; body = p.body } ∷ ps))) (sym e)
+-- ---- each with each
 
-pub few_sides : (ps : List Process) → IsDistinct same_side (map (λ (p : Process). p.side) ps) → length ps ≤ length (domain_names ps) + 1
+pub pairs : (ds : List Domain) → IsDistinct share (map domain_numbers ds) → AllByRecursion (λ (d : Domain). AllByRecursion (λ (e : Domain). (d ≡ e) ⊎ Apart d e) ds) ds
 unfolding IsDistinct
-few_sides [] h = omega arith
-few_sides (p ∷ ps) h = by_side p.side refl (few_sides ps h.1) h.0
+pairs [] h = tt
+pairs (d ∷ ds) h =
+    let first : AllByRecursion (Apart d) ds = all_unmapped (λ ys. share (domain_numbers d) ys ≡ false) domain_numbers ds h.0 in (
+      ((inl refl), all_imp (λ (e : Domain) a. inr a) ds first),
+      both ds first (pairs ds h.1),
+    )
   where
-    by_side : (s : Side) → p.side ≡ s → length ps ≤ length (domain_names ps) + 1 → AllByRecursion (λ t. same_side p.side t ≡ false) (map (λ (p : Process). p.side) ps) → length (p ∷ ps) ≤ length (domain_names (p ∷ ps)) + 1
-    by_side Comb e rest apart =
-        let all : length ps ≡ length (domain_names ps) = no_comb ps (subst (λ s. AllByRecursion (λ t. same_side s t ≡ false) (map (λ (p : Process). p.side) ps)) e apart) in
-        let here = ap (λ (s : Side). domain_names (record { side = s; body = p.body } ∷ ps)) e in
-        omega (arith, all, ap length here)
-    by_side (Clocked n) e rest apart =
-        let here = ap (λ (s : Side). domain_names (record { side = s; body = p.body } ∷ ps)) e in
-        omega (arith, rest, ap length here)
+    both : (xs : List Domain) → AllByRecursion (Apart d) xs → AllByRecursion (λ (x : Domain). AllByRecursion (λ (e : Domain). (x ≡ e) ⊎ Apart x e) ds) xs → AllByRecursion (λ (x : Domain). AllByRecursion (λ (e : Domain). (x ≡ e) ⊎ Apart x e) (d ∷ ds)) xs
+    both [] a b = tt
+    both (x ∷ xs) a b = ((inr (share_flipped (domain_numbers d) (domain_numbers x) a.0), b.0), both xs a.1 b.1)
 
-pub few_names : (q : Pooled) (ps : List Process) → is_past_limit q (domain_names ps) ≡ false → length (domain_names ps) ≤ 64
-few_names q ps h = below (length (domain_names ps)) (or_none _ _ h).0
-  where
-    below : (n : ℕ) → nat_lt 64 n ≡ false → n ≤ 64
-    below n e = grind (arith, nat_tests)
+-- ---- clocks
 
--- ---- domains have distinct names
+-- the numbers of the one are not among those of the other
+others : (d e : Domain) → Apart d e → AllByRecursion (λ s. is_among (domain_numbers d) s ≡ false) (domain_numbers e)
+others d e a = none_any (is_among (domain_numbers d)) (domain_numbers e) (share_flipped (domain_numbers d) (domain_numbers e) a)
 
-names_apart : (n : List ℕ) (ps : List Process) → AllByRecursion (λ s. same_side (Clocked n) s ≡ false) (map (λ (p : Process). p.side) ps) → AllByRecursion (λ m. text_eq n m ≡ false) (domain_names ps)
-names_apart n [] h = tt
-names_apart n (p ∷ ps) h = by_side p.side refl (names_apart n ps h.1) h.0
-  where
-    by_side : (s : Side) → p.side ≡ s → AllByRecursion (λ m. text_eq n m ≡ false) (domain_names ps) → same_side (Clocked n) p.side ≡ false → AllByRecursion (λ m. text_eq n m ≡ false) (domain_names (p ∷ ps))
-    by_side Comb e rest apart = subst (λ (s : Side). AllByRecursion (λ m. text_eq n m ≡ false) (domain_names (record { side = s; body = p.body } ∷ ps))) (sym e) rest
-    by_side (Clocked m) e rest apart = subst (λ (s : Side). AllByRecursion (λ m. text_eq n m ≡ false) (domain_names (record { side = s; body = p.body } ∷ ps))) (sym e) (sym (ap (same_side (Clocked n)) e) ∙ apart, rest)
+clocks_apart : (d e : Domain) → Apart d e → nat_eq d.clk.0 e.clk.0 ≡ false
+clocks_apart d e a = (or_none (d.clk.0 == e.clk.0) (is_among (option_map_or (λ (s : SigId). s.0 ∷ []) d.rst []) e.clk.0) (others d e a).0).0
 
-pub names_distinct : (ps : List Process) → IsDistinct same_side (map (λ (p : Process). p.side) ps) → IsDistinct text_eq (domain_names ps)
+pub clocks_distinct : (ds : List Domain) → IsDistinct share (map domain_numbers ds) → IsDistinct nat_eq (map (λ (d : Domain). d.clk.0) ds)
 unfolding IsDistinct
-names_distinct [] h = tt
-names_distinct (p ∷ ps) h = by_side p.side refl (names_distinct ps h.1) h.0
-  where
-    by_side : (s : Side) → p.side ≡ s → IsDistinct text_eq (domain_names ps) → AllByRecursion (λ t. same_side p.side t ≡ false) (map (λ (p : Process). p.side) ps) → IsDistinct text_eq (domain_names (p ∷ ps))
-    by_side Comb e rest apart = subst (λ (s : Side). IsDistinct text_eq (domain_names (record { side = s; body = p.body } ∷ ps))) (sym e) rest
-    by_side (Clocked n) e rest apart =
-        subst (λ (s : Side). IsDistinct text_eq (domain_names (record { side = s; body = p.body } ∷ ps))) (sym e) (names_apart n ps (subst (λ s. AllByRecursion (λ t. same_side s t ≡ false) (map (λ (p : Process). p.side) ps)) e apart), rest)
-
-pub names_back : (m : ℕ) (names : List (List ℕ)) → map (λ (d : Domain). d.name) (domains_from m names) ≡ names
-names_back m [] = refl
-names_back m (n ∷ names) = ap (λ ns. n ∷ ns) (names_back (m + 2) names)
-
--- ---- the numbers of clocks and resets
-
-pub record IsPlaced (m n : ℕ) (d : Domain) : Type 0 where
-  pub place : ℕ
-  pub low : place < n
-  pub clock : d.clk.0 ≡ m + 2 * place
-  pub reset : d.rst ≡ Some (record { 0 = m + 2 * place + 1 })
-  pub rising : IsRisingSync d
-
-pub domains_placed : (m n : ℕ) (names : List (List ℕ)) → n ≡ length names → AllByRecursion (IsPlaced m n) (domains_from m names)
-domains_placed m n [] e = tt
-domains_placed m n (x ∷ names) e = (
-  record { place = 0; low = omega (arith, e); clock = omega arith; reset = ap (λ (k : ℕ). Some (record { 0 = k })) (let f : suc m ≡ m + 2 * 0 + 1 = omega arith in f); rising = record { rising = refl; sync_reset = refl } },
-  all_imp (λ d h. record {
-    place = h.place + 1;
-    low = omega (arith, h.low, e);
-    clock = omega (arith, h.clock);
-    reset = h.reset ∙ ap (λ (k : ℕ). Some (record { 0 = k })) (let f : m + 2 + 2 * h.place + 1 ≡ m + 2 * (h.place + 1) + 1 = omega arith in f);
-    rising = h.rising;
-  }) (domains_from (m + 2) names) (domains_placed (m + 2) (length names) names refl),
+clocks_distinct [] h = tt
+clocks_distinct (d ∷ ds) h = (
+  all_mapped (λ y. nat_eq d.clk.0 y ≡ false) (λ (d : Domain). d.clk.0) ds (all_imp (λ (e : Domain) a. clocks_apart d e a) ds (all_unmapped (λ ys. share (domain_numbers d) ys ≡ false) domain_numbers ds h.0)),
+  clocks_distinct ds h.1,
 )
 
-not_equal : (a b : ℕ) → a ≢ b → nat_eq a b ≡ false
-not_equal a b ne = split (nat_eq a b) refl
+-- ---- resets
+
+-- the numbers of resets, where there are any
+reset_numbers : Option SigId → List ℕ
+reset_numbers o = option_map_or (λ (s : SigId). s.0 ∷ []) o []
+
+resets_apart : (d e : Domain) (s t : SigId) → d.rst ≡ Some s → e.rst ≡ Some t → Apart d e → nat_eq s.0 t.0 ≡ false
+resets_apart d e s t f g a = by (subst (λ o. AllByRecursion (λ k. is_among (d.clk.0 ∷ option_map_or (λ (s : SigId). s.0 ∷ []) o []) k ≡ false) (domain_numbers e)) f (others d e a))
   where
-    split : (t : Bool) → nat_eq a b ≡ t → t ≡ false
-    split false e = refl
-    split true e = absurd (ne (eqb-true a b e))
+    by : AllByRecursion (λ k. is_among (d.clk.0 ∷ s.0 ∷ []) k ≡ false) (domain_numbers e) → nat_eq s.0 t.0 ≡ false
+    by all =
+        let at = subst (λ o. AllByRecursion (λ k. is_among (d.clk.0 ∷ s.0 ∷ []) k ≡ false) (e.clk.0 ∷ option_map_or (λ (s : SigId). s.0 ∷ []) o [])) g all in
+        (or_none (s.0 == t.0) false (or_none (d.clk.0 == t.0) ((s.0 == t.0) || false) at.1.0).1).0
 
-clocks_past : (k m : ℕ) (names : List (List ℕ)) → k < m → AllByRecursion (λ y. nat_eq k y ≡ false) (map (λ (d : Domain). d.clk.0) (domains_from m names))
-clocks_past k m [] h = tt
-clocks_past k m (n ∷ names) h = (not_equal k m (λ e. omega (arith, e, h)), clocks_past k (m + 2) names (omega (arith, h)))
-
-pub clocks_distinct : (m : ℕ) (names : List (List ℕ)) → IsDistinct nat_eq (map (λ (d : Domain). d.clk.0) (domains_from m names))
+pub resets_distinct : (ds : List Domain) → IsDistinct share (map domain_numbers ds) → IsDistinct nat_eq (filter_map reset_number ds)
 unfolding IsDistinct
-clocks_distinct m [] = tt
-clocks_distinct m (n ∷ names) = (clocks_past m (m + 2) names (omega arith), clocks_distinct (m + 2) names)
+resets_distinct [] h = tt
+resets_distinct (d ∷ ds) h = by d.rst refl (resets_distinct ds h.1)
+  where
+    apart : AllByRecursion (Apart d) ds
+    apart = all_unmapped (λ ys. share (domain_numbers d) ys ≡ false) domain_numbers ds h.0
 
-resets_past : (k m : ℕ) (names : List (List ℕ)) → k < m → AllByRecursion (λ y. nat_eq k y ≡ false) (filter_map reset_number (domains_from m names))
-resets_past k m [] h = tt
-resets_past k m (n ∷ names) h = (not_equal k (suc m) (λ e. omega (arith, e, h)), resets_past k (m + 2) names (omega (arith, h)))
+    past : (s : SigId) → d.rst ≡ Some s → (xs : List Domain) → AllByRecursion (Apart d) xs → AllByRecursion (λ y. nat_eq s.0 y ≡ false) (filter_map reset_number xs)
+    past s e [] a = tt
+    past s e (x ∷ xs) a = one x.rst refl (past s e xs a.1)
+      where
+        one : (o : Option SigId) → x.rst ≡ o → AllByRecursion (λ y. nat_eq s.0 y ≡ false) (filter_map reset_number xs) → AllByRecursion (λ y. nat_eq s.0 y ≡ false) (filter_map reset_number (x ∷ xs))
+        one None f rest = subst (λ (o : Option SigId). AllByRecursion (λ y. nat_eq s.0 y ≡ false) (filter_map reset_number (record x { rst = o } ∷ xs))) (sym f) rest
+        one (Some t) f rest = subst (λ (o : Option SigId). AllByRecursion (λ y. nat_eq s.0 y ≡ false) (filter_map reset_number (record x { rst = o } ∷ xs))) (sym f) (resets_apart d x s t e f a.0, rest)
 
-pub resets_distinct : (m : ℕ) (names : List (List ℕ)) → IsDistinct nat_eq (filter_map reset_number (domains_from m names))
-unfolding IsDistinct
-resets_distinct m [] = tt
-resets_distinct m (n ∷ names) = (resets_past (suc m) (m + 2) names (omega arith), resets_distinct (m + 2) names)
+    by : (o : Option SigId) → d.rst ≡ o → IsDistinct nat_eq (filter_map reset_number ds) → IsDistinct nat_eq (filter_map reset_number (d ∷ ds))
+    by None e rest = subst (λ (o : Option SigId). IsDistinct nat_eq (filter_map reset_number (record d { rst = o } ∷ ds))) (sym e) rest
+    by (Some s) e rest = subst (λ (o : Option SigId). IsDistinct nat_eq (filter_map reset_number (record d { rst = o } ∷ ds))) (sym e) (past s e ds apart, rest)
 
 -- no clock is a reset
-pub clock_no_reset : (m n : ℕ) (ds : List Domain) (d : Domain) → IsPlaced m n d → AllByRecursion (IsPlaced m n) ds → list_any (λ (x : Domain). option_test (λ (s : SigId). s.0 == d.clk.0) x.rst) ds ≡ false
-clock_no_reset m n ds d h all = any_none (λ (x : Domain). option_test (λ (s : SigId). s.0 == d.clk.0) x.rst) ds (all_imp each ds all)
+pub clock_no_reset : (q : Pooled) (ds : List Domain) (d : Domain) → AllByRecursion (IsDomainOf q) ds → AllByRecursion (λ (e : Domain). (d ≡ e) ⊎ Apart d e) ds → list_any (λ (x : Domain). option_test (λ (s : SigId). s.0 == d.clk.0) x.rst) ds ≡ false
+clock_no_reset q ds d all apart = any_none (λ (x : Domain). option_test (λ (s : SigId). s.0 == d.clk.0) x.rst) ds (each ds all apart)
   where
-    each : (x : Domain) → IsPlaced m n x → option_test (λ (s : SigId). s.0 == d.clk.0) x.rst ≡ false
-    each x k = ap (option_test (λ (s : SigId). s.0 == d.clk.0)) k.reset ∙ not_equal (m + 2 * k.place + 1) d.clk.0 (λ e. omega (arith, e, h.clock))
+    own : (clk : SigId) (o : Option SigId) → IsResetOf q clk o → option_test (λ (s : SigId). s.0 == clk.0) o ≡ false
+    own clk None h = refl
+    own clk (Some s) h = not_flipped clk.0 s.0 h.1
 
--- ---- the signals of domains have one bit
+    other : (o : Option SigId) (clk : ℕ) → AllByRecursion (λ k. is_among (domain_numbers d) k ≡ false) (clk ∷ option_map_or (λ (s : SigId). s.0 ∷ []) o []) → option_test (λ (s : SigId). s.0 == d.clk.0) o ≡ false
+    other None clk h = refl
+    other (Some s) clk h = not_flipped d.clk.0 s.0 (or_none (d.clk.0 == s.0) _ h.1.0).0
 
-new_form : (xs : List Sig) (names : List (List ℕ)) (s k : ℕ) → s ≡ length xs + k → k < 2 * length names → signal_form (xs ++ flat_map domain_signals names) s ≡ unsigned 1
-new_form [] [] s k e h = absurd (omega (arith, h))
-new_form [] (n ∷ names) zero k e h = refl
-new_form [] (n ∷ names) (suc zero) k e h = refl
-new_form [] (n ∷ names) (suc (suc s)) k e h = new_form [] names s s (omega arith) (omega (arith, e, h))
-new_form (x ∷ xs) names zero k e h = absurd (omega (arith, e))
-new_form (x ∷ xs) names (suc s) k e h = new_form xs names s k (omega (arith, e)) h
+    one : (x : Domain) → IsDomainOf q x → (d ≡ x) ⊎ Apart d x → option_test (λ (s : SigId). s.0 == d.clk.0) x.rst ≡ false
+    one x h (inl same) = subst (λ (y : Domain). option_test (λ (s : SigId). s.0 == y.clk.0) x.rst ≡ false) (sym same) (own x.clk x.rst h.reset)
+    one x h (inr a) = other x.rst x.clk.0 (others d x a)
 
-pub domain_form : (q : Pooled) (names : List (List ℕ)) (s : ℕ) → length q.signals ≤ s → s < length q.signals + 2 * length names → signal_form (with_domains q names).signals s ≡ unsigned 1
-domain_form q names s low high = split (cases_lt s (length q.signals))
-  where
-    split : (s < length q.signals) ⊎ (length q.signals ≤ s) → signal_form (with_domains q names).signals s ≡ unsigned 1
-    split (inl below) = absurd (omega (arith, below, low))
-    split (inr past) = let e : s ≡ length q.signals + (s - length q.signals) = omega (arith, past) in new_form q.signals names s (s - length q.signals) e (omega (arith, e, high))
+    each : (xs : List Domain) → AllByRecursion (IsDomainOf q) xs → AllByRecursion (λ (e : Domain). (d ≡ e) ⊎ Apart d e) xs → AllByRecursion (λ (x : Domain). option_test (λ (s : SigId). s.0 == d.clk.0) x.rst ≡ false) xs
+    each [] h a = tt
+    each (x ∷ xs) h a = (one x h.0 a.0, each xs h.1 a.1)
 
 -- ---- the ports of domains
 
-pub domain_signals_past : (q : Pooled) (k m : ℕ) (names : List (List ℕ)) → k < m → AllByRecursion (λ y. nat_eq k y ≡ false) (signals_of (domain_ports q (domains_from m names)))
-domain_signals_past q k m [] h = tt
-domain_signals_past q k m (n ∷ names) h = (not_equal k m (λ e. omega (arith, e, h)), (not_equal k (suc m) (λ e. omega (arith, e, h)), domain_signals_past q k (m + 2) names (omega (arith, h))))
+-- what holds of the numbers of a domain holds of its ports
+pub ports_all : (P : ℕ → Type 0) (q : Pooled) (driven : ℕ → Bool) (d : Domain) → AllByRecursion P (domain_numbers d) → AllByRecursion (λ (p : Port). P p.sig.0) (ports_of_domain q driven d)
+ports_all P q driven d h = (h.0, resets d.rst h.1)
+  where
+    resets : (o : Option SigId) → AllByRecursion P (option_map_or (λ (s : SigId). s.0 ∷ []) o []) → AllByRecursion (λ (p : Port). P p.sig.0) (option_map_or (reset_port q driven) o [])
+    resets None h = tt
+    resets (Some s) h = split (driven s.0)
+      where
+        split : (b : Bool) → AllByRecursion (λ (p : Port). P p.sig.0) (if b then [] else port_of q true s.0 ∷ [])
+        split true = tt
+        split false = (h.0, tt)
 
-pub domain_ports_distinct : (q : Pooled) (m : ℕ) (names : List (List ℕ)) → IsDistinct nat_eq (signals_of (domain_ports q (domains_from m names)))
+pub all_ports : (P : ℕ → Type 0) (q : Pooled) (driven : ℕ → Bool) (ds : List Domain) → AllByRecursion (λ (d : Domain). AllByRecursion P (domain_numbers d)) ds → AllByRecursion (λ (p : Port). P p.sig.0) (domain_ports q driven ds)
+all_ports P q driven [] h = tt
+all_ports P q driven (d ∷ ds) h = all_joined (λ (p : Port). P p.sig.0) (ports_of_domain q driven d) (domain_ports q driven ds) (ports_all P q driven d h.0) (all_ports P q driven ds h.1)
+
+-- a number that is none of a domain's is none of its ports'
+ports_none : (q : Pooled) (driven : ℕ → Bool) (d : Domain) (s : ℕ) → is_among (domain_numbers d) s ≡ false → is_among (signals_of (ports_of_domain q driven d)) s ≡ false
+ports_none q driven d s h =
+    any_none (λ x. x == s) (signals_of (ports_of_domain q driven d))
+    (all_mapped (λ x. (x == s) ≡ false) (λ (p : Port). p.sig.0) (ports_of_domain q driven d) (ports_all (λ x. (x == s) ≡ false) q driven d (none_any (λ x. x == s) (domain_numbers d) h)))
+
+one_distinct : (q : Pooled) (driven : ℕ → Bool) (d : Domain) → IsDomainOf q d → IsDistinct nat_eq (signals_of (ports_of_domain q driven d))
 unfolding IsDistinct
-domain_ports_distinct q m [] = tt
-domain_ports_distinct q m (n ∷ names) =
-    ((not_equal m (suc m) (λ e. omega (arith, e)), domain_signals_past q m (m + 2) names (omega arith)), (domain_signals_past q (suc m) (m + 2) names (omega arith), domain_ports_distinct q (m + 2) names))
+one_distinct q driven d h = by d.rst h.reset
+  where
+    by : (o : Option SigId) → IsResetOf q d.clk o → IsDistinct nat_eq (signals_of (port_of q true d.clk.0 ∷ option_map_or (reset_port q driven) o []))
+    by None k = (tt, tt)
+    by (Some s) k = split (driven s.0)
+      where
+        split : (b : Bool) → IsDistinct nat_eq (signals_of (port_of q true d.clk.0 ∷ (if b then [] else port_of q true s.0 ∷ [])))
+        split true = (tt, tt)
+        split false = ((k.1, tt), (tt, tt))
+
+pub domain_ports_distinct : (q : Pooled) (driven : ℕ → Bool) (ds : List Domain) → AllByRecursion (IsDomainOf q) ds → IsDistinct share (map domain_numbers ds) → IsDistinct nat_eq (signals_of (domain_ports q driven ds))
+unfolding IsDistinct
+domain_ports_distinct q driven [] h k = tt
+domain_ports_distinct q driven (d ∷ ds) h k =
+    let here = ports_of_domain q driven d in
+    let rest = domain_ports q driven ds in
+    let apart : AllByRecursion (Apart d) ds = all_unmapped (λ ys. share (domain_numbers d) ys ≡ false) domain_numbers ds k.0 in
+    subst (IsDistinct nat_eq) (sym (map-append (λ (p : Port). p.sig.0) here rest))
+    (distinct_joined (signals_of here) (signals_of rest) (one_distinct q driven d h.0) (domain_ports_distinct q driven ds h.1 k.1)
+    (all_mapped (λ y. is_among (signals_of here) y ≡ false) (λ (p : Port). p.sig.0) rest
+    (all_ports (λ y. is_among (signals_of here) y ≡ false) q driven ds
+    (all_imp (λ (e : Domain) a. all_imp (λ s n. ports_none q driven d s n) (domain_numbers e) (others d e a)) ds apart))))
 
 -- the clock of each domain is an input
-pub clock_among : (q : Pooled) (ds : List Domain) → AllByRecursion (λ (d : Domain). list_any (λ (p : Port). p.is_input && (p.sig.0 == d.clk.0)) (domain_ports q ds) ≡ true) ds
-clock_among q [] = tt
-clock_among q (d ∷ ds) = (
-  ap (λ b. b || list_any (λ (p : Port). p.is_input && (p.sig.0 == d.clk.0)) (option_map_or (λ (s : SigId). port_of q true s.0 ∷ []) d.rst [] ++ domain_ports q ds)) (eq-eqb d.clk.0 d.clk.0 refl),
-  all_imp (λ x h. any-append (λ (p : Port). p.is_input && (p.sig.0 == x.clk.0)) (ports_of_domain q d) (domain_ports q ds) ∙ or_true (list_any (λ (p : Port). p.is_input && (p.sig.0 == x.clk.0)) (ports_of_domain q d)) _ h) ds (clock_among q ds),
+pub clock_among : (q : Pooled) (driven : ℕ → Bool) (ds : List Domain) → AllByRecursion (λ (d : Domain). list_any (λ (p : Port). p.is_input && (p.sig.0 == d.clk.0)) (domain_ports q driven ds) ≡ true) ds
+clock_among q driven [] = tt
+clock_among q driven (d ∷ ds) = (
+  ap (λ b. b || list_any (λ (p : Port). p.is_input && (p.sig.0 == d.clk.0)) (option_map_or (reset_port q driven) d.rst [] ++ domain_ports q driven ds)) (eq-eqb d.clk.0 d.clk.0 refl),
+  all_imp (λ x h. any-append (λ (p : Port). p.is_input && (p.sig.0 == x.clk.0)) (ports_of_domain q driven d) (domain_ports q driven ds) ∙ or_true (list_any (λ (p : Port). p.is_input && (p.sig.0 == x.clk.0)) (ports_of_domain q driven d)) _ h) ds (clock_among q driven ds),
 )
   where
     or_true : (a b : Bool) → b ≡ true → (a || b) ≡ true

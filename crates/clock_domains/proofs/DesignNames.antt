@@ -1,15 +1,17 @@
 -- The names of columns are distinct, and have the form of public names.
-use Rattle.std.proofs.Common.{◌≡◌, inl, inr, ℕ, zero, suc, ◌+◌, ◌<◌, ◌≤◌, ◌^◌, Bool, true, false, not, cond, List, [], ◌∷◌, ◌++◌, map, length, Option, Some, None, unwrap_or, All, codes, refl, sym, ap, subst, arith, append-nil, append_assoc}
+use Rattle.std.proofs.Common.{◌≡◌, inl, inr, ℕ, zero, suc, ◌+◌, ◌<◌, ◌≤◌, ◌^◌, Bool, true, false, not, cond, List, [], ◌∷◌, ◌++◌, map, length, Option, Some, None, unwrap_or, codes, refl, sym, ap, ◌∙◌, subst, arith, append-nil, append_assoc}
 use Rattle.std.specs.Fmt.{decimal}
-use Rattle.std.specs.List.{AllByRecursion, IsDistinct, find, range_with_len}
+use Rattle.std.specs.List.{AllByRecursion, IsDistinct, find, flat_map, range_with_len}
 use Rattle.std.proofs.lemmas.Bool.{cases_lt}
 use Rattle.std.proofs.lemmas.List.{length-append}
 use Rattle.std.proofs.lemmas.Map.Keys.{IsDistinct-push}
 use Rattle.lists.specs.Texts.{text_eq}
-use Rattle.lists.specs.Names.{IsName, IsSuffix, IsPublicName}
+use Rattle.lists.specs.Names.{IsName, IsPath, IsSuffix, IsPublicName, dotted}
 use Rattle.design_ir.specs.declared.port.Column.{Column}
 use Rattle.clock_domains.specs.Resolved.{has_name, numbered_name, fresh_name, columns_after}
 use Rattle.clock_domains.specs.Tracked.{names_of}
+use Rattle.clock_domains.specs.Ready.{IsUnder}
+use Rattle.clock_domains.proofs.Lists.{all_index, all_joined}
 use Rattle.clock_domains.proofs.NameLaws.{text_laws, not_all_taken}
 
 -- ---- a fresh name is new
@@ -55,11 +57,33 @@ fresh_fresh names name few = split (has_name names name) refl
     split true e = subst (λ b. IsFresh names name (cond b (unwrap_or (find (λ x. not (has_name names x)) (map (numbered_name name) (range_with_len 1 (length names)))) name) name)) (sym e) (by_find (find (λ x. not (has_name names x)) (map (numbered_name name) (range_with_len 1 (length names)))) e (found_in names name 1 (length names)))
     split false e = subst (λ b. IsFresh names name (cond b (unwrap_or (find (λ x. not (has_name names x)) (map (numbered_name name) (range_with_len 1 (length names)))) name) name)) (sym e) (record { suffix = []; whole = sym (append-nil name); ends = inl refl; new = e })
 
-no_more : All IsName []
-no_more k d h = absurd (omega (arith, h))
+pub fresh_public : (names : List (List ℕ)) (name fresh : List ℕ) → IsPath name → IsFresh names name fresh → IsPublicName fresh
+fresh_public names name fresh n f = record { name = n.name; more = n.more; suffix = f.suffix; first = n.first; others = n.others; ends = f.ends; whole = f.whole ∙ ap (λ xs. xs ++ f.suffix) n.whole }
 
-pub fresh_public : (names : List (List ℕ)) (name fresh : List ℕ) → IsName name → IsFresh names name fresh → IsPublicName fresh
-fresh_public names name fresh n f = record { name = name; more = []; suffix = f.suffix; first = n; others = no_more; ends = f.ends; whole = f.whole }
+-- ---- names behind paths
+
+pub name_path : (name : List ℕ) → IsName name → IsPath name
+name_path name n = record { name = name; more = []; first = n; others = all_index IsName [] tt; whole = refl }
+
+dotted_under : (first : List ℕ) (names : List (List ℕ)) (name : List ℕ) → flat_map (λ n. n ++ codes ".") (first ∷ names) ++ name ≡ dotted first (names ++ name ∷ [])
+dotted_under first [] name = ap (λ xs. xs ++ name) (append-nil (first ++ codes ".")) ∙ append_assoc first (codes ".") name
+dotted_under first (m ∷ names) name =
+    append_assoc (first ++ codes ".") (flat_map (λ n. n ++ codes ".") (m ∷ names)) name
+    ∙ ap (λ xs. (first ++ codes ".") ++ xs) (dotted_under m names name)
+    ∙ append_assoc first (codes ".") (dotted m (names ++ name ∷ []))
+
+pub under_path : (path name : List ℕ) → IsUnder path → IsName name → IsPath (path ++ name)
+under_path path name u n = by_names u.names u.each u.whole
+  where
+    by_names : (names : List (List ℕ)) → AllByRecursion IsName names → path ≡ flat_map (λ n. n ++ codes ".") names → IsPath (path ++ name)
+    by_names [] h e = subst (λ xs. IsPath (xs ++ name)) (sym e) (name_path name n)
+    by_names (m ∷ names) h e = record {
+      name = m;
+      more = names ++ name ∷ [];
+      first = h.0;
+      others = all_index IsName (names ++ name ∷ []) (all_joined IsName names (name ∷ []) h.1 (n, tt));
+      whole = ap (λ xs. xs ++ name) e ∙ dotted_under m names name;
+    }
 
 -- ---- columns
 
@@ -71,7 +95,7 @@ columns_distinct names (c ∷ cs) few h =
     subst (IsDistinct text_eq) (append_assoc names (new ∷ []) (names_of (columns_after (names ++ new ∷ []) cs)))
     (columns_distinct (names ++ new ∷ []) cs (omega (arith, few, length-append names (new ∷ []))) (IsDistinct-push text_laws names new h fresh.new))
 
-pub columns_public : (names : List (List ℕ)) (cs : List Column) → length names + length cs < 2 ^ 64 → AllByRecursion (λ (c : Column). IsName c.name) cs → AllByRecursion (λ (c : Column). IsPublicName c.name) (columns_after names cs)
+pub columns_public : (names : List (List ℕ)) (cs : List Column) → length names + length cs < 2 ^ 64 → AllByRecursion (λ (c : Column). IsPath c.name) cs → AllByRecursion (λ (c : Column). IsPublicName c.name) (columns_after names cs)
 columns_public names [] few h = tt
 columns_public names (c ∷ cs) few h =
     let new : List ℕ = fresh_name names c.name in

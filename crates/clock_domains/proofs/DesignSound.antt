@@ -1,5 +1,5 @@
--- The design of one module keeps to the rules of designs.
-use Rattle.std.proofs.Common.{◌≡◌, ◌≢◌, ℕ, zero, suc, ◌+◌, ◌<◌, ◌==◌, nat_eq, Bool, true, false, IsTrue, not, ◌||◌, cond, List, [], ◌∷◌, ◌++◌, map, length, Option, Some, None, slice_index_or, position, refl, sym, ap, ◌∙◌, subst, arith}
+-- The design of a module with those below it keeps to the rules of designs.
+use Rattle.std.proofs.Common.{◌≡◌, ◌≢◌, ℕ, zero, suc, ◌+◌, ◌<◌, ◌==◌, nat_eq, Bool, true, false, IsTrue, not, ◌&&◌, ◌||◌, cond, List, [], ◌∷◌, ◌++◌, map, length, Option, Some, None, slice_index_or, position, refl, sym, ap, ◌∙◌, subst, arith}
 use Rattle.std.specs.Prelude.{option_map}
 use Rattle.std.specs.List.{AllByRecursion, IsDistinct, list_any, flat_map, filter, filter_map, cons_option, range_with_len}
 use Rattle.std.proofs.lemmas.Bool.{false≢true, eqb-true, eq-eqb}
@@ -24,7 +24,7 @@ use Rattle.clock_domains.specs.declared.top.TopPorts.TheVariants.{Members, Held,
 use Rattle.clock_domains.specs.Reads.{is_driven, is_read}
 use Rattle.clock_domains.specs.Resolvable.{IsPlain, IsSideOf, AreTopPorts}
 use Rattle.clock_domains.specs.Resolved.{with_domains, domain_number, port_of, top_ports, signals_of, driver_refusal, loose_port, first_of, first_refusal, statement_refusal}
-use Rattle.clock_domains.proofs.Lists.{all_imp, all_joined, all_mapped, all_unmapped, any-append, any_none, none_any, or_none, map_map}
+use Rattle.clock_domains.proofs.Lists.{all_filtered, all_imp, all_joined, all_mapped, all_unmapped, any-append, any_none, none_any, or_none, map_map}
 use Rattle.clock_domains.proofs.MadeDomains.{length_with}
 use Rattle.clock_domains.proofs.ChoiceLaws.{range_all}
 
@@ -75,22 +75,6 @@ domain_there ds (Clocked n) = by_place (position (λ (d : Domain). text_eq d.nam
 
 -- ---- lists
 
-pub all_filtered : {A : Type 0} (P : A → Type 0) (p : A → Bool) (xs : List A) → AllByRecursion P xs → AllByRecursion P (filter p xs)
-all_filtered P p [] h = tt
-all_filtered P p (x ∷ xs) h = split (all_filtered P p xs h.1) (p x)
-  where
-    split : AllByRecursion P (filter p xs) → (b : Bool) → AllByRecursion P (cond b (x ∷ filter p xs) (filter p xs))
-    split rest true = (h.0, rest)
-    split rest false = rest
-
-pub passes : {A : Type 0} (p : A → Bool) (xs : List A) → AllByRecursion (λ x. p x ≡ true) (filter p xs)
-passes p [] = tt
-passes p (x ∷ xs) = split (passes p xs) (p x) refl
-  where
-    split : AllByRecursion (λ x. p x ≡ true) (filter p xs) → (b : Bool) → p x ≡ b → AllByRecursion (λ x. p x ≡ true) (cond b (x ∷ filter p xs) (filter p xs))
-    split rest true e = (e, rest)
-    split rest false e = rest
-
 pub distinct_filtered : {A : Type 0} (f : A → ℕ) (p : A → Bool) (xs : List A) → IsDistinct nat_eq (map f xs) → IsDistinct nat_eq (map f (filter p xs))
 unfolding IsDistinct
 distinct_filtered f p [] h = tt
@@ -116,6 +100,9 @@ not_equal a b ne = split (nat_eq a b) refl
     split false e = refl
     split true e = absurd (ne (eqb-true a b e))
 
+pub not_flipped : (a b : ℕ) → nat_eq a b ≡ false → nat_eq b a ≡ false
+not_flipped a b h = not_equal b a (λ e. false≢true (sym h ∙ eq-eqb a b (sym e)))
+
 pub range_distinct : (a n : ℕ) → IsDistinct nat_eq (range_with_len a n)
 unfolding IsDistinct
 range_distinct a zero = tt
@@ -127,35 +114,41 @@ map_same (x ∷ xs) = ap (λ ys. x ∷ ys) (map_same xs)
 
 -- ---- loose ports
 
-loose_step : (q : Pooled) (ps : List Process) (a n : ℕ) → signals_of (filter_map (loose_port q ps) (range_with_len a (suc n))) ≡ cond (is_driven q ps a || is_read q ps a) (a ∷ signals_of (filter_map (loose_port q ps) (range_with_len (a + 1) n))) (signals_of (filter_map (loose_port q ps) (range_with_len (a + 1) n)))
-loose_step q ps a n = bools (is_driven q ps a) (is_read q ps a) (filter_map (loose_port q ps) (range_with_len (a + 1) n))
+abbrev is_loose : Pooled → (own ps : List Process) → ℕ → Bool
+is_loose q own ps a = is_driven q own a || (is_read q ps a && not (is_driven q ps a))
+
+loose_step : (q : Pooled) (own ps : List Process) (a n : ℕ)
+    → signals_of (filter_map (loose_port q own ps) (range_with_len a (suc n))) ≡ cond (is_loose q own ps a) (a ∷ signals_of (filter_map (loose_port q own ps) (range_with_len (a + 1) n))) (signals_of (filter_map (loose_port q own ps) (range_with_len (a + 1) n)))
+loose_step q own ps a n = bools (is_driven q own a) (is_read q ps a && not (is_driven q ps a)) (filter_map (loose_port q own ps) (range_with_len (a + 1) n))
   where
     bools : (x y : Bool) (rest : List Port) → signals_of (cons_option (cond x (Some (port_of q false a)) (cond y (Some (port_of q true a)) None)) rest) ≡ cond (x || y) (a ∷ signals_of rest) (signals_of rest)
     bools true y rest = refl
     bools false true rest = refl
     bools false false rest = refl
 
-loose_past : (q : Pooled) (ps : List Process) (k a n : ℕ) → k < a → AllByRecursion (λ y. nat_eq k y ≡ false) (signals_of (filter_map (loose_port q ps) (range_with_len a n)))
-loose_past q ps k a zero h = tt
-loose_past q ps k a (suc n) h = subst (AllByRecursion (λ y. nat_eq k y ≡ false)) (sym (loose_step q ps a n)) (split (is_driven q ps a || is_read q ps a) (loose_past q ps k (a + 1) n (omega (arith, h))))
+loose_past : (q : Pooled) (own ps : List Process) (k a n : ℕ) → k < a → AllByRecursion (λ y. nat_eq k y ≡ false) (signals_of (filter_map (loose_port q own ps) (range_with_len a n)))
+loose_past q own ps k a zero h = tt
+loose_past q own ps k a (suc n) h = subst (AllByRecursion (λ y. nat_eq k y ≡ false)) (sym (loose_step q own ps a n)) (split (is_loose q own ps a) (loose_past q own ps k (a + 1) n (omega (arith, h))))
   where
-    split : (b : Bool) → AllByRecursion (λ y. nat_eq k y ≡ false) (signals_of (filter_map (loose_port q ps) (range_with_len (a + 1) n))) → AllByRecursion (λ y. nat_eq k y ≡ false) (cond b (a ∷ signals_of (filter_map (loose_port q ps) (range_with_len (a + 1) n))) (signals_of (filter_map (loose_port q ps) (range_with_len (a + 1) n))))
+    split : (b : Bool) → AllByRecursion (λ y. nat_eq k y ≡ false) (signals_of (filter_map (loose_port q own ps) (range_with_len (a + 1) n)))
+        → AllByRecursion (λ y. nat_eq k y ≡ false) (cond b (a ∷ signals_of (filter_map (loose_port q own ps) (range_with_len (a + 1) n))) (signals_of (filter_map (loose_port q own ps) (range_with_len (a + 1) n))))
     split true rest = (not_equal k a (λ e. omega (arith, e, h)), rest)
     split false rest = rest
 
-loose_distinct : (q : Pooled) (ps : List Process) (a n : ℕ) → IsDistinct nat_eq (signals_of (filter_map (loose_port q ps) (range_with_len a n)))
+loose_distinct : (q : Pooled) (own ps : List Process) (a n : ℕ) → IsDistinct nat_eq (signals_of (filter_map (loose_port q own ps) (range_with_len a n)))
 unfolding IsDistinct
-loose_distinct q ps a zero = tt
-loose_distinct q ps a (suc n) = subst (IsDistinct nat_eq) (sym (loose_step q ps a n)) (split (is_driven q ps a || is_read q ps a) (loose_distinct q ps (a + 1) n))
+loose_distinct q own ps a zero = tt
+loose_distinct q own ps a (suc n) = subst (IsDistinct nat_eq) (sym (loose_step q own ps a n)) (split (is_loose q own ps a) (loose_distinct q own ps (a + 1) n))
   where
-    split : (b : Bool) → IsDistinct nat_eq (signals_of (filter_map (loose_port q ps) (range_with_len (a + 1) n))) → IsDistinct nat_eq (cond b (a ∷ signals_of (filter_map (loose_port q ps) (range_with_len (a + 1) n))) (signals_of (filter_map (loose_port q ps) (range_with_len (a + 1) n))))
-    split true rest = (loose_past q ps a (a + 1) n (omega arith), rest)
+    split : (b : Bool) → IsDistinct nat_eq (signals_of (filter_map (loose_port q own ps) (range_with_len (a + 1) n)))
+        → IsDistinct nat_eq (cond b (a ∷ signals_of (filter_map (loose_port q own ps) (range_with_len (a + 1) n))) (signals_of (filter_map (loose_port q own ps) (range_with_len (a + 1) n))))
+    split true rest = (loose_past q own ps a (a + 1) n (omega arith), rest)
     split false rest = rest
 
-pub top_distinct : (q : Pooled) (ps : List Process) (top : TopPorts) → AreTopPorts q top → IsDistinct nat_eq (signals_of (top_ports q ps top))
-top_distinct q ps (Members given) h = h.distinct
-top_distinct q ps (Held given) h = subst (IsDistinct nat_eq) (sym (map_map (λ (p : Port). record p { is_input = not (is_driven q ps p.sig.0) }) (λ (p : Port). p.sig.0) given)) h.distinct
-top_distinct q ps Loose h = loose_distinct q ps 0 (length q.signals)
+pub top_distinct : (q : Pooled) (own ps : List Process) (top : TopPorts) → AreTopPorts q top → IsDistinct nat_eq (signals_of (top_ports q own ps top))
+top_distinct q own ps (Members given) h = h.distinct
+top_distinct q own ps (Held given) h = subst (IsDistinct nat_eq) (sym (map_map (λ (p : Port). record p { is_input = not (is_driven q ps p.sig.0) }) (λ (p : Port). p.sig.0) given)) h.distinct
+top_distinct q own ps Loose h = loose_distinct q own ps 0 (length q.signals)
 
 -- ---- names of signals
 
@@ -206,7 +199,7 @@ apart_at xs ys s h in' = split (is_among xs s) refl
     split false e = refl
     split true e = absurd (false≢true (sym h ∙ any_has (is_among ys) xs s e in'))
 
-share_flipped : (xs ys : List ℕ) → share xs ys ≡ false → share ys xs ≡ false
+pub share_flipped : (xs ys : List ℕ) → share xs ys ≡ false → share ys xs ≡ false
 share_flipped xs ys h = any_none (is_among xs) ys (each ys (λ s in'. apart_at xs ys s h in'))
   where
     each : (zs : List ℕ) → ((s : ℕ) → is_among zs s ≡ true → is_among xs s ≡ false) → AllByRecursion (λ s. is_among xs s ≡ false) zs
@@ -216,6 +209,13 @@ share_flipped xs ys h = any_none (is_among xs) ys (each ys (λ s in'. apart_at x
         or_true : (a b : Bool) → b ≡ true → (a || b) ≡ true
         or_true true b k = refl
         or_true false b k = k
+
+-- lists that share nothing with two lists joined share nothing with either
+pub share_both : (xs a b : List ℕ) → share xs (a ++ b) ≡ false → (share xs a ≡ false) × (share xs b ≡ false)
+share_both xs a b h = (any_none (is_among a) xs (all_imp (λ s k. k.0) xs parts), any_none (is_among b) xs (all_imp (λ s k. k.1) xs parts))
+  where
+    parts : AllByRecursion (λ s. (is_among a s ≡ false) × (is_among b s ≡ false)) xs
+    parts = all_imp (λ s k. or_none (is_among a s) (is_among b s) (sym (any-append (λ x. x == s) a b) ∙ k)) xs (none_any (is_among (a ++ b)) xs h)
 
 -- what is driven by processes that are not refused
 pub record AreFree (q : Pooled) (ins before : List ℕ) (ps : List Process) : Type 0 where
@@ -232,15 +232,6 @@ are_free q ins before (p ∷ ps) e =
     let rest = are_free q ins (before ++ driven q p.body) ps parts.1 in
     record {
       inputs = (here.0, rest.inputs);
-      earlier = (here.1, all_imp (λ (x : Process) k. front (driven q x.body) before (driven q p.body) k) ps rest.earlier);
-      apart = (all_mapped (λ ys. share (driven q p.body) ys ≡ false) (λ (x : Process). driven q x.body) ps (all_imp (λ (x : Process) k. share_flipped (driven q x.body) (driven q p.body) (back (driven q x.body) before (driven q p.body) k)) ps rest.earlier), rest.apart);
+      earlier = (here.1, all_imp (λ (x : Process) k. (share_both (driven q x.body) before (driven q p.body) k).0) ps rest.earlier);
+      apart = (all_mapped (λ ys. share (driven q p.body) ys ≡ false) (λ (x : Process). driven q x.body) ps (all_imp (λ (x : Process) k. share_flipped (driven q x.body) (driven q p.body) (share_both (driven q x.body) before (driven q p.body) k).1) ps rest.earlier), rest.apart);
     }
-  where
-    both : (xs a b : List ℕ) → share xs (a ++ b) ≡ false → AllByRecursion (λ s. (is_among a s ≡ false) × (is_among b s ≡ false)) xs
-    both xs a b h = all_imp (λ s k. or_none (is_among a s) (is_among b s) (sym (any-append (λ x. x == s) a b) ∙ k)) xs (none_any (is_among (a ++ b)) xs h)
-
-    front : (xs a b : List ℕ) → share xs (a ++ b) ≡ false → share xs a ≡ false
-    front xs a b h = any_none (is_among a) xs (all_imp (λ s k. k.0) xs (both xs a b h))
-
-    back : (xs a b : List ℕ) → share xs (a ++ b) ≡ false → share xs b ≡ false
-    back xs a b h = any_none (is_among b) xs (all_imp (λ s k. k.1) xs (both xs a b h))

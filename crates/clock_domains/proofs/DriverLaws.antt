@@ -1,9 +1,8 @@
 -- What is driven, and the first statement that is refused.
-use Rattle.std.proofs.Common.{◌≡◌, inl, inr, ℕ, zero, suc, ◌+◌, ◌<◌, ◌≤◌, ◌==◌, Bool, true, false, ◌&&◌, ◌||◌, if◌then◌else◌, cond, List, [], ◌∷◌, ◌++◌, map, length, take, drop, Option, Some, None, slice_get, replicate, refl, sym, ap, ◌∙◌, subst, arith, append-nil}
-use Rattle.std.specs.List.{AllByRecursion, list_any, flat_map, filter}
+use Rattle.std.proofs.Common.{◌≡◌, inl, inr, ℕ, zero, suc, ◌<◌, ◌≤◌, ◌==◌, Bool, true, false, ◌||◌, if◌then◌else◌, List, [], ◌∷◌, ◌++◌, map, length, take, Option, Some, None, slice_get, replicate, refl, sym, ap, ◌∙◌, subst, arith, append-nil, append_assoc}
+use Rattle.std.specs.List.{AllByRecursion, list_any, flat_map}
 use Rattle.std.proofs.lemmas.Bool.{false≢true, eqb-true, eq-eqb}
-use Rattle.std.proofs.lemmas.List.{at_drop_all}
-use Rattle.std.proofs.lemmas.List.Elements.{filter-append}
+use Rattle.std.proofs.lemmas.List.{length-replicate, take-append-le}
 use Rattle.std.proofs.lemmas.List.Concat.{flat_map-append}
 use Rattle.std.proofs.lemmas.Bool.{cases_lt}
 use Rattle.amh_host.specs.declared.place.Place.{Place}
@@ -20,13 +19,16 @@ use Rattle.design_ir.specs.Circuits.{is_among}
 use Rattle.design_ir.specs.Designs.{share}
 use Rattle.clock_domains.specs.declared.stop.ResolveStop.{ResolveStop}
 use Rattle.clock_domains.specs.declared.stop.ResolveStop.TheVariants as stop
-use Rattle.clock_domains.specs.Marks.{Flag, AddsMarks, is_marked, marked, numbers, comes_out, target_parts}
+use Rattle.clock_domains.specs.Marks.{Flag, is_marked, marked, numbers, comes_out, target_parts}
 use Rattle.clock_domains.specs.Reads.{own_signals, statement_targets, choices_targets, block_targets, statement_values, choices_values, block_values, is_driven, signals_in}
-use Rattle.clock_domains.specs.Resolvable.{IsPlain}
-use Rattle.clock_domains.specs.Resolved.{statement_refusal, first_of, first_refusal, driver_refusal, is_clocked}
-use Rattle.clock_domains.specs.Stops.{statement_stop, choices_stop, block_stop, signal_stop, IsOwed}
-use Rattle.clock_domains.proofs.Lists.{take-push, take_end, all_imp, all_joined, any_agree, any-append, or_false, below_split}
-use Rattle.clock_domains.proofs.Markings.{more_below, none_below}
+use Rattle.clock_domains.specs.Resolvable.{IsPlain, IsSideOf}
+use Rattle.clock_domains.specs.Resolved.{statement_refusal, first_of, first_refusal, driver_refusal}
+use Rattle.clock_domains.specs.Numbers.{bounded, process_targets}
+use Rattle.clock_domains.specs.Stops.{statement_stop, choices_stop, block_stop, processes_stop, target_stop, IsOwed}
+use Rattle.clock_domains.proofs.Lists.{take_end, all_imp, all_joined, any_agree, any-append, or_false, below_split}
+use Rattle.clock_domains.proofs.FirstLaws.{first_assoc, first_one}
+use Rattle.clock_domains.proofs.NumberLaws.{bounded_none}
+use Rattle.clock_domains.proofs.Markings.{fresh_marks, more_below, none_below}
 use Rattle.clock_domains.proofs.Outs.{among_flat, signals_lead, reads_lead, own_below, parts_there, named_there, target_signals_past, signals_in_past}
 
 -- ---- expressions of statements
@@ -45,7 +47,7 @@ mutual
   choices_targets_below n (arm c body others) h =
       let parts = below_split n (block_exprs body) (choices_exprs others) h.1 in all_joined (λ k. k < n) (block_targets body) (choices_targets others) (targets_below n body parts.0) (choices_targets_below n others parts.1)
 
-  pub targets_below : (n : ℕ) (b : Block) → AllBelow n (block_exprs b) → AllByRecursion (λ k. k < n) (block_targets b)
+  targets_below : (n : ℕ) (b : Block) → AllBelow n (block_exprs b) → AllByRecursion (λ k. k < n) (block_targets b)
   targets_below n done h = tt
   targets_below n (next s rest) h =
       let parts = below_split n (statement_exprs s) (block_exprs rest) h in all_joined (λ k. k < n) (statement_targets s) (block_targets rest) (statement_targets_below n s parts.0) (targets_below n rest parts.1)
@@ -98,23 +100,43 @@ flat_mapped f (x ∷ xs) = ap (λ ys. f x.target.0 ++ ys) (flat_mapped f xs)
 pub driven_flat : (q : Pooled) (b : Block) → driven q b ≡ flat_map (target_signals q) (block_targets b)
 driven_flat q b = flat_mapped (target_signals q) (guarded [] b) ∙ ap (flat_map (target_signals q)) (block_flat [] b)
 
--- ---- marks of what is driven
+-- ---- what processes drive
 
-pub driven_marked : (q : Pooled) (b : Block) (old : List Bool) (s : ℕ) → AllByRecursion (IsPlain q) (block_exprs b)
-    → comes_out (target_signals q) (marked (block_targets b) (replicate (length q.exprs) false)) old (length q.exprs) s ≡ (is_marked old s || is_among (driven q b) s)
-driven_marked q b old s plain =
+pub flat_below : (f : Block → List ℕ) (n : ℕ) (ps : List Process) → AllByRecursion (λ (p : Process). AllByRecursion (λ k. k < n) (f p.body)) ps → AllByRecursion (λ k. k < n) (flat_map (λ (p : Process). f p.body) ps)
+flat_below f n [] h = tt
+flat_below f n (p ∷ ps) h = all_joined (λ k. k < n) (f p.body) (flat_map (λ (p : Process). f p.body) ps) h.0 (flat_below f n ps h.1)
+
+pub sides_targets : (q : Pooled) (ps : List Process) → AllByRecursion (IsSideOf q) ps → AllByRecursion (λ (p : Process). AllByRecursion (λ k. k < length q.exprs) (block_targets p.body)) ps
+sides_targets q [] h = tt
+sides_targets q (p ∷ ps) h = (targets_below (length q.exprs) p.body (plain_below q (block_exprs p.body) h.0.expressions), sides_targets q ps h.1)
+
+driven_any : (q : Pooled) (ps : List Process) (s : ℕ) → list_any (λ j. is_among (target_signals q j) s) (process_targets ps) ≡ is_driven q ps s
+driven_any q [] s = refl
+driven_any q (p ∷ ps) s =
+    any-append (λ j. is_among (target_signals q j) s) (block_targets p.body) (process_targets ps)
+    ∙ ap (λ b. b || list_any (λ j. is_among (target_signals q j) s) (process_targets ps)) (sym (among_flat (target_signals q) (block_targets p.body) s) ∙ ap (λ ss. is_among ss s) (sym (driven_flat q p.body)))
+    ∙ ap (λ b. is_among (driven q p.body) s || b) (driven_any q ps s)
+
+-- what the marks of their targets come to
+pub driven_spread : (q : Pooled) (ps : List Process) (out : List Bool) (s : ℕ) → AllByRecursion (IsSideOf q) ps → comes_out (target_signals q) (marked (process_targets ps) (replicate (length q.exprs) false)) out (length q.exprs) s ≡ (is_marked out s || is_driven q ps s)
+driven_spread q ps out s sides =
     let n = length q.exprs in
-    let ts = block_targets b in
-    ap (λ c. is_marked old s || c)
-    (more_below (λ j. is_among (target_signals q j) s) ts (replicate n false) n (targets_below n b (plain_below q (block_exprs b) plain)) (omega (arith, length_fresh n))
+    let ts = process_targets ps in
+    ap (λ c. is_marked out s || c)
+    (more_below (λ j. is_among (target_signals q j) s) ts (replicate n false) n (flat_below block_targets n ps (sides_targets q ps sides)) (omega (arith, length-replicate n false))
     ∙ ap (λ c. list_any (λ j. is_among (target_signals q j) s) ts || c) (none_below (λ j. is_among (target_signals q j) s) n n)
     ∙ or_false (list_any (λ j. is_among (target_signals q j) s) ts)
-    ∙ sym (among_flat (target_signals q) ts s)
-    ∙ ap (λ ss. is_among ss s) (sym (driven_flat q b)))
-  where
-    length_fresh : (n : ℕ) → length (replicate n false) ≡ n
-    length_fresh zero = refl
-    length_fresh (suc n) = ap suc (length_fresh n)
+    ∙ driven_any q ps s)
+
+-- what the numbers below a bound come to, where those of the targets are of these processes
+pub first_known : (q : Pooled) (ps : List Process) (i s n m : ℕ) (fresh targets unset out : List (Option ℕ)) → AllByRecursion (IsSideOf q) ps → n ≡ length q.exprs → fresh ≡ replicate n None → unset ≡ replicate m None
+    → bounded i targets ≡ marked (process_targets ps) (bounded i fresh) → is_marked (bounded i out) s ≡ comes_out (target_signals q) (bounded i targets) (bounded i unset) (length q.exprs) s → is_marked (bounded i out) s ≡ is_driven q ps s
+first_known q ps i s n m fresh targets unset out sides size fe ne te oe =
+    oe
+    ∙ ap (λ ms. comes_out (target_signals q) ms (bounded i unset) (length q.exprs) s)
+    (te ∙ ap (marked (process_targets ps)) (ap (bounded i) fe ∙ bounded_none i n ∙ ap (λ k. replicate k false) size))
+    ∙ driven_spread q ps (bounded i unset) s sides
+    ∙ ap (λ b. b || is_driven q ps s) (ap (λ xs. is_marked (bounded i xs) s) ne ∙ ap (λ ms. is_marked ms s) (bounded_none i m) ∙ fresh_marks m s)
 
 -- ---- signals of the pool
 
@@ -197,9 +219,6 @@ small_all n (t ∷ ss) h = (
 pub target_small : (q : Pooled) (k : ℕ) → IsPool q → AllByRecursion (λ s. s < 16384) (target_signals q k)
 target_small q k rules = small_all 16384 (target_signals q k) (λ s le. target_none q k s rules (omega (arith, le, rules.few_signals)))
 
-pub driven_small : (q : Pooled) (b : Block) → IsPool q → AllByRecursion (λ s. s < length q.signals) (driven q b)
-driven_small q b rules = small_all (length q.signals) (driven q b) (λ s le. driven_none q b s rules le)
-
 -- ---- refusals
 
 pub owed_itself : (owed : Option ResolveStop) (s : ResolveStop) → owed ≡ Some s → IsOwed owed s
@@ -210,17 +229,9 @@ owed_itself owed (stop.DrivenInput p) e = e
 owed_itself owed (stop.Limit p) e = e
 owed_itself owed stop.NoMemory e = tt
 
-first_assoc : {A : Type 0} (a b c : Option A) → first_of (first_of a b) c ≡ first_of a (first_of b c)
-first_assoc None b c = refl
-first_assoc (Some x) b c = refl
-
 first-append : (f : Guarded → Option ResolveStop) (xs ys : List Guarded) → first_refusal f (xs ++ ys) ≡ first_of (first_refusal f xs) (first_refusal f ys)
 first-append f [] ys = refl
 first-append f (x ∷ xs) ys = ap (first_of (f x)) (first-append f xs ys) ∙ sym (first_assoc (f x) (first_refusal f xs) (first_refusal f ys))
-
-first_one : {A : Type 0} (a : Option A) → first_of a None ≡ a
-first_one None = refl
-first_one (Some x) = refl
 
 -- a refusal that looks at the target and the place alone
 module _ (f : ℕ → Place → Option ResolveStop) (r : Guarded → Option ResolveStop) (same : (g : Guarded) → f g.target.0 g.place ≡ r g) where
@@ -241,19 +252,6 @@ module _ (f : ℕ → Place → Option ResolveStop) (r : Guarded → Option Reso
     block_first gs (next s rest) =
         ap (λ o. first_of o (block_stop f rest)) (statement_first gs s) ∙ ap (first_of (first_refusal r (guarded_in gs s))) (block_first gs rest) ∙ sym (first-append r (guarded_in gs s) (guarded gs rest))
 
-mutual
-  statement_agree : (f g : ℕ → Place → Option ResolveStop) → ((t : ℕ) (p : Place) → f t p ≡ g t p) → (s : Statement) → statement_stop f s ≡ statement_stop g s
-  statement_agree f g h (assign t v p) = h t.0 p
-  statement_agree f g h (choose arms) = choices_agree f g h arms
-
-  choices_agree : (f g : ℕ → Place → Option ResolveStop) → ((t : ℕ) (p : Place) → f t p ≡ g t p) → (c : Choices) → choices_stop f c ≡ choices_stop g c
-  choices_agree f g h none = refl
-  choices_agree f g h (arm c body others) = ap (λ o. first_of o (choices_stop f others)) (block_agree f g h body) ∙ ap (first_of (block_stop g body)) (choices_agree f g h others)
-
-  pub block_agree : (f g : ℕ → Place → Option ResolveStop) → ((t : ℕ) (p : Place) → f t p ≡ g t p) → (b : Block) → block_stop f b ≡ block_stop g b
-  block_agree f g h done = refl
-  block_agree f g h (next s rest) = ap (λ o. first_of o (block_stop f rest)) (statement_agree f g h s) ∙ ap (first_of (statement_stop g s)) (block_agree f g h rest)
-
 -- what the processes before drive
 abbrev pub driven_by : Pooled → List Process → List ℕ
 driven_by q ps = flat_map (λ (p : Process). driven q p.body) ps
@@ -262,87 +260,41 @@ pub driven_by_is : (q : Pooled) (ps : List Process) (s : ℕ) → is_among (driv
 driven_by_is q ps s = among_flat (λ (p : Process). driven q p.body) ps s
 
 -- the refusal by marks is that of the definition
-pub stop_same : (q : Pooled) (inputs taken : List Bool) (ins : List ℕ) (ps : List Process) (b : Block) → IsPool q → Flag inputs (is_among ins) → Flag taken (is_driven q ps) → block_stop (signal_stop q inputs taken) b ≡ first_refusal (statement_refusal q ins (driven_by q ps)) (guarded [] b)
-stop_same q inputs taken ins ps b rules fi ft = block_first (signal_stop q inputs taken) (statement_refusal q ins (driven_by q ps)) each [] b
+stop_same : (q : Pooled) (inputs on_inputs driven on_driven : List Bool) (ins : List ℕ) (before : List Process) (b : Block) → IsPool q → Flag inputs (is_among ins) → Flag driven (is_driven q before) → ((k : ℕ) → is_marked on_inputs k ≡ list_any (is_marked inputs) (target_signals q k))
+    → ((k : ℕ) → is_marked on_driven k ≡ list_any (is_marked driven) (target_signals q k)) → block_stop (target_stop on_inputs on_driven) b ≡ first_refusal (statement_refusal q ins (driven_by q before)) (guarded [] b)
+stop_same q inputs on_inputs driven on_driven ins before b rules fi fd hi hd = block_first (target_stop on_inputs on_driven) (statement_refusal q ins (driven_by q before)) each [] b
   where
-    each : (g : Guarded) → signal_stop q inputs taken g.target.0 g.place ≡ statement_refusal q ins (driven_by q ps) g
+    each : (g : Guarded) → target_stop on_inputs on_driven g.target.0 g.place ≡ statement_refusal q ins (driven_by q before) g
     each g =
-        let ts = target_signals q g.target.0 in
-        let a : list_any (is_marked inputs) ts ≡ share ts ins = any_agree (is_marked inputs) (is_among ins) ts (all_imp (λ s small. fi.each s small) ts (target_small q g.target.0 rules)) in
-        let c : list_any (is_marked taken) ts ≡ share ts (driven_by q ps) = any_agree (is_marked taken) (is_among (driven_by q ps)) ts (all_imp (λ s small. ft.each s small ∙ sym (driven_by_is q ps s)) ts (target_small q g.target.0 rules)) in
-        ap (λ x. if x then Some (stop.DrivenInput g.place) else (if list_any (is_marked taken) ts then Some (stop.TwoDrivers g.place) else None)) a
+        let t = g.target.0 in
+        let ts = target_signals q t in
+        let a : is_marked on_inputs t ≡ share ts ins = hi t ∙ any_agree (is_marked inputs) (is_among ins) ts (all_imp (λ s small. fi.each s small) ts (target_small q t rules)) in
+        let c : is_marked on_driven t ≡ share ts (driven_by q before) = hd t ∙ any_agree (is_marked driven) (is_among (driven_by q before)) ts (all_imp (λ s small. fd.each s small ∙ sym (driven_by_is q before s)) ts (target_small q t rules)) in
+        ap (λ x. if x then Some (stop.DrivenInput g.place) else (if is_marked on_driven t then Some (stop.TwoDrivers g.place) else None)) a
         ∙ ap (λ x. if share ts ins then Some (stop.DrivenInput g.place) else (if x then Some (stop.TwoDrivers g.place) else None)) c
 
--- ---- processes one after another
+-- of all processes: a target's least number is below that of a process exactly where one before drives a signal of it
+module _ (q : Pooled) (inputs on_inputs : List Bool) (firsts leasts : List (Option ℕ)) (ins : List ℕ) (rules : IsPool q) (fi : Flag inputs (is_among ins)) (hi : (k : ℕ) → is_marked on_inputs k ≡ list_any (is_marked inputs) (target_signals q k))
+    (hl : (i k : ℕ) → is_marked (bounded i leasts) k ≡ list_any (is_marked (bounded i firsts)) (target_signals q k)) where
+  abbrev stop_at : ℕ → ℕ → Place → Option ResolveStop
+  stop_at i = target_stop on_inputs (bounded i leasts)
 
--- what the first processes drive is marked, and none of their statements is refused
-pub record AreAdded (q : Pooled) (inputs : List Bool) (ps : List Process) (i : ℕ) (driven_marks clocked_marks : List Bool) : Type 0 where
-  pub driven : Flag driven_marks (is_driven q (take i ps))
-  pub clocked : Flag clocked_marks (is_driven q (filter is_clocked (take i ps)))
-  pub refusals : (ins : List ℕ) → Flag inputs (is_among ins) → driver_refusal q ins [] ps ≡ driver_refusal q ins (driven_by q (take i ps)) (drop i ps)
+  refusal_from : (n : ℕ) (before rest : List Process) → length before ≡ n → ((i : ℕ) → Flag (bounded i firsts) (is_driven q (take i (before ++ rest)))) → processes_stop stop_at n rest ≡ driver_refusal q ins (driven_by q before) rest
+  refusal_from n before [] size h = refl
+  refusal_from n before (p ∷ rest) size h =
+      ap (λ o. first_of o (processes_stop stop_at (suc n) rest)) (stop_same q inputs on_inputs (bounded n firsts) (bounded n leasts) ins before p.body rules fi (subst (λ ps. Flag (bounded n firsts) (is_driven q ps)) first (h n)) hi (hl n))
+      ∙ ap (first_of (first_refusal (statement_refusal q ins (driven_by q before)) (guarded [] p.body)))
+      (refusal_from (suc n) (before ++ p ∷ []) rest (omega (arith, grown before, size)) (λ i. subst (λ ps. Flag (bounded i firsts) (is_driven q (take i ps))) (sym (append_assoc before (p ∷ []) rest)) (h i)) ∙ ap (λ ss. driver_refusal q ins ss rest) more)
+    where
+      first : take n (before ++ p ∷ rest) ≡ before
+      first = take-append-le n before (p ∷ rest) (omega (arith, size)) ∙ take_end before n (omega (arith, size))
 
-drop_at : {X : Type 0} (xs : List X) (i : ℕ) (x : X) → slice_get xs i ≡ Some x → drop i xs ≡ x ∷ drop (i + 1) xs
-drop_at xs i x at = at_suc xs i x at ∙ ap (λ n. x ∷ drop n xs) (let e : suc i ≡ i + 1 = omega arith in e)
-  where
-    at_suc : {X : Type 0} (xs : List X) (i : ℕ) (x : X) → slice_get xs i ≡ Some x → drop i xs ≡ x ∷ drop (suc i) xs
-    at_suc [] i x at = cc
-    at_suc (y ∷ xs) zero x at = let same : y ≡ x = cc in ap (λ z. z ∷ xs) same
-    at_suc (y ∷ xs) (suc i) x at = at_suc xs i x at
+      grown : (xs : List Process) → length (xs ++ p ∷ []) ≡ suc (length xs)
+      grown [] = refl
+      grown (x ∷ xs) = ap suc (grown xs)
 
-pub none_added : (q : Pooled) (inputs : List Bool) (ps : List Process) (d c : List Bool) → length d ≡ 16384 → length c ≡ 16384 → ((s : ℕ) → is_marked d s ≡ false) → ((s : ℕ) → is_marked c s ≡ false) → AreAdded q inputs ps 0 d c
-none_added q inputs ps d c dl cl df cf = record {
-  driven = record { size = dl; each = λ s h. df s };
-  clocked = record { size = cl; each = λ s h. cf s };
-  refusals = λ ins f. refl;
-}
+      more : driven_by q (before ++ p ∷ []) ≡ driven_by q before ++ driven q p.body
+      more = flat_map-append (λ (p : Process). driven q p.body) before (p ∷ []) ∙ ap (λ ss. driven_by q before ++ ss) (append-nil (driven q p.body))
 
-pub refusal_at : (q : Pooled) (inputs : List Bool) (ps : List Process) (i : ℕ) (p : Process) (d c : List Bool) (ins : List ℕ) → IsPool q → slice_get ps i ≡ Some p → AreAdded q inputs ps i d c → Flag inputs (is_among ins)
-    → driver_refusal q ins [] ps ≡ first_of (block_stop (signal_stop q inputs d) p.body) (driver_refusal q ins (driven_by q (take (i + 1) ps)) (drop (i + 1) ps))
-refusal_at q inputs ps i p d c ins rules at h f =
-    let more : driven_by q (take i ps) ++ driven q p.body ≡ driven_by q (take (i + 1) ps) =
-    ap (λ ss. driven_by q (take i ps) ++ ss) (sym (append-nil (driven q p.body))) ∙ sym (flat_map-append (λ (p : Process). driven q p.body) (take i ps) (p ∷ [])) ∙ ap (driven_by q) (sym (take-push ps i p at)) in
-    h.refusals ins f
-    ∙ ap (driver_refusal q ins (driven_by q (take i ps))) (drop_at ps i p at)
-    ∙ ap (λ o. first_of o (driver_refusal q ins (driven_by q (take i ps) ++ driven q p.body) (drop (i + 1) ps))) (sym (stop_same q inputs d ins (take i ps) p.body rules f h.driven))
-    ∙ ap (λ ss. first_of (block_stop (signal_stop q inputs d) p.body) (driver_refusal q ins ss (drop (i + 1) ps))) more
-
-driven_more : (q : Pooled) (ps : List Process) (p : Process) (s : ℕ) → is_driven q (ps ++ p ∷ []) s ≡ (is_driven q ps s || is_among (driven q p.body) s)
-driven_more q ps p s = any-append (λ (p : Process). is_among (driven q p.body) s) ps (p ∷ []) ∙ ap (λ b. is_driven q ps s || b) (or_false (is_among (driven q p.body) s))
-
-clocked_more : (q : Pooled) (ps : List Process) (p : Process) (s : ℕ) → is_driven q (filter is_clocked (ps ++ p ∷ [])) s ≡ (is_driven q (filter is_clocked ps) s || (is_clocked p && is_among (driven q p.body) s))
-clocked_more q ps p s =
-    ap (λ xs. is_driven q xs s) (filter-append is_clocked ps (p ∷ [])) ∙ any-append (λ (p : Process). is_among (driven q p.body) s) (filter is_clocked ps) (filter is_clocked (p ∷ []))
-    ∙ ap (λ b. is_driven q (filter is_clocked ps) s || b) (split (is_clocked p))
-  where
-    split : (b : Bool) → list_any (λ (p : Process). is_among (driven q p.body) s) (cond b (p ∷ []) []) ≡ (b && is_among (driven q p.body) s)
-    split true = or_false (is_among (driven q p.body) s)
-    split false = refl
-
-pub added_turn : (q : Pooled) (inputs : List Bool) (ps : List Process) (i : ℕ) (p : Process) (d c d' c' : List Bool) → IsPool q → slice_get ps i ≡ Some p → AreAdded q inputs ps i d c → block_stop (signal_stop q inputs d) p.body ≡ None
-    → AddsMarks (is_among (driven q p.body)) d d' → AddsMarks (λ s. is_clocked p && is_among (driven q p.body) s) c c' → AreAdded q inputs ps (i + 1) d' c'
-added_turn q inputs ps i p d c d' c' rules at h fine dd cc' = record {
-  driven = record {
-    size = dd.size ∙ h.driven.size;
-    each = λ s small. dd.each s small ∙ ap (λ b. b || is_among (driven q p.body) s) (h.driven.each s small) ∙ sym (driven_more q (take i ps) p s) ∙ ap (λ xs. is_driven q xs s) (sym (take-push ps i p at));
-  };
-  clocked = record {
-    size = cc'.size ∙ h.clocked.size;
-    each = λ s small.
-        cc'.each s small ∙ ap (λ b. b || (is_clocked p && is_among (driven q p.body) s)) (h.clocked.each s small) ∙ sym (clocked_more q (take i ps) p s) ∙ ap (λ xs. is_driven q (filter is_clocked xs) s) (sym (take-push ps i p at));
-  };
-  refusals = λ ins f. refusal_at q inputs ps i p d c ins rules at h f ∙ ap (λ o. first_of o (driver_refusal q ins (driven_by q (take (i + 1) ps)) (drop (i + 1) ps))) fine;
-}
-
-pub refused_turn : (q : Pooled) (inputs : List Bool) (ps : List Process) (i : ℕ) (p : Process) (d c : List Bool) (s : ResolveStop) → IsPool q → slice_get ps i ≡ Some p → AreAdded q inputs ps i d c → block_stop (signal_stop q inputs d) p.body ≡ Some s
-    → (ins : List ℕ) → Flag inputs (is_among ins) → IsOwed (driver_refusal q ins [] ps) s
-refused_turn q inputs ps i p d c s rules at h stops ins f =
-    owed_itself (driver_refusal q ins [] ps) s (refusal_at q inputs ps i p d c ins rules at h f ∙ ap (λ o. first_of o (driver_refusal q ins (driven_by q (take (i + 1) ps)) (drop (i + 1) ps))) stops)
-
-pub added_end : (q : Pooled) (inputs : List Bool) (ps : List Process) (i : ℕ) (d c : List Bool) → length ps ≤ i → AreAdded q inputs ps i d c
-    → ((ins : List ℕ) → Flag inputs (is_among ins) → driver_refusal q ins [] ps ≡ None) × Flag d (is_driven q ps) × Flag c (is_driven q (filter is_clocked ps))
-added_end q inputs ps i d c le h =
-    let all : take i ps ≡ ps = take_end ps i le in (
-      λ ins f. h.refusals ins f ∙ at_drop_all (driver_refusal q ins (driven_by q (take i ps))) ps i le,
-      subst (λ xs. Flag d (is_driven q xs)) all h.driven,
-      subst (λ xs. Flag c (is_driven q (filter is_clocked xs))) all h.clocked,
-    )
+  pub refusal_same : (ps : List Process) → ((i : ℕ) → Flag (bounded i firsts) (is_driven q (take i ps))) → processes_stop stop_at 0 ps ≡ driver_refusal q ins [] ps
+  refusal_same ps h = refusal_from 0 [] ps refl h

@@ -1,6 +1,6 @@
 -- Lists, element by element.
-use Rattle.std.proofs.Common.{◌≡◌, ℕ, zero, suc, ◌+◌, ◌<◌, ◌≤◌, Bool, true, false, ◌||◌, All, List, [], ◌∷◌, ◌++◌, map, length, take, Some, slice_get, slice_index_or, refl, sym, ap, ◌∙◌, subst, arith}
-use Rattle.std.specs.List.{AllByRecursion, list_any}
+use Rattle.std.proofs.Common.{◌≡◌, ℕ, zero, suc, ◌+◌, ◌<◌, ◌≤◌, Bool, true, false, not, ◌||◌, cond, All, List, [], ◌∷◌, ◌++◌, map, length, take, drop, Some, slice_get, slice_index_or, refl, sym, ap, ◌∙◌, subst, arith}
+use Rattle.std.specs.List.{AllByRecursion, IsDistinct, filter, list_any}
 use Rattle.std.proofs.lemmas.List.Elements.{All-nil, All-cons}
 use Rattle.std.proofs.lemmas.Bool.{false≢true}
 use Rattle.design_ir.specs.declared.ids.ExprId.{ExprId}
@@ -23,6 +23,11 @@ take_end [] i e = none i
     none (suc i) = refl
 take_end (x ∷ xs) zero e = absurd (omega (arith, e))
 take_end (x ∷ xs) (suc i) e = ap (λ ys. x ∷ ys) (take_end xs i (omega (arith, e)))
+
+pub take_and_drop : {X : Type 0} (xs : List X) (i : ℕ) → xs ≡ take i xs ++ drop i xs
+take_and_drop xs zero = refl
+take_and_drop [] (suc i) = refl
+take_and_drop (x ∷ xs) (suc i) = ap (λ ys. x ∷ ys) (take_and_drop xs i)
 
 pub map-push : {A B : Type 0} (f : A → B) (xs : List A) (x : A) → map f (xs ++ x ∷ []) ≡ map f xs ++ f x ∷ []
 map-push f [] x = refl
@@ -62,6 +67,9 @@ pub all_left : {A : Type 0} (P : A → Type 0) (xs ys : List A) → AllByRecursi
 all_left P [] ys h = tt
 all_left P (x ∷ xs) ys h = (h.0, all_left P xs ys h.1)
 
+pub all_taken : {A : Type 0} (P : A → Type 0) (xs : List A) (i : ℕ) → AllByRecursion P xs → AllByRecursion P (take i xs)
+all_taken P xs i h = all_left P (take i xs) (drop i xs) (subst (AllByRecursion P) (take_and_drop xs i) h)
+
 pub all_right : {A : Type 0} (P : A → Type 0) (xs ys : List A) → AllByRecursion P (xs ++ ys) → AllByRecursion P ys
 all_right P [] ys h = h
 all_right P (x ∷ xs) ys h = all_right P xs ys h.1
@@ -82,6 +90,37 @@ all_at P (y ∷ xs) (suc i) x h e = all_at P xs i x h.1 e
 pub all_index : {A : Type 0} (P : A → Type 0) (xs : List A) → AllByRecursion P xs → All P xs
 all_index P [] h = All-nil P
 all_index P (x ∷ xs) h = All-cons P x xs h.0 (all_index P xs h.1)
+
+-- ---- those that pass
+
+pub not_true : (b : Bool) → not b ≡ true → b ≡ false
+not_true true e = absurd (false≢true e)
+not_true false e = refl
+
+pub all_filtered : {A : Type 0} (P : A → Type 0) (p : A → Bool) (xs : List A) → AllByRecursion P xs → AllByRecursion P (filter p xs)
+all_filtered P p [] h = tt
+all_filtered P p (x ∷ xs) h = split (all_filtered P p xs h.1) (p x)
+  where
+    split : AllByRecursion P (filter p xs) → (b : Bool) → AllByRecursion P (cond b (x ∷ filter p xs) (filter p xs))
+    split rest true = (h.0, rest)
+    split rest false = rest
+
+pub passes : {A : Type 0} (p : A → Bool) (xs : List A) → AllByRecursion (λ x. p x ≡ true) (filter p xs)
+passes p [] = tt
+passes p (x ∷ xs) = split (passes p xs) (p x) refl
+  where
+    split : AllByRecursion (λ x. p x ≡ true) (filter p xs) → (b : Bool) → p x ≡ b → AllByRecursion (λ x. p x ≡ true) (cond b (x ∷ filter p xs) (filter p xs))
+    split rest true e = (e, rest)
+    split rest false e = rest
+
+pub distinct_filter : {A : Type 0} (eq : A → A → Bool) (p : A → Bool) (xs : List A) → IsDistinct eq xs → IsDistinct eq (filter p xs)
+unfolding IsDistinct
+distinct_filter eq p [] h = tt
+distinct_filter eq p (x ∷ xs) h = split (all_filtered (λ y. eq x y ≡ false) p xs h.0) (distinct_filter eq p xs h.1) (p x)
+  where
+    split : AllByRecursion (λ y. eq x y ≡ false) (filter p xs) → IsDistinct eq (filter p xs) → (b : Bool) → IsDistinct eq (cond b (x ∷ filter p xs) (filter p xs))
+    split apart rest true = (apart, rest)
+    split apart rest false = rest
 
 -- ---- some element passes
 

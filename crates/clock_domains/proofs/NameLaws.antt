@@ -151,10 +151,15 @@ is_some_put : (b : Bool) (n : ℕ) (o : Option ℕ) → is_some (cond b (Some n)
 is_some_put true n o = sym (or_true (is_some o))
 is_some_put false n o = sym (or_false (is_some o))
 
+-- the names that are found after one more was put
+pub has_put : (look look' : List ℕ → Option ℕ) (names : List (List ℕ)) (new : List ℕ) → ((q : List ℕ) → is_some (look q) ≡ has_name names q) → IsPut look new 0 look' → (q : List ℕ) → is_some (look' q) ≡ has_name (names ++ new ∷ []) q
+has_put look look' names new h put q =
+    ap is_some (put q) ∙ is_some_put (bytes_eq new q) 0 (look q) ∙ ap (λ b. b || bytes_eq new q) (h q) ∙ ap (λ b. has_name names q || b) (bytes_text new q ∙ text_eq_flipped new q) ∙ sym (has_more names new q)
+
 -- a new name
 pub tracks_new : (look look' : List ℕ → Option ℕ) (names : List (List ℕ)) (new : List ℕ) → Tracks look names → has_name names new ≡ false → IsPut look new 0 look' → Tracks look' (names ++ new ∷ [])
 tracks_new look look' names new h none put = record {
-  has = λ q. ap is_some (put q) ∙ is_some_put (bytes_eq new q) 0 (look q) ∙ ap (λ b. b || bytes_eq new q) (h.has q) ∙ ap (λ b. has_name names q || b) (bytes_text new q ∙ text_eq_flipped new q) ∙ sym (has_more names new q);
+  has = has_put look look' names new h.has put;
   taken = λ q last e j low high. by_test (bytes_eq new q) q last (sym (put q) ∙ e) j low high;
 }
   where

@@ -1,5 +1,5 @@
 -- Ports, one after another.
-use Rattle.std.proofs.Common.{◌≡◌, ℕ, zero, suc, ◌+◌, ◌<◌, Bool, true, false, ◌||◌, cond, List, [], ◌∷◌, ◌++◌, map, length, take, Option, Some, slice_get, sym, ap, ◌∙◌, subst, arith, append-nil, append_assoc}
+use Rattle.std.proofs.Common.{◌≡◌, ℕ, zero, suc, ◌+◌, ◌<◌, ◌≤◌, Bool, true, false, ◌||◌, cond, List, [], ◌∷◌, ◌++◌, map, length, take, Option, Some, slice_get, sym, ap, ◌∙◌, subst, arith, append-nil, append_assoc}
 use Rattle.std.specs.List.{AllByRecursion, filter, filter_map, range_with_len}
 use Rattle.std.proofs.lemmas.List.Elements.{filter-append, filter_map-append}
 use Rattle.std.proofs.lemmas.List.Concat.{flat_map-append}
@@ -7,10 +7,17 @@ use Rattle.design_ir.specs.declared.port.Port.{Port}
 use Rattle.design_ir.specs.declared.domain.Domain.{Domain}
 use Rattle.design_ir.specs.Pools.{Pooled}
 use Rattle.design_ir.specs.Circuits.{is_among}
+use Rattle.clock_domains.specs.declared.top.TopPorts.{TopPorts}
+use Rattle.clock_domains.specs.declared.top.TopPorts.TheVariants.{Members, Held, Loose}
 use Rattle.clock_domains.specs.Marks.{Flag, is_marked, marked}
-use Rattle.clock_domains.specs.Resolved.{signals_of, domain_ports, ports_of_domain}
-use Rattle.clock_domains.proofs.Lists.{take-push, map-push, map-append}
+use Rattle.clock_domains.specs.Resolvable.{IsPortOf, ArePorts, AreTopPorts}
+use Rattle.clock_domains.specs.Resolved.{signals_of, domain_ports, ports_of_domain, top_inputs}
+use Rattle.clock_domains.specs.Chosen.{IsSignal}
+use Rattle.clock_domains.proofs.Lists.{all_imp, take-push, map-push, map-append}
 use Rattle.clock_domains.proofs.Markings.{marked-append, marked_at, length_marked}
+
+abbrev pub clocks_of : List Domain → List ℕ
+clocks_of ds = map (λ (d : Domain). d.clk.0) ds
 
 -- these are marked beside those that were
 abbrev pub IsMarking : List Bool → List ℕ → List Bool → Type 0
@@ -64,9 +71,22 @@ inputs_turn ps i p old cur new at h k =
     k ∙ ap (marked (signals_of (filter test (p ∷ [])))) h ∙ sym (marked-append (signals_of (filter test (take i ps))) (signals_of (filter test (p ∷ []))) old)
     ∙ ap (λ ss. marked ss old) (sym (map-append (λ (p : Port). p.sig.0) (filter test (take i ps)) (filter test (p ∷ []))) ∙ ap signals_of (sym (filter-append test (take i ps) (p ∷ [])) ∙ ap (filter test) (sym (take-push ps i p at))))
 
-pub domains_turn : (q : Pooled) (ds : List Domain) (i : ℕ) (d : Domain) (cur new : List Port) → slice_get ds i ≡ Some d → cur ≡ domain_ports q (take i ds) → new ≡ cur ++ ports_of_domain q d → new ≡ domain_ports q (take (i + 1) ds)
-domains_turn q ds i d cur new at h k =
-    k ∙ ap (λ ps. ps ++ ports_of_domain q d) h ∙ ap (λ ps. domain_ports q (take i ds) ++ ps) (sym (append-nil (ports_of_domain q d))) ∙ sym (flat_map-append (ports_of_domain q) (take i ds) (d ∷ [])) ∙ ap (domain_ports q) (sym (take-push ds i d at))
+pub clocks_turn : (ds : List Domain) (i : ℕ) (d : Domain) (old cur new : List Bool) → slice_get ds i ≡ Some d → IsMarking old (clocks_of (take i ds)) cur → new ≡ marked (d.clk.0 ∷ []) cur → IsMarking old (clocks_of (take (i + 1) ds)) new
+clocks_turn ds i d old cur new at h k =
+    k ∙ ap (marked (d.clk.0 ∷ [])) h ∙ sym (marked-append (clocks_of (take i ds)) (d.clk.0 ∷ []) old) ∙ ap (λ ss. marked ss old) (sym (map-push (λ (d : Domain). d.clk.0) (take i ds) d) ∙ ap clocks_of (sym (take-push ds i d at)))
+
+pub small_clocks : (n : ℕ) (ds : List Domain) → AllByRecursion (λ (d : Domain). d.clk.0 < n) ds → AllByRecursion (λ s. s < n) (clocks_of ds)
+small_clocks n [] h = tt
+small_clocks n (d ∷ ds) h = (h.0, small_clocks n ds h.1)
+
+-- those of ports beside those of domains
+pub marking_both : (clocks ss : List ℕ) (old mid new : List Bool) → IsMarking old clocks mid → IsMarking mid ss new → IsMarking old (clocks ++ ss) new
+marking_both clocks ss old mid new h k = k ∙ ap (marked ss) h ∙ sym (marked-append clocks ss old)
+
+pub domains_turn : (q : Pooled) (driven : ℕ → Bool) (ds : List Domain) (i : ℕ) (d : Domain) (cur new : List Port) → slice_get ds i ≡ Some d → cur ≡ domain_ports q driven (take i ds) → new ≡ cur ++ ports_of_domain q driven d → new ≡ domain_ports q driven (take (i + 1) ds)
+domains_turn q driven ds i d cur new at h k =
+    k ∙ ap (λ ps. ps ++ ports_of_domain q driven d) h ∙ ap (λ ps. domain_ports q driven (take i ds) ++ ps) (sym (append-nil (ports_of_domain q driven d))) ∙ sym (flat_map-append (ports_of_domain q driven) (take i ds) (d ∷ []))
+    ∙ ap (domain_ports q driven) (sym (take-push ds i d at))
 
 pub members_turn : (test : Port → Bool) (ps : List Port) (i : ℕ) (p : Port) (old cur new : List Port) → slice_get ps i ≡ Some p → cur ≡ old ++ filter test (take i ps) → new ≡ cur ++ filter test (p ∷ []) → new ≡ old ++ filter test (take (i + 1) ps)
 members_turn test ps i p old cur new at = filtered_turn (filter test) ps i p old cur new (filter test (p ∷ [])) at (filter-append test (take i ps) (p ∷ []))
@@ -74,3 +94,16 @@ members_turn test ps i p old cur new at = filtered_turn (filter test) ps i p old
 pub held_turn : (test : Port → Bool) (f : Port → Port) (ps : List Port) (i : ℕ) (p : Port) (old cur new : List Port) → slice_get ps i ≡ Some p → cur ≡ old ++ filter test (map f (take i ps)) → new ≡ cur ++ filter test (f p ∷ []) → new ≡ old ++ filter test (map f (take (i + 1) ps))
 held_turn test f ps i p old cur new at =
     filtered_turn (λ xs. filter test (map f xs)) ps i p old cur new (filter test (f p ∷ [])) at (ap (filter test) (map-push f (take i ps) p) ∙ filter-append test (map f (take i ps)) (f p ∷ []))
+
+-- ---- what is asked of marks
+
+pub given_low : (q : Pooled) (n : ℕ) (ps : List Port) → length q.signals ≤ n → ArePorts q ps → AllByRecursion (λ (p : Port). p.sig.0 < n) ps
+given_low q n ps le h = all_imp (λ (p : Port) (k : IsPortOf q p). let low : p.sig.0 < n = omega (arith, le, k.there) in low) ps h.each
+
+pub clocks_low : (q : Pooled) (n : ℕ) (ds : List Domain) → length q.signals ≤ n → AllByRecursion (IsSignal q) ds → AllByRecursion (λ (d : Domain). d.clk.0 < n) ds
+clocks_low q n ds le h = all_imp (λ (d : Domain) (k : IsSignal q d). let low : d.clk.0 < n = omega (arith, le, k.clock) in low) ds h
+
+pub inputs_low : (q : Pooled) (top : TopPorts) → length q.signals ≤ 16384 → AreTopPorts q top → AllByRecursion (λ s. s < 16384) (top_inputs top)
+inputs_low q (Members ps) le h = small_filtered (λ (p : Port). p.is_input) ps (given_low q 16384 ps le h)
+inputs_low q (Held ps) le h = tt
+inputs_low q Loose le h = tt

@@ -15,7 +15,7 @@ use Rattle.clock_domains.specs.Resolvable.{IsSideOf}
 use Rattle.clock_domains.proofs.Lists.{take-push, all_joined, any-append, or_false}
 use Rattle.clock_domains.proofs.Markings.{marked-append, marked_at, fresh_marks, more_below, none_below}
 use Rattle.clock_domains.proofs.Outs.{among_flat, offsets_lead, offsets_there, parts_there, offsets_in_past}
-use Rattle.clock_domains.proofs.DriverLaws.{plain_below, targets_below, values_below, leads_none, small_all}
+use Rattle.clock_domains.proofs.DriverLaws.{plain_below, values_below, flat_below, sides_targets, leads_none, small_all}
 
 pub processes_turn : (f : Block → List ℕ) (ps : List Process) (i : ℕ) (p : Process) (old cur new : List Bool) → slice_get ps i ≡ Some p → cur ≡ marked (flat_map (λ (p : Process). f p.body) (take i ps)) old → new ≡ marked (f p.body) cur → new ≡ marked (flat_map (λ (p : Process). f p.body) (take (i + 1) ps)) old
 processes_turn f ps i p old cur new at h k =
@@ -39,14 +39,6 @@ below_list q ws marks n low same =
   where
     fresh : (j : ℕ) → is_marked (marked ws (replicate n false)) j ≡ is_among ws j
     fresh j = marked_at ws (replicate n false) j (subst (λ m. AllByRecursion (λ w. w < m) ws) (sym (length-replicate n false)) low) ∙ ap (λ b. b || is_among ws j) (fresh_marks n j)
-
-flat_below : (f : Block → List ℕ) (n : ℕ) (ps : List Process) → AllByRecursion (λ (p : Process). AllByRecursion (λ k. k < n) (f p.body)) ps → AllByRecursion (λ k. k < n) (flat_map (λ (p : Process). f p.body) ps)
-flat_below f n [] h = tt
-flat_below f n (p ∷ ps) h = all_joined (λ k. k < n) (f p.body) (flat_map (λ (p : Process). f p.body) ps) h.0 (flat_below f n ps h.1)
-
-sides_targets : (q : Pooled) (ps : List Process) → AllByRecursion (IsSideOf q) ps → AllByRecursion (λ (p : Process). AllByRecursion (λ k. k < length q.exprs) (block_targets p.body)) ps
-sides_targets q [] h = tt
-sides_targets q (p ∷ ps) h = (targets_below (length q.exprs) p.body (plain_below q (block_exprs p.body) h.0.expressions), sides_targets q ps h.1)
 
 sides_values : (q : Pooled) (ps : List Process) → AllByRecursion (IsSideOf q) ps → AllByRecursion (λ (p : Process). AllByRecursion (λ k. k < length q.exprs) (block_values p.body)) ps
 sides_values q [] h = tt

@@ -1,11 +1,16 @@
--- What holds of a module whose domains were made.
-use Rattle.std.proofs.Common.{◌≡◌, ℕ, suc, ◌+◌, ◌-◌, ◌<◌, ◌≤◌, Bool, true, false, ◌&&◌, if◌then◌else◌, not, List, [], ◌∷◌, ◌++◌, map, length, Option, Some, None, Result, Ok, Err, refl, sym, ap, ◌∙◌, subst, arith, append-nil}
-use Rattle.std.specs.List.{AllByRecursion, filter, range_with_len}
+-- What holds of a module with those below it whose domains were made.
+use Rattle.std.proofs.Common.{◌≡◌, inl, inr, ℕ, suc, ◌+◌, ◌-◌, ◌<◌, ◌≤◌, ◌^◌, Bool, true, false, ◌&&◌, not, List, [], ◌∷◌, ◌++◌, map, length, Option, Some, None, is_some, Result, Ok, refl, sym, ap, ◌∙◌, subst, arith, append-nil}
+use Rattle.std.specs.List.{AllByRecursion, filter, flat_map, range_with_len}
+use Rattle.std.proofs.lemmas.Bool.{false≢true, cases_lt}
+use Rattle.std.proofs.lemmas.List.{get_or_past}
 use Rattle.std.proofs.lemmas.List.Elements.{filter-append}
+use Rattle.lists.specs.Names.{IsName}
 use Rattle.design_ir.specs.declared.ids.SigId.{SigId}
+use Rattle.design_ir.specs.declared.signal.Sig.{Sig}
 use Rattle.design_ir.specs.declared.port.Port.{Port}
 use Rattle.design_ir.specs.declared.port.Column.{Column}
 use Rattle.design_ir.specs.declared.domain.Domain.{Domain}
+use Rattle.design_ir.specs.declared.domain.DomainDef.{DomainDef}
 use Rattle.design_ir.specs.declared.process.Process.{Process}
 use Rattle.design_ir.specs.declared.process.DesignProcess.{DesignProcess}
 use Rattle.design_ir.specs.declared.memory.Memory.{Memory}
@@ -14,53 +19,48 @@ use Rattle.design_ir.specs.Pools.{Pooled}
 use Rattle.design_ir.specs.PoolRules.{IsPool}
 use Rattle.design_ir.specs.Circuits.{Circuit, is_among}
 use Rattle.design_ir.specs.Designs.{IsDesign}
-use Rattle.design_ir.specs.Rising.{IsRisingSync, AllRisingSync}
+use Rattle.design_ir.specs.Rising.{AllRisingSync}
 use Rattle.clock_domains.specs.declared.top.TopPorts.{TopPorts}
 use Rattle.clock_domains.specs.declared.stop.ResolveStop.{ResolveStop}
 use Rattle.clock_domains.specs.declared.stop.ResolveStop.TheVariants as stop
 use Rattle.clock_domains.specs.Marks.{Flag, is_marked}
 use Rattle.clock_domains.specs.Reads.{is_driven}
-use Rattle.clock_domains.specs.Resolvable.{IsSideOf, AreTopPorts}
-use Rattle.clock_domains.specs.Resolved.{domain_names, with_domains, domains_from, is_past_limit, is_clocked, has_width, signals_of, domain_ports, top_ports, ports_of, named_registers, column_of_port, column_of_register, columns_of, ports_named, process_in, circuit_of, driver_refusal, top_inputs, file_start, or_refused, resolved_in, resolved, IsResolveRefusal}
+use Rattle.clock_domains.specs.Walks.{all_processes, all_paths, all_definitions, all_names}
+use Rattle.clock_domains.specs.Resolvable.{IsDefinition, IsDomainOf, IsResolvable}
+use Rattle.clock_domains.specs.Resolved.{clash_after, defined_domain, domain_names, domain_signals, made_names, with_domains, domains_from, is_past_limit, limit_where, is_clocked, has_width, signals_of, domain_ports, top_ports, ports_of, named_registers, column_of_port, columns_after, columns_of, ports_named, process_in, circuit_of, driver_refusal, design_inputs, unless, resolved_in, resolved, IsResolveRefusal}
 use Rattle.clock_domains.specs.Chosen.{IsSignal}
-use Rattle.clock_domains.specs.Tracked.{IsMarkedThere}
+use Rattle.clock_domains.specs.Firsts.{AreFirsts, AreNumbersThere, IsPlace, first_at, first_clocked}
 use Rattle.clock_domains.specs.Ready.{IsReady}
-use Rattle.clock_domains.specs.Made.{limit_where}
+use Rattle.clock_domains.specs.Made.{AreMade}
 use Rattle.clock_domains.specs.Stops.{IsOwed}
-use Rattle.clock_domains.proofs.Lists.{all_joined, all_unmapped}
+use Rattle.clock_domains.proofs.Lists.{all_filtered, all_imp, all_joined, all_unmapped}
+use Rattle.clock_domains.proofs.EachOnce.{once_all, once_distinct}
+use Rattle.clock_domains.proofs.FirstLaws.{first_is, first_place}
+use Rattle.clock_domains.proofs.WalkLaws.{walk_definitions, walk_has, walk_length, walk_named, walk_names, walk_sides}
 use Rattle.clock_domains.proofs.MadeDomains.{domains_length}
 use Rattle.clock_domains.proofs.DriverLaws.{is_driven_none}
-use Rattle.clock_domains.proofs.ChoiceLaws.{flag_there, range_all, range_split, domain_there, top_there}
-use Rattle.clock_domains.proofs.DesignFacts.{few_names}
+use Rattle.clock_domains.proofs.ChoiceLaws.{range_all, range_split, domain_there, top_there}
 use Rattle.clock_domains.proofs.DesignNames.{columns_length}
-use Rattle.clock_domains.proofs.DesignSound.{sides_with, top_with, all_filtered}
-use Rattle.clock_domains.proofs.DesignParts.{domains_signal}
-use Rattle.clock_domains.proofs.DesignWhole.{design_sound}
+use Rattle.clock_domains.proofs.DesignSound.{sides_with, top_with}
+use Rattle.clock_domains.proofs.DesignParts.{domain_signal_names, domains_signal}
+use Rattle.clock_domains.proofs.DesignWhole.{IsApart, design_apart, design_sound}
+use Rattle.clock_domains.proofs.GivenDomains.{domains_apart, domains_known, domains_sound, few_names, names_distinct}
 
-module _ (q : Pooled) (ds : List Domain) (ps : List Process) (top : TopPorts) (h : IsReady q ds ps top) where
-  -- what holds of the pool and the domains that were made holds of these
-  by_made : (P : Pooled → List Domain → Type 0) → P (with_domains h.before (domain_names ps)) (domains_from (length h.before.signals) (domain_names ps)) → P q ds
-  by_made P k = subst (λ x. P x ds) (sym h.pool) (subst (λ y. P (with_domains h.before (domain_names ps)) y) (sym h.domains) k)
-
+module _ (q : Pooled) (ds : List Domain) (own ps : List Process) (paths : List (List ℕ)) (top : TopPorts) (h : IsReady q ds own ps paths top) where
   pub ready_domains : AllByRecursion (IsSignal q) ds
-  ready_domains = by_made (λ x y. AllByRecursion (IsSignal x) y) (domains_signal h.before (domain_names ps))
+  ready_domains = domains_signal q ds h.domains
 
-  pub ready_sides : AllByRecursion (IsSideOf q) ps
-  ready_sides = by_made (λ x y. AllByRecursion (IsSideOf x) ps) (sides_with h.before (domain_names ps) ps h.given.processes)
+  pub ready_ports : AllByRecursion (λ (p : Port). p.sig.0 < length q.signals) (ports_of q ds own ps top)
+  ready_ports =
+      all_joined (λ (p : Port). p.sig.0 < length q.signals) (domain_ports q (is_driven q ps) ds) _ (domain_there q (is_driven q ps) ds ready_domains)
+      (all_filtered (λ (p : Port). p.sig.0 < length q.signals) _ (top_ports q own ps top) (top_there q own ps top h.ports))
 
-  pub ready_top : AreTopPorts q top
-  ready_top = by_made (λ x y. AreTopPorts x top) (top_with h.before (domain_names ps) top h.given.ports)
+  pub ready_design : IsPool q → driver_refusal q (design_inputs ds top) [] ps ≡ None → length ps < 2 ^ 32 → IsDesign (circuit_of q ds ps paths (ports_of q ds own ps top))
+  ready_design rules free few = design_sound q ds own ps paths top h rules free few
 
-  pub ready_few : length ds ≤ 64
-  ready_few = by_made (λ x y. length y ≤ 64) (let e = domains_length (length h.before.signals) (domain_names ps) in let f = few_names h.before ps h.given.room in omega (arith, e, f))
-
-  pub ready_ports : AllByRecursion (λ (p : Port). p.sig.0 < length q.signals) (ports_of q ds ps top)
-  ready_ports = all_joined (λ (p : Port). p.sig.0 < length q.signals) (domain_ports q ds) _ (domain_there q ds ready_domains) (all_filtered (λ (p : Port). p.sig.0 < length q.signals) _ (top_ports q ps top) (top_there q ps top ready_top))
-
-  pub ready_design : IsPool q → driver_refusal q (top_inputs top) [] ps ≡ None → IsDesign (circuit_of q ds ps (ports_of q ds ps top))
-  ready_design rules free =
-      let P : Pooled → List Domain → Type 0 = λ x y. IsPool x → driver_refusal x (top_inputs top) [] ps ≡ None → IsDesign (circuit_of x y ps (ports_of x y ps top)) in
-      by_made P (λ rules free. design_sound h.before ps top h.given rules free) rules free
+  -- however many processes there are
+  pub ready_apart : IsPool q → driver_refusal q (design_inputs ds top) [] ps ≡ None → IsApart (circuit_of q ds ps paths (ports_of q ds own ps top))
+  ready_apart rules free = design_apart q ds own ps paths top h rules free
 
 -- ---- named registers
 
@@ -80,14 +80,16 @@ filter_shorter p n m le none =
     ∙ ap (λ xs. filter p (range_with_len 0 n) ++ xs) (filter_none p (range_with_len (0 + n) (m - n)) (range_all (λ s. p s ≡ false) (0 + n) (m - n) (λ s low high. none s (omega (arith, low)))))
     ∙ append-nil (filter p (range_with_len 0 n))
 
-pub registers_same : (q : Pooled) (ps : List Process) (ports : List Port) (clocked is_port : List Bool) → IsPool q → Flag clocked (is_driven q (filter is_clocked ps)) → Flag is_port (is_among (signals_of ports))
-    → filter (λ s. is_marked clocked s && (not (is_marked is_port s) && has_width q s)) (range_with_len 0 (length clocked)) ≡ named_registers q ps ports
-registers_same q ps ports clocked is_port rules f g =
+pub registers_same : (q : Pooled) (ps : List Process) (ports : List Port) (firsts : List (Option ℕ)) (is_port : List Bool) → IsPool q → AreFirsts q ps firsts → Flag is_port (is_among (signals_of ports))
+    → filter (λ s. is_some (first_at firsts s) && (not (is_marked is_port s) && has_width q s)) (range_with_len 0 (length firsts)) ≡ named_registers q ps ports
+registers_same q ps ports firsts is_port rules f g =
     let test : ℕ → Bool = λ s. is_driven q (filter is_clocked ps) s && (not (is_among (signals_of ports) s) && has_width q s) in
-    filter_agree (λ s. is_marked clocked s && (not (is_marked is_port s) && has_width q s)) test (range_with_len 0 (length clocked))
-    (range_all (λ s. (is_marked clocked s && (not (is_marked is_port s) && has_width q s)) ≡ (is_driven q (filter is_clocked ps) s && (not (is_among (signals_of ports) s) && has_width q s))) 0 (length clocked)
-    (λ s low high. let small : s < 16384 = omega (arith, high, f.size) in ap (λ b. b && (not (is_marked is_port s) && has_width q s)) (f.each s small) ∙ ap (λ b. is_driven q (filter is_clocked ps) s && (not b && has_width q s)) (g.each s small)))
-    ∙ filter_shorter test (length q.signals) (length clocked) (omega (arith, rules.few_signals, f.size))
+    filter_agree (λ s. is_some (first_at firsts s) && (not (is_marked is_port s) && has_width q s)) test (range_with_len 0 (length firsts))
+    (range_all (λ s. (is_some (first_at firsts s) && (not (is_marked is_port s) && has_width q s)) ≡ (is_driven q (filter is_clocked ps) s && (not (is_among (signals_of ports) s) && has_width q s))) 0 (length firsts)
+    (λ s low high.
+    let small : s < 16384 = omega (arith, high, f.size) in
+    ap (λ b. b && (not (is_marked is_port s) && has_width q s)) (ap is_some (f.each s small) ∙ first_is q ps s) ∙ ap (λ b. is_driven q (filter is_clocked ps) s && (not b && has_width q s)) (g.each s small)))
+    ∙ filter_shorter test (length q.signals) (length firsts) (omega (arith, rules.few_signals, f.size))
     (λ s le. ap (λ b. b && (not (is_among (signals_of ports) s) && has_width q s)) (is_driven_none q (filter is_clocked ps) s rules le))
 
 pub registers_there : (q : Pooled) (ps : List Process) (ports : List Port) (rs : List SigId) → map (λ (s : SigId). s.0) rs ≡ named_registers q ps ports → AllByRecursion (λ (s : SigId). s.0 < length q.signals) rs
@@ -95,8 +97,28 @@ registers_there q ps ports rs e =
     all_unmapped (λ s. s < length q.signals) (λ (s : SigId). s.0) rs
     (subst (AllByRecursion (λ s. s < length q.signals)) (sym e) (all_filtered (λ s. s < length q.signals) _ (range_with_len 0 (length q.signals)) (range_all (λ s. s < length q.signals) 0 (length q.signals) (λ s low high. omega (arith, high)))))
 
-pub clocked_there : (q : Pooled) (ps : List Process) (clocked : List Bool) → IsPool q → Flag clocked (is_driven q (filter is_clocked ps)) → IsMarkedThere q clocked
-clocked_there q ps clocked rules f = record { size = f.size; there = flag_there clocked (is_driven q (filter is_clocked ps)) (length q.signals) f (λ s le. is_driven_none q (filter is_clocked ps) s rules le) }
+pub registers_small : (q : Pooled) (ps : List Process) (ports : List Port) → IsPool q → AllByRecursion (λ s. s < 16384) (named_registers q ps ports)
+registers_small q ps ports rules =
+    all_filtered (λ s. s < 16384) _ (range_with_len 0 (length q.signals)) (range_all (λ s. s < 16384) 0 (length q.signals) (λ s low high. omega (arith, high, rules.few_signals)))
+
+-- only signals of the pool have numbers
+pub clocked_there : (q : Pooled) (ps : List Process) (firsts : List (Option ℕ)) → IsPool q → AreFirsts q ps firsts → AreNumbersThere q firsts
+clocked_there q ps firsts rules f = record { size = f.size; there = λ s is. elim (cases_lt s (length q.signals)) [ inl below ↦ below | inr past ↦ absurd (nowhere s past is) ] }
+  where
+    nowhere : (s : ℕ) → length q.signals ≤ s → is_some (first_at firsts s) ≡ true → ⊥
+    nowhere s past is =
+        elim (cases_lt s 16384) [
+          | inl small ↦ false≢true (sym (ap is_some (f.each s small) ∙ first_is q ps s ∙ is_driven_none q (filter is_clocked ps) s rules past) ∙ is)
+          | inr large ↦ false≢true (sym (ap is_some (get_or_past firsts s None (omega (arith, large, f.size)))) ∙ is)
+        ]
+
+-- each number is one of a process
+pub clocked_places : (q : Pooled) (ps : List Process) (paths : List (List ℕ)) (firsts : List (Option ℕ)) → length paths ≡ length ps → AreFirsts q ps firsts → (s : ℕ) → IsPlace (length paths) (first_at firsts s)
+clocked_places q ps paths firsts size f s =
+    elim (cases_lt s 16384) [
+      | inl small ↦ subst (IsPlace (length paths)) (sym (f.each s small)) (subst (λ n. IsPlace n (first_clocked q ps s)) (sym size) (first_place q ps s))
+      | inr large ↦ subst (IsPlace (length paths)) (sym (get_or_past firsts s None (omega (arith, large, f.size)))) tt
+    ]
 
 mapped_length : {A B : Type 0} (f : A → B) (xs : List A) → length (map f xs) ≡ length xs
 mapped_length f [] = refl
@@ -106,107 +128,166 @@ joined_length : {A : Type 0} (xs ys : List A) → length (xs ++ ys) ≡ length x
 joined_length [] ys = let e : length ys ≡ 0 + length ys = omega arith in e
 joined_length (x ∷ xs) ys = omega (arith, joined_length xs ys)
 
-pub columns_enough : (q : Pooled) (ports : List Port) (regs : List ℕ) (cols : List Column) → cols ≡ columns_of q ports regs → length ports ≤ length cols
-columns_enough q ports regs cols e =
-    omega (arith, ap length e, columns_length [] (map column_of_port ports ++ map (column_of_register q) regs), joined_length (map column_of_port ports) (map (column_of_register q) regs), mapped_length column_of_port ports)
+pub columns_enough : (ports : List Port) (regs cols : List Column) → cols ≡ columns_after [] (map column_of_port ports ++ regs) → length ports ≤ length cols
+columns_enough ports regs cols e = omega (arith, ap length e, columns_length [] (map column_of_port ports ++ regs), joined_length (map column_of_port ports) regs, mapped_length column_of_port ports)
 
 -- ---- the whole
 
-pub circuit_parts : (q : Pooled) (ds : List Domain) (ps : List Process) (ports ports' : List Port) (processes : List DesignProcess) (memories : List Memory) (cols : List Column)
-    → processes ≡ map (process_in ds) ps → memories ≡ [] → cols ≡ columns_of q ports (named_registers q ps ports) → ports' ≡ ports_named ports cols
-    → ◌≡◌ {A = Circuit} (record { pool = q; processes = processes; memories = memories; domains = ds; ports = ports'; columns = cols }) (circuit_of q ds ps ports)
-circuit_parts q ds ps ports ports' processes memories cols a b e f =
-    let named : ports' ≡ ports_named ports (columns_of q ports (named_registers q ps ports)) = f ∙ ap (ports_named ports) e in
-    whole (map (process_in ds) ps) (columns_of q ports (named_registers q ps ports)) (ports_named ports (columns_of q ports (named_registers q ps ports))) a b e named
+pub circuit_parts : (q : Pooled) (ds : List Domain) (ps : List Process) (paths : List (List ℕ)) (ports ports' : List Port) (processes : List DesignProcess) (memories : List Memory) (cols : List Column)
+    → processes ≡ map (process_in ds) ps → memories ≡ [] → cols ≡ columns_of q ps paths ports (named_registers q ps ports) → ports' ≡ ports_named ports cols
+    → ◌≡◌ {A = Circuit} (record { pool = q; processes = processes; memories = memories; domains = ds; ports = ports'; columns = cols }) (circuit_of q ds ps paths ports)
+circuit_parts q ds ps paths ports ports' processes memories cols a b e f =
+    let named : ports' ≡ ports_named ports (columns_of q ps paths ports (named_registers q ps ports)) = f ∙ ap (ports_named ports) e in
+    whole (map (process_in ds) ps) (columns_of q ps paths ports (named_registers q ps ports)) (ports_named ports (columns_of q ps paths ports (named_registers q ps ports))) a b e named
   where
     whole : (x : List DesignProcess) (y : List Column) (z : List Port) → processes ≡ x → memories ≡ [] → cols ≡ y → ports' ≡ z → ◌≡◌ {A = Circuit} (record { pool = q; processes = processes; memories = memories; domains = ds; ports = ports'; columns = cols }) (record { pool = q; processes = x; memories = []; domains = ds; ports = z; columns = y })
     whole x y z a b e f = cc
 
 -- parts that were made by domains that are these
-pub whole_made : (q : Pooled) (ds ds' : List Domain) (ps : List Process) (top : TopPorts) (ports' : List Port) (processes : List DesignProcess) (memories : List Memory) (cols : List Column)
-    → ds' ≡ ds → processes ≡ map (process_in ds') ps → memories ≡ [] → cols ≡ columns_of q (ports_of q ds' ps top) (named_registers q ps (ports_of q ds' ps top)) → ports' ≡ ports_named (ports_of q ds' ps top) cols
-    → ◌≡◌ {A = Circuit} (record { pool = q; processes = processes; memories = memories; domains = ds; ports = ports'; columns = cols }) (circuit_of q ds ps (ports_of q ds ps top))
-whole_made q ds ds' ps top ports' processes memories cols same a b e f =
-    circuit_parts q ds ps (ports_of q ds ps top) ports' processes memories cols
+pub whole_made : (q : Pooled) (ds ds' : List Domain) (own ps : List Process) (paths : List (List ℕ)) (top : TopPorts) (ports' : List Port) (processes : List DesignProcess) (memories : List Memory) (cols : List Column)
+    → ds' ≡ ds → processes ≡ map (process_in ds') ps → memories ≡ [] → cols ≡ columns_of q ps paths (ports_of q ds' own ps top) (named_registers q ps (ports_of q ds' own ps top)) → ports' ≡ ports_named (ports_of q ds' own ps top) cols
+    → ◌≡◌ {A = Circuit} (record { pool = q; processes = processes; memories = memories; domains = ds; ports = ports'; columns = cols }) (circuit_of q ds ps paths (ports_of q ds own ps top))
+whole_made q ds ds' own ps paths top ports' processes memories cols same a b e f =
+    circuit_parts q ds ps paths (ports_of q ds own ps top) ports' processes memories cols
     (subst (λ x. processes ≡ map (process_in x) ps) same a) b
-    (subst (λ x. cols ≡ columns_of q (ports_of q x ps top) (named_registers q ps (ports_of q x ps top))) same e)
-    (subst (λ x. ports' ≡ ports_named (ports_of q x ps top) cols) same f)
+    (subst (λ x. cols ≡ columns_of q ps paths (ports_of q x own ps top) (named_registers q ps (ports_of q x own ps top))) same e)
+    (subst (λ x. ports' ≡ ports_named (ports_of q x own ps top) cols) same f)
 
-pub accepted_in : (q : Pooled) (ds : List Domain) (ps : List Process) (top : TopPorts) → driver_refusal q (top_inputs top) [] ps ≡ None → resolved_in q ds ps top ≡ Ok (circuit_of q ds ps (ports_of q ds ps top))
-unfolding resolved_in
-accepted_in q ds ps top e = ap (λ o. or_refused o (circuit_of q ds ps (ports_of q ds ps top))) e
+-- ---- what is refused first
 
-pub refused_in : (q : Pooled) (ds : List Domain) (ps : List Process) (top : TopPorts) (s : ResolveStop) → IsOwed (driver_refusal q (top_inputs top) [] ps) s → IsResolveRefusal (resolved_in q ds ps top) s
-unfolding resolved_in
-refused_in q ds ps top (stop.DomainClash p) h = ap (λ o. or_refused o (circuit_of q ds ps (ports_of q ds ps top))) h
-refused_in q ds ps top (stop.NoReset p) h = ap (λ o. or_refused o (circuit_of q ds ps (ports_of q ds ps top))) h
-refused_in q ds ps top (stop.TwoDrivers p) h = ap (λ o. or_refused o (circuit_of q ds ps (ports_of q ds ps top))) h
-refused_in q ds ps top (stop.DrivenInput p) h = ap (λ o. or_refused o (circuit_of q ds ps (ports_of q ds ps top))) h
-refused_in q ds ps top (stop.Limit p) h = ap (λ o. or_refused o (circuit_of q ds ps (ports_of q ds ps top))) h
-refused_in q ds ps top stop.NoMemory h = tt
+unless_owed : (o : Option ResolveStop) (r : Result Circuit ResolveStop) (s : ResolveStop) → IsOwed o s → IsResolveRefusal (unless o r) s
+unless_owed o r (stop.DomainClash p) h = ap (λ x. unless x r) h
+unless_owed o r (stop.NoReset p) h = ap (λ x. unless x r) h
+unless_owed o r (stop.TwoDrivers p) h = ap (λ x. unless x r) h
+unless_owed o r (stop.DrivenInput p) h = ap (λ x. unless x r) h
+unless_owed o r (stop.Limit p) h = ap (λ x. unless x r) h
+unless_owed o r stop.NoMemory h = tt
 
--- within the limits
--- ---- every domain rises
+pub unless_ok : (o : Option ResolveStop) (r : Result Circuit ResolveStop) (c : Circuit) → unless o r ≡ Ok c → (o ≡ None) × (r ≡ Ok c)
+unless_ok None r c e = (refl, e)
+unless_ok (Some s) r c e = cc
 
-rising_from : (n : ℕ) (names : List (List ℕ)) → AllByRecursion IsRisingSync (domains_from n names)
-rising_from n [] = tt
-rising_from n (name ∷ more) = (record { rising = refl; sync_reset = refl }, rising_from (n + 2) more)
+module _ (q : Pooled) (ds : List Domain) (own ps : List Process) (paths : List (List ℕ)) (top : TopPorts) where
+  pub accepted_in : driver_refusal q (design_inputs ds top) [] ps ≡ None → resolved_in q ds own ps paths top ≡ Ok (circuit_of q ds ps paths (ports_of q ds own ps top))
+  unfolding resolved_in
+  accepted_in e = ap (λ o. unless o (Ok (circuit_of q ds ps paths (ports_of q ds own ps top)))) e
 
-or_rising : (o : Option ResolveStop) (c d : Circuit) → AllRisingSync c → or_refused o c ≡ Ok d → AllRisingSync d
-or_rising None c d h e = let same : c ≡ d = cc in subst AllRisingSync same h
-or_rising (Some stop) c d h e = cc
+  pub refused_in : (s : ResolveStop) → IsOwed (driver_refusal q (design_inputs ds top) [] ps) s → IsResolveRefusal (resolved_in q ds own ps paths top) s
+  unfolding resolved_in
+  refused_in s h = unless_owed (driver_refusal q (design_inputs ds top) [] ps) (Ok (circuit_of q ds ps paths (ports_of q ds own ps top))) s h
 
-in_rising : (q : Pooled) (ds : List Domain) (ps : List Process) (top : TopPorts) (d : Circuit) → AllByRecursion IsRisingSync ds → resolved_in q ds ps top ≡ Ok d → AllRisingSync d
-unfolding resolved_in
-in_rising q ds ps top d h e = or_rising (driver_refusal q (top_inputs top) [] ps) (circuit_of q ds ps (ports_of q ds ps top)) d h e
+  -- the domains of the design are these
+  pub in_domains : (c : Circuit) → resolved_in q ds own ps paths top ≡ Ok c → (driver_refusal q (design_inputs ds top) [] ps ≡ None) × (circuit_of q ds ps paths (ports_of q ds own ps top) ≡ c)
+  unfolding resolved_in
+  in_domains c e = let parts = unless_ok (driver_refusal q (design_inputs ds top) [] ps) (Ok (circuit_of q ds ps paths (ports_of q ds own ps top))) c e in (parts.0, same parts.1)
+    where
+      same : ◌≡◌ {A = Result Circuit ResolveStop} (Ok (circuit_of q ds ps paths (ports_of q ds own ps top))) (Ok c) → circuit_of q ds ps paths (ports_of q ds own ps top) ≡ c
+      same e = cc
 
-pub resolved_rising : (q : Pooled) (root : Fragment) (top : TopPorts) (d : Circuit) → resolved q root top ≡ Ok d → AllRisingSync d
-unfolding resolved
-resolved_rising q root top d e = by (is_past_limit q names) e
-  where
-    names : List (List ℕ)
-    names = domain_names root.processes
+-- ---- a module with those below it
 
-    by : (past : Bool) → (if past then Err (stop.Limit file_start) else resolved_in (with_domains q names) (domains_from (length q.signals) names) root.processes top) ≡ Ok d → AllRisingSync d
-    by true f = cc
-    by false f = in_rising (with_domains q names) (domains_from (length q.signals) names) root.processes top d (rising_from (length q.signals) names) f
+module _ (q : Pooled) (root : Fragment) (top : TopPorts) where
+  abbrev pub definitions : List DomainDef
+  definitions = all_definitions root
 
-pub resolved_is : (q : Pooled) (root : Fragment) (top : TopPorts) → is_past_limit q (domain_names root.processes) ≡ false → resolved q root top ≡ resolved_in (with_domains q (domain_names root.processes)) (domains_from (length q.signals) (domain_names root.processes)) root.processes top
-unfolding resolved
-resolved_is q root top e =
-    ap (λ (b : Bool). if b then Err (stop.Limit file_start) else resolved_in (with_domains q (domain_names root.processes)) (domains_from (length q.signals) (domain_names root.processes)) root.processes top) e
+  abbrev pub names : List (List ℕ)
+  names = domain_names root
 
-pub resolved_owed : (q : Pooled) (root : Fragment) (top : TopPorts) (s : ResolveStop) → IsOwed (limit_where (is_past_limit q (domain_names root.processes))) s → IsResolveRefusal (resolved q root top) s
-unfolding resolved
-resolved_owed q root top s h = split (is_past_limit q (domain_names root.processes)) h
-  where
-    by_stop : (s : ResolveStop) → IsOwed (Some (stop.Limit file_start)) s → IsResolveRefusal (Err (stop.Limit file_start)) s
-    by_stop (stop.DomainClash p) h = cc
-    by_stop (stop.NoReset p) h = cc
-    by_stop (stop.TwoDrivers p) h = cc
-    by_stop (stop.DrivenInput p) h = cc
-    by_stop (stop.Limit p) h = cc
-    by_stop stop.NoMemory h = tt
+  abbrev pub all : List Process
+  all = all_processes root
 
-    no_stop : (s : ResolveStop) (r : Result Circuit ResolveStop) → IsOwed None s → IsResolveRefusal r s
-    no_stop (stop.DomainClash p) r h = cc
-    no_stop (stop.NoReset p) r h = cc
-    no_stop (stop.TwoDrivers p) r h = cc
-    no_stop (stop.DrivenInput p) r h = cc
-    no_stop (stop.Limit p) r h = cc
-    no_stop stop.NoMemory r h = tt
+  -- over the pool with the signals of the domains that are made
+  abbrev pub within : Pooled
+  within = with_domains q (made_names root)
 
-    split : (b : Bool) → IsOwed (limit_where b) s → IsResolveRefusal (if b then Err (stop.Limit file_start) else resolved_in (with_domains q (domain_names root.processes)) (domains_from (length q.signals) (domain_names root.processes)) root.processes top) s
-    split true h = by_stop s h
-    split false h = no_stop s (resolved_in (with_domains q (domain_names root.processes)) (domains_from (length q.signals) (domain_names root.processes)) root.processes top) h
+  abbrev pub domains : List Domain
+  domains = domains_from definitions (length q.signals) names
 
--- over the pool and the domains that were made
-pub resolved_made : (q q' : Pooled) (root : Fragment) (top : TopPorts) (ds : List Domain) (ps : List Process) → ps ≡ root.processes → is_past_limit q (domain_names ps) ≡ false → q' ≡ with_domains q (domain_names ps) → ds ≡ domains_from (length q.signals) (domain_names ps)
-    → resolved q root top ≡ resolved_in q' ds ps top
-resolved_made q q' root top ds ps same =
-    let P : List Process → Type 0 = λ x. is_past_limit q (domain_names x) ≡ false → q' ≡ with_domains q (domain_names x) → ds ≡ domains_from (length q.signals) (domain_names x) → resolved q root top ≡ resolved_in q' ds x top in
-    subst P (sym same)
-    (λ room pool domains.
-    resolved_is q root top room
-    ∙ sym (ap (λ x. resolved_in x (domains_from (length q.signals) (domain_names root.processes)) root.processes top) pool)
-    ∙ sym (ap (λ y. resolved_in q' y root.processes top) domains))
+  abbrev below : Result Circuit ResolveStop
+  below = resolved_in within domains root.processes all (all_paths root) top
+
+  pub clash_owed : (s : ResolveStop) → IsOwed (clash_after [] definitions) s → IsResolveRefusal (resolved q root top) s
+  unfolding resolved
+  clash_owed s h = unless_owed (clash_after [] definitions) (unless (limit_where (is_past_limit q definitions names)) below) s h
+
+  no_clash_is : clash_after [] definitions ≡ None → resolved q root top ≡ unless (limit_where (is_past_limit q definitions names)) below
+  unfolding resolved
+  no_clash_is e = ap (λ o. unless o (unless (limit_where (is_past_limit q definitions names)) below)) e
+
+  pub limit_owed : (s : ResolveStop) → clash_after [] definitions ≡ None → IsOwed (limit_where (is_past_limit q definitions names)) s → IsResolveRefusal (resolved q root top) s
+  limit_owed s free h = subst (λ r. IsResolveRefusal r s) (sym (no_clash_is free)) (unless_owed (limit_where (is_past_limit q definitions names)) below s h)
+
+  pub resolved_is : clash_after [] definitions ≡ None → is_past_limit q definitions names ≡ false → resolved q root top ≡ below
+  resolved_is free room = no_clash_is free ∙ ap (λ (b : Bool). unless (limit_where b) below) room
+
+  pub record IsResolved (c : Circuit) : Type 0 where
+    pub no_clash : clash_after [] definitions ≡ None
+    pub room : is_past_limit q definitions names ≡ false
+    pub free : driver_refusal within (design_inputs domains top) [] all ≡ None
+    pub whole : circuit_of within domains all (all_paths root) (ports_of within domains root.processes all top) ≡ c
+
+  not_past : (b : Bool) → limit_where b ≡ None → b ≡ false
+  not_past true e = cc
+  not_past false e = refl
+
+  -- what was refused in no way
+  pub resolved_whole : (c : Circuit) → resolved q root top ≡ Ok c → IsResolved c
+  unfolding resolved
+  resolved_whole c e =
+      let first = unless_ok (clash_after [] definitions) (unless (limit_where (is_past_limit q definitions names)) below) c e in
+      let second = unless_ok (limit_where (is_past_limit q definitions names)) below c first.1 in
+      let third = in_domains within domains root.processes all (all_paths root) top c second.1 in
+      record { no_clash = first.0; room = not_past (is_past_limit q definitions names) second.0; free = third.0; whole = third.1 }
+
+  module _ (given : IsResolvable q root top) where
+    defined : AllByRecursion (IsDefinition q) definitions
+    defined = walk_definitions q root given.tree
+
+    named : AllByRecursion IsName names
+    named = once_all IsName (all_names root) (walk_names q root given.tree)
+
+    sound : AllByRecursion (IsDomainOf within) domains
+    sound = domains_sound q definitions names defined named
+
+    -- every domain rises
+    pub resolved_rising : (c : Circuit) → resolved q root top ≡ Ok c → AllRisingSync c
+    resolved_rising c e = subst AllRisingSync (resolved_whole c e).whole (all_imp (λ (d : Domain) h. record { rising = h.rising; sync_reset = h.sync_reset }) domains sound)
+
+    -- what is asked of a module and of those below it is asked of what was walked
+    pub walked_ready : is_past_limit q definitions names ≡ false → IsReady within domains root.processes all (all_paths root) top
+    walked_ready room = record {
+      walk = record { size = walk_length root; each = walk_named q root given.tree };
+      own_processes = sides_with q (made_names root) root.processes given.tree.own.processes;
+      processes = sides_with q (made_names root) all (walk_sides q root given.tree);
+      names =
+          all_joined (λ (x : Sig). IsName x.name) q.signals (flat_map domain_signals (made_names root)) given.names
+          (domain_signal_names (made_names root) (all_filtered IsName (λ n. not (is_some (defined_domain definitions n))) names named));
+      ports = top_with q (made_names root) top given.ports;
+      few = let e = domains_length definitions (length q.signals) names in let f = few_names q definitions names room in omega (arith, e, f);
+      domains = sound;
+      domain_names = names_distinct q definitions names defined (once_distinct (all_names root));
+      apart = domains_apart q definitions defined given.apart names (once_distinct (all_names root));
+      known = domains_known definitions (length q.signals) (all_names root) all (walk_has root);
+    }
+
+-- what was walked, and the pool and the domains that were made, are those
+pub record AreWhole (q : Pooled) (root : Fragment) (q' : Pooled) (ds : List Domain) (own ps : List Process) (paths : List (List ℕ)) : Type 0 where
+  pub top : own ≡ root.processes
+  pub walked : ps ≡ all_processes root
+  pub under : paths ≡ all_paths root
+  pub pool : q' ≡ with_domains q (made_names root)
+  pub given : ds ≡ domains_from (all_definitions root) (length q.signals) (domain_names root)
+
+module _ (q : Pooled) (root : Fragment) (q' : Pooled) (ds : List Domain) (own ps : List Process) (paths : List (List ℕ)) (h : AreWhole q root q' ds own ps paths) where
+  pub by_whole : (P : Pooled → List Domain → List Process → List Process → List (List ℕ) → Type 0)
+      → P (with_domains q (made_names root)) (domains_from (all_definitions root) (length q.signals) (domain_names root)) root.processes (all_processes root) (all_paths root) → P q' ds own ps paths
+  by_whole P k =
+      subst (λ x. P x ds own ps paths) (sym h.pool)
+      (subst (λ x. P (with_domains q (made_names root)) x own ps paths) (sym h.given)
+      (subst (λ x. P (with_domains q (made_names root)) (domains_from (all_definitions root) (length q.signals) (domain_names root)) x ps paths) (sym h.top)
+      (subst (λ x. P (with_domains q (made_names root)) (domains_from (all_definitions root) (length q.signals) (domain_names root)) root.processes x paths) (sym h.walked)
+      (subst (λ x. P (with_domains q (made_names root)) (domains_from (all_definitions root) (length q.signals) (domain_names root)) root.processes (all_processes root) x) (sym h.under) k))))
+
+-- the domains of the names that were walked
+pub made_whole : (q q' : Pooled) (root : Fragment) (found : List DomainDef) (said : List (List ℕ)) (ds : List Domain) → found ≡ all_definitions root → said ≡ all_names root → AreMade q found said q' ds → AreMade q (all_definitions root) (all_names root) q' ds
+made_whole q q' root found said ds e f h = subst (λ x. AreMade q x (all_names root) q' ds) e (subst (λ x. AreMade q found x q' ds) f h)

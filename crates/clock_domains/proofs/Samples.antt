@@ -1,26 +1,29 @@
 -- Small modules and what they come to, by computation.
-use Rattle.std.specs.Prelude.{◌≡◌, refl, ℕ, true, false, List, [], ◌∷◌, ◌++◌, pos, Result, Ok, Err, codes}
+use Rattle.std.specs.Prelude.{◌≡◌, refl, ℕ, true, false, List, [], ◌∷◌, ◌++◌, pos, Option, Some, None, Result, Ok, Err, codes}
 use Rattle.std.specs.Fmt.{digits}
 use Rattle.shape_rules.specs.Forms.{unsigned}
 use Rattle.amh_host.specs.declared.place.Place.{Place}
+use Rattle.design_ir.specs.declared.ids.SigId.{SigId}
 use Rattle.design_ir.specs.declared.signal.Sig.{Sig}
+use Rattle.design_ir.specs.declared.domain.Domain.{Domain}
+use Rattle.design_ir.specs.declared.domain.DomainDef.{DomainDef}
 use Rattle.design_ir.specs.declared.expr.Expr.TheVariants as expr
 use Rattle.design_ir.specs.declared.port.Port.{Port}
 use Rattle.design_ir.specs.declared.port.Column.{Column}
 use Rattle.design_ir.specs.declared.process.Side.{Side}
-use Rattle.design_ir.specs.declared.process.Side.TheVariants.{Clocked}
+use Rattle.design_ir.specs.declared.process.Side.TheVariants.{Comb, Clocked}
 use Rattle.design_ir.specs.declared.process.Process.{Process}
 use Rattle.design_ir.specs.declared.fragment.Fragment.{Fragment}
-use Rattle.design_ir.specs.Forests.{bare}
+use Rattle.design_ir.specs.Forests.{Forest, bare, grown}
 use Rattle.design_ir.specs.Trees.{Block, done, next, Statement, assign}
 use Rattle.design_ir.specs.Pools.{Pooled}
 use Rattle.design_ir.specs.Targets.{target_signals}
 use Rattle.design_ir.specs.Circuits.{Circuit}
 use Rattle.clock_domains.specs.declared.top.TopPorts.TheVariants.{Members, Loose}
 use Rattle.clock_domains.specs.declared.stop.ResolveStop.{ResolveStop}
-use Rattle.clock_domains.specs.declared.stop.ResolveStop.TheVariants.{DrivenInput, TwoDrivers}
+use Rattle.clock_domains.specs.declared.stop.ResolveStop.TheVariants.{DomainClash, DrivenInput, TwoDrivers}
 use Rattle.clock_domains.specs.Reads.{signals_in, offsets_in}
-use Rattle.clock_domains.specs.Resolved.{domain_prefix, columns_after, resolved_in, resolved}
+use Rattle.clock_domains.specs.Resolved.{domain_prefix, domain_names, columns_after, resolved_in, resolved}
 
 place : ℕ → Place
 place line = record { line = line; col = 13 }
@@ -46,6 +49,9 @@ under side ss = record { side = side; body = block ss }
     block : List Statement → Block
     block [] = done
     block (s ∷ ss) = next s (block ss)
+
+at : List ℕ → ℕ → Column
+at name s = record { name = name; sig = record { 0 = s } }
 
 shown : Result Circuit ResolveStop → List Port
 shown (Ok c) = c.ports
@@ -76,6 +82,134 @@ two_drivers = refl
 driven_input : resolved pool twice (Members (port (codes "b") 1 ∷ [])) ≡ Err (DrivenInput (place 4))
 unfolding resolved_in resolved twice module_of under set place pool one_bit port target_signals
 driven_input = refl
+
+-- ---- modules below the top
+
+-- a module with these processes and none below it, before others
+leaf : List ℕ → List Process → Forest → Forest
+leaf name ps rest = grown (record { name = name; is_part = false; domains = []; processes = ps; memories = [] }) bare rest
+
+over : Forest → Fragment
+over below = record { name = codes "m"; is_part = false; domains = []; processes = []; memories = []; submodules = below }
+
+-- the statement `m.d.sync += b.eq(a)` in a submodule `sub`
+one_below : Fragment
+unfolding over leaf under set place
+one_below = over (leaf (codes "sub") (under (Clocked (codes "sync")) (set 5 1 0 ∷ []) ∷ []) bare)
+
+-- what a submodule alone drives is no port of the top
+below_ports : shown (resolved pool one_below Loose) ≡ port (codes "clk") 2 ∷ port (codes "rst") 3 ∷ port (codes "a") 0 ∷ []
+unfolding resolved_in resolved one_below over leaf under set place pool one_bit shown port target_signals signals_in offsets_in
+below_ports = refl
+
+shown_columns : Result Circuit ResolveStop → List Column
+shown_columns (Ok c) = c.columns
+shown_columns (Err stop) = []
+
+-- a register has the path of the submodule that drives it
+below_columns : shown_columns (resolved pool one_below Loose) ≡ at (codes "clk") 2 ∷ at (codes "rst") 3 ∷ at (codes "a") 0 ∷ at (codes "sub.b") 1 ∷ []
+unfolding resolved_in resolved one_below over leaf under set place pool one_bit shown_columns at target_signals signals_in offsets_in
+below_columns = refl
+
+-- one signal from two modules in one domain: the second statement is told
+two_below : Fragment
+unfolding over leaf under set place
+two_below = over (leaf (codes "first") (under (Clocked (codes "sync")) (set 4 1 0 ∷ []) ∷ []) (leaf (codes "second") (under (Clocked (codes "sync")) (set 5 1 0 ∷ []) ∷ []) bare))
+
+two_modules : resolved pool two_below Loose ≡ Err (TwoDrivers (place 5))
+unfolding resolved_in resolved two_below over leaf under set place pool one_bit target_signals
+two_modules = refl
+
+-- ---- domains that modules define
+
+-- the signals `a` and `b`, and `c` and `r` for the clock and the reset of a domain; and their expressions
+wide_pool : Pooled
+unfolding one_bit
+wide_pool = record {
+  signals = one_bit (codes "a") ∷ one_bit (codes "b") ∷ one_bit (codes "c") ∷ one_bit (codes "r") ∷ [];
+  exprs = expr.Sig (record { 0 = 0 }) ∷ expr.Sig (record { 0 = 1 }) ∷ expr.Sig (record { 0 = 2 }) ∷ expr.Sig (record { 0 = 3 }) ∷ [];
+}
+
+-- `m.domains.NAME = cd`, of signal 2 and a reset, where there is one
+define : ℕ → List ℕ → Option SigId → DomainDef
+unfolding place
+define line name reset = record { domain = record { name = name; clk = record { 0 = 2 }; rst = reset; falling = false; async_reset = false }; place = place line }
+
+with_reset : Option SigId
+with_reset = Some (record { 0 = 3 })
+
+defining : List DomainDef → List Process → Forest → Fragment
+defining ds ps below = record { name = codes "m"; is_part = false; domains = ds; processes = ps; memories = []; submodules = below }
+
+defining_leaf : List ℕ → List DomainDef → List Process → Forest
+defining_leaf name ds ps = grown (record { name = name; is_part = false; domains = ds; processes = ps; memories = [] }) bare bare
+
+shown_domains : Result Circuit ResolveStop → List Domain
+shown_domains (Ok c) = c.domains
+shown_domains (Err stop) = []
+
+-- a submodule defines `sync`, which the module above it uses: nothing is made, and the domain's own signals are its ports
+used_above : Fragment
+unfolding defining defining_leaf define with_reset under set place
+used_above = defining [] (under (Clocked (codes "sync")) (set 5 1 0 ∷ []) ∷ []) (defining_leaf (codes "sub") (define 3 (codes "sync") with_reset ∷ []) [])
+
+above_ports : shown (resolved wide_pool used_above Loose) ≡ port (codes "c") 2 ∷ port (codes "r") 3 ∷ port (codes "a") 0 ∷ record (port (codes "b") 1) { is_input = false } ∷ []
+unfolding resolved_in resolved used_above defining defining_leaf define with_reset under set place wide_pool one_bit shown port target_signals signals_in offsets_in
+above_ports = refl
+
+-- one that is reset_less has a clock alone
+without_reset : Fragment
+unfolding defining define under set place
+without_reset = defining (define 3 (codes "sync") None ∷ []) (under (Clocked (codes "sync")) (set 5 1 0 ∷ []) ∷ []) bare
+
+clock_alone : shown (resolved wide_pool without_reset Loose) ≡ port (codes "c") 2 ∷ port (codes "a") 0 ∷ record (port (codes "b") 1) { is_input = false } ∷ []
+unfolding resolved_in resolved without_reset defining define under set place wide_pool one_bit shown port target_signals signals_in offsets_in
+clock_alone = refl
+
+-- the top drives the reset: it is an output then
+driving_reset : Fragment
+unfolding defining define with_reset under set place
+driving_reset = defining (define 3 (codes "sync") with_reset ∷ []) (under Comb (set 4 3 0 ∷ []) ∷ under (Clocked (codes "sync")) (set 5 1 0 ∷ []) ∷ []) bare
+
+driven_reset : shown (resolved wide_pool driving_reset Loose) ≡ port (codes "c") 2 ∷ port (codes "a") 0 ∷ record (port (codes "b") 1) { is_input = false } ∷ record (port (codes "r") 3) { is_input = false } ∷ []
+unfolding resolved_in resolved driving_reset defining define with_reset under set place wide_pool one_bit shown port target_signals signals_in offsets_in
+driven_reset = refl
+
+-- a clock is never driven
+driving_clock : Fragment
+unfolding defining define with_reset under set place
+driving_clock = defining (define 3 (codes "sync") with_reset ∷ []) (under Comb (set 4 2 0 ∷ []) ∷ []) bare
+
+driven_clock : resolved wide_pool driving_clock Loose ≡ Err (DrivenInput (place 4))
+unfolding resolved_in resolved driving_clock defining define with_reset under set place wide_pool one_bit target_signals
+driven_clock = refl
+
+-- a name that two modules define is told where it is defined again, and before the clock that is driven
+twice_defined : Fragment
+unfolding defining defining_leaf define with_reset under set place
+twice_defined = defining (define 3 (codes "sync") with_reset ∷ []) (under Comb (set 4 2 0 ∷ []) ∷ []) (defining_leaf (codes "sub") (define 7 (codes "sync") None ∷ []) [])
+
+told_again : resolved wide_pool twice_defined Loose ≡ Err (DomainClash (place 7))
+unfolding resolved twice_defined defining defining_leaf define with_reset under set place
+told_again = refl
+
+-- a module's definitions come before its statements, and these before the modules below it; a name comes once
+in_order : Fragment
+unfolding defining defining_leaf define with_reset under set place
+in_order = defining (define 3 (codes "slow") with_reset ∷ []) (under (Clocked (codes "sync")) (set 4 0 1 ∷ []) ∷ []) (defining_leaf (codes "sub") (define 5 (codes "fast") None ∷ []) (under (Clocked (codes "slow")) (set 6 1 0 ∷ []) ∷ []))
+
+order_names : domain_names in_order ≡ codes "slow" ∷ codes "sync" ∷ codes "fast" ∷ []
+unfolding in_order defining defining_leaf define with_reset under
+order_names = refl
+
+-- the signals of `sync`, which no module defines, are made behind the others
+made_beside : shown_domains (resolved wide_pool in_order Loose)
+    ≡ record { name = codes "slow"; clk = record { 0 = 2 }; rst = with_reset; falling = false; async_reset = false } ∷ record { name = codes "sync"; clk = record { 0 = 4 }; rst = Some (record { 0 = 5 }); falling = false; async_reset = false }
+    ∷ record { name = codes "fast"; clk = record { 0 = 2 }; rst = None; falling = false; async_reset = false } ∷ []
+unfolding resolved_in resolved in_order defining defining_leaf define with_reset under set place wide_pool one_bit shown_domains target_signals signals_in offsets_in
+made_beside = refl
+
+-- ---- names
 
 -- domain `fast` has `fast_clk` and `fast_rst`
 fast_prefix : domain_prefix (codes "fast") ++ codes "clk" ≡ codes "fast_clk"

@@ -24,7 +24,7 @@ arm_names n (b ∷ arms) (suc i) a h at = arm_names n arms i a (below_split n (b
 
 -- ---- one more at the end
 
-targets-push : (ss : List Stmt) (s : Stmt) → block_targets (block_of (ss ++ s ∷ [])) ≡ block_targets (block_of ss) ++ statement_targets (statement_of s)
+pub targets-push : (ss : List Stmt) (s : Stmt) → block_targets (block_of (ss ++ s ∷ [])) ≡ block_targets (block_of ss) ++ statement_targets (statement_of s)
 targets-push [] s = append-nil (statement_targets (statement_of s))
 targets-push (t ∷ ss) s = ap (λ xs. statement_targets (statement_of t) ++ xs) (targets-push ss s) ∙ sym (append_assoc (statement_targets (statement_of t)) (block_targets (block_of ss)) (statement_targets (statement_of s)))
 
@@ -32,7 +32,7 @@ values-push : (ss : List Stmt) (s : Stmt) → block_values (block_of (ss ++ s �
 values-push [] s = append-nil (statement_values (statement_of s))
 values-push (t ∷ ss) s = ap (λ xs. statement_values (statement_of t) ++ xs) (values-push ss s) ∙ sym (append_assoc (statement_values (statement_of t)) (block_values (block_of ss)) (statement_values (statement_of s)))
 
-arm_targets-push : (arms : List Arm) (x : Arm) → choices_targets (choices_of (arms ++ x ∷ [])) ≡ choices_targets (choices_of arms) ++ block_targets x.body
+pub arm_targets-push : (arms : List Arm) (x : Arm) → choices_targets (choices_of (arms ++ x ∷ [])) ≡ choices_targets (choices_of arms) ++ block_targets x.body
 arm_targets-push [] x = append-nil (block_targets x.body)
 arm_targets-push (y ∷ arms) x = ap (λ xs. block_targets y.body ++ xs) (arm_targets-push arms x) ∙ sym (append_assoc (block_targets y.body) (choices_targets (choices_of arms)) (block_targets x.body))
 

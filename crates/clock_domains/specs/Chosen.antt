@@ -17,8 +17,12 @@ is_new q taken p = not (taken p.sig.0) && has_width q p.sig.0
 abbrev pub held_port : (ℕ → Bool) → Port → Port
 held_port driven p = record p { is_input = not (driven p.sig.0) }
 
-abbrev pub known_port : Pooled → (driven read : ℕ → Bool) → ℕ → Option Port
-known_port q driven read s = if driven s then Some (port_of q false s) else (if read s then Some (port_of q true s) else None)
+-- whether it is an input: what the top's own statements drive is an output, and what is read and driven nowhere an input
+abbrev pub known_side : (own driven read : ℕ → Bool) → ℕ → Option Bool
+known_side own driven read s = if own s then Some false else (if read s && not (driven s) then Some true else None)
+
+abbrev pub known_port : Pooled → (own driven read : ℕ → Bool) → ℕ → Option Port
+known_port q own driven read s = if own s then Some (port_of q false s) else (if read s && not (driven s) then Some (port_of q true s) else None)
 
 abbrev pub AreThere : Pooled → Port → Type 0
 AreThere q p = p.sig.0 < length q.signals
@@ -33,14 +37,15 @@ pub record IsSignal (q : Pooled) (d : Domain) : Type 0 where
   pub reset : IsResetThere q d.rst
 
 -- only signals of the pool are driven or read
-pub record IsKnown (q : Pooled) (driven read : List Bool) : Type 0 where
+pub record IsKnown (q : Pooled) (own driven read : List Bool) : Type 0 where
+  pub own_size : length own ≡ 16384
   pub driven_size : length driven ≡ 16384
   pub read_size : length read ≡ 16384
-  pub driven_there : (s : ℕ) → is_marked driven s ≡ true → s < length q.signals
+  pub own_there : (s : ℕ) → is_marked own s ≡ true → s < length q.signals
   pub read_there : (s : ℕ) → is_marked read s ≡ true → s < length q.signals
 
 -- the ports of the top, by marks
-abbrev pub known_ports : Pooled → (driven read : List Bool) → TopPorts → List Port
-known_ports q driven read (Members given) = given
-known_ports q driven read (Held given) = map (held_port (is_marked driven)) given
-known_ports q driven read Loose = filter_map (known_port q (is_marked driven) (is_marked read)) (range_with_len 0 (length driven))
+abbrev pub known_ports : Pooled → (own driven read : List Bool) → TopPorts → List Port
+known_ports q own driven read (Members given) = given
+known_ports q own driven read (Held given) = map (held_port (is_marked driven)) given
+known_ports q own driven read Loose = filter_map (known_port q (is_marked own) (is_marked driven) (is_marked read)) (range_with_len 0 (length own))

@@ -1,3 +1,4 @@
+pub mod Walks
 pub mod Reads
 pub mod Resolvable
 pub mod Resolved
@@ -5,5 +6,7 @@ pub mod Marks
 pub mod Stops
 pub mod Made
 pub mod Chosen
+pub mod Firsts
+pub mod Numbers
 pub mod Tracked
 pub mod Ready

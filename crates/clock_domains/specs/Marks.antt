@@ -23,11 +23,6 @@ pub record Flag (flags : List Bool) (test : ℕ → Bool) : Type 0 where
   pub size : length flags ≡ 16384
   pub each : (s : ℕ) → s < 16384 → is_marked flags s ≡ test s
 
--- those that pass are marked too
-pub record AddsMarks (test : ℕ → Bool) (old new : List Bool) : Type 0 where
-  pub size : length new ≡ length old
-  pub each : (s : ℕ) → s < 16384 → is_marked new s ≡ (is_marked old s || test s)
-
 -- ---- what marks come to
 
 abbrev pub any_below : (ℕ → Bool) → ℕ → Bool

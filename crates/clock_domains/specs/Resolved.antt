@@ -1,4 +1,4 @@
--- The design that one module stands for, or the refusal of its domains or drivers. (Amaranth guide: Clock domains,
+-- The design that a module with those below it stands for, or the refusal of its domains or drivers. (Amaranth guide: Clock domains,
 -- Elaboration; what the guide leaves open, as which signals are ports and how they are named, is this project's own.)
 use Rattle.std.specs.Prelude.{◌≡◌, ℕ, suc, ◌+◌, ◌*◌, nat_lt, nat_le, ◌&&◌, ◌||◌, not, Bool, true, false, if◌then◌else◌, List, [], ◌∷◌, ◌++◌, map, length, slice_index_or, position, pos, Option, Some, None, is_some, option_map, unwrap_or, Result, Ok, Err, codes}
 use Rattle.std.specs.List.{flat_map, filter, filter_map, list_any, find, range_with_len}
@@ -11,6 +11,7 @@ use Rattle.design_ir.specs.declared.ids.DomainId.{DomainId}
 use Rattle.design_ir.specs.declared.ids.SigId.{SigId}
 use Rattle.design_ir.specs.declared.signal.Sig.{Sig}
 use Rattle.design_ir.specs.declared.domain.Domain.{Domain}
+use Rattle.design_ir.specs.declared.domain.DomainDef.{DomainDef}
 use Rattle.design_ir.specs.declared.port.Port.{Port}
 use Rattle.design_ir.specs.declared.port.Column.{Column}
 use Rattle.design_ir.specs.declared.process.Side.{Side}
@@ -30,15 +31,28 @@ use Rattle.clock_domains.specs.declared.top.TopPorts.TheVariants.{Members, Held,
 use Rattle.clock_domains.specs.declared.stop.ResolveStop.{ResolveStop}
 use Rattle.clock_domains.specs.declared.stop.ResolveStop.TheVariants.{DomainClash, NoReset, TwoDrivers, DrivenInput, Limit, NoMemory}
 use Rattle.clock_domains.specs.Reads.{is_read, is_driven}
+use Rattle.clock_domains.specs.Walks.{side_name, all_processes, all_paths, all_definitions, all_names}
 
--- ---- domains: one for each clocked side, in the order of first statements
+-- ---- domains: one for each name, in the order of fragments, and in each first of its definitions and then of its clocked sides
 
-abbrev pub side_name : Side → Option (List ℕ)
-side_name Comb = None
-side_name (Clocked n) = Some n
+-- each where it comes first
+abbrev pub each_once : List (List ℕ) → List (List ℕ)
+each_once [] = []
+each_once (n ∷ more) = n ∷ filter (λ m. not (text_eq n m)) (each_once more)
 
-abbrev pub domain_names : List Process → List (List ℕ)
-domain_names ps = filter_map (λ (p : Process). side_name p.side) ps
+abbrev pub domain_names : Fragment → List (List ℕ)
+domain_names root = each_once (all_names root)
+
+-- the domain that a fragment defines with a name
+abbrev pub defined_domain : List DomainDef → List ℕ → Option Domain
+defined_domain definitions n = option_map (λ (d : DomainDef). d.domain) (find (λ (d : DomainDef). text_eq d.domain.name n) definitions)
+
+-- the names with which no fragment defines one: their domains are made
+abbrev pub undefined_names : List DomainDef → List (List ℕ) → List (List ℕ)
+undefined_names definitions names = filter (λ n. not (is_some (defined_domain definitions n))) names
+
+abbrev pub made_names : Fragment → List (List ℕ)
+made_names root = undefined_names (all_definitions root) (domain_names root)
 
 -- the signals of domain `sync` are `clk` and `rst`, those of domain `x` are `x_clk` and `x_rst`
 abbrev pub domain_prefix : List ℕ → List ℕ
@@ -54,17 +68,50 @@ domain_signals name = bit_signal (domain_prefix name ++ codes "clk") ∷ bit_sig
 abbrev pub with_domains : Pooled → List (List ℕ) → Pooled
 with_domains q names = record q { signals = q.signals ++ flat_map domain_signals names }
 
--- the clock of each is the next signal, and the reset the one behind it; they rise, and reset at edges
-abbrev pub domains_from : ℕ → List (List ℕ) → List Domain
-domains_from n [] = []
-domains_from n (name ∷ more) = record { name = name; clk = record { 0 = n }; rst = Some (record { 0 = suc n }); falling = false; async_reset = false } ∷ domains_from (n + 2) more
+-- the clock of one that is made is the next signal, and its reset the one behind it; it rises, and resets at edges
+abbrev pub domain_at : ℕ → List ℕ → Domain
+domain_at n name = record { name = name; clk = record { 0 = n }; rst = Some (record { 0 = suc n }); falling = false; async_reset = false }
 
--- more domains than there may be, or too many signals with theirs, or too many bits
-abbrev pub is_past_limit : Pooled → List (List ℕ) → Bool
-is_past_limit q names = nat_lt 64 (length names) || (nat_lt 16384 (length q.signals + 2 * length names) || nat_lt 262144 (signal_bits q.signals + 2 * length names))
+-- the domain of a name: the one that is defined, or one that is made, and the number of the next signal behind it
+abbrev pub domain_for : Option Domain → ℕ → List ℕ → Domain
+domain_for (Some d) n name = d
+domain_for None n name = domain_at n name
+
+abbrev pub number_after : Option Domain → ℕ → ℕ
+number_after (Some d) n = n
+number_after None n = n + 2
+
+abbrev pub domains_from : List DomainDef → ℕ → List (List ℕ) → List Domain
+domains_from definitions n [] = []
+domains_from definitions n (name ∷ more) =
+    let defined = defined_domain definitions name in domain_for defined n name ∷ domains_from definitions (number_after defined n) more
+
+-- ---- refusals of domains
+
+abbrev pub has_name : List (List ℕ) → List ℕ → Bool
+has_name names name = list_any (text_eq name) names
+
+abbrev pub first_of : {A : Type 0} → Option A → Option A → Option A
+first_of None b = b
+first_of (Some a) b = Some a
+
+-- that of the first definition whose name one before it has
+abbrev pub clash_after : List (List ℕ) → List DomainDef → Option ResolveStop
+clash_after names [] = None
+clash_after names (d ∷ more) =
+    first_of (if has_name names d.domain.name then Some (DomainClash d.place) else None) (clash_after (names ++ d.domain.name ∷ []) more)
+
+-- more domains than there may be, or too many signals with those that are made, or too many bits
+abbrev pub is_past_limit : Pooled → List DomainDef → List (List ℕ) → Bool
+is_past_limit q definitions names =
+    let more : ℕ = 2 * length (undefined_names definitions names) in
+    nat_lt 64 (length names) || (nat_lt 16384 (length q.signals + more) || nat_lt 262144 (signal_bits q.signals + more))
 
 abbrev pub file_start : Place
 file_start = record { line = 1; col = 1 }
+
+abbrev pub limit_where : Bool → Option ResolveStop
+limit_where passed = if passed then Some (Limit file_start) else None
 
 -- ---- drivers
 
@@ -74,14 +121,14 @@ top_inputs (Members ps) = map (λ (p : Port). p.sig.0) (filter (λ (p : Port). p
 top_inputs (Held ps) = []
 top_inputs Loose = []
 
+-- and the clocks of the domains
+abbrev pub design_inputs : List Domain → TopPorts → List ℕ
+design_inputs domains top = map (λ (d : Domain). d.clk.0) domains ++ top_inputs top
+
 -- an input that a statement drives is told before a signal that another process drives
 abbrev pub statement_refusal : Pooled → (inputs before : List ℕ) → Guarded → Option ResolveStop
 statement_refusal q inputs before g =
     if share (target_signals q g.target.0) inputs then Some (DrivenInput g.place) else (if share (target_signals q g.target.0) before then Some (TwoDrivers g.place) else None)
-
-abbrev pub first_of : {A : Type 0} → Option A → Option A → Option A
-first_of None b = b
-first_of (Some a) b = Some a
 
 -- that of the first statement that has one
 abbrev pub first_refusal : (Guarded → Option ResolveStop) → List Guarded → Option ResolveStop
@@ -113,22 +160,26 @@ has_width q s = nat_le 1 (signal_form q.signals s).width
 abbrev pub port_of : Pooled → Bool → ℕ → Port
 port_of q is_input s = record { name = signal_name q s; sig = record { 0 = s }; is_input = is_input }
 
--- the clock of a domain and its reset are inputs
-abbrev pub ports_of_domain : Pooled → Domain → List Port
-ports_of_domain q d = port_of q true d.clk.0 ∷ option_map_or (λ (s : SigId). port_of q true s.0 ∷ []) d.rst []
+-- the clock of a domain is an input, and so is its reset where nothing drives it
+abbrev pub reset_port : Pooled → (driven : ℕ → Bool) → SigId → List Port
+reset_port q driven s = if driven s.0 then [] else port_of q true s.0 ∷ []
 
-abbrev pub domain_ports : Pooled → List Domain → List Port
-domain_ports q domains = flat_map (ports_of_domain q) domains
+abbrev pub ports_of_domain : Pooled → (driven : ℕ → Bool) → Domain → List Port
+ports_of_domain q driven d = port_of q true d.clk.0 ∷ option_map_or (reset_port q driven) d.rst []
 
--- what is driven is an output, and what is only read an input
-abbrev pub loose_port : Pooled → List Process → ℕ → Option Port
-loose_port q ps s = if is_driven q ps s then Some (port_of q false s) else (if is_read q ps s then Some (port_of q true s) else None)
+abbrev pub domain_ports : Pooled → (driven : ℕ → Bool) → List Domain → List Port
+domain_ports q driven domains = flat_map (ports_of_domain q driven) domains
+
+-- what the top's own statements drive is an output, and what is read and driven nowhere an input
+abbrev pub loose_port : Pooled → (own ps : List Process) → ℕ → Option Port
+loose_port q own ps s =
+    if is_driven q own s then Some (port_of q false s) else (if is_read q ps s && not (is_driven q ps s) then Some (port_of q true s) else None)
 
 -- members as they were given, held signals as inputs where nothing drives them, loose signals in order of making
-abbrev pub top_ports : Pooled → List Process → TopPorts → List Port
-top_ports q ps (Members given) = given
-top_ports q ps (Held given) = map (λ (p : Port). record p { is_input = not (is_driven q ps p.sig.0) }) given
-top_ports q ps Loose = filter_map (loose_port q ps) (range_with_len 0 (length q.signals))
+abbrev pub top_ports : Pooled → (own ps : List Process) → TopPorts → List Port
+top_ports q own ps (Members given) = given
+top_ports q own ps (Held given) = map (λ (p : Port). record p { is_input = not (is_driven q ps p.sig.0) }) given
+top_ports q own ps Loose = filter_map (loose_port q own ps) (range_with_len 0 (length q.signals))
 
 abbrev pub signals_of : List Port → List ℕ
 signals_of ports = map (λ (p : Port). p.sig.0) ports
@@ -145,9 +196,6 @@ is_clocked p = is_some (side_name p.side)
 abbrev pub named_registers : Pooled → List Process → List Port → List ℕ
 named_registers q ps ports =
     filter (λ s. is_driven q (filter is_clocked ps) s && (not (is_among (signals_of ports) s) && has_width q s)) (range_with_len 0 (length q.signals))
-
-abbrev pub has_name : List (List ℕ) → List ℕ → Bool
-has_name names name = list_any (text_eq name) names
 
 abbrev pub numbered_name : List ℕ → ℕ → List ℕ
 numbered_name name k = name ++ (codes "$" ++ decimal k)
@@ -166,11 +214,18 @@ columns_after names (c ∷ more) = record c { name = fresh_name names c.name } �
 abbrev pub column_of_port : Port → Column
 column_of_port p = record { name = p.name; sig = p.sig }
 
-abbrev pub column_of_register : Pooled → ℕ → Column
-column_of_register q s = record { name = signal_name q s; sig = record { 0 = s } }
+-- the path of the first clocked process that drives a signal
+abbrev pub register_path : Pooled → List Process → List (List ℕ) → ℕ → List ℕ
+register_path q [] paths s = []
+register_path q (p ∷ ps) [] s = []
+register_path q (p ∷ ps) (path ∷ paths) s = if is_clocked p && is_among (driven q p.body) s then path else register_path q ps paths s
 
-abbrev pub columns_of : Pooled → List Port → List ℕ → List Column
-columns_of q ports registers = columns_after [] (map column_of_port ports ++ map (column_of_register q) registers)
+-- a register has its own name behind the path of what drives it
+abbrev pub column_of_register : Pooled → List Process → List (List ℕ) → ℕ → Column
+column_of_register q ps paths s = record { name = register_path q ps paths s ++ signal_name q s; sig = record { 0 = s } }
+
+abbrev pub columns_of : Pooled → List Process → List (List ℕ) → List Port → List ℕ → List Column
+columns_of q ps paths ports registers = columns_after [] (map column_of_port ports ++ map (column_of_register q ps paths) registers)
 
 -- a port has the name of its column
 abbrev pub ports_named : List Port → List Column → List Port
@@ -180,28 +235,33 @@ ports_named (p ∷ ports) (c ∷ columns) = record p { name = c.name } ∷ ports
 
 -- ---- the design
 
-abbrev pub ports_of : Pooled → List Domain → List Process → TopPorts → List Port
-ports_of q domains ps top = and_new q (domain_ports q domains) (top_ports q ps top)
+abbrev pub ports_of : Pooled → List Domain → (own ps : List Process) → TopPorts → List Port
+ports_of q domains own ps top = and_new q (domain_ports q (is_driven q ps) domains) (top_ports q own ps top)
 
 abbrev pub circuit_with : Pooled → List Domain → List Process → List Port → List Column → Circuit
 circuit_with q domains ps ports columns = record { pool = q; processes = map (process_in domains) ps; memories = []; domains = domains; ports = ports_named ports columns; columns = columns }
 
-abbrev pub circuit_of : Pooled → List Domain → List Process → List Port → Circuit
-circuit_of q domains ps ports = circuit_with q domains ps ports (columns_of q ports (named_registers q ps ports))
+abbrev pub circuit_of : Pooled → List Domain → List Process → List (List ℕ) → List Port → Circuit
+circuit_of q domains ps paths ports = circuit_with q domains ps ports (columns_of q ps paths ports (named_registers q ps ports))
 
-abbrev pub or_refused : Option ResolveStop → Circuit → Result Circuit ResolveStop
-or_refused None c = Ok c
-or_refused (Some stop) c = Err stop
+-- a refusal comes before what would be there
+abbrev pub unless : Option ResolveStop → Result Circuit ResolveStop → Result Circuit ResolveStop
+unless None r = r
+unless (Some stop) r = Err stop
 
 -- over the pool with the domains' signals, the drivers are told before there is a design
-unfoldable pub resolved_in : Pooled → List Domain → List Process → TopPorts → Result Circuit ResolveStop
-resolved_in q domains ps top = or_refused (driver_refusal q (top_inputs top) [] ps) (circuit_of q domains ps (ports_of q domains ps top))
+unfoldable pub resolved_in : Pooled → List Domain → (own ps : List Process) → List (List ℕ) → TopPorts → Result Circuit ResolveStop
+resolved_in q domains own ps paths top =
+    unless (driver_refusal q (design_inputs domains top) [] ps) (Ok (circuit_of q domains ps paths (ports_of q domains own ps top)))
 
--- the limits are told before the drivers
+-- a clash is told before the limits, and these before the drivers
 unfoldable pub resolved : Pooled → Fragment → TopPorts → Result Circuit ResolveStop
 resolved q root top =
-    if is_past_limit q (domain_names root.processes) then Err (Limit file_start)
-    else resolved_in (with_domains q (domain_names root.processes)) (domains_from (length q.signals) (domain_names root.processes)) root.processes top
+    let definitions = all_definitions root in
+    let names = domain_names root in
+    unless (clash_after [] definitions)
+    (unless (limit_where (is_past_limit q definitions names))
+    (resolved_in (with_domains q (made_names root)) (domains_from definitions (length q.signals) names) root.processes (all_processes root) (all_paths root) top))
 
 -- ---- refusals
 

@@ -1,10 +1,8 @@
 -- The first statement of a tree that is refused, by its target and its place.
-use Rattle.std.specs.Prelude.{◌≡◌, ℕ, Bool, if◌then◌else◌, List, Option, Some, None}
-use Rattle.std.specs.List.{list_any}
+use Rattle.std.specs.Prelude.{◌≡◌, ℕ, suc, Bool, if◌then◌else◌, List, [], ◌∷◌, Option, Some, None}
 use Rattle.amh_host.specs.declared.place.Place.{Place}
 use Rattle.design_ir.specs.Trees.{Statement, assign, choose, Choices, none, arm, Block, done, next}
-use Rattle.design_ir.specs.Pools.{Pooled}
-use Rattle.design_ir.specs.Targets.{target_signals}
+use Rattle.design_ir.specs.declared.process.Process.{Process}
 use Rattle.clock_domains.specs.declared.stop.ResolveStop.{ResolveStop}
 use Rattle.clock_domains.specs.declared.stop.ResolveStop.TheVariants.{DomainClash, NoReset, TwoDrivers, DrivenInput, Limit, NoMemory}
 use Rattle.clock_domains.specs.Marks.{is_marked}
@@ -23,14 +21,14 @@ abbrev mutual
   block_stop stop done = None
   block_stop stop (next s rest) = first_of (statement_stop stop s) (block_stop stop rest)
 
+-- of processes in order, each by its number
+abbrev pub processes_stop : (ℕ → ℕ → Place → Option ResolveStop) → ℕ → List Process → Option ResolveStop
+processes_stop stop n [] = None
+processes_stop stop n (p ∷ ps) = first_of (block_stop (stop n) p.body) (processes_stop stop (suc n) ps)
+
 -- by marks of the targets that stand for inputs, and of those that stand for what is driven already
 abbrev pub target_stop : (on_inputs taken : List Bool) → ℕ → Place → Option ResolveStop
 target_stop on_inputs taken target place = if is_marked on_inputs target then Some (DrivenInput place) else (if is_marked taken target then Some (TwoDrivers place) else None)
-
--- by marks of the inputs, and of what is driven already
-abbrev pub signal_stop : Pooled → (inputs taken : List Bool) → ℕ → Place → Option ResolveStop
-signal_stop q inputs taken target place =
-    if list_any (is_marked inputs) (target_signals q target) then Some (DrivenInput place) else (if list_any (is_marked taken) (target_signals q target) then Some (TwoDrivers place) else None)
 
 -- ---- refusals
 

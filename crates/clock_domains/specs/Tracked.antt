@@ -1,10 +1,8 @@
 -- How the names of columns are kept: each with the greatest number that it was given.
-use Rattle.std.specs.Prelude.{◌≡◌, ℕ, ◌<◌, ◌≤◌, Bool, true, false, cond, bytes_eq, is_some, List, map, length, String, Option, Some}
+use Rattle.std.specs.Prelude.{◌≡◌, ℕ, ◌<◌, ◌≤◌, true, false, cond, bytes_eq, is_some, List, map, length, String, Option, Some}
 use Rattle.std.specs.BTreeMap.{BTreeMap, get_by_text}
 use Rattle.std.specs.declared.alloc.Global.{Global}
 use Rattle.design_ir.specs.declared.port.Column.{Column}
-use Rattle.design_ir.specs.Pools.{Pooled}
-use Rattle.clock_domains.specs.Marks.{is_marked}
 use Rattle.clock_domains.specs.Resolved.{has_name, numbered_name}
 
 abbrev pub names_of : List Column → List (List ℕ)
@@ -28,11 +26,6 @@ pub record IsFree (names : List (List ℕ)) (name : List ℕ) (number : ℕ) : T
   pub few : number ≤ length names
   pub before : (j : ℕ) → 1 ≤ j → j < number → has_name names (numbered_name name j) ≡ true
   pub new : has_name names (numbered_name name number) ≡ false
-
--- only signals of the pool are marked
-pub record IsMarkedThere (q : Pooled) (marks : List Bool) : Type 0 where
-  pub size : length marks ≡ 16384
-  pub there : (s : ℕ) → is_marked marks s ≡ true → s < length q.signals
 
 -- a look-up in which a name has a number now
 abbrev pub IsPut : (List ℕ → Option ℕ) → List ℕ → ℕ → (List ℕ → Option ℕ) → Type 0

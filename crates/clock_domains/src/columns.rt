@@ -1,10 +1,11 @@
 // The columns of a design, and their names.
-ghost use Rattle.std.specs.Prelude.{◌≡◌, ◌<◌, ◌≤◌, ◌&&◌, ◌++◌, ◌∷◌, [], true, false, not, map, length, Some, is_some, IfOk, OnOk};
+ghost use Rattle.std.specs.Prelude.{◌≡◌, ℕ, ◌<◌, ◌≤◌, ◌&&◌, ◌++◌, ◌∷◌, [], true, false, not, map, length, Some, is_some, IfOk, OnOk};
 ghost use Rattle.std.specs.List.{AllByRecursion, filter, range_with_len};
 ghost use Rattle.std.specs.BTreeMap.{get_by_text};
 ghost use Rattle.clock_domains.specs.Marks.{is_marked};
-ghost use Rattle.clock_domains.specs.Tracked.{AreTaken, IsFree, IsMarkedThere, IsPut, IsTracked, names_of};
-ghost use Rattle.clock_domains.specs.Resolved.{column_of_port, column_of_register, columns_after, columns_of, fresh_name, has_name, has_width, numbered_name, ports_named};
+ghost use Rattle.clock_domains.specs.Tracked.{AreTaken, IsFree, IsPut, IsTracked, names_of};
+ghost use Rattle.clock_domains.specs.Firsts.{AreNumbersThere, IsPlace, column_under, first_at, known_column, path_at};
+ghost use Rattle.clock_domains.specs.Resolved.{column_of_port, columns_after, fresh_name, has_name, has_width, numbered_name, ports_named};
 
 use crate::domains::copied;
 use crate::ports::has_width;
@@ -137,37 +138,77 @@ fn add_ports(
 // The columns of registers.
 fn add_registers(
     alloc: Global,
-    pool: &Pool,
     columns: &mut Columns,
     numbers: &mut BTreeMap<String, usize>,
-    registers: &[SigId],
+    registers: &[Column],
 ) -> Result<(), NoMemory>
-    requires there { AllByRecursion (λ s. s.0 < length pool.now.signals) registers.now }
     requires tracked { IsTracked numbers.old columns.old }
-    ensures columns { OnOk result (columns.new ≡ columns.old ++ columns_after (names_of columns.old) (map (column_of_register pool.now) (map (λ s. s.0) registers.now))) }
+    ensures columns { OnOk result (columns.new ≡ columns.old ++ columns_after (names_of columns.old) registers.now) }
     ensures tracked { OnOk result (IsTracked numbers.new columns.new) }
 {
-    for s in registers {
-        let name = pool.sig_at(*s).name.as_str();
-        add_column(alloc, columns, numbers, name, *s)?;
+    for register in registers {
+        add_column(
+            alloc,
+            columns,
+            numbers,
+            register.name.as_str(),
+            register.sig,
+        )?;
     }
     Ok(())
 }
 
-/// The columns of ports and then of registers.
-pub fn columns_of(
-    alloc: Global,
-    pool: &Pool,
-    ports: &[Port],
-    registers: &[SigId],
-) -> Result<Columns, NoMemory>
-    requires { AllByRecursion (λ s. s.0 < length pool.now.signals) registers.now }
-    ensures { IfOk result (λ cs. cs ≡ columns_of pool.now ports.now (map (λ s. s.0) registers.now)) }
+/// The columns of ports and then of registers, each under a name that none before it has.
+pub fn columns_of(alloc: Global, ports: &[Port], registers: &[Column]) -> Result<Columns, NoMemory>
+    ensures { IfOk result (λ cs. cs ≡ columns_after [] (map column_of_port ports.now ++ registers.now)) }
 {
     let mut columns = Items::new(alloc);
     let mut numbers = BTreeMap::new(alloc);
     add_ports(alloc, &mut columns, &mut numbers, ports)?;
-    add_registers(alloc, pool, &mut columns, &mut numbers, registers)?;
+    add_registers(alloc, &mut columns, &mut numbers, registers)?;
+    Ok(columns)
+}
+
+// The path of a process, where there is one.
+fn path_of(paths: &[Text], number: Option<usize>) -> &str
+    requires { IsPlace (length paths.now) number }
+    ensures { result.now ≡ path_at paths.now number }
+{
+    match number {
+        Some(number) => paths[number].as_str(),
+        None => "",
+    }
+}
+
+// A register under its own name behind a path.
+fn register_column(alloc: Global, pool: &Pool, path: &str, sig: SigId) -> Result<Column, NoMemory>
+    requires { sig.0 < length pool.now.signals }
+    ensures { IfOk result (λ c. c ≡ column_under pool.now path.now sig.0) }
+{
+    let mut name = copied(alloc, path)?;
+    name.push(pool.sig_at(sig).name.as_str())?;
+    Ok(Column { name, sig })
+}
+
+/// Registers under their names behind the paths of the processes that drive them.
+pub fn register_columns(
+    alloc: Global,
+    pool: &Pool,
+    paths: &[Text],
+    clocked: &[Option<usize>],
+    registers: &[SigId],
+) -> Result<Columns, NoMemory>
+    requires there { AllByRecursion (λ s. s.0 < length pool.now.signals) registers.now }
+    requires size { length clocked.now ≡ 16384 }
+    requires paths { (s : ℕ) → IsPlace (length paths.now) (first_at clocked.now s) }
+    ensures { IfOk result (λ cs. cs ≡ map (known_column pool.now paths.now clocked.now) (map (λ s. s.0) registers.now)) }
+{
+    let _ = pool.count();
+    let mut columns = Items::new(alloc);
+    for s in registers {
+        let path = path_of(paths, clocked[s.0 as usize]);
+        columns.push(register_column(alloc, pool, path, *s)?)?;
+    }
     Ok(columns)
 }
 
@@ -193,19 +234,19 @@ fn add_register(
 pub fn named_registers(
     alloc: Global,
     pool: &Pool,
-    clocked: &[bool],
+    clocked: &[Option<usize>],
     is_port: &[bool],
 ) -> Result<Vec<SigId>, NoMemory>
-    requires there { IsMarkedThere pool.now clocked.now }
+    requires there { AreNumbersThere pool.now clocked.now }
     requires size { length is_port.now ≡ 16384 }
-    ensures { IfOk result (λ v. map (λ s. s.0) v.items ≡ filter (λ s. is_marked clocked.now s && (not (is_marked is_port.now s) && has_width pool.now s)) (range_with_len 0 (length clocked.now))) }
+    ensures { IfOk result (λ v. map (λ s. s.0) v.items ≡ filter (λ s. is_some (first_at clocked.now s) && (not (is_marked is_port.now s) && has_width pool.now s)) (range_with_len 0 (length clocked.now))) }
 {
     let mut registers = Vec::new(alloc);
     for s in 0..clocked.len() {
         add_register(
             pool,
             &mut registers,
-            clocked[s],
+            clocked[s].is_some(),
             is_port[s],
             SigId(s as u32),
         )?;

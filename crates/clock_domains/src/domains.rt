@@ -1,18 +1,18 @@
-// The clock domains of a module, with their signals.
-ghost use Rattle.std.specs.Prelude.{◌≡◌, ◌≤◌, ◌++◌, ◌∷◌, [], false, position, map, length, option_map, IfOk, IfErr, OnOk};
+// The clock domains of all modules, with their signals.
+ghost use Rattle.std.specs.Prelude.{◌≡◌, ◌≤◌, ◌++◌, false, position, map, length, option_map, IfOk, IfErr, OnOk};
 ghost use Rattle.lists.specs.Texts.{text_eq};
 ghost use Rattle.design_ir.specs.PoolRules.{signal_refusal};
-ghost use Rattle.clock_domains.specs.Resolved.{domain_names, domain_prefix, with_domains, domains_from, is_past_limit, file_start, domain_number, process_in};
-ghost use Rattle.clock_domains.specs.Made.{stop_of, limit, IsMade, domain_at, with_domain, is_full, limit_where, IsSideMade, IsSideOwed};
+ghost use Rattle.clock_domains.specs.Resolved.{defined_domain, domain_at, domain_for, domain_number, domain_prefix, each_once, file_start, is_past_limit, limit_where, process_in};
+ghost use Rattle.clock_domains.specs.Made.{AreMade, IsMade, IsNameMade, IsNameOwed, is_made, is_tight, is_tight_for, limit, pool_for, stop_of, with_domain};
 ghost use Rattle.clock_domains.specs.Stops.{IsOwed};
 
-use crate::copies::copied_block;
+use crate::copies::copied_domain;
 use crate::stop::ResolveStop;
 use amh_bits::Int;
 use amh_host::{Items, NoMemory, Place, Text};
 use design_ir::{
-    DesignProcess, DesignProcesses, Domain, DomainId, Domains, Exprs, Pool, PoolStop, Process,
-    Side, Sig, SigId,
+    DesignProcess, DesignProcesses, Domain, DomainDef, DomainId, Domains, Exprs, Pool, PoolStop,
+    Process, Side, Sig, SigId,
 };
 use shape_rules::Shape;
 use std::alloc::Global;
@@ -78,66 +78,22 @@ fn bit_made(pool: &mut Pool, name: Text) -> Result<SigId, ResolveStop>
     }
 }
 
-// One domain more at the end, with its clock and its reset.
-fn add_domain(
-    alloc: Global,
-    pool: &mut Pool,
-    domains: &mut Domains,
-    name: &Text,
-) -> Result<(), ResolveStop>
-    ensures room { OnOk result (is_full pool.old domains.old ≡ false) }
+// A domain that is made, with its clock and its reset.
+fn domain_made(alloc: Global, pool: &mut Pool, name: &Text) -> Result<Domain, ResolveStop>
+    ensures room { OnOk result (is_tight pool.old ≡ false) }
     ensures pool { OnOk result (pool.new ≡ with_domain pool.old name.now) }
-    ensures domains { OnOk result (domains.new ≡ domains.old ++ domain_at (length pool.old.signals) name.now ∷ []) }
-    ensures refused { IfErr result (IsOwed (limit_where (is_full pool.old domains.old))) }
+    ensures domain { IfOk result (λ d. d ≡ domain_at (length pool.old.signals) name.now) }
+    ensures refused { IfErr result (IsOwed (limit_where (is_tight pool.old))) }
 {
-    if domains.len() >= 64 {
-        return Err(ResolveStop::Limit(file_start()));
-    }
     let clock = bit_made(pool, signal_name(alloc, name, "clk")?)?;
     let reset = bit_made(pool, signal_name(alloc, name, "rst")?)?;
-    domains.push(Domain {
+    Ok(Domain {
         name: copied(alloc, name.as_str())?,
         clk: clock,
         rst: Some(reset),
         falling: false,
         async_reset: false,
-    })?;
-    Ok(())
-}
-
-// A domain more, where a side is clocked.
-fn add_side(
-    alloc: Global,
-    pool: &mut Pool,
-    domains: &mut Domains,
-    side: &Side,
-) -> Result<(), ResolveStop>
-    ensures made { OnOk result (IsSideMade side.now pool.old domains.old pool.new domains.new) }
-    ensures refused { IfErr result (IsSideOwed side.now pool.old domains.old) }
-{
-    match side {
-        Side::Comb => Ok(()),
-        Side::Clocked(name) => add_domain(alloc, pool, domains, name),
-    }
-}
-
-/// A domain for each clocked side, in the order of the processes.
-pub fn domains_made(
-    alloc: Global,
-    pool: &mut Pool,
-    processes: &[Process],
-) -> Result<Domains, ResolveStop>
-    ensures room { OnOk result (is_past_limit pool.old (domain_names processes.now) ≡ false) }
-    ensures pool { OnOk result (pool.new ≡ with_domains pool.old (domain_names processes.now)) }
-    ensures domains { IfOk result (λ ds. ds ≡ domains_from (length pool.old.signals) (domain_names processes.now)) }
-    ensures refused { IfErr result (IsOwed (limit_where (is_past_limit pool.old (domain_names processes.now)))) }
-{
-    let _ = pool.count();
-    let mut domains = Items::new(alloc);
-    for process in processes {
-        add_side(alloc, pool, &mut domains, &process.side)?;
-    }
-    Ok(domains)
+    })
 }
 
 // The number of the domain with a name, where one has it.
@@ -145,6 +101,72 @@ fn position_named(domains: &[Domain], name: &str) -> Option<usize>
     ensures { result ≡ position (λ d. text_eq d.name name.now) domains.now }
 {
     domains.iter().position(|d| d.name.is(name))
+}
+
+// The number of the first definition with a name, where one has it.
+fn definition_named(definitions: &[DomainDef], name: &str) -> Option<usize>
+    ensures { result ≡ position (λ d. text_eq d.domain.name name.now) definitions.now }
+{
+    definitions.iter().position(|d| d.domain.name.is(name))
+}
+
+// The domain of a name: the one that is defined, or one that is made.
+fn domain_of(
+    alloc: Global,
+    pool: &mut Pool,
+    definitions: &[DomainDef],
+    name: &Text,
+) -> Result<Domain, ResolveStop>
+    ensures room { OnOk result (is_tight_for (defined_domain definitions.now name.now) pool.old ≡ false) }
+    ensures pool { OnOk result (pool.new ≡ pool_for (defined_domain definitions.now name.now) pool.old name.now) }
+    ensures domain { IfOk result (λ d. d ≡ domain_for (defined_domain definitions.now name.now) (length pool.old.signals) name.now) }
+    ensures refused { IfErr result (IsOwed (limit_where (is_tight_for (defined_domain definitions.now name.now) pool.old))) }
+{
+    let _ = pool.count();
+    match definition_named(definitions, name.as_str()) {
+        Some(number) => Ok(copied_domain(alloc, &definitions[number].domain)?),
+        None => domain_made(alloc, pool, name),
+    }
+}
+
+// The domain of a name behind the others, where none of them has its name.
+fn add_domain(
+    alloc: Global,
+    pool: &mut Pool,
+    domains: &mut Domains,
+    definitions: &[DomainDef],
+    name: &Text,
+) -> Result<(), ResolveStop>
+    ensures made { OnOk result (IsNameMade (is_made domains.old name.now) (defined_domain definitions.now name.now) name.now pool.old domains.old pool.new domains.new) }
+    ensures refused { IfErr result (IsNameOwed (is_made domains.old name.now) (defined_domain definitions.now name.now) pool.old domains.old) }
+{
+    let _ = pool.count();
+    if position_named(domains.as_slice(), name.as_str()).is_some() {
+        return Ok(());
+    }
+    if domains.len() >= 64 {
+        return Err(ResolveStop::Limit(file_start()));
+    }
+    domains.push(domain_of(alloc, pool, definitions, name)?)?;
+    Ok(())
+}
+
+/// A domain for each name, in the order of the names.
+pub fn domains_made(
+    alloc: Global,
+    pool: &mut Pool,
+    definitions: &[DomainDef],
+    names: &[Text],
+) -> Result<Domains, ResolveStop>
+    ensures made { IfOk result (AreMade pool.old definitions.now names.now pool.new) }
+    ensures refused { IfErr result (IsOwed (limit_where (is_past_limit pool.old definitions.now (each_once names.now)))) }
+{
+    let _ = pool.count();
+    let mut domains = Items::new(alloc);
+    for name in names {
+        add_domain(alloc, pool, &mut domains, definitions, name)?;
+    }
+    Ok(domains)
 }
 
 // The number of a side's domain.
@@ -161,21 +183,21 @@ fn domain_number(domains: &[Domain], side: &Side) -> Option<DomainId>
     }
 }
 
-/// The processes of a module with the numbers of their domains.
+/// Processes with the numbers of their domains.
 pub fn processes_made(
     alloc: Global,
     domains: &[Domain],
-    processes: &[Process],
+    processes: Vec<Process>,
 ) -> Result<DesignProcesses, NoMemory>
     requires { length domains.now ≤ 64 }
-    ensures { IfOk result (λ ps. ps ≡ map (process_in domains.now) processes.now) }
+    ensures { IfOk result (λ ps. ps ≡ map (process_in domains.now) processes.items) }
 {
     let mut made = Items::new(alloc);
     for process in processes {
-        made.push(DesignProcess {
-            domain: domain_number(domains, &process.side),
-            body: copied_block(alloc, &process.body)?,
-        })?;
+        let side = process.side;
+        let body = process.body;
+        let domain = domain_number(domains, &side);
+        made.push(DesignProcess { domain, body })?;
     }
     Ok(made)
 }

@@ -1,17 +1,28 @@
-//! From a module to a design: its clock domains, who drives what, its ports and the columns of its trace.
+//! From a module with those below it to a design: its clock domains, who drives what, its ports and the columns of its trace.
 //!
-//! `resolve` gives exactly the design, or the first refusal, of specs/Resolved.antt. It makes the domains' signals
-//! (domains.rt), seeks the first statement that drives what it must not (drivers.rt), and chooses ports (ports.rt) and
-//! columns (columns.rt) by what is driven and what is read (reads.rt). Each expression of the pool is looked at once for
-//! each side, whatever statements share it (spread.rt, hits.rt).
+//! `resolve` gives exactly the design, or the first refusal, of specs/Resolved.antt. It walks the tree of modules into one
+//! list of processes, each with the path of its module, one of definitions and one of the names of domains (walk.rt). It
+//! looks for a name that is defined twice (clashes.rt), takes the domains that are defined and makes the others with their
+//! signals (domains.rt), seeks the first statement that drives what it must not (drivers.rt), and chooses ports (ports.rt)
+//! and columns (columns.rt) by what is driven and what is read (reads.rt).
+//!
+//! A design has many processes over one pool, and statements share its expressions, so neither is gone through once for each
+//! of the other. Marks of all targets are handed down from expressions to their parts in one pass (spread.rt). So are the
+//! numbers of processes, of which the least stay: each signal gets the first process that drives it (firsts.rt). One pass up
+//! gives each target the least number of its signals (leasts.rt). A statement drives what an earlier process drives exactly
+//! where that number is below its own process's (stops.rt).
 #![tactic(auto)]
 
+mod clashes;
 mod columns;
 mod copies;
 mod domains;
 mod drivers;
+mod firsts;
 mod hits;
+mod leasts;
 mod marks;
+mod numbers;
 mod ports;
 mod reads;
 mod resolving;
@@ -19,7 +30,9 @@ mod spread;
 mod stop;
 mod stops;
 mod top;
+mod walk;
 
+pub use copies::{copied_definition, copied_domain, copied_process};
 pub use resolving::resolve;
 pub use stop::ResolveStop;
 pub use top::TopPorts;

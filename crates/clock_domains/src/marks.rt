@@ -1,13 +1,15 @@
 // Marks of the targets of statements, and of the expressions that they read.
-ghost use Rattle.std.specs.Prelude.{◌≡◌, ◌<◌, ◌∷◌, [], length, false, replicate, IfOk};
+ghost use Rattle.std.specs.Prelude.{◌≡◌, ◌<◌, ◌∷◌, [], ℕ, length, false, replicate, IfOk};
+ghost use Rattle.std.specs.List.{AllByRecursion, flat_map};
 ghost use Rattle.design_ir.specs.Guards.{statement_exprs, choices_exprs, block_exprs};
 ghost use Rattle.design_ir.specs.Named.{AllBelow};
 ghost use Rattle.design_ir.specs.Statements.{statement_of};
-ghost use Rattle.clock_domains.specs.Marks.{marked, numbers};
+ghost use Rattle.clock_domains.specs.Marks.{is_marked, marked, numbers};
 ghost use Rattle.clock_domains.specs.Reads.{statement_targets, choices_targets, block_targets, statement_values, choices_values, block_values};
+ghost use Rattle.clock_domains.specs.Resolvable.{IsSideOf};
 
 use amh_host::NoMemory;
-use design_ir::{Arms, ExprId, Stmt, Stmts};
+use design_ir::{Arms, ExprId, Pool, Process, Stmt, Stmts};
 use std::alloc::Global;
 
 /// For each expression whether it is a target, and whether it is read.
@@ -28,6 +30,17 @@ impl Roots {
             values: vec![in alloc; false; count as usize]?,
         })
     }
+}
+
+/// How many signals a pool may have.
+pub const SIGNALS: usize = 16_384;
+
+/// No marks for so many numbers.
+pub fn unmarked(alloc: Global, count: usize) -> Result<Vec<bool>, NoMemory>
+    ensures size { IfOk result (λ v. length v.items ≡ count) }
+    ensures each { IfOk result (λ v. (s : ℕ) → is_marked v.items s ≡ false) }
+{
+    Ok(vec![in alloc; false; count]?)
 }
 
 /// Marks a number.
@@ -87,5 +100,19 @@ fn mark_arms(roots: &mut Roots, arms: &Arms)
     for arm in arms.as_slice() {
         mark(&mut roots.values, arm.condition.0 as usize);
         mark_block(roots, &arm.body);
+    }
+}
+
+/// Marks the targets, right sides and conditions of all processes.
+pub fn mark_processes(pool: &Pool, roots: &mut Roots, processes: &[Process])
+    requires sides { AllByRecursion (IsSideOf pool.now) processes.now }
+    requires targets { length roots.old.targets.items ≡ length pool.now.exprs }
+    requires values { length roots.old.values.items ≡ length pool.now.exprs }
+    ensures targets { roots.new.targets.items ≡ marked (flat_map (λ p. block_targets p.body) processes.now) roots.old.targets.items }
+    ensures values { roots.new.values.items ≡ marked (flat_map (λ p. block_values p.body) processes.now) roots.old.values.items }
+{
+    let _ = pool;
+    for process in processes {
+        mark_block(roots, &process.body);
     }
 }

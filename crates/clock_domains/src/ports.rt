@@ -5,12 +5,12 @@ ghost use Rattle.design_ir.specs.Circuits.{is_among};
 ghost use Rattle.clock_domains.specs.Marks.{Flag, is_marked, marked};
 ghost use Rattle.clock_domains.specs.Reads.{is_driven};
 ghost use Rattle.clock_domains.specs.Resolvable.{AreTopPorts, IsSideOf};
-ghost use Rattle.clock_domains.specs.Resolved.{domain_ports, has_width, port_of, ports_of, ports_of_domain, signals_of, top_inputs};
-ghost use Rattle.clock_domains.specs.Chosen.{AreThere, IsKnown, IsSignal, held_port, is_new, known_port, known_ports};
+ghost use Rattle.clock_domains.specs.Resolved.{design_inputs, domain_ports, has_width, port_of, ports_of, ports_of_domain, reset_port, signals_of, top_inputs};
+ghost use Rattle.clock_domains.specs.Chosen.{AreThere, IsKnown, IsSignal, held_port, is_new, known_port, known_ports, known_side};
 
 use crate::domains::copied;
-use crate::drivers::{SIGNALS, unmarked};
-use crate::marks::mark;
+use crate::drivers::driven_by;
+use crate::marks::{SIGNALS, mark, unmarked};
 use crate::reads::reads;
 use crate::top::TopPorts;
 use amh_host::{Items, NoMemory};
@@ -40,27 +40,54 @@ fn mark_input(marks: &mut Vec<bool>, port: &Port)
 }
 
 // Marks the inputs among ports.
-fn mark_inputs(alloc: Global, ports: &[Port]) -> Result<Vec<bool>, NoMemory>
-    requires { AllByRecursion (λ p. p.sig.0 < 16384) ports.now }
-    ensures { IfOk result (λ v. Flag v.items (is_among (signals_of (filter (λ p. p.is_input) ports.now)))) }
+fn mark_inputs(marks: &mut Vec<bool>, ports: &[Port])
+    requires { AllByRecursion (λ p. p.sig.0 < length marks.old.items) ports.now }
+    ensures { marks.new.items ≡ marked (signals_of (filter (λ p. p.is_input) ports.now)) marks.old.items }
 {
-    let mut marks = unmarked(alloc, SIGNALS)?;
     for port in ports {
-        mark_input(&mut marks, port);
+        mark_input(marks, port);
     }
-    Ok(marks)
 }
 
-/// Marks the inputs among the members of the top.
-pub fn mark_top_inputs(alloc: Global, pool: &Pool, top: &TopPorts) -> Result<Vec<bool>, NoMemory>
-    requires { AreTopPorts pool.now top.now }
-    ensures { IfOk result (λ v. Flag v.items (is_among (top_inputs top.now))) }
+// Marks the clocks of domains.
+fn mark_clocks(marks: &mut Vec<bool>, domains: &[Domain])
+    requires { AllByRecursion (λ d. d.clk.0 < length marks.old.items) domains.now }
+    ensures { marks.new.items ≡ marked (map (λ d. d.clk.0) domains.now) marks.old.items }
+{
+    for domain in domains {
+        mark(marks, domain.clk.0 as usize);
+    }
+}
+
+// Marks the inputs among the members of the top.
+fn mark_members(pool: &Pool, marks: &mut Vec<bool>, top: &TopPorts)
+    requires top { AreTopPorts pool.now top.now }
+    requires size { length marks.old.items ≡ 16384 }
+    ensures { marks.new.items ≡ marked (top_inputs top.now) marks.old.items }
 {
     let _ = pool.count();
     match top {
-        TopPorts::Members(ports) => mark_inputs(alloc, ports.as_slice()),
-        TopPorts::Held(_) | TopPorts::Loose => unmarked(alloc, SIGNALS),
+        TopPorts::Members(ports) => mark_inputs(marks, ports.as_slice()),
+        TopPorts::Held(_) | TopPorts::Loose => {}
     }
+}
+
+/// Marks the clocks of domains, and the inputs among the members of the top.
+pub fn mark_design_inputs(
+    alloc: Global,
+    pool: &Pool,
+    domains: &[Domain],
+    top: &TopPorts,
+) -> Result<Vec<bool>, NoMemory>
+    requires domains { AllByRecursion (IsSignal pool.now) domains.now }
+    requires top { AreTopPorts pool.now top.now }
+    ensures { IfOk result (λ v. Flag v.items (is_among (design_inputs domains.now top.now))) }
+{
+    let _ = pool.count();
+    let mut marks = unmarked(alloc, SIGNALS)?;
+    mark_clocks(&mut marks, domains);
+    mark_members(pool, &mut marks, top);
+    Ok(marks)
 }
 
 // A signal of the pool as a port under its own name.
@@ -83,39 +110,68 @@ pub fn has_width(pool: &Pool, s: SigId) -> bool
     pool.sig_at(s).shape.width >= 1
 }
 
-// The clock and the reset of a domain.
+// A reset, where nothing drives it.
+fn add_reset(
+    alloc: Global,
+    pool: &Pool,
+    driven: &[bool],
+    reset: SigId,
+    ports: &mut Ports,
+) -> Result<(), NoMemory>
+    requires there { reset.0 < length pool.now.signals }
+    requires size { length driven.now ≡ 16384 }
+    ensures { OnOk result (ports.new ≡ ports.old ++ reset_port pool.now (is_marked driven.now) reset) }
+{
+    let _ = pool.count();
+    if driven[reset.0 as usize] {
+        return Ok(());
+    }
+    ports.push(port_of(alloc, pool, true, reset)?)
+}
+
+// The clock of a domain, and its reset.
 fn add_domain(
     alloc: Global,
     pool: &Pool,
+    driven: &[bool],
     domain: &Domain,
     ports: &mut Ports,
 ) -> Result<(), NoMemory>
-    requires { IsSignal pool.now domain.now }
-    ensures { OnOk result (ports.new ≡ ports.old ++ ports_of_domain pool.now domain.now) }
+    requires there { IsSignal pool.now domain.now }
+    requires size { length driven.now ≡ 16384 }
+    ensures { OnOk result (ports.new ≡ ports.old ++ ports_of_domain pool.now (is_marked driven.now) domain.now) }
 {
     ports.push(port_of(alloc, pool, true, domain.clk)?)?;
     match domain.rst {
-        Some(reset) => ports.push(port_of(alloc, pool, true, reset)?),
+        Some(reset) => add_reset(alloc, pool, driven, reset, ports),
         None => Ok(()),
     }
 }
 
-// The clocks and the resets of all domains.
-fn domain_ports(alloc: Global, pool: &Pool, domains: &[Domain]) -> Result<Ports, NoMemory>
-    requires { AllByRecursion (IsSignal pool.now) domains.now }
-    ensures { IfOk result (λ ps. ps ≡ domain_ports pool.now domains.now) }
+// The clocks of all domains, and their resets.
+fn domain_ports(
+    alloc: Global,
+    pool: &Pool,
+    driven: &[bool],
+    domains: &[Domain],
+) -> Result<Ports, NoMemory>
+    requires there { AllByRecursion (IsSignal pool.now) domains.now }
+    requires size { length driven.now ≡ 16384 }
+    ensures { IfOk result (λ ps. ps ≡ domain_ports pool.now (is_marked driven.now) domains.now) }
 {
     let mut ports = Items::new(alloc);
     for domain in domains {
-        add_domain(alloc, pool, domain, &mut ports)?;
+        add_domain(alloc, pool, driven, domain, &mut ports)?;
     }
     Ok(ports)
 }
 
-/// What is known of the signals of a module.
+/// What is known of each signal: whether it is a port, whether the top's own statements drive it, and whether any drive or
+/// read it.
 #[derive(Drop)]
 pub struct Known {
     pub is_port: Vec<bool>,
+    pub own: Vec<bool>,
     pub driven: Vec<bool>,
     pub read: Vec<bool>,
 }
@@ -192,7 +248,24 @@ fn add_held(
     Ok(())
 }
 
-// A signal as a port, where it is driven or read and is new.
+// Whether a signal is an input, where it can be a loose port.
+fn loose_side(known: &Known, s: SigId) -> Option<bool>
+    requires own { s.0 < length known.now.own.items }
+    requires driven { s.0 < length known.now.driven.items }
+    requires read { s.0 < length known.now.read.items }
+    ensures { result ≡ known_side (is_marked known.now.own.items) (is_marked known.now.driven.items) (is_marked known.now.read.items) s.0 }
+{
+    let s = s.0 as usize;
+    if known.own[s] {
+        Some(false)
+    } else if known.read[s] && !known.driven[s] {
+        Some(true)
+    } else {
+        None
+    }
+}
+
+// A signal as a port, where its top drives it, or it is read and driven nowhere, and is new.
 fn add_signal(
     alloc: Global,
     pool: &Pool,
@@ -200,28 +273,27 @@ fn add_signal(
     s: SigId,
     ports: &mut Ports,
 ) -> Result<(), NoMemory>
-    requires there { IsKnown pool.now known.now.driven.items known.now.read.items }
+    requires there { IsKnown pool.now known.now.own.items known.now.driven.items known.now.read.items }
     requires small { s.0 < 16384 }
     requires size { length known.now.is_port.items ≡ 16384 }
-    ensures { OnOk result (ports.new ≡ ports.old ++ filter (is_new pool.now (is_marked known.now.is_port.items)) (filter_map (known_port pool.now (is_marked known.now.driven.items) (is_marked known.now.read.items)) (s.0 ∷ []))) }
+    ensures { OnOk result (ports.new ≡ ports.old ++ filter (is_new pool.now (is_marked known.now.is_port.items)) (filter_map (known_port pool.now (is_marked known.now.own.items) (is_marked known.now.driven.items) (is_marked known.now.read.items)) (s.0 ∷ []))) }
 {
-    let is_driven = known.driven[s.0 as usize];
-    if !is_driven && !known.read[s.0 as usize] {
+    let Some(is_input) = loose_side(known, s) else {
         return Ok(());
-    }
+    };
     if is_new(pool, known.is_port.as_slice(), s) {
-        ports.push(port_of(alloc, pool, !is_driven, s)?)?;
+        ports.push(port_of(alloc, pool, is_input, s)?)?;
     }
     Ok(())
 }
 
-// All signals that are driven or read, in order of making.
+// All signals that the top drives, or that are read and driven nowhere, in order of making.
 fn add_loose(alloc: Global, pool: &Pool, known: &Known, ports: &mut Ports) -> Result<(), NoMemory>
-    requires there { IsKnown pool.now known.now.driven.items known.now.read.items }
+    requires there { IsKnown pool.now known.now.own.items known.now.driven.items known.now.read.items }
     requires size { length known.now.is_port.items ≡ 16384 }
-    ensures { OnOk result (ports.new ≡ ports.old ++ filter (is_new pool.now (is_marked known.now.is_port.items)) (filter_map (known_port pool.now (is_marked known.now.driven.items) (is_marked known.now.read.items)) (range_with_len 0 (length known.now.driven.items)))) }
+    ensures { OnOk result (ports.new ≡ ports.old ++ filter (is_new pool.now (is_marked known.now.is_port.items)) (filter_map (known_port pool.now (is_marked known.now.own.items) (is_marked known.now.driven.items) (is_marked known.now.read.items)) (range_with_len 0 (length known.now.own.items)))) }
 {
-    for s in 0..known.driven.len() {
+    for s in 0..known.own.len() {
         add_signal(alloc, pool, known, SigId(s as u32), ports)?;
     }
     Ok(())
@@ -236,9 +308,9 @@ fn add_top(
     ports: &mut Ports,
 ) -> Result<(), NoMemory>
     requires top { AreTopPorts pool.now top.now }
-    requires there { IsKnown pool.now known.now.driven.items known.now.read.items }
+    requires there { IsKnown pool.now known.now.own.items known.now.driven.items known.now.read.items }
     requires size { length known.now.is_port.items ≡ 16384 }
-    ensures { OnOk result (ports.new ≡ ports.old ++ filter (is_new pool.now (is_marked known.now.is_port.items)) (known_ports pool.now known.now.driven.items known.now.read.items top.now)) }
+    ensures { OnOk result (ports.new ≡ ports.old ++ filter (is_new pool.now (is_marked known.now.is_port.items)) (known_ports pool.now known.now.own.items known.now.driven.items known.now.read.items top.now)) }
 {
     match top {
         TopPorts::Members(given) => add_members(alloc, pool, known, given.as_slice(), ports),
@@ -247,25 +319,28 @@ fn add_top(
     }
 }
 
-/// The ports of a design, under the names that they are to have.
+/// The ports of a design, under the names that they are to have: by the processes of the top itself, and by all of them.
 pub fn ports_of(
     alloc: Global,
     pool: &Pool,
     domains: &[Domain],
+    own: &[Process],
     processes: &[Process],
     driven: Vec<bool>,
     top: &TopPorts,
 ) -> Result<Ports, NoMemory>
     requires domains { AllByRecursion (IsSignal pool.now) domains.now }
+    requires own { AllByRecursion (IsSideOf pool.now) own.now }
     requires sides { AllByRecursion (IsSideOf pool.now) processes.now }
     requires top { AreTopPorts pool.now top.now }
     requires driven { Flag driven.items (is_driven pool.now processes.now) }
-    ensures { IfOk result (λ ps. ps ≡ ports_of pool.now domains.now processes.now top.now) }
+    ensures { IfOk result (λ ps. ps ≡ ports_of pool.now domains.now own.now processes.now top.now) }
 {
     let _ = pool.count();
-    let mut ports = domain_ports(alloc, pool, domains)?;
+    let mut ports = domain_ports(alloc, pool, driven.as_slice(), domains)?;
     let known = Known {
         is_port: mark_ports(alloc, ports.as_slice())?,
+        own: driven_by(alloc, pool, own)?,
         driven,
         read: reads(alloc, pool, processes)?,
     };

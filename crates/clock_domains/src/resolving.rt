@@ -1,19 +1,21 @@
-// From a module to a design.
-ghost use Rattle.std.specs.Prelude.{◌≡◌, Ok, map, IfOk, IfErr};
-ghost use Rattle.std.specs.List.{filter};
+// From a module with those below it to a design.
+ghost use Rattle.std.specs.Prelude.{◌≡◌, ◌<◌, ◌^◌, Ok, map, length, IfOk, IfErr};
 ghost use Rattle.design_ir.specs.Rising.{AllRisingSync};
+ghost use Rattle.clock_domains.specs.Firsts.{AreFirsts};
 ghost use Rattle.clock_domains.specs.Marks.{Flag};
 ghost use Rattle.clock_domains.specs.Reads.{is_driven};
 ghost use Rattle.clock_domains.specs.Ready.{IsReady};
 ghost use Rattle.clock_domains.specs.Resolvable.{IsResolvable};
-ghost use Rattle.clock_domains.specs.Resolved.{IsResolveRefusal, columns_of, is_clocked, named_registers, ports_named, ports_of, process_in, resolved, resolved_in};
+ghost use Rattle.clock_domains.specs.Resolved.{IsResolveRefusal, columns_of, named_registers, ports_named, ports_of, process_in, resolved, resolved_in};
 
-use crate::columns::{columns_of, named_registers, ports_named};
+use crate::clashes::no_clash;
+use crate::columns::{columns_of, named_registers, ports_named, register_columns};
 use crate::domains::{domains_made, processes_made};
 use crate::drivers::{Drivers, drivers_of};
-use crate::ports::{mark_ports, mark_top_inputs, ports_of};
+use crate::ports::{mark_design_inputs, mark_ports, ports_of};
 use crate::stop::ResolveStop;
 use crate::top::TopPorts;
+use crate::walk::{Walk, walked};
 use amh_host::{Items, NoMemory};
 use design_ir::{
     Columns, Design, DesignProcesses, Domain, Domains, Exprs, Fragment, Pool, Ports, Process,
@@ -28,28 +30,41 @@ struct Parts {
     columns: Columns,
 }
 
-// The processes, ports and columns of a module by what it drives.
+// The processes, ports and columns of a module by what is driven.
 fn parts_of(
     alloc: Global,
     pool: &Pool,
     domains: &[Domain],
-    processes: &[Process],
+    own: &[Process],
+    walk: Walk,
     drivers: Drivers,
     top: &TopPorts,
 ) -> Result<Parts, NoMemory>
-    requires ready { IsReady pool.now domains.now processes.now top.now }
-    requires driven { Flag drivers.driven.items (is_driven pool.now processes.now) }
-    requires clocked { Flag drivers.clocked.items (is_driven pool.now (filter is_clocked processes.now)) }
-    ensures processes { IfOk result (λ x. x.processes ≡ map (process_in domains.now) processes.now) }
-    ensures columns { IfOk result (λ x. let ports = ports_of pool.now domains.now processes.now top.now in x.columns ≡ columns_of pool.now ports (named_registers pool.now processes.now ports)) }
-    ensures ports { IfOk result (λ x. x.ports ≡ ports_named (ports_of pool.now domains.now processes.now top.now) x.columns) }
+    requires ready { IsReady pool.now domains.now own.now walk.processes.items walk.paths top.now }
+    requires driven { Flag drivers.driven.items (is_driven pool.now walk.processes.items) }
+    requires clocked { AreFirsts pool.now walk.processes.items drivers.clocked.items }
+    ensures processes { IfOk result (λ x. x.processes ≡ map (process_in domains.now) walk.processes.items) }
+    ensures columns { IfOk result (λ x. let ports = ports_of pool.now domains.now own.now walk.processes.items top.now in x.columns ≡ columns_of pool.now walk.processes.items walk.paths ports (named_registers pool.now walk.processes.items ports)) }
+    ensures ports { IfOk result (λ x. x.ports ≡ ports_named (ports_of pool.now domains.now own.now walk.processes.items top.now) x.columns) }
 {
     let _ = pool.count();
+    let Walk {
+        processes,
+        paths,
+        ..
+    } = walk;
     let Drivers { driven, clocked } = drivers;
-    let ports = ports_of(alloc, pool, domains, processes, driven, top)?;
+    let ports = ports_of(alloc, pool, domains, own, processes.as_slice(), driven, top)?;
     let is_port = mark_ports(alloc, ports.as_slice())?;
     let registers = named_registers(alloc, pool, clocked.as_slice(), is_port.as_slice())?;
-    let columns = columns_of(alloc, pool, ports.as_slice(), registers.as_slice())?;
+    let named = register_columns(
+        alloc,
+        pool,
+        paths.as_slice(),
+        clocked.as_slice(),
+        registers.as_slice(),
+    )?;
+    let columns = columns_of(alloc, ports.as_slice(), named.as_slice())?;
     Ok(Parts {
         processes: processes_made(alloc, domains, processes)?,
         ports: ports_named(alloc, ports.as_slice(), columns.as_slice())?,
@@ -62,17 +77,19 @@ fn design_in(
     alloc: Global,
     pool: Pool,
     domains: Domains,
-    processes: &[Process],
+    own: &[Process],
+    walk: Walk,
     top: &TopPorts,
 ) -> Result<Design, ResolveStop>
-    requires { IsReady pool domains processes.now top.now }
-    ensures design { IfOk result (λ d. resolved_in pool domains processes.now top.now ≡ Ok d) }
-    ensures refused { IfErr result (IsResolveRefusal (resolved_in pool domains processes.now top.now)) }
+    requires ready { IsReady pool domains own.now walk.processes.items walk.paths top.now }
+    requires few { length walk.processes.items < 2 ^ 32 }
+    ensures design { IfOk result (λ d. resolved_in pool domains own.now walk.processes.items walk.paths top.now ≡ Ok d) }
+    ensures refused { IfErr result (IsResolveRefusal (resolved_in pool domains own.now walk.processes.items walk.paths top.now)) }
 {
     let _ = pool.count();
-    let inputs = mark_top_inputs(alloc, &pool, top)?;
-    let drivers = drivers_of(alloc, &pool, processes, inputs.as_slice())?;
-    let parts = parts_of(alloc, &pool, domains.as_slice(), processes, drivers, top)?;
+    let inputs = mark_design_inputs(alloc, &pool, domains.as_slice(), top)?;
+    let drivers = drivers_of(alloc, &pool, walk.processes.as_slice(), inputs.as_slice())?;
+    let parts = parts_of(alloc, &pool, domains.as_slice(), own, walk, drivers, top)?;
     let memories = Items::new(alloc);
     Ok(Design::new(
         pool,
@@ -84,13 +101,19 @@ fn design_in(
     ))
 }
 
-/// The design of a module, or why it is none.
+/// The design of a module and of those below it, or why it is none.
 ///
-/// Each clocked side has a domain, which is made at the top with its clock and its reset as inputs; it rises, and resets
-/// at edges alone. `Limit` comes
-/// exactly where there would be more than 64 domains, or too many signals or bits with theirs; else `DrivenInput` or
-/// `TwoDrivers` exactly at the first statement that drives an input of `Members`, or a signal that an earlier one
-/// drives from another process. The other refusals come with definitions of domains.
+/// The domains are those that the modules define, in whichever of them a name stands, and one for each other name of a
+/// clocked side. That one is made at the top, with its clock and its reset; all rise, and reset at edges alone. They come in
+/// the order of their names: modules from the top, a parent before those below it, in each its own definitions and then its
+/// clocked sides. Clocks are inputs, and so are the resets that nothing drives. A register of a module below the top is
+/// named behind the path of that module.
+///
+/// `DomainClash` comes exactly where a name is defined twice, at the first definition whose name one before it has. Else
+/// `Limit` exactly where there would be more than 64 domains, or too many signals or bits with those of the domains that are
+/// made. Else `DrivenInput` or `TwoDrivers` exactly at the first statement that drives a clock or an input of `Members`, or
+/// a signal that an earlier one drives from another domain or another module. `NoReset` comes with expressions in which a
+/// reset stands, of which there are none yet.
 pub fn resolve(
     alloc: Global,
     pool: Pool,
@@ -104,7 +127,13 @@ pub fn resolve(
 {
     let mut pool = pool;
     let _ = pool.count();
-    let processes = root.processes.as_slice();
-    let domains = domains_made(alloc, &mut pool, processes)?;
-    design_in(alloc, pool, domains, processes, &top)
+    let walk = walked(alloc, &root)?;
+    no_clash(alloc, walk.definitions.as_slice())?;
+    let domains = domains_made(
+        alloc,
+        &mut pool,
+        walk.definitions.as_slice(),
+        walk.names.as_slice(),
+    )?;
+    design_in(alloc, pool, domains, root.processes.as_slice(), walk, &top)
 }

@@ -5,15 +5,15 @@ use amh_host::{NoMemory, Place};
 /// Why a module gives no design, and where.
 #[derive(Clone, Copy, Debug, PartialEq, Eq, Drop)]
 pub enum ResolveStop {
-    /// A domain is defined twice.
+    /// A name of a domain is defined again.
     DomainClash(Place),
     /// The reset of a domain that has none is read or driven.
     NoReset(Place),
     /// A signal is driven from two domains or modules.
     TwoDrivers(Place),
-    /// An input of the top is driven.
+    /// A clock, or an input of the top, is driven.
     DrivenInput(Place),
-    /// There would be too many domains, or too many signals with those of the domains.
+    /// There would be too many domains, or too many signals or bits with those of the domains that are made.
     Limit(Place),
     /// No memory was left.
     NoMemory,

@@ -9,6 +9,6 @@ pub enum TopPorts {
     Members(Ports),
     /// The signals that an object holds, which are inputs where nothing drives them.
     Held(Ports),
-    /// All signals that a module reads or drives.
+    /// All signals that the top itself drives, and those that are read and driven nowhere.
     Loose,
 }

@@ -63,7 +63,7 @@ member_sound s is_out c h t = placed_sound s is_out c.placed (member_init h.stor
 -- ---- classes: no act on one changes what is kept of pools, things or modules
 
 made_sound : (class : Val) (base : Option ObjId) (ms : Option (List NamedMember)) (h : Held) → IsSound h → IsSound (component_made class base ms h).held
-made_sound (val.Class c) base (Some ms) h s = record { names = s.names; things = s.things; kept = s.kept; modules = s.modules; ports = s.ports; machines = s.machines; domains = s.domains }
+made_sound (val.Class c) base (Some ms) h s = record { names = s.names; things = s.things; kept = s.kept; modules = s.modules; ports = s.ports; machines = s.machines; domains = s.domains; additions = s.additions; clock_domains = s.clock_domains }
 made_sound (val.Class c) base None h s = s
 made_sound val.None base ms h s = s
 made_sound (val.Bool b) base ms h s = s
@@ -115,6 +115,8 @@ module _ (o : ObjId) (all : List NamedMember) where
     modules = s.modules;
     machines = s.machines;
     domains = s.domains;
+    additions = s.additions;
+    clock_domains = s.clock_domains;
     ports = all_put (ArePorts h.pool) h.store.components.objects o.0 x.ports s.ports ports;
   }
   interface_sound before x (m ∷ ms) h s ports named =

@@ -31,6 +31,7 @@ use Rattle.elab_store.specs.Sound.{IsAssigned, IsBegin, IsKept, IsOpening, IsTol
 use Rattle.elab_store.specs.declared.own_machine.OwnMachine.{OwnMachine}
 use Rattle.elab_store.proofs.Pools.{IsGrown, target_stays, there_stays}
 use Rattle.elab_acts.proofs.EachLaws.{all_each}
+use Rattle.elab_acts.proofs.DomainLaws.{bit_stays, domains_stay}
 use Rattle.elab_acts.proofs.PortLaws.{objects_stay}
 
 -- ---- lists
@@ -63,11 +64,15 @@ kept_stays p q g (kept_as.Name n) h = tt
 kept_stays p q g (kept_as.Module m) h = tt
 kept_stays p q g (kept_as.Domains m) h = tt
 kept_stays p q g (kept_as.Domain m d) h = tt
+kept_stays p q g (kept_as.Submodules m) h = tt
+kept_stays p q g (kept_as.Definitions m) h = tt
+kept_stays p q g (kept_as.ClockDomain k) h = tt
 kept_stays p q g (kept_as.Member m) h = tt
 kept_stays p q g (kept_as.Signature n) h = tt
 kept_stays p q g (kept_as.BlockName m n) h = tt
 kept_stays p q g (kept_as.Block m b) h = begin_stays p q g b h
 kept_stays p q g (kept_as.OfMachine x) h = tt
+kept_stays p q g (kept_as.OfSimulator x) h = tt
 
 opening_stays : (p q : Pooled) → IsGrown p q → (o : Opening) → IsOpening p o → IsOpening q o
 opening_stays p q g (opening.If e) h = there_stays p q e.0 g h
@@ -135,6 +140,8 @@ pool_grown h q xs es s e1 e2 names =
       ports = objects_stay h.pool q h.store.components.objects (omega (arith, ap length e1, length-append h.pool.signals xs)) s.ports;
       machines = all_each (IsMachine h.pool) (IsMachine q) h.store.machines (machine_stays h.pool q g) s.machines;
       domains = s.domains;
+      additions = s.additions;
+      clock_domains = domains_stay h.pool q h.store.clock_domains.made (bit_stays h.pool q xs e1) s.clock_domains;
     }
 
 -- things that are sound are put behind the others
@@ -146,6 +153,8 @@ things_grown h ts s held = record {
   ports = s.ports;
   machines = s.machines;
   domains = s.domains;
+  additions = s.additions;
+  clock_domains = s.clock_domains;
   things = all_and (IsHeld (length h.pool.exprs)) h.store.things ts s.things held;
 }
 
@@ -163,6 +172,8 @@ kept_grown h k s held = record {
   ports = s.ports;
   machines = s.machines;
   domains = s.domains;
+  additions = s.additions;
+  clock_domains = s.clock_domains;
   kept = all_and (IsKept h.pool) h.store.kept (k ∷ []) s.kept (held, tt);
 }
 
@@ -180,7 +191,7 @@ module_built q (x ∷ bs) zero b h e = let same : x ≡ b = cc in subst (IsBuilt
 module_built q (x ∷ bs) (suc m) b h e = module_built q bs m b h.1 e
 
 pub with_top_sound : (h : Held) (t : Top) → IsSound h → IsSound (record h { store = record h.store { top = t } })
-with_top_sound h t s = record { names = s.names; things = s.things; kept = s.kept; modules = s.modules; ports = s.ports; machines = s.machines; domains = s.domains }
+with_top_sound h t s = record { names = s.names; things = s.things; kept = s.kept; modules = s.modules; ports = s.ports; machines = s.machines; domains = s.domains; additions = s.additions; clock_domains = s.clock_domains }
 
 -- ---- a new thing of this crate
 
@@ -191,6 +202,8 @@ keeping_sound h k s held = record {
   ports = s.ports;
   machines = s.machines;
   domains = s.domains;
+  additions = s.additions;
+  clock_domains = s.clock_domains;
   things = all_and (IsHeld (length h.pool.exprs)) h.store.things (thing.Kept (length h.store.kept) ∷ []) s.things (tt, tt);
   kept = all_and (IsKept h.pool) h.store.kept (k ∷ []) s.kept (held, tt);
 }

@@ -1,6 +1,10 @@
 pub mod ComponentLaws
 pub mod ComponentSamples
 pub mod ComponentSound
+pub mod DomainLaws
+pub mod DomainNames
+pub mod DomainSamples
+pub mod DomainSound
 pub mod EachLaws
 pub mod EnterLaws
 pub mod GivenLaws
@@ -11,5 +15,11 @@ pub mod MachineSound
 pub mod PortLaws
 pub mod ShapeSamples
 pub mod SideLaws
+pub mod SimulatorLaws
+pub mod SimulatorSamples
+pub mod SimulatorSound
 pub mod SoundLaws
+pub mod SubmoduleSamples
+pub mod SubmoduleSound
 pub mod ToldLaws
+pub mod WalkLaws

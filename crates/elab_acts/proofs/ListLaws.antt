@@ -55,6 +55,17 @@ bound_ends names ns i n a h g all e1 e2 other e4 =
     let after = λ (b : Answered). bound_answer names n b.held (λ more k. all_bound more (drop (i + 1) ns) k) b.answer in
     sym e4 ∙ ap (λ xs. all_bound names xs h) (drop_at ns i n e1) ∙ ap after e2 ∙ other (λ more k. all_bound more (drop (i + 1) ns) k)
 
+-- an answer that gives nothing binds nothing
+pub not_bound : (names : List NamedVal) (n : List ℕ) (g : Held) (k : List NamedVal → Held → Answered) (a : Answer) → ((x : Val) → a ≡ answer.Give x → ⊥) → bound_answer names n g k a ≡ record { answer = a; held = g }
+not_bound names n g k (answer.Give v) f = absurd (f v refl)
+not_bound names n g k answer.Begin f = refl
+not_bound names n g k (answer.GiveText t) f = refl
+not_bound names n g k (answer.GiveList t) f = refl
+not_bound names n g k (answer.Bind t) f = refl
+not_bound names n g k (answer.Call c t) f = refl
+not_bound names n g k (answer.Through t) f = refl
+not_bound names n g k (answer.Refuse t) f = refl
+
 pub global_end : (name : List ℕ) (vals : List Val) (names : List (List ℕ)) → length names ≡ 0 → global name vals names ≡ None
 global_end name [] [] h = refl
 global_end name (v ∷ vs) [] h = refl

@@ -17,6 +17,7 @@ use Rattle.design_ir.specs.declared.ids.SigId.{SigId}
 use Rattle.design_ir.specs.declared.expr.Expr.{Expr}
 use Rattle.design_ir.specs.declared.expr.Expr.TheVariants as expr
 use Rattle.design_ir.specs.Pools.{Pooled, answers}
+use Rattle.design_ir.specs.Values.{signal_form}
 use Rattle.design_ir.specs.Targets.{is_target, target_test}
 use Rattle.design_ir.proofs.Answers.{answers_append, answers_begin}
 use Rattle.design_ir.specs.PoolRules.{IsPool, expr_added, signal_added}
@@ -43,12 +44,14 @@ use Rattle.elab_store.specs.Stores.{Held, Answered, refused}
 use Rattle.elab_acts.specs.Sides.{part_given}
 use Rattle.elab_store.specs.OpenMachines.{innermost}
 use Rattle.elab_machines.specs.StateMachines.{part_attribute, machine_arguments, machine_said, machine_from, init_said, is_clocked, domain_said, name_said, state_argument, state_said, state_string, stop_told, unless_stopped, chain_ended, modules_begun, with_machine, machine_made, is_placed, machine_begun, register_name, domain_name, init_name, Moved, unless_refused, with_moved, move_answer, own_moved, number_moved, moved, in_place, is_at_choice, is_at_case, state_made, state_begins, state_ends, is_unsettled, machine_ends, next_refused, next_goes, next_said, next_stored, with_asked, asked_of, ongoing_said, part_called, part_entered, part_left}
-use Rattle.elab_store.specs.Sound.{IsKept, IsTold, IsBuilt, IsMachine, IsSound}
+use Rattle.elab_store.specs.Sound.{IsKept, IsTold, IsBuilt, IsMachine, IsBit, IsSound}
 use Rattle.elab_store.proofs.Pools.{IsGrown, signal_there}
 use Rattle.std.proofs.lemmas.Bool.Decides.{nat_tests}
 use Rattle.elab_acts.proofs.EachLaws.{all_each}
 use Rattle.elab_acts.proofs.GrownLaws.{all_and, pool_grown, things_grown, keeping_sound, built_stays, kept_stays, told_module, module_built, machine_stays, name_more}
-use Rattle.elab_acts.proofs.PortLaws.{objects_stay}
+use Rattle.elab_acts.proofs.PortLaws.{objects_stay, and_split}
+use Rattle.elab_acts.proofs.DomainLaws.{domains_stay, settled_bit}
+use Rattle.std.proofs.lemmas.Bool.{eqb-true}
 
 if_sound : (b : Bool) (x y : Answered) → IsSound x.held → IsSound y.held → IsSound (if b then x else y).held
 if_sound true x y h g = h
@@ -57,7 +60,7 @@ if_sound false x y h g = g
 -- ---- refusals
 
 told_sound : (p : Place) (h : Held) → IsSound h → IsSound (record h { store = record h.store { told = Some p } })
-told_sound p h t = record { names = t.names; things = t.things; kept = t.kept; modules = t.modules; machines = t.machines; domains = t.domains; ports = t.ports }
+told_sound p h t = record { names = t.names; things = t.things; kept = t.kept; modules = t.modules; machines = t.machines; domains = t.domains; additions = t.additions; clock_domains = t.clock_domains; ports = t.ports }
 
 stop_sound : (p : Place) (why : FsmStop) (h : Held) → IsSound h → IsSound (stop_told p why h).held
 stop_sound p (stop.UndefinedState at) h t = told_sound at h t
@@ -127,6 +130,8 @@ moved_sound h k m x y t own built = record {
   ports = t.ports;
   machines = set_machine y.pool h.store.machines k (record x { machine = y.machine }) t.machines own;
   domains = t.domains;
+  additions = t.additions;
+  clock_domains = t.clock_domains;
   modules = told_module y.pool m y.built h.store.modules built t.modules;
 }
 
@@ -198,6 +203,8 @@ begun_sound m domain name init p h rules t side named =
       modules = chain_sound q m (record { 0 = length h.pool.exprs }) (slice_get h.store.modules m) h.store.modules (omega (arith, length-append h.pool.exprs (expr.Sig (record { 0 = length h.pool.signals }) ∷ []))) (λ b e. module_built q h.store.modules m b u.modules e) u.modules;
       ports = u.ports;
       domains = u.domains;
+      additions = u.additions;
+      clock_domains = u.clock_domains;
       machines = all_and (IsMachine q) h.store.machines (record { of = m; machine = machine_at h.pool domain init p } ∷ []) u.machines (
         record {
           register = get_last h.pool.exprs (expr.Sig (record { 0 = length h.pool.signals }));
@@ -320,9 +327,19 @@ settled_length [] s f n = omega arith
 settled_length (x ∷ xs) zero f n = omega arith
 settled_length (x ∷ xs) (suc s) f n = omega (arith, settled_length xs s f n)
 
+-- what is not refused was in its place
+placed_if : (b : Bool) (r : Result Moved FsmStop) (z : Moved) → in_place b r ≡ Ok z → b ≡ true
+placed_if true r z e = refl
+placed_if false r z e = absurd cc
+
+-- a register that is not settled has no bits
+no_width : (q : Pooled) (x : Machine) → is_unsettled q x ≡ true → (signal_form q.signals x.signal.0).width ≡ 0
+no_width q x e = eqb-true (signal_form q.signals x.signal.0).width 0 (and_split ((signal_form q.signals x.signal.0).width == 0) _ e).0
+
 -- a pool with as many signals and the same expressions
-pool_sound : (h : Held) (sigs : List Sig) → IsSound h → AllByRecursion (λ (x : Sig). IsName x.name) sigs → length h.pool.signals ≤ length sigs → IsSound (record h { pool = record h.pool { signals = sigs } })
-pool_sound h sigs t names le =
+pool_sound : (h : Held) (sigs : List Sig) → IsSound h → AllByRecursion (λ (x : Sig). IsName x.name) sigs → length h.pool.signals ≤ length sigs → ((s : SigId) → IsBit h.pool s → IsBit (record h.pool { signals = sigs }) s)
+    → IsSound (record h { pool = record h.pool { signals = sigs } })
+pool_sound h sigs t names le bits =
     let q : Pooled = record h.pool { signals = sigs } in
     let g : IsGrown h.pool q = record { more = []; exprs = sym (append-nil h.pool.exprs) } in record {
       names = names;
@@ -331,6 +348,8 @@ pool_sound h sigs t names le =
       modules = all_each (IsBuilt h.pool) (IsBuilt q) h.store.modules (built_stays h.pool q g) t.modules;
       machines = all_each (IsMachine h.pool) (IsMachine q) h.store.machines (machine_stays h.pool q g) t.machines;
       domains = t.domains;
+      additions = t.additions;
+      clock_domains = domains_stay h.pool q h.store.clock_domains.made bits t.clock_domains;
       ports = objects_stay h.pool q h.store.components.objects le t.ports;
     }
 
@@ -339,21 +358,23 @@ unfolding SoundMove
 end_sound h t x b y own built e =
     let same = made_if (is_at_choice x.machine b && is_unsettled h.pool x.machine) (finish_refusal h.pool x.machine) _ y e in
     let P : Moved → Type 0 = λ z. IsSound (record h { pool = z.pool }) × (IsMachine z.pool (record x { machine = z.machine }) × IsBuilt z.pool z.built) in
-    subst P same (by_first (first_number x.machine))
+    let at_end = placed_if (is_at_choice x.machine b && is_unsettled h.pool x.machine) _ y e in
+    subst P same (by_first (no_width h.pool x.machine (and_split (is_at_choice x.machine b) (is_unsettled h.pool x.machine) at_end).1) (first_number x.machine))
   where
     ended : (q : Pooled) → IsBuilt q b → (c : Bool) → IsBuilt q (if c then and_step b Leave else b)
     ended q h true = told_more q b Leave h tt
     ended q h false = h
 
-    by_first : (o : Option ℕ) → IsSound (record h { pool = settled_at h.pool x.machine.signal (range_width (length x.machine.states)) o }) × (IsMachine (settled_at h.pool x.machine.signal (range_width (length x.machine.states)) o) (record x { machine = and_finished x.machine }) × IsBuilt (settled_at h.pool x.machine.signal (range_width (length x.machine.states)) o) (with_end x.machine b))
-    by_first None = (t, (record { register = own.register; target = own.target; side = own.side; front = own.front }, ended h.pool built (is_begun x.machine)))
-    by_first (Some n) =
+    by_first : (signal_form h.pool.signals x.machine.signal.0).width ≡ 0 → (o : Option ℕ) → IsSound (record h { pool = settled_at h.pool x.machine.signal (range_width (length x.machine.states)) o }) × (IsMachine (settled_at h.pool x.machine.signal (range_width (length x.machine.states)) o) (record x { machine = and_finished x.machine }) × IsBuilt (settled_at h.pool x.machine.signal (range_width (length x.machine.states)) o) (with_end x.machine b))
+    by_first none None = (t, (record { register = own.register; target = own.target; side = own.side; front = own.front }, ended h.pool built (is_begun x.machine)))
+    by_first none (Some n) =
         let f : Form = unsigned (range_width (length x.machine.states)) in
         let sigs : List Sig = settling.settled_at h.pool.signals x.machine.signal.0 f (pos n) in
         let q : Pooled = record h.pool { signals = sigs } in
         let g : IsGrown h.pool q = record { more = []; exprs = sym (append-nil h.pool.exprs) } in
         let stays = machine_stays h.pool q g x own in (
-          pool_sound h sigs t (settled_names h.pool.signals x.machine.signal.0 f (pos n) t.names) (settled_length h.pool.signals x.machine.signal.0 f (pos n)),
+          pool_sound h sigs t (settled_names h.pool.signals x.machine.signal.0 f (pos n) t.names) (settled_length h.pool.signals x.machine.signal.0 f (pos n))
+              (λ s bit. settled_bit h.pool x.machine.signal.0 f (pos n) none s bit (settled_length h.pool.signals x.machine.signal.0 f (pos n))),
           (
             record { register = stays.register; target = stays.target; side = stays.side; front = stays.front },
             ended q (built_stays h.pool q g b built) (is_begun x.machine),
@@ -376,6 +397,8 @@ asked_sound k (Some x) name p h t f =
       modules = u.modules;
       ports = u.ports;
       domains = u.domains;
+      additions = u.additions;
+      clock_domains = u.clock_domains;
       machines = set_machine q h.store.machines k _ u.machines (record { register = stays.register; target = stays.target; side = stays.side; front = stays.front });
     } in
     unless_sound (ongoing_refusal h.pool x.machine name) p _ h t (things_grown (with_asked k x name p h) (thing.Value (record { 0 = length h.pool.exprs }) ∷ []) after (omega (arith, length-append h.pool.exprs (made ∷ [])), tt))

@@ -121,11 +121,15 @@ module _ (q : Pooled) (store : Stored) (kept : AllByRecursion (IsKept q) store.k
       by_kept (Some (kept_as.Module n)) f e = absurd (true≢false (ap is_some (sym e)))
       by_kept (Some (kept_as.Domains n)) f e = absurd (true≢false (ap is_some (sym e)))
       by_kept (Some (kept_as.Domain n d)) f e = absurd (true≢false (ap is_some (sym e)))
+      by_kept (Some (kept_as.Submodules n)) f e = absurd (true≢false (ap is_some (sym e)))
+      by_kept (Some (kept_as.Definitions n)) f e = absurd (true≢false (ap is_some (sym e)))
+      by_kept (Some (kept_as.ClockDomain n)) f e = absurd (true≢false (ap is_some (sym e)))
       by_kept (Some (kept_as.Member m)) f e = absurd (true≢false (ap is_some (sym e)))
       by_kept (Some (kept_as.Signature n)) f e = absurd (true≢false (ap is_some (sym e)))
       by_kept (Some (kept_as.BlockName m n)) f e = absurd (true≢false (ap is_some (sym e)))
       by_kept (Some (kept_as.Block m b)) f e = absurd (true≢false (ap is_some (sym e)))
       by_kept (Some (kept_as.OfMachine x)) f e = absurd (true≢false (ap is_some (sym e)))
+      by_kept (Some (kept_as.OfSimulator x)) f e = absurd (true≢false (ap is_some (sym e)))
 
   all_append : (xs ys : List Equation) → AllByRecursion (IsEquation q) xs → AllByRecursion (IsEquation q) ys → AllByRecursion (IsEquation q) (xs ++ ys)
   all_append [] ys h g = g

@@ -43,6 +43,7 @@ use Rattle.amh_things.specs.Operands.{operand_of, thing_operand, held_operand, m
 use Rattle.amh_things.specs.Meant.{operand_meant, expr_meant}
 use Rattle.amh_things.specs.Plans.{grown_by}
 use Rattle.elab_store.specs.declared.kept.HdlName.{HdlName}
+use Rattle.elab_store.specs.declared.kept.HdlName.TheVariants as hdl
 use Rattle.elab_store.specs.declared.kept.Kept.{Kept}
 use Rattle.elab_store.specs.declared.kept.Kept.TheVariants as kept_as
 use Rattle.elab_store.specs.declared.kept.DomainName.{DomainName}
@@ -55,7 +56,7 @@ use Rattle.identifiers.specs.Identifiers.{is_identifier}
 use Rattle.identifiers.proofs.NameLaws.{identifier_is_name}
 use Rattle.elab_store.specs.Stores.{Stored, Held, Answered, refused, kept_given, kept_of, naming_domain, side_of}
 use Rattle.elab_store.specs.Calls.{Called}
-use Rattle.elab_acts.specs.Imports.{is_hdl, is_utils, own_named, star_names, hdl_thing, hdl_imported, bound_answer, all_bound, imported, import_answered}
+use Rattle.elab_acts.specs.Imports.{is_hdl, is_utils, own_named, star_names, is_sim, sim_named, sim_imported, hdl_thing, hdl_imported, bound_answer, all_bound, imported, import_answered}
 use Rattle.elab_acts.specs.Signals.{with_module, without_arguments, module_called, formed, call_name, signal_name, signal_init, signal_reset_less, signal_shape, signal_of, signal_passes, with_signal, signal_given, signal_shaped, signal_said, signal_from}
 use Rattle.elab_acts.specs.Equations.{equation_given, equation_made, equated}
 use Rattle.elab_acts.specs.Sides.{clocked_given, domain_given, is_domain_of, domain_stored, has_no_place, built_with, store_with_statement, statement_refusal, statement_put, statement_told, statements_behind, statements_told, statements_added}
@@ -65,7 +66,7 @@ use Rattle.elab_store.specs.declared.kept.BlockName.TheVariants as named
 use Rattle.elab_store.specs.declared.kept.Begin.{Begin}
 use Rattle.elab_store.specs.declared.kept.Begin.TheVariants as begin
 use Rattle.elab_acts.specs.Classes.{is_base, is_keyword, class_made, base_called}
-use Rattle.elab_acts.specs.Tops.{elaborate_of, top_taken, body_ended, elaborate_ended}
+use Rattle.elab_acts.specs.Tops.{elaborate_of, with_top, top_taken, walk, body_taken, top_of, body_ended, ended_by, elaborate_ended}
 use Rattle.elab_store.specs.Stores.{object_in, first_object, module_of}
 use Rattle.elab_acts.specs.Libraries.{is_enum, is_data, library_named, thing_name_given}
 use Rattle.elab_acts.specs.Likes.{liked, like_placed, like_init, own_reset_less, liked_shape, liked_signal}
@@ -74,6 +75,7 @@ use Rattle.elab_store.proofs.Pools.{IsGrown, target_stays, there_stays}
 use Rattle.elab_acts.proofs.GrownLaws.{all_and, pool_grown, things_grown, read_held, keeping_sound, built_stays, told_module, module_built, with_top_sound}
 use Rattle.elab_store.specs.OpenMachines.{in_machine}
 use Rattle.elab_acts.proofs.ComponentSound as component
+use Rattle.elab_acts.proofs.SubmoduleSound as submodule
 
 pub if_sound : (b : Bool) (x y : Answered) → IsSound x.held → IsSound y.held → IsSound (if b then x else y).held
 if_sound true x y h g = h
@@ -106,12 +108,16 @@ pub thing_name_sound : (t : Option ThingName) (h : Held) → IsSound h → IsSou
 thing_name_sound (Some n) h s = things_grown h (thing.Name n ∷ []) s (tt, tt)
 thing_name_sound None h s = s
 
+sim_sound : (name : List ℕ) (h : Held) → IsSound h → IsSound (sim_imported name h).held
+sim_sound name h s = if_sound (text_eq name (codes "*")) _ _ (keeping_sound h (kept_as.Name hdl.Simulator) s tt) (component.library_sound (sim_named name) h s)
+
 imported_sound : (path name : List ℕ) (h : Held) → IsSound h → IsSound (imported path name h).held
 imported_sound path name h s =
     if_sound (is_hdl path) _ _ (if_sound (text_eq name (codes "*")) _ _ (star_sound [] star_names h s) (hdl_sound (own_named name) (name_called name) h s))
     (if_sound (is_utils path) _ _ (if_sound (text_eq name (codes "ceil_log2")) _ _ s (if_sound (text_eq name (codes "bits_for")) _ _ s s))
     (if_sound (is_enum path) _ _ (thing_name_sound (base_named name) h s)
-    (if_sound (is_data path) _ _ (thing_name_sound (layout_named name) h s) (component.library_sound (library_named path name) h s))))
+    (if_sound (is_data path) _ _ (thing_name_sound (layout_named name) h s)
+    (if_sound (is_sim path) _ _ (sim_sound name h s) (component.library_sound (library_named path name) h s)))))
 
 pub import_sound : (names : List (List ℕ)) (h : Held) → IsSound h → IsSound (import_answered names h).held
 import_sound [] h s = s
@@ -136,6 +142,8 @@ module_sound c h s =
       ports = s.ports;
       machines = s.machines;
       domains = s.domains;
+      additions = s.additions;
+      clock_domains = s.clock_domains;
       modules = all_and (IsBuilt h.pool) h.store.modules (record { name = []; steps = [] } ∷ []) s.modules (record { steps = tt }, tt);
     } tt) s
 
@@ -312,7 +320,7 @@ plain_sound m b (v ∷ vs) ns h t i = t
 case_sound : (m : ℕ) (o : Option (List Pattern)) (h : Held) → IsSound h → IsSound (case_given m o h).held
 case_sound m None h t = t
 case_sound m (Some ps) h t =
-    keeping_sound (with_patterns ps h) (kept_as.Block m (begin.Case (length h.store.patterns))) (record { names = t.names; things = t.things; kept = t.kept; modules = t.modules; ports = t.ports; machines = t.machines; domains = t.domains }) tt
+    keeping_sound (with_patterns ps h) (kept_as.Block m (begin.Case (length h.store.patterns))) (record { names = t.names; things = t.things; kept = t.kept; modules = t.modules; ports = t.ports; machines = t.machines; domains = t.domains; additions = t.additions; clock_domains = t.clock_domains }) tt
 
 case_in_sound : (s : Seen) (m : ℕ) (vs : List Val) (o : Option ExprId) (h : Held) → IsSound h → IsSound (case_in s m vs o h).held
 case_in_sound s m vs None h t = keeping_sound h (kept_as.Block m begin.Misplaced) t tt
@@ -373,6 +381,8 @@ entered_sound h m b x t k i = by_expr (condition_made (built_blocks b) x) (openi
       ports = u.ports;
       machines = u.machines;
       domains = u.domains;
+      additions = u.additions;
+      clock_domains = u.clock_domains;
       modules = told_module q m (and_entered h.pool b x) h.store.modules (record { steps = all_and (IsTold q) b.steps (Enter (opening_of (length h.pool.exprs) x) ∷ []) l.steps (o, tt) }) u.modules;
     }
 
@@ -403,11 +413,15 @@ enter_sound (Some (kept_as.Block m b)) h t f = if_sound (in_machine m h.store.ma
     by_block (Some x) g =
         passed_sound (entering m (slice_get h.store.modules m) x h) (entering_sound h m (slice_get h.store.modules m) x t (λ c e. module_built h.pool h.store.modules m c t.modules e) (g x refl))
 enter_sound (Some (kept_as.OfMachine x)) h t f = t
+enter_sound (Some (kept_as.OfSimulator x)) h t f = t
 enter_sound None h t f = t
 enter_sound (Some (kept_as.Name n)) h t f = t
 enter_sound (Some (kept_as.Module m)) h t f = t
 enter_sound (Some (kept_as.Domains m)) h t f = t
 enter_sound (Some (kept_as.Domain m d)) h t f = t
+enter_sound (Some (kept_as.Submodules m)) h t f = t
+enter_sound (Some (kept_as.Definitions m)) h t f = t
+enter_sound (Some (kept_as.ClockDomain k)) h t f = t
 enter_sound (Some (kept_as.Statement q)) h t f = t
 enter_sound (Some (kept_as.Member m)) h t f = t
 enter_sound (Some (kept_as.Signature m)) h t f = t
@@ -421,6 +435,8 @@ left_sound h m b t k = record {
   ports = t.ports;
   machines = t.machines;
   domains = t.domains;
+  additions = t.additions;
+  clock_domains = t.clock_domains;
   modules = told_module h.pool m (and_left b) h.store.modules (record { steps = all_and (IsTold h.pool) b.steps (Leave ∷ []) k.steps (tt, tt) }) t.modules;
 }
 
@@ -438,11 +454,15 @@ leave_sound (Some (kept_as.Block m b)) h t = by_pair (leaving m (slice_get h.sto
     by_pair : (x : Stored × Option Cause) → IsSound (record h { store = x.0 }) → IsSound (left_at m h x).held
     by_pair (s, why) u = passed_sound (record h { store = s }, why) u
 leave_sound (Some (kept_as.OfMachine x)) h t = t
+leave_sound (Some (kept_as.OfSimulator x)) h t = t
 leave_sound None h t = t
 leave_sound (Some (kept_as.Name n)) h t = t
 leave_sound (Some (kept_as.Module m)) h t = t
 leave_sound (Some (kept_as.Domains m)) h t = t
 leave_sound (Some (kept_as.Domain m d)) h t = t
+leave_sound (Some (kept_as.Submodules m)) h t = t
+leave_sound (Some (kept_as.Definitions m)) h t = t
+leave_sound (Some (kept_as.ClockDomain k)) h t = t
 leave_sound (Some (kept_as.Statement q)) h t = t
 leave_sound (Some (kept_as.Member m)) h t = t
 leave_sound (Some (kept_as.Signature m)) h t = t
@@ -459,6 +479,8 @@ naming_sound n h t name = record {
   ports = t.ports;
   machines = t.machines;
   domains = all_and IsName h.store.domains (n ∷ []) t.domains (name, tt);
+  additions = t.additions;
+  clock_domains = t.clock_domains;
 }
 
 pub domain_sound : (m : ℕ) (name : Option (List ℕ)) (h : Held) → IsSound h → IsSound (domain_given m name h).held
@@ -496,6 +518,8 @@ put_sound_by h None m b d q t k named e = record {
   ports = t.ports;
   machines = t.machines;
   domains = t.domains;
+  additions = t.additions;
+  clock_domains = t.clock_domains;
   modules = told_module h.pool m (built_with b d q) h.store.modules (record { steps = all_and (IsTold h.pool) b.steps (Assign d q.target q.value q.place ∷ []) k.steps ((named, e), tt) }) t.modules;
 }
 
@@ -532,15 +556,22 @@ base_sound (o ∷ []) [] h t = t
 base_sound (o ∷ []) (n ∷ ns) h t = t
 base_sound (o ∷ v ∷ vs) ns h t = t
 
-top_sound : (v : Val) (m : Option ℕ) (c : Option Calling) (h : Held) → IsSound h → IsSound (top_taken v m c h).held
-top_sound v (Some m) c h t = with_top_sound h (record h.store.top { root = Some m }) t
-top_sound v None (Some c) h t = with_top_sound h (record { object = first_object h.store.top.object (object_in v); root = None }) t
-top_sound v None None h t = t
+top_sound : (s : Seen) (v : Val) (m : Option ℕ) (c : Option Calling) (h : Held) → IsSound h → IsSound (top_taken s v m c h).held
+top_sound s v (Some m) c h t = submodule.walk_sound s (with_top m h) (submodule.entered_sound m h t)
+top_sound s v None (Some c) h t = with_top_sound h (record { object = first_object h.store.top.object (object_in v); root = None }) t
+top_sound s v None None h t = t
+
+taken_sound : (s : Seen) (o : Option Val) (h : Held) → IsSound h → IsSound (body_taken s o h).held
+taken_sound s None h t = t
+taken_sound s (Some v) h t = top_sound s v (module_of (kept_of h.store v)) (elaborate_of s v) h t
 
 pub body_sound : (s : Seen) (o : Option Val) (h : Held) → IsSound h → IsSound (body_ended s o h).held
-body_sound s None h t = t
-body_sound s (Some v) h t = top_sound v (module_of (kept_of h.store v)) (elaborate_of s v) h t
+body_sound s o h t = taken_sound s (top_of h.store.simulation.subject o) h t
+
+ended_sound : (root : Option ℕ) (s : Seen) (v : Val) (h : Held) → IsSound h → IsSound (ended_by root s v h).held
+ended_sound None s v h t = top_sound s v (module_of (kept_of h.store v)) (elaborate_of s v) h t
+ended_sound (Some root) s v h t = submodule.node_or_called_sound (walk s) (module_of (kept_of h.store v)) (elaborate_of s v) h t (λ g. submodule.walk_sound s g)
 
 pub end_sound : (s : Seen) (vs : List Val) (h : Held) → IsSound h → IsSound (elaborate_ended s vs h).held
 end_sound s [] h t = t
-end_sound s (v ∷ vs) h t = top_sound v (module_of (kept_of h.store v)) (elaborate_of s v) h t
+end_sound s (v ∷ vs) h t = ended_sound h.store.top.root s v h t

@@ -1,5 +1,6 @@
 pub mod Blocks
 pub mod Classes
+pub mod ClockDomains
 pub mod ComponentClasses
 pub mod Entering
 pub mod Equations
@@ -11,4 +12,6 @@ pub mod Members
 pub mod Puts
 pub mod Sides
 pub mod Signals
+pub mod Simulators
+pub mod Submodules
 pub mod Tops

@@ -30,10 +30,12 @@ abbrev pub part_given : Option MachinePart → Answered → Held → Answered
 part_given (Some x) others h = kept_given (kept.OfMachine x) h
 part_given None others h = others
 
--- `m.d`, and the blocks of a module
+-- `m.d`, `m.submodules`, `m.domains`, and the blocks of a module
 abbrev pub module_attribute : ℕ → List ℕ → Held → Answered
 module_attribute m name h =
-    if text_eq name (codes "d") then kept_given (kept.Domains m) h else part_given (part_named m name) (block_name_given m (block_named name) h) h
+    if text_eq name (codes "d") then kept_given (kept.Domains m) h
+    else (if text_eq name (codes "submodules") then kept_given (kept.Submodules m) h
+    else (if text_eq name (codes "domains") then kept_given (kept.Definitions m) h else part_given (part_named m name) (block_name_given m (block_named name) h) h))
 
 -- a domain with a clock is named
 abbrev pub clocked_given : ℕ → List ℕ → Held → Answered

@@ -1,6 +1,7 @@
--- What is elaborated: the global `top`, and whatever its `elaborate` gives. (Amaranth language guide 0.5, "Elaboration". That the top is the
--- global of this name, and that `elaborate` is asked again of what it gives, is this project's own rule.)
-use Rattle.std.specs.Prelude.{ℕ, Bool, true, false, if◌then◌else◌, List, [], ◌∷◌, Option, Some, None, codes}
+-- What is elaborated: what is simulated, or else the global `top`, whatever its `elaborate` gives, and then its submodules. (Amaranth language
+-- guide 0.5, "Elaboration", "Submodules". What the top is, that `elaborate` is asked again of what it gives, and how many submodules there
+-- may be, is this project's own rule.)
+use Rattle.std.specs.Prelude.{ℕ, zero, suc, nat_lt, ◌-◌, length, Bool, true, false, if◌then◌else◌, List, [], ◌∷◌, Option, Some, None, codes}
 use Rattle.lists.specs.Texts.{text_eq}
 use Rattle.py_values.specs.declared.val.Val.{Val}
 use Rattle.py_values.specs.declared.val.Val.TheVariants as val
@@ -13,9 +14,11 @@ use Rattle.py_values.specs.declared.objects.Inherited.TheVariants.{Found, Thing,
 use Rattle.py_values.specs.Heaps.{Seen, row_at, func_at}
 use Rattle.py_values.specs.Objects.{attributes, attribute_in, inherited, first_in}
 use Rattle.py_frames.specs.declared.request.Answer.TheVariants as answer
-use Rattle.py_frames.specs.declared.request.Cause.TheVariants.{Raised}
+use Rattle.py_frames.specs.declared.request.Cause.TheVariants.{Raised, Limit}
 use Rattle.elab_acts.specs.declared.tops.Calling.{Calling}
-use Rattle.elab_store.specs.Stores.{with_root, with_object, module_of, Held, Answered, refused, given, kept_of}
+use Rattle.elab_store.specs.declared.hierarchy.Waiting.{Waiting}
+use Rattle.elab_store.specs.Hierarchies.{first_waiting, thing_waiting, node_taken, top_entered}
+use Rattle.elab_store.specs.Stores.{with_root, with_object, module_of, Stored, Held, Answered, refused, given, kept_of}
 
 -- ---- `elaborate` of an object: what is called, and whether with the object first
 
@@ -65,22 +68,88 @@ abbrev pub call_args : Option ObjId → List Val
 call_args None = val.None ∷ []
 call_args (Some o) = val.Object o ∷ val.None ∷ []
 
--- a module is the end of it, and else `elaborate` is called; what is neither raises where the request stands
+-- else `elaborate` is called; what is neither raises where the request stands
 abbrev pub top_called : Val → Option Calling → Held → Answered
 top_called v (Some c) h = record { answer = answer.Call c.callee (call_args c.first); held = record h { store = with_object v h.store } }
 top_called v None h = refused Raised h
 
-abbrev pub top_taken : Val → Option ℕ → Option Calling → Held → Answered
-top_taken v (Some m) c h = given val.None (record h { store = with_root m h.store })
-top_taken v None c h = top_called v c h
+-- below the top nothing is noted of an object that is asked
+abbrev pub below_called : Option Calling → Held → Answered
+below_called (Some c) h = record { answer = answer.Call c.callee (call_args c.first); held = h }
+below_called None h = refused Raised h
+
+-- ---- submodules: from the top on, each before those that were added to it, in the order in which they were added
+
+-- a design has so many at most, which stand so deep in one another
+abbrev pub most_submodules : ℕ
+most_submodules = 4096
+
+abbrev pub deepest_submodule : ℕ
+deepest_submodule = 64
+
+abbrev pub store_with_node : ℕ → Stored → Stored
+store_with_node m store = record store { hierarchy = node_taken m store.hierarchy }
+
+abbrev pub with_node : ℕ → Held → Held
+with_node m h = record h { store = store_with_node m h.store }
+
+-- a module is taken, and the others follow
+abbrev pub node_or_called : (Held → Answered) → Option ℕ → Option Calling → Held → Answered
+node_or_called others (Some m) c h = others (with_node m h)
+node_or_called others None c h = below_called c h
+
+abbrev pub thing_walked : Seen → (Held → Answered) → Option Val → Held → Answered
+thing_walked s others None h = refused Raised h
+thing_walked s others (Some v) h = node_or_called others (module_of (kept_of h.store v)) (elaborate_of s v) h
+
+abbrev pub next_walked : Seen → (Held → Answered) → Option Waiting → Held → Answered
+next_walked s others None h = given val.None h
+next_walked s others (Some w) h = if nat_lt deepest_submodule w.depth then refused Limit h else thing_walked s others (thing_waiting h.store.hierarchy) h
+
+abbrev pub last_walked : Option Waiting → Held → Answered
+last_walked None h = given val.None h
+last_walked (Some w) h = refused Limit h
+
+-- what waits first is elaborated, and so on, where so many more may come
+unfoldable pub walked : ℕ → Seen → Held → Answered
+walked zero s h = last_walked (first_waiting h.store.hierarchy) h
+walked (suc n) s h = next_walked s (walked n s) (first_waiting h.store.hierarchy) h
+
+abbrev pub walk : Seen → Held → Answered
+walk s h = walked (most_submodules - length h.store.hierarchy.nodes) s h
+
+-- ---- what is elaborated comes to a module
+
+abbrev pub store_entered : ℕ → Stored → Stored
+store_entered m store = record (with_root m store) { hierarchy = top_entered m store.hierarchy }
+
+abbrev pub with_top : ℕ → Held → Held
+with_top m h = record h { store = store_entered m h.store }
+
+abbrev pub top_taken : Seen → Val → Option ℕ → Option Calling → Held → Answered
+top_taken s v (Some m) c h = walk s (with_top m h)
+top_taken s v None c h = top_called v c h
 
 abbrev pub elaborated : Seen → Val → Held → Answered
-elaborated s v h = top_taken v (module_of (kept_of h.store v)) (elaborate_of s v) h
+elaborated s v h = top_taken s v (module_of (kept_of h.store v)) (elaborate_of s v) h
+
+abbrev pub body_taken : Seen → Option Val → Held → Answered
+body_taken s None h = refused Raised h
+body_taken s (Some v) h = elaborated s v h
+
+-- the argument of the `Simulator` call goes before the global
+abbrev pub top_of : (subject global : Option Val) → Option Val
+top_of (Some v) o = Some v
+top_of None o = o
 
 abbrev pub body_ended : Seen → Option Val → Held → Answered
-body_ended s None h = refused Raised h
-body_ended s (Some v) h = elaborated s v h
+body_ended s o h = body_taken s (top_of h.store.simulation.subject o) h
+
+-- where the top is a module already, it is a submodule that was asked
+abbrev pub ended_by : Option ℕ → Seen → Val → Held → Answered
+ended_by None s v h = elaborated s v h
+ended_by (Some root) s v h = node_or_called (walk s) (module_of (kept_of h.store v)) (elaborate_of s v) h
 
 abbrev pub elaborate_ended : Seen → List Val → Held → Answered
-elaborate_ended s (v ∷ vs) h = elaborated s v h
+elaborate_ended s (v ∷ vs) h = ended_by h.store.top.root s v h
 elaborate_ended s [] h = refused Raised h

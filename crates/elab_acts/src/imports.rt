@@ -2,7 +2,7 @@
 ghost use Rattle.std.specs.Prelude.{◌≡◌, ◌<◌, length, slice_get, is_some, Some, IfOk, [], codes};
 ghost use Rattle.lists.specs.Texts.{text_eq};
 ghost use Rattle.amh_things.specs.Things.{name_called};
-ghost use Rattle.elab_acts.specs.Imports.{is_hdl, is_utils, own_named, star_names, hdl_imported, all_bound, utility_imported, imported, import_answered};
+ghost use Rattle.elab_acts.specs.Imports.{is_hdl, is_utils, own_named, star_names, hdl_imported, all_bound, utility_imported, is_sim, sim_named, simulator_bound, sim_imported, imported, import_answered};
 ghost use Rattle.elab_store.specs.Held.{held_of, Gives};
 
 use crate::libraries::{give_base, give_layout, give_library, is_data, is_enum, library_named};
@@ -16,7 +16,7 @@ use py_values::{FuncId, Val};
 use std::alloc::Global;
 
 /// How many names a star brings.
-const STAR: usize = 12;
+const STAR: usize = 13;
 
 // The name that is served here and is spelled so.
 fn own_named(name: &str) -> Option<HdlName>
@@ -32,6 +32,8 @@ fn own_named(name: &str) -> Option<HdlName>
         Some(HdlName::Shape)
     } else if is_text(name, "Value") {
         Some(HdlName::Value)
+    } else if is_text(name, "ClockDomain") {
+        Some(HdlName::ClockDomain)
     } else {
         None
     }
@@ -52,7 +54,7 @@ fn is_value_name(name: &str) -> bool
 
 // The names that a star brings, in order.
 fn star_name(i: usize) -> &'static str
-    requires { i < 12 }
+    requires { i < 13 }
     ensures { slice_get star_names i ≡ Some result.now }
 {
     match i {
@@ -67,7 +69,8 @@ fn star_name(i: usize) -> &'static str
         8 => "Value",
         9 => "unsigned",
         10 => "signed",
-        _ => "Elaboratable",
+        11 => "Elaboratable",
+        _ => "ClockDomain",
     }
 }
 
@@ -81,6 +84,22 @@ fn is_utils(path: &str) -> bool
     ensures { result ≡ is_utils path.now }
 {
     is_text(path, "amaranth.utils")
+}
+
+fn is_sim(path: &str) -> bool
+    ensures { result ≡ is_sim path.now }
+{
+    is_text(path, "amaranth.sim")
+}
+
+fn sim_named(name: &str) -> Option<HdlName>
+    ensures { result ≡ sim_named name.now }
+{
+    if is_text(name, "Simulator") {
+        Some(HdlName::Simulator)
+    } else {
+        None
+    }
 }
 
 /// A name with its value.
@@ -117,6 +136,8 @@ fn import_from(elaboration: &mut Elaboration, path: &str, name: &str) -> Result<
         give_base(elaboration, name)
     } else if is_data(path) {
         give_layout(elaboration, name)
+    } else if is_sim(path) {
+        import_sim(elaboration, name)
     } else {
         give_library(elaboration, library_named(path, name))
     }
@@ -162,4 +183,24 @@ fn import_utility(elaboration: &mut Elaboration, name: &str) -> Result<Answer, N
     } else {
         elaboration.refuse(Cause::Raised)
     }
+}
+
+// `amaranth.sim`: its one name, also by a star.
+fn import_sim(elaboration: &mut Elaboration, name: &str) -> Result<Answer, NoMemory>
+    ensures { Gives result elaboration.new (sim_imported name.now (held_of elaboration.old)) }
+{
+    if is_text(name, "*") {
+        bind_simulator(elaboration)
+    } else {
+        give_library(elaboration, sim_named(name))
+    }
+}
+
+fn bind_simulator(elaboration: &mut Elaboration) -> Result<Answer, NoMemory>
+    ensures { Gives result elaboration.new (simulator_bound (held_of elaboration.old)) }
+{
+    let val = elaboration.store.keep(Kept::Name(HdlName::Simulator))?;
+    let mut names = NamedVals::new(elaboration.alloc);
+    names.push(named_val(elaboration.alloc, "Simulator", val)?)?;
+    Ok(Answer::Bind(names))
 }

@@ -146,7 +146,7 @@ fn put_all(
     Ok(None)
 }
 
-/// An attribute of a module: `m.d`, or the name of a block.
+/// An attribute of a module: `m.d`, `m.submodules`, `m.domains`, or the name of a block.
 pub fn module_attribute(
     elaboration: &mut Elaboration,
     of: u32,
@@ -156,6 +156,10 @@ pub fn module_attribute(
 {
     if is_text(name, "d") {
         elaboration.give_kept(Kept::Domains(of))
+    } else if is_text(name, "submodules") {
+        elaboration.give_kept(Kept::Submodules(of))
+    } else if is_text(name, "domains") {
+        elaboration.give_kept(Kept::Definitions(of))
     } else {
         match part_named(of, name) {
             Some(part) => elaboration.give_kept(Kept::OfMachine(part)),

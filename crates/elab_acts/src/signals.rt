@@ -130,15 +130,15 @@ fn signal_arguments(call: &Called) -> Option<SignalArguments>
     }
 }
 
-// The name of the call, and `sig` where it is assigned to none.
-fn call_name(name: &str) -> &str
+/// The name of the call, and `sig` where it is assigned to none.
+pub(crate) fn call_name(name: &str) -> &str
     ensures { result.now ≡ call_name name.now }
 {
     if name.is_empty() { "sig" } else { name }
 }
 
-// A name, where it is an identifier.
-fn formed(alloc: Global, name: &str) -> Result<Option<&str>, NoMemory>
+/// A name, where it is an identifier.
+pub(crate) fn formed(alloc: Global, name: &str) -> Result<Option<&str>, NoMemory>
     ensures { IfOk result (λ formed_name. option_copied formed_name ≡ formed name.now) }
 {
     if is_identifier(alloc, name)? {
@@ -165,7 +165,8 @@ pub(crate) fn signal_name<'a>(
     }
 }
 
-fn signal_reset_less(heap: &Heap, frozen: &Frozen, given: Option<Val>) -> Option<bool>
+/// Whether a keyword that has a truth is given as true.
+pub(crate) fn signal_reset_less(heap: &Heap, frozen: &Frozen, given: Option<Val>) -> Option<bool>
     ensures { result ≡ signal_reset_less (seen frozen.now heap.now) given }
 {
     match given {

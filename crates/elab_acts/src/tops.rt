@@ -1,10 +1,10 @@
-// What is elaborated.
+// What is elaborated: the top, and its submodules.
 ghost use Rattle.std.specs.Prelude.{◌≡◌, map, string_bytes, codes, Some, None, IfOk, option_map};
 ghost use Rattle.py_values.specs.declared.val.Val.TheVariants as val;
 ghost use Rattle.py_values.specs.Heaps.{seen, func_at};
 ghost use Rattle.py_values.specs.Objects.{first_in};
-ghost use Rattle.elab_acts.specs.Tops.{is_unbound, is_method, method_calling, found_calling, class_calling, object_calling, elaborate_of, global, top_called, top_taken, elaborated, body_ended, elaborate_ended, call_args};
-ghost use Rattle.elab_store.specs.Stores.{object_in, first_object};
+ghost use Rattle.elab_acts.specs.Tops.{is_unbound, is_method, method_calling, found_calling, class_calling, object_calling, elaborate_of, global, top_called, below_called, node_or_called, walk, elaborated, top_of, body_taken, body_ended, ended_by, elaborate_ended, call_args};
+ghost use Rattle.elab_store.specs.Stores.{object_in, first_object, kept_of, module_of};
 ghost use Rattle.elab_store.specs.Held.{held_of, Gives};
 
 use elab_store::kept::{Kept, Top};
@@ -14,6 +14,12 @@ use lists::NoMemory;
 use py_frames::request::{Answer, Cause, Request};
 use py_values::{Code, Frozen, FuncId, Heap, Inherited, ObjId, Val, Vals};
 use std::alloc::Global;
+
+/// A design has so many submodules at most.
+pub(crate) const MOST_SUBMODULES: usize = 4_096;
+
+/// How deep they may stand in one another.
+const DEEPEST_SUBMODULE: u32 = 64;
 
 /// `elaborate` of an object: what is called, and whether with the object before the platform.
 #[derive(Clone, Copy, Debug, PartialEq, Eq, Drop)]
@@ -87,7 +93,8 @@ fn object_calling(heap: &Heap, frozen: &Frozen, o: ObjId) -> Option<Calling>
     }
 }
 
-fn elaborate_of(heap: &Heap, frozen: &Frozen, v: Val) -> Option<Calling>
+/// `elaborate` of a value, where it is an object that has it.
+pub(crate) fn elaborate_of(heap: &Heap, frozen: &Frozen, v: Val) -> Option<Calling>
     ensures { result ≡ elaborate_of (seen frozen.now heap.now) v }
 {
     match v {
@@ -122,7 +129,7 @@ fn global(name: &str, vals: &[Val], names: &[String]) -> Option<Val>
     None
 }
 
-// `elaborate` is called.
+// `elaborate` is called, and the object is noted where it is the first.
 fn call_top(
     elaboration: &mut Elaboration,
     heap: &Heap,
@@ -142,7 +149,52 @@ fn call_top(
     })
 }
 
-// A value is elaborated: a module is taken, and of an object `elaborate` is called.
+// `elaborate` of a submodule is called.
+fn call_below(
+    elaboration: &mut Elaboration,
+    heap: &Heap,
+    frozen: &Frozen,
+    v: Val,
+) -> Result<Answer, NoMemory>
+    ensures { Gives result elaboration.new (below_called (elaborate_of (seen frozen.now heap.now) v) (held_of elaboration.old)) }
+{
+    let Some(calling) = elaborate_of(heap, frozen, v) else {
+        return elaboration.refuse(Cause::Raised);
+    };
+    let args = call_args(elaboration.alloc, calling.first)?;
+    Ok(Answer::Call {
+        callee: calling.callee,
+        args,
+    })
+}
+
+// What waits is elaborated, one after the other, until nothing does or `elaborate` has to be called.
+fn walk(elaboration: &mut Elaboration, heap: &Heap, frozen: &Frozen) -> Result<Answer, NoMemory>
+    ensures { Gives result elaboration.new (walk (seen frozen.now heap.now) (held_of elaboration.old)) }
+{
+    let room = MOST_SUBMODULES.saturating_sub(elaboration.store.hierarchy().nodes().len());
+    for i in 0..room {
+        let Some(next) = elaboration.store.hierarchy().first_waiting() else {
+            return elaboration.give(Val::None);
+        };
+        if next.depth > DEEPEST_SUBMODULE {
+            return elaboration.refuse(Cause::Limit);
+        }
+        let Some(v) = elaboration.store.hierarchy().thing_waiting() else {
+            return elaboration.refuse(Cause::Raised);
+        };
+        let Some(m) = elaboration.store.module_of(&v) else {
+            return call_below(elaboration, heap, frozen, v);
+        };
+        elaboration.store.take_node(m)?;
+    }
+    match elaboration.store.hierarchy().first_waiting() {
+        Some(_) => elaboration.refuse(Cause::Limit),
+        None => elaboration.give(Val::None),
+    }
+}
+
+// A value is elaborated as the top: of a module the submodules follow, and of an object `elaborate` is called.
 fn elaborate(
     elaboration: &mut Elaboration,
     heap: &Heap,
@@ -153,10 +205,38 @@ fn elaborate(
 {
     match elaboration.store.module_of(&v) {
         Some(m) => {
-            elaboration.store.set_root(m);
-            elaboration.give(Val::None)
+            elaboration.store.enter_top(m)?;
+            walk(elaboration, heap, frozen)
         }
         None => call_top(elaboration, heap, frozen, &v),
+    }
+}
+
+// `elaborate` of a submodule gave a value: a module stands in the tree, and of an object `elaborate` is called again.
+fn elaborate_below(
+    elaboration: &mut Elaboration,
+    heap: &Heap,
+    frozen: &Frozen,
+    v: Val,
+) -> Result<Answer, NoMemory>
+    ensures { let s = seen frozen.now heap.now in Gives result elaboration.new (node_or_called (walk s) (module_of (kept_of elaboration.old.store v)) (elaborate_of s v) (held_of elaboration.old)) }
+{
+    match elaboration.store.module_of(&v) {
+        Some(m) => {
+            elaboration.store.take_node(m)?;
+            walk(elaboration, heap, frozen)
+        }
+        None => call_below(elaboration, heap, frozen, v),
+    }
+}
+
+// What is simulated, and else the global.
+fn top_of(subject: Option<Val>, global: Option<Val>) -> Option<Val>
+    ensures { result ≡ top_of subject global }
+{
+    match subject {
+        Some(v) => Some(v),
+        None => global,
     }
 }
 
@@ -169,7 +249,8 @@ pub fn end_body(
 ) -> Result<Answer, NoMemory>
     ensures { Gives result elaboration.new (body_ended (seen frozen.now heap.now) (global (codes "top") request.now.vals request.now.names) (held_of elaboration.old)) }
 {
-    match global("top", request.vals.as_slice(), request.names.items()) {
+    let named = global("top", request.vals.as_slice(), request.names.items());
+    match top_of(elaboration.store.simulation().subject(), named) {
         Some(v) => elaborate(elaboration, heap, frozen, v),
         None => elaboration.refuse(Cause::Raised),
     }
@@ -184,8 +265,9 @@ pub fn end_elaborate(
 ) -> Result<Answer, NoMemory>
     ensures { Gives result elaboration.new (elaborate_ended (seen frozen.now heap.now) request.now.vals (held_of elaboration.old)) }
 {
-    match request.vals.as_slice() {
-        [v, ..] => elaborate(elaboration, heap, frozen, *v),
-        [] => elaboration.refuse(Cause::Raised),
+    match (request.vals.as_slice(), elaboration.store.top.root) {
+        ([v, ..], None) => elaborate(elaboration, heap, frozen, *v),
+        ([v, ..], Some(_)) => elaborate_below(elaboration, heap, frozen, *v),
+        ([], _) => elaboration.refuse(Cause::Raised),
     }
 }

@@ -1,4 +1,8 @@
 pub mod AnswerLaws
+pub mod ClockLaws
+pub mod ClockSamples
+pub mod DefinitionLaws
+pub mod DesignLaws
 pub mod Modules
 pub mod NameSamples
 pub mod ObjectLaws
@@ -6,4 +10,6 @@ pub mod ObjectSamples
 pub mod PortSamples
 pub mod RunLaws
 pub mod TableSound
+pub mod TreeLaws
+pub mod TreeSamples
 pub mod Unique

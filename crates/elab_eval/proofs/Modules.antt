@@ -1,22 +1,30 @@
--- A module whose statements stand is one that can be resolved.
-use Rattle.std.specs.Prelude.{◌≡◌, refl, ℕ, ◌<◌, false, not, List, [], ◌∷◌, map, length, slice_get, Option, Some, None, zero, suc}
-use Rattle.std.specs.List.{AllByRecursion, IsDistinct}
-use Rattle.std.proofs.Common.{sym, ◌∙◌, subst}
+-- A tree of modules whose statements stand is one that can be resolved.
+use Rattle.std.specs.Prelude.{IsTrue, ◌≡◌, refl, ℕ, ◌<◌, not, List, [], ◌∷◌, length, slice_get, slice_index_or, Option, Some, None, zero, suc, codes}
+use Rattle.std.specs.Option.{option_map_or}
+use Rattle.std.specs.List.{AllByRecursion}
+use Rattle.std.proofs.Common.{subst}
+use Rattle.std.proofs.lemmas.List.Elements.{All-nil}
+use Rattle.lists.specs.Names.{IsName, continues_name}
 use Rattle.design_ir.specs.declared.ids.ExprId.{ExprId}
-use Rattle.design_ir.specs.declared.process.Process.{Process}
+use Rattle.design_ir.specs.declared.domain.DomainDef.{DomainDef}
 use Rattle.design_ir.specs.declared.process.Side.{Side}
-use Rattle.design_ir.specs.declared.process.Side.TheVariants.{Comb, Clocked}
+use Rattle.design_ir.specs.Forests.{Forest, bare, grown}
+use Rattle.design_ir.specs.Fragments.{leaf_of}
 use Rattle.design_ir.specs.Pools.{Pooled}
 use Rattle.module_dsl.specs.Sided as dsl
 use Rattle.module_dsl.specs.Sided.{givens, sides_of, process_of, processes_of}
 use Rattle.module_dsl.specs.Blocks.{Given, Entries, entries_of}
 use Rattle.module_dsl.specs.Builders.{Built, built_blocks, fragment_of}
-use Rattle.clock_domains.specs.Resolvable.{IsNamedSide, IsPlain, IsSideOf, IsSingle, same_side}
-use Rattle.elab_store.specs.Sound.{IsNoReset, IsBuilt}
+use Rattle.clock_domains.specs.Resolvable.{IsNamedSide, IsPlain, IsSideOf, IsDefinition, IsModule, AreModules, IsTree}
+use Rattle.elab_store.specs.Sound.{IsNoReset, IsBuilt, AreClockDomains}
+use Rattle.elab_store.specs.ClockDomains.{ClockDomains, defined_by}
+use Rattle.elab_store.specs.declared.hierarchy.Addition.{Addition}
+use Rattle.elab_store.specs.declared.hierarchy.Node.{Node}
 use Rattle.elab_store.specs.Stores.{Stored}
-use Rattle.elab_eval.specs.Elaborates.{module_in, root_module}
+use Rattle.elab_eval.specs.Elaborates.{module_in, root_module, node_name, first_trees, other_trees, forest_of_nodes, root_domains, tree_of}
 use Rattle.elab_store.proofs.Pools.{no_resets}
 use Rattle.elab_acts.proofs.EachLaws.{all_map, all_filter, all_each}
+use Rattle.elab_eval.proofs.DefinitionLaws.{definitions_stand, root_definitions_stand}
 use Rattle.elab_store.proofs.Standing.{IsGiven, Stand, entries_stand, blocks_stand, givens_stand, targets_stand, exprs_stand}
 
 -- ---- sides
@@ -25,17 +33,27 @@ sides_named : (q : Pooled) (all : List Given) → AllByRecursion (IsGiven q) all
 sides_named q [] h = tt
 sides_named q (g ∷ more) h = (h.0.side, all_filter IsNamedSide (λ s. not (dsl.same_side g.side s)) (sides_of more) (sides_named q more h.1))
 
--- two crates say alike which sides are one
-sides_alike : (a b : Side) → dsl.same_side a b ≡ same_side a b
-sides_alike Comb Comb = refl
-sides_alike Comb (Clocked n) = refl
-sides_alike (Clocked m) Comb = refl
-sides_alike (Clocked m) (Clocked n) = refl
+-- ---- modules and names by number
 
-distinct_alike : (ss : List Side) → IsDistinct dsl.same_side ss → IsDistinct same_side ss
-unfolding IsDistinct
-distinct_alike [] h = tt
-distinct_alike (s ∷ ss) h = (all_each (λ t. dsl.same_side s t ≡ false) (λ t. same_side s t ≡ false) ss (λ t e. sym (sides_alike s t) ∙ e) h.0, distinct_alike ss h.1)
+abbrev module_or_none : List Built → ℕ → Built
+module_or_none bs m = slice_index_or bs m (record { name = []; steps = [] })
+
+-- where there is none of a number, nothing is told
+built_or_none : (q : Pooled) (bs : List Built) (m : ℕ) → AllByRecursion (IsBuilt q) bs → IsBuilt q (module_or_none bs m)
+built_or_none q [] m h = record { steps = tt }
+built_or_none q (b ∷ bs) zero h = h.0
+built_or_none q (b ∷ bs) (suc m) h = built_or_none q bs m h.1
+
+u_named : IsName (codes "u")
+u_named = record { first = 117; rest = []; whole = refl; starts = refl; continues = All-nil (λ b. IsTrue (continues_name b)) }
+
+name_at : (additions : List Addition) (k : ℕ) → AllByRecursion (λ (a : Addition). IsName a.name) additions → IsName (option_map_or (λ (a : Addition). a.name) (slice_get additions k) (codes "u"))
+name_at [] k g = u_named
+name_at (a ∷ additions) zero g = g.0
+name_at (a ∷ additions) (suc k) g = name_at additions k g.1
+
+node_named : (additions : List Addition) (x : Node) → AllByRecursion (λ (a : Addition). IsName a.name) additions → IsName (node_name additions x)
+node_named additions x g = name_at additions x.addition g
 
 -- ---- statements
 
@@ -50,19 +68,52 @@ module _ (q : Pooled) (plain : AllByRecursion IsNoReset q.exprs) where
     targets = targets_stand q side [] es h;
   }
 
-  pub single : (b : Built) → IsBuilt q b → IsDistinct dsl.same_side (map (λ (p : Process). p.side) (processes_of (entries_of (built_blocks b)))) → IsSingle q (fragment_of b)
-  unfolding fragment_of
-  single b h distinct =
+  -- the sides of a module are named, and its statements stand
+  sides_stand : (b : Built) → IsBuilt q b → AllByRecursion (IsSideOf q) (processes_of (entries_of (built_blocks b)))
+  sides_stand b h =
       let es : Entries = entries_of (built_blocks b) in
       let stand : Stand q (entries_of (built_blocks b)) = entries_stand q (built_blocks b) (blocks_stand q b.steps h.steps) in
-      record {
-        domains = refl;
-        memories = refl;
-        alone = refl;
-        sides = distinct_alike (map (λ (p : Process). p.side) (processes_of es)) distinct;
-        processes = all_map (IsSideOf q) (process_of es) (sides_of (givens es))
-            (all_each IsNamedSide (λ s. IsSideOf q (process_of es s)) (sides_of (givens es)) (λ s named. side_stands es s stand named) (sides_named q (givens es) (givens_stand q es stand)));
-      }
+      all_map (IsSideOf q) (process_of es) (sides_of (givens es))
+      (all_each IsNamedSide (λ s. IsSideOf q (process_of es s)) (sides_of (givens es)) (λ s named. side_stands es s stand named) (sides_named q (givens es) (givens_stand q es stand)))
+
+  -- under whatever name it stands
+  module_stands : (b : Built) (name : List ℕ) (ds : List DomainDef) → IsBuilt q b → AllByRecursion (IsDefinition q) ds → IsModule q (record (leaf_of (fragment_of b)) { name = name; domains = ds })
+  unfolding fragment_of
+  module_stands b name ds h defined = record { domains = defined; memories = refl; processes = sides_stand b h }
+
+  root_stands : (b : Built) (ds : List DomainDef) → IsBuilt q b → AllByRecursion (IsDefinition q) ds → IsModule q (record (leaf_of (fragment_of b)) { domains = ds })
+  unfolding fragment_of
+  root_stands b ds h defined = record { domains = defined; memories = refl; processes = sides_stand b h }
+
+  -- ---- the tree: each module below the top stands under the name of its addition
+
+  first_stand : (n : ℕ) (f : Forest) → AreModules q f → AreModules q (first_trees n f)
+  first_stand zero f h = tt
+  first_stand (suc n) bare h = tt
+  first_stand (suc n) (grown l below rest) h = (h.0, (h.1.0, (h.1.1.0, first_stand n rest h.1.1.1)))
+
+  others_stand : (n : ℕ) (f : Forest) → AreModules q f → AreModules q (other_trees n f)
+  others_stand zero f h = h
+  others_stand (suc n) bare h = tt
+  others_stand (suc n) (grown l below rest) h = others_stand n rest h.1.1.1
+
+  nodes_stand : (bs : List Built) (t : ClockDomains) (additions : List Addition) (xs : List Node) → AllByRecursion (IsBuilt q) bs → AreClockDomains q t.made → AllByRecursion (λ (a : Addition). IsName a.name) additions
+      → AreModules q (forest_of_nodes bs t additions xs)
+  nodes_stand bs t additions [] h clocked g = tt
+  nodes_stand bs t additions (x ∷ xs) h clocked g =
+      let behind = nodes_stand bs t additions xs h clocked g in (
+        node_named additions x g,
+        (
+          module_stands (module_or_none bs x.«module») (node_name additions x) (defined_by x.«module» t) (built_or_none q bs x.«module» h) (definitions_stand q t x.«module» clocked),
+          (first_stand x.below _ behind, others_stand x.below _ behind),
+        ),
+      )
+
+  pub tree_stands : (s : Stored) (b : Built) → IsBuilt q b → AllByRecursion (IsBuilt q) s.modules → AreClockDomains q s.clock_domains.made → AllByRecursion (λ (a : Addition). IsName a.name) s.hierarchy.additions → IsTree q (tree_of s b)
+  tree_stands s b h all clocked named = record {
+    own = root_stands b (root_domains s) h (root_definitions_stand q s clocked);
+    below = nodes_stand s.modules s.clock_domains s.hierarchy.additions s.hierarchy.nodes all clocked named;
+  }
 
 -- the module of a number is as sound as all of them
 pub built_at : (q : Pooled) (bs : List Built) (m : Option ℕ) (b : Built) → AllByRecursion (IsBuilt q) bs → module_in bs m ≡ Some b → IsBuilt q b

@@ -19,6 +19,9 @@ use Rattle.design_ir.specs.declared.signal.Sig.{Sig}
 use Rattle.clock_domains.specs.declared.top.TopPorts.TheVariants as ports
 use Rattle.amh_things.specs.declared.thing.Thing.TheVariants as thing
 use Rattle.elab_store.specs.Components.{no_components, with_class}
+use Rattle.elab_store.specs.ClockDomains.{no_clock_domains}
+use Rattle.elab_store.specs.Hierarchies.{no_hierarchy}
+use Rattle.elab_store.specs.Simulations.{no_simulation}
 use Rattle.elab_eval.specs.ObjectTops.{each_once, held_signal, object_ports}
 use Rattle.elab_store.specs.Stores.{Held, no_top}
 
@@ -50,9 +53,12 @@ held = record {
     patterns = [];
     top = no_top;
     components = no_components;
+    hierarchy = no_hierarchy;
+    clock_domains = no_clock_domains;
     machines = [];
     domains = [];
     told = None;
+    simulation = no_simulation;
   };
 }
 

@@ -26,17 +26,21 @@ use Rattle.elab_acts.specs.Signals.{signal_arguments}
 use Rattle.elab_acts.specs.Sides.{index_name, equations_in, deepest}
 use Rattle.elab_acts.specs.Blocks.{block_named}
 use Rattle.elab_acts.specs.Tops.{global}
-use Rattle.elab_eval.specs.Table.{kept_called, equated_by, called_by, call_answered, attribute_of, attribute_answered, attribute_stored, store_answered, index_of, index_answered, index_stored, index_store_answered, added, operator_answered, kept_entered, kept_left, enter_answered, leave_answered, own_answered, only}
+use Rattle.elab_eval.specs.Table.{kept_called, equated_by, called_by, call_answered, attribute_of, attribute_answered, module_stored, attribute_stored, store_answered, index_of, index_answered, index_stored, index_store_answered, added, operator_answered, kept_entered, kept_left, enter_answered, leave_answered, own_answered, only}
 use Rattle.elab_eval.specs.Table as table
 use Rattle.elab_acts.specs.Libraries.{wiring_named}
 use Rattle.elab_eval.specs.Table.{name_attribute}
 use Rattle.elab_acts.specs.Likes.{like_arguments}
+use Rattle.elab_acts.specs.ClockDomains.{domain_arguments}
 use Rattle.elab_store.specs.Sound.{IsKept, IsSound}
 use Rattle.elab_acts.proofs.SideLaws.{equations_stand, kept_stands}
 use Rattle.elab_acts.proofs.GrownLaws.{keeping_sound}
 use Rattle.elab_machines.specs.StateMachines.{part_named}
 use Rattle.elab_acts.proofs.MachineSound as machine
 use Rattle.elab_acts.proofs.ComponentSound as component
+use Rattle.elab_acts.proofs.SubmoduleSound as submodule
+use Rattle.elab_acts.proofs.DomainSound as clocked
+use Rattle.elab_acts.proofs.SimulatorSound as simulator
 use Rattle.elab_acts.proofs.SoundLaws.{if_sound, thing_name_sound, import_sound, module_sound, signal_sound, like_sound, thing_at, eq_sound, block_name_sound, block_call_sound, enter_sound, leave_sound, domain_sound, stored_sound, side_named, statements_sound, class_sound, base_sound, body_sound, end_sound}
 
 -- ---- calls
@@ -55,6 +59,7 @@ name_sound : (s : Seen) (n : HdlName) (c : Called) (h : Held) → IsSound h → 
 name_sound s hdl.Module c h t = module_sound c h t
 name_sound s hdl.Signal c h t = signal_sound s c.name (signal_arguments c) h t
 name_sound s hdl.Like c h t = like_sound s c.name (like_arguments c) c.placed h t
+name_sound s hdl.ClockDomain c h t = clocked.call_sound s c.name (domain_arguments c) h t
 name_sound s hdl.Elaboratable c h t = t
 name_sound s hdl.Shape c h t = t
 name_sound s hdl.Value c h t = t
@@ -64,6 +69,7 @@ name_sound s hdl.Wiring c h t = t
 name_sound s hdl.Enumerations c h t = t
 name_sound s hdl.Data c h t = t
 name_sound s hdl.Component c h t = t
+name_sound s hdl.Simulator c h t = simulator.called_sound c h t
 
 own_call_sound : (s : Seen) (o : Option Kept) (c : Called) (p : Place) (h : Held) → IsSound h → IsSound (kept_called s o c p h).held
 own_call_sound s None c p h t = t
@@ -71,12 +77,16 @@ own_call_sound s (Some (kept_as.Name n)) c p h t = name_sound s n c h t
 own_call_sound s (Some (kept_as.Module n)) c p h t = t
 own_call_sound s (Some (kept_as.Domains n)) c p h t = t
 own_call_sound s (Some (kept_as.Domain n d)) c p h t = t
+own_call_sound s (Some (kept_as.Submodules n)) c p h t = t
+own_call_sound s (Some (kept_as.Definitions n)) c p h t = t
+own_call_sound s (Some (kept_as.ClockDomain n)) c p h t = t
 own_call_sound s (Some (kept_as.Statement n)) c p h t = t
 own_call_sound s (Some (kept_as.Member m)) c p h t = t
 own_call_sound s (Some (kept_as.Signature m)) c p h t = t
 own_call_sound s (Some (kept_as.BlockName m n)) c p h t = block_call_sound s m n c h t
 own_call_sound s (Some (kept_as.Block m b)) c p h t = t
 own_call_sound s (Some (kept_as.OfMachine x)) c p h t = machine.part_call_sound s x c p h t
+own_call_sound s (Some (kept_as.OfSimulator x)) c p h t = simulator.part_called_sound s x c p h t
 
 call_sound : (s : Seen) (r : Request) (c : Called) (h : Held) → IsSound h → IsSound (call_answered s r c h).held
 call_sound s r c h t = by_eq (equated_by (thing_of h.store.things c.callee)) (λ e is. equated_there (length h.pool.exprs) h.store.things c.callee e t.things is)
@@ -94,17 +104,25 @@ library_name_sound hdl.Data name h t = thing_name_sound (layout_named name) h t
 library_name_sound hdl.Module name h t = t
 library_name_sound hdl.Signal name h t = if_sound (text_eq name (codes "like")) _ _ (keeping_sound h (kept_as.Name hdl.Like) t tt) t
 library_name_sound hdl.Like name h t = t
+library_name_sound hdl.ClockDomain name h t = t
 library_name_sound hdl.Elaboratable name h t = t
 library_name_sound hdl.Shape name h t = t
 library_name_sound hdl.Value name h t = t
 library_name_sound hdl.In name h t = t
 library_name_sound hdl.Out name h t = t
 library_name_sound hdl.Component name h t = t
+library_name_sound hdl.Simulator name h t = t
 
 attribute_sound : (o : Option Kept) (name : List ℕ) (h : Held) → IsSound h → IsSound (attribute_of o name h).held
 attribute_sound None name h t = t
-attribute_sound (Some (kept_as.Module m)) name h t = if_sound (text_eq name (codes "d")) _ _ (keeping_sound h (kept_as.Domains m) t tt) (machine.part_given_sound (part_named m name) _ h t (block_name_sound m (block_named name) h t))
+attribute_sound (Some (kept_as.Module m)) name h t =
+    if_sound (text_eq name (codes "d")) _ _ (keeping_sound h (kept_as.Domains m) t tt)
+    (if_sound (text_eq name (codes "submodules")) _ _ (keeping_sound h (kept_as.Submodules m) t tt)
+    (if_sound (text_eq name (codes "domains")) _ _ (keeping_sound h (kept_as.Definitions m) t tt) (machine.part_given_sound (part_named m name) _ h t (block_name_sound m (block_named name) h t))))
 attribute_sound (Some (kept_as.Domains m)) name h t = domain_sound m (Some name) h t
+attribute_sound (Some (kept_as.Submodules m)) name h t = submodule.given_sound m (Some name) h t
+attribute_sound (Some (kept_as.ClockDomain k)) name h t = clocked.attribute_sound k name h t
+attribute_sound (Some (kept_as.Definitions m)) name h t = t
 attribute_sound (Some (kept_as.Name m)) name h t = library_name_sound m name h t
 attribute_sound (Some (kept_as.Domain m d)) name h t = t
 attribute_sound (Some (kept_as.Statement m)) name h t = t
@@ -113,6 +131,7 @@ attribute_sound (Some (kept_as.Signature m)) name h t = t
 attribute_sound (Some (kept_as.BlockName m n)) name h t = t
 attribute_sound (Some (kept_as.Block m b)) name h t = t
 attribute_sound (Some (kept_as.OfMachine x)) name h t = machine.part_attribute_sound x name h t
+attribute_sound (Some (kept_as.OfSimulator x)) name h t = simulator.attribute_sound x name h t
 
 attributes_sound : (vs : List Val) (o : Option (List ℕ)) (h : Held) → IsSound h → IsSound (attribute_answered vs o h).held
 attributes_sound [] o h t = t
@@ -120,10 +139,17 @@ attributes_sound (x ∷ []) None h t = t
 attributes_sound (x ∷ []) (Some n) h t = attribute_sound (kept_of h.store x) n h t
 attributes_sound (x ∷ y ∷ vs) o h t = t
 
+module_stored_sound : (s : Seen) (m : ℕ) (name : List ℕ) (v : Val) (p : Place) (h : Held) → IsSound h → IsSound (module_stored s m name v p h).held
+module_stored_sound s m name v p h t = if_sound (text_eq name (codes "submodules")) _ _ (submodule.submodules_sound m v h t)
+    (if_sound (text_eq name (codes "domains")) _ _ (clocked.definitions_sound m v h t) (machine.next_sound s m name v p h t))
+
 attribute_stored_sound : (s : Seen) (o : Option Kept) (name : List ℕ) (v : Val) (p : Place) (h : Held) → IsSound h → IsSound (attribute_stored s o name v p h).held
 attribute_stored_sound s (Some (kept_as.Domains m)) name v p h t = stored_sound m (Some name) v h t
+attribute_stored_sound s (Some (kept_as.Submodules m)) name v p h t = submodule.stored_sound s m (Some name) v h t
+attribute_stored_sound s (Some (kept_as.Definitions m)) name v p h t = clocked.stored_sound m name v p h t
+attribute_stored_sound s (Some (kept_as.ClockDomain k)) name v p h t = t
 attribute_stored_sound s None name v p h t = t
-attribute_stored_sound s (Some (kept_as.Module m)) name v p h t = machine.next_sound s m name v p h t
+attribute_stored_sound s (Some (kept_as.Module m)) name v p h t = module_stored_sound s m name v p h t
 attribute_stored_sound s (Some (kept_as.Name m)) name v p h t = t
 attribute_stored_sound s (Some (kept_as.Domain m d)) name v p h t = t
 attribute_stored_sound s (Some (kept_as.Statement m)) name v p h t = t
@@ -132,6 +158,7 @@ attribute_stored_sound s (Some (kept_as.Signature m)) name v p h t = t
 attribute_stored_sound s (Some (kept_as.BlockName m n)) name v p h t = t
 attribute_stored_sound s (Some (kept_as.Block m b)) name v p h t = t
 attribute_stored_sound s (Some (kept_as.OfMachine x)) name v p h t = t
+attribute_stored_sound s (Some (kept_as.OfSimulator x)) name v p h t = t
 
 stores_sound : (s : Seen) (vs : List Val) (o : Option (List ℕ)) (p : Place) (h : Held) → IsSound h → IsSound (store_answered s vs o p h).held
 stores_sound s [] o p h t = t
@@ -142,6 +169,9 @@ stores_sound s (x ∷ v ∷ w ∷ vs) o p h t = t
 
 index_sound : (s : Seen) (o : Option Kept) (i : Val) (h : Held) → IsSound h → IsSound (index_of s o i h).held
 index_sound s (Some (kept_as.Domains m)) i h t = domain_sound m (index_name s i) h t
+index_sound s (Some (kept_as.Submodules m)) i h t = submodule.given_sound m (index_name s i) h t
+index_sound s (Some (kept_as.Definitions m)) i h t = t
+index_sound s (Some (kept_as.ClockDomain k)) i h t = t
 index_sound s None i h t = t
 index_sound s (Some (kept_as.Module m)) i h t = t
 index_sound s (Some (kept_as.Name m)) i h t = t
@@ -152,6 +182,7 @@ index_sound s (Some (kept_as.Signature m)) i h t = t
 index_sound s (Some (kept_as.BlockName m n)) i h t = t
 index_sound s (Some (kept_as.Block m b)) i h t = t
 index_sound s (Some (kept_as.OfMachine x)) i h t = t
+index_sound s (Some (kept_as.OfSimulator x)) i h t = t
 
 indices_sound : (s : Seen) (vs : List Val) (h : Held) → IsSound h → IsSound (index_answered s vs h).held
 indices_sound s [] h t = t
@@ -161,6 +192,9 @@ indices_sound s (x ∷ i ∷ j ∷ vs) h t = t
 
 index_stored_sound : (s : Seen) (o : Option Kept) (i v : Val) (h : Held) → IsSound h → IsSound (index_stored s o i v h).held
 index_stored_sound s (Some (kept_as.Domains m)) i v h t = stored_sound m (index_name s i) v h t
+index_stored_sound s (Some (kept_as.Submodules m)) i v h t = submodule.stored_sound s m (index_name s i) v h t
+index_stored_sound s (Some (kept_as.Definitions m)) i v h t = t
+index_stored_sound s (Some (kept_as.ClockDomain k)) i v h t = t
 index_stored_sound s None i v h t = t
 index_stored_sound s (Some (kept_as.Module m)) i v h t = t
 index_stored_sound s (Some (kept_as.Name m)) i v h t = t
@@ -171,6 +205,7 @@ index_stored_sound s (Some (kept_as.Signature m)) i v h t = t
 index_stored_sound s (Some (kept_as.BlockName m n)) i v h t = t
 index_stored_sound s (Some (kept_as.Block m b)) i v h t = t
 index_stored_sound s (Some (kept_as.OfMachine x)) i v h t = t
+index_stored_sound s (Some (kept_as.OfSimulator x)) i v h t = t
 
 index_stores_sound : (s : Seen) (vs : List Val) (h : Held) → IsSound h → IsSound (index_store_answered s vs h).held
 index_stores_sound s [] h t = t
@@ -181,35 +216,43 @@ index_stores_sound s (x ∷ i ∷ v ∷ w ∷ vs) h t = t
 
 -- ---- operators
 
-added_sound : (s : Seen) (o : Option Kept) (x v : Val) (h : Held) → IsSound h → IsSound (added s o x v h).held
-added_sound s (Some (kept_as.Domain m d)) x v h t = statements_sound x m (side_of h.store d) (equations_in deepest s h.store v) h t (λ y e. side_named h.store d y t.domains e) (λ qs e. equations_stand h.pool h.store t.kept deepest s v qs e)
-added_sound s None x v h t = t
-added_sound s (Some (kept_as.Module m)) x v h t = t
-added_sound s (Some (kept_as.Name m)) x v h t = t
-added_sound s (Some (kept_as.Domains m)) x v h t = t
-added_sound s (Some (kept_as.Statement m)) x v h t = t
-added_sound s (Some (kept_as.Member m)) x v h t = t
-added_sound s (Some (kept_as.Signature m)) x v h t = t
-added_sound s (Some (kept_as.BlockName m n)) x v h t = t
-added_sound s (Some (kept_as.Block m b)) x v h t = t
-added_sound s (Some (kept_as.OfMachine y)) x v h t = t
+added_sound : (s : Seen) (o : Option Kept) (x v : Val) (p : Place) (h : Held) → IsSound h → IsSound (added s o x v p h).held
+added_sound s (Some (kept_as.Domain m d)) x v p h t = statements_sound x m (side_of h.store d) (equations_in deepest s h.store v) h t (λ y e. side_named h.store d y t.domains e) (λ qs e. equations_stand h.pool h.store t.kept deepest s v qs e)
+added_sound s (Some (kept_as.Submodules m)) x v p h t = submodule.added_sound s m None v x h t
+added_sound s (Some (kept_as.Definitions m)) x v p h t = clocked.added_sound m v x p h t
+added_sound s (Some (kept_as.ClockDomain k)) x v p h t = t
+added_sound s None x v p h t = t
+added_sound s (Some (kept_as.Module m)) x v p h t = t
+added_sound s (Some (kept_as.Name m)) x v p h t = t
+added_sound s (Some (kept_as.Domains m)) x v p h t = t
+added_sound s (Some (kept_as.Statement m)) x v p h t = t
+added_sound s (Some (kept_as.Member m)) x v p h t = t
+added_sound s (Some (kept_as.Signature m)) x v p h t = t
+added_sound s (Some (kept_as.BlockName m n)) x v p h t = t
+added_sound s (Some (kept_as.Block m b)) x v p h t = t
+added_sound s (Some (kept_as.OfMachine y)) x v p h t = t
+added_sound s (Some (kept_as.OfSimulator y)) x v p h t = t
 
-operator_sound : (s : Seen) (vs : List Val) (o : Option (List ℕ)) (h : Held) → IsSound h → IsSound (operator_answered s vs o h).held
-operator_sound s [] o h t = t
-operator_sound s (x ∷ []) o h t = t
-operator_sound s (x ∷ v ∷ []) None h t = t
-operator_sound s (x ∷ v ∷ []) (Some sign) h t = if_sound (text_eq sign (codes "+=")) _ _ (added_sound s (kept_of h.store x) x v h t) t
-operator_sound s (x ∷ v ∷ w ∷ vs) o h t = t
+operator_sound : (s : Seen) (vs : List Val) (o : Option (List ℕ)) (p : Place) (h : Held) → IsSound h → IsSound (operator_answered s vs o p h).held
+operator_sound s [] o p h t = t
+operator_sound s (x ∷ []) o p h t = t
+operator_sound s (x ∷ v ∷ []) None p h t = t
+operator_sound s (x ∷ v ∷ []) (Some sign) p h t = if_sound (text_eq sign (codes "+=")) _ _ (added_sound s (kept_of h.store x) x v p h t) t
+operator_sound s (x ∷ v ∷ w ∷ vs) o p h t = t
 
 -- ---- `with`
 
 kept_entered_sound : (s : Seen) (o : Option Kept) (h : Held) → IsPool h.pool → IsSound h → ((k : Kept) → o ≡ Some k → IsKept h.pool k) → IsSound (kept_entered s o h).held
 kept_entered_sound s (Some (kept_as.OfMachine x)) h rules t f = machine.part_entered_sound s x h rules t
+kept_entered_sound s (Some (kept_as.OfSimulator x)) h rules t f = simulator.passed_sound x h t
 kept_entered_sound s None h rules t f = enter_sound None h t f
 kept_entered_sound s (Some (kept_as.Name n)) h rules t f = enter_sound (Some (kept_as.Name n)) h t f
 kept_entered_sound s (Some (kept_as.Module m)) h rules t f = enter_sound (Some (kept_as.Module m)) h t f
 kept_entered_sound s (Some (kept_as.Domains m)) h rules t f = enter_sound (Some (kept_as.Domains m)) h t f
 kept_entered_sound s (Some (kept_as.Domain m d)) h rules t f = enter_sound (Some (kept_as.Domain m d)) h t f
+kept_entered_sound s (Some (kept_as.Submodules m)) h rules t f = enter_sound (Some (kept_as.Submodules m)) h t f
+kept_entered_sound s (Some (kept_as.Definitions m)) h rules t f = enter_sound (Some (kept_as.Definitions m)) h t f
+kept_entered_sound s (Some (kept_as.ClockDomain m)) h rules t f = enter_sound (Some (kept_as.ClockDomain m)) h t f
 kept_entered_sound s (Some (kept_as.Statement q)) h rules t f = enter_sound (Some (kept_as.Statement q)) h t f
 kept_entered_sound s (Some (kept_as.Member m)) h rules t f = enter_sound (Some (kept_as.Member m)) h t f
 kept_entered_sound s (Some (kept_as.Signature m)) h rules t f = enter_sound (Some (kept_as.Signature m)) h t f
@@ -223,11 +266,15 @@ enters_sound s (x ∷ y ∷ vs) h rules t = t
 
 kept_left_sound : (o : Option Kept) (h : Held) → IsSound h → IsSound (kept_left o h).held
 kept_left_sound (Some (kept_as.OfMachine x)) h t = machine.part_left_sound x h t
+kept_left_sound (Some (kept_as.OfSimulator x)) h t = simulator.passed_sound x h t
 kept_left_sound None h t = leave_sound None h t
 kept_left_sound (Some (kept_as.Name n)) h t = leave_sound (Some (kept_as.Name n)) h t
 kept_left_sound (Some (kept_as.Module m)) h t = leave_sound (Some (kept_as.Module m)) h t
 kept_left_sound (Some (kept_as.Domains m)) h t = leave_sound (Some (kept_as.Domains m)) h t
 kept_left_sound (Some (kept_as.Domain m d)) h t = leave_sound (Some (kept_as.Domain m d)) h t
+kept_left_sound (Some (kept_as.Submodules m)) h t = leave_sound (Some (kept_as.Submodules m)) h t
+kept_left_sound (Some (kept_as.Definitions m)) h t = leave_sound (Some (kept_as.Definitions m)) h t
+kept_left_sound (Some (kept_as.ClockDomain m)) h t = leave_sound (Some (kept_as.ClockDomain m)) h t
 kept_left_sound (Some (kept_as.Statement q)) h t = leave_sound (Some (kept_as.Statement q)) h t
 kept_left_sound (Some (kept_as.Member m)) h t = leave_sound (Some (kept_as.Member m)) h t
 kept_left_sound (Some (kept_as.Signature m)) h t = leave_sound (Some (kept_as.Signature m)) h t
@@ -248,7 +295,7 @@ own_sound s act.SetAttribute r h rules t = stores_sound s r.vals (only r.names) 
 own_sound s act.CallThing r h rules t = call_sound s r (called r.vals r.names) h t
 own_sound s act.Index r h rules t = indices_sound s r.vals h t
 own_sound s act.SetIndex r h rules t = index_stores_sound s r.vals h t
-own_sound s act.Operator r h rules t = operator_sound s r.vals (only r.names) h t
+own_sound s act.Operator r h rules t = operator_sound s r.vals (only r.names) r.place h t
 own_sound s act.Length r h rules t = t
 own_sound s act.Iterate r h rules t = t
 own_sound s act.Enter r h rules t = enters_sound s r.vals h rules t

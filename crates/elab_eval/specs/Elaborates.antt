@@ -1,5 +1,6 @@
 -- What a program is elaborated to within a budget: a design, or why there is none; and at what cost.
-use Rattle.std.specs.Prelude.{◌≡◌, ◌⊎◌, ℕ, ◌-◌, if◌then◌else◌, ⊤, List, [], slice_get, Option, Some, None, Result, Ok, Err}
+use Rattle.std.specs.Prelude.{◌≡◌, ◌⊎◌, ℕ, zero, suc, ◌-◌, ◌||◌, not, Bool, true, if◌then◌else◌, ⊤, List, [], ◌∷◌, slice_get, slice_index_or, Option, Some, None, Result, Ok, Err, codes}
+use Rattle.std.specs.Option.{option_map_or}
 use Rattle.std.specs.List.{list_any}
 use Rattle.amh_host.specs.declared.place.Place.{Place}
 use Rattle.amh_host.specs.declared.place.Kind.TheVariants as kind
@@ -15,6 +16,10 @@ use Rattle.py_frames.specs.declared.state.Got.{Got}
 use Rattle.py_frames.specs.Doing.{Done}
 use Rattle.py_frames.specs.Frames.{stops_as}
 use Rattle.py_frames.specs.Whole.{ask_program}
+use Rattle.design_ir.specs.declared.domain.DomainDef.{DomainDef}
+use Rattle.design_ir.specs.declared.fragment.Fragment.{Fragment}
+use Rattle.design_ir.specs.Forests.{Leaf, Forest, bare, grown}
+use Rattle.design_ir.specs.Fragments.{leaf_of}
 use Rattle.design_ir.specs.Circuits.{Circuit}
 use Rattle.module_dsl.specs.Blocks.{is_outermost}
 use Rattle.module_dsl.specs.Builders.{Built, built_blocks, fragment_of}
@@ -27,6 +32,10 @@ use Rattle.elab_eval.specs.declared.running.Elaborated.{Elaborated}
 use Rattle.elab_eval.specs.declared.refusal.ElabStop.{ElabStop}
 use Rattle.elab_eval.specs.declared.refusal.ElabStop.TheVariants.{Refused, Spent, NoMemory}
 use Rattle.elab_eval.specs.ObjectTops.{object_ports}
+use Rattle.elab_eval.specs.Clocks.{clock_refused}
+use Rattle.elab_store.specs.declared.hierarchy.Addition.{Addition}
+use Rattle.elab_store.specs.declared.hierarchy.Node.{Node}
+use Rattle.elab_store.specs.ClockDomains.{ClockDomains, defined_by}
 use Rattle.elab_store.specs.Stores.{Stored, Held}
 use Rattle.elab_store.specs.Sound.{is_reset}
 use Rattle.elab_eval.specs.Reaches.{Reaches, world}
@@ -60,19 +69,16 @@ unresolved_stop unresolved.NoMemory = NoMemory
 abbrev pub without_modules : Stored → Stored
 without_modules s = record s { modules = [] }
 
+-- a clock that may not be is refused at its call
+abbrev pub found_unless : Option Place → Found → Result Found ElabStop
+found_unless None found = Ok found
+found_unless (Some p) found = Err (Refused kind.Raised p)
+
 abbrev pub found_with : Held → Made → Result Circuit ResolveStop → Result Found ElabStop
-found_with h heap (Ok c) = Ok (record { circuit = c; store = without_modules h.store; frozen = heap })
+found_with h heap (Ok c) = found_unless (clock_refused c h.store.simulation.clocks) (record { circuit = c; store = without_modules h.store; frozen = heap })
 found_with h heap (Err stop) = Err (unresolved_stop stop)
 
--- a component whose ports were not made is no top
-abbrev pub found_by : Held → Made → Built → Option TopPorts → Result Found ElabStop
-found_by h heap b None = Err (Refused kind.Raised file_start)
-found_by h heap b (Some ports) = found_with h heap (resolved h.pool (fragment_of b) ports)
-
--- a module of which a block is open raises
-abbrev pub module_found : Held → Made → Option Built → Result Found ElabStop
-module_found h heap None = Err (Refused kind.Raised file_start)
-module_found h heap (Some b) = if is_outermost (built_blocks b).around then found_by h heap b (top_ports (seen nothing heap) h) else Err (Refused kind.Raised file_start)
+-- ---- the tree of modules
 
 abbrev pub module_in : List Built → Option ℕ → Option Built
 module_in bs None = None
@@ -81,6 +87,62 @@ module_in bs (Some m) = slice_get bs m
 -- the module that is the top, or what the top's `elaborate` gave
 abbrev pub root_module : Stored → Option Built
 root_module s = module_in s.modules s.top.root
+
+-- a module of which a block is open
+abbrev pub is_open : Built → Bool
+is_open b = not (is_outermost (built_blocks b).around)
+
+abbrev pub is_open_at : List Built → Node → Bool
+is_open_at bs x = option_map_or is_open (slice_get bs x.module) true
+
+-- a module of the tree as a fragment, under the name of its addition
+abbrev pub fragment_at : List Built → ℕ → Fragment
+fragment_at bs m = fragment_of (slice_index_or bs m (record { name = []; steps = [] }))
+
+abbrev pub node_name : List Addition → Node → List ℕ
+node_name additions x = option_map_or (λ (a : Addition). a.name) (slice_get additions x.addition) (codes "u")
+
+-- with the domains that it defines
+abbrev pub leaf_at : List Built → ClockDomains → List Addition → Node → Leaf
+leaf_at bs t additions x = record (leaf_of (fragment_at bs x.module)) { name = node_name additions x; domains = defined_by x.module t }
+
+-- the first trees of a forest, and those behind them
+abbrev pub first_trees : ℕ → Forest → Forest
+first_trees zero f = bare
+first_trees (suc n) bare = bare
+first_trees (suc n) (grown l below rest) = grown l below (first_trees n rest)
+
+abbrev pub other_trees : ℕ → Forest → Forest
+other_trees zero f = f
+other_trees (suc n) bare = bare
+other_trees (suc n) (grown l below rest) = other_trees n rest
+
+-- nodes stand before those below them, and each tells how many stand directly below it
+abbrev pub forest_of_nodes : List Built → ClockDomains → List Addition → List Node → Forest
+forest_of_nodes bs t additions [] = bare
+forest_of_nodes bs t additions (x ∷ xs) =
+    let behind = forest_of_nodes bs t additions xs in
+    grown (leaf_at bs t additions x) (first_trees x.below behind) (other_trees x.below behind)
+
+-- the domains that the top defines
+abbrev pub root_domains : Stored → List DomainDef
+root_domains s = option_map_or (λ m. defined_by m s.clock_domains) s.top.root []
+
+-- the top, with all that stands below it
+abbrev pub tree_of : Stored → Built → Fragment
+tree_of s b = record (fragment_of b) { domains = root_domains s; submodules = forest_of_nodes s.modules s.clock_domains s.hierarchy.additions s.hierarchy.nodes }
+
+-- a component whose ports were not made is no top
+abbrev pub found_by : Held → Made → Built → Option TopPorts → Result Found ElabStop
+found_by h heap b None = Err (Refused kind.Raised file_start)
+found_by h heap b (Some ports) = found_with h heap (resolved h.pool (tree_of h.store b) ports)
+
+-- a module of which a block is open raises
+abbrev pub module_found : Held → Made → Option Built → Result Found ElabStop
+module_found h heap None = Err (Refused kind.Raised file_start)
+module_found h heap (Some b) =
+    if is_open b || list_any (is_open_at h.store.modules) h.store.hierarchy.nodes then Err (Refused kind.Raised file_start)
+    else found_by h heap b (top_ports (seen nothing heap) h)
 
 -- What is held at the end of a program, with the heap that it made, as a design. A reset would raise; `ResetSignal` comes with domains that
 -- modules define, and until then no expression is one.

@@ -30,11 +30,14 @@ use Rattle.elab_acts.specs.Blocks.{block_called, block_entered, block_left}
 use Rattle.amh_host.specs.declared.place.Place.{Place}
 use Rattle.elab_machines.specs.StateMachines.{part_attribute, next_stored, part_called, part_entered, part_left}
 use Rattle.elab_acts.specs.Sides.{module_attribute, domain_given, index_name, domain_stored, deepest, equations_in, statements_added}
+use Rattle.elab_acts.specs.ClockDomains.{clock_domain_called, clock_domain_attribute, definition_added, definition_stored, definitions_stored}
+use Rattle.elab_acts.specs.Submodules.{submodule_added, submodule_stored, submodule_given, submodules_stored}
 use Rattle.elab_acts.specs.Libraries.{wiring_named, library_given, thing_name_given}
 use Rattle.elab_acts.specs.Members.{member_called}
 use Rattle.elab_acts.specs.ComponentClasses.{class_answered}
 use Rattle.elab_acts.specs.Interfaces.{init_answered}
 use Rattle.elab_acts.specs.Tops.{global, body_ended, elaborate_ended}
+use Rattle.elab_acts.specs.Simulators.{simulator_called, simulator_attribute, simulator_part_called, vcd_passed}
 
 -- ---- calls
 
@@ -43,14 +46,17 @@ abbrev pub name_called : Seen → HdlName → Called → Held → Answered
 name_called s hdl.Module c h = module_called c h
 name_called s hdl.Signal c h = signal_called s c h
 name_called s hdl.Like c h = like_called s c h
+name_called s hdl.ClockDomain c h = clock_domain_called s c h
 name_called s hdl.In c h = member_called s false c h
 name_called s hdl.Out c h = member_called s true c h
+name_called s hdl.Simulator c h = simulator_called c h
 name_called s n c h = refused Raised h
 
 abbrev pub kept_called : Seen → Option Kept → Called → Place → Held → Answered
 kept_called s (Some (kept.Name n)) c p h = name_called s n c h
 kept_called s (Some (kept.BlockName m n)) c p h = block_called s m n c h
 kept_called s (Some (kept.OfMachine x)) c p h = part_called s x c p h
+kept_called s (Some (kept.OfSimulator x)) c p h = simulator_part_called s x c p h
 kept_called s k c p h = refused Raised h
 
 -- the value whose method `eq` a thing is, as its expression
@@ -86,17 +92,27 @@ abbrev pub attribute_of : Option Kept → List ℕ → Held → Answered
 attribute_of (Some (kept.Name n)) name h = name_attribute n name h
 attribute_of (Some (kept.Module m)) name h = module_attribute m name h
 attribute_of (Some (kept.Domains m)) name h = domain_given m (Some name) h
+attribute_of (Some (kept.Submodules m)) name h = submodule_given m (Some name) h
+attribute_of (Some (kept.ClockDomain k)) name h = clock_domain_attribute k name h
 attribute_of (Some (kept.OfMachine x)) name h = part_attribute x name h
+attribute_of (Some (kept.OfSimulator x)) name h = simulator_attribute x name h
 attribute_of k name h = refused Raised h
 
 abbrev pub attribute_answered : List Val → Option (List ℕ) → Held → Answered
 attribute_answered (x ∷ []) (Some name) h = attribute_of (kept_of h.store x) name h
 attribute_answered vals name h = refused Raised h
 
--- a domain to its name again, and `m.next`
+-- `m.submodules` and `m.domains` again, and `m.next`
+abbrev pub module_stored : Seen → ℕ → List ℕ → Val → Place → Held → Answered
+module_stored s m name v p h = if text_eq name (codes "submodules") then submodules_stored m v h
+    else (if text_eq name (codes "domains") then definitions_stored m v h else next_stored s m name v p h)
+
+-- a domain to its name again, a submodule, and a domain that a module defines
 abbrev pub attribute_stored : Seen → Option Kept → List ℕ → Val → Place → Held → Answered
 attribute_stored s (Some (kept.Domains m)) name v p h = domain_stored m (Some name) v h
-attribute_stored s (Some (kept.Module m)) name v p h = next_stored s m name v p h
+attribute_stored s (Some (kept.Submodules m)) name v p h = submodule_stored s m (Some name) v h
+attribute_stored s (Some (kept.Definitions m)) name v p h = definition_stored m name v p h
+attribute_stored s (Some (kept.Module m)) name v p h = module_stored s m name v p h
 attribute_stored s k name v p h = refused Raised h
 
 abbrev pub store_answered : Seen → List Val → Option (List ℕ) → Place → Held → Answered
@@ -105,6 +121,7 @@ store_answered s vals name p h = refused Raised h
 
 abbrev pub index_of : Seen → Option Kept → Val → Held → Answered
 index_of s (Some (kept.Domains m)) i h = domain_given m (index_name s i) h
+index_of s (Some (kept.Submodules m)) i h = submodule_given m (index_name s i) h
 index_of s k i h = refused Raised h
 
 abbrev pub index_answered : Seen → List Val → Held → Answered
@@ -113,29 +130,33 @@ index_answered s vals h = refused Raised h
 
 abbrev pub index_stored : Seen → Option Kept → Val → Val → Held → Answered
 index_stored s (Some (kept.Domains m)) i v h = domain_stored m (index_name s i) v h
+index_stored s (Some (kept.Submodules m)) i v h = submodule_stored s m (index_name s i) v h
 index_stored s k i v h = refused Raised h
 
 abbrev pub index_store_answered : Seen → List Val → Held → Answered
 index_store_answered s (x ∷ i ∷ v ∷ []) h = index_stored s (kept_of h.store x) i v h
 index_store_answered s vals h = refused Raised h
 
--- ---- operators: `+=` on a domain
+-- ---- operators: `+=` on a domain, on `m.submodules` and on `m.domains`
 
-abbrev pub added : Seen → Option Kept → Val → Val → Held → Answered
-added s (Some (kept.Domain m d)) x v h = statements_added x m (side_of h.store d) (equations_in deepest s h.store v) h
-added s k x v h = refused Raised h
+abbrev pub added : Seen → Option Kept → Val → Val → Place → Held → Answered
+added s (Some (kept.Domain m d)) x v p h = statements_added x m (side_of h.store d) (equations_in deepest s h.store v) h
+added s (Some (kept.Submodules m)) x v p h = submodule_added s m None v x h
+added s (Some (kept.Definitions m)) x v p h = definition_added m v x p h
+added s k x v p h = refused Raised h
 
-abbrev pub signed : Seen → Val → Val → List ℕ → Held → Answered
-signed s x v sign h = if text_eq sign (codes "+=") then added s (kept_of h.store x) x v h else refused Raised h
+abbrev pub signed : Seen → Val → Val → List ℕ → Place → Held → Answered
+signed s x v sign p h = if text_eq sign (codes "+=") then added s (kept_of h.store x) x v p h else refused Raised h
 
-abbrev pub operator_answered : Seen → List Val → Option (List ℕ) → Held → Answered
-operator_answered s (x ∷ v ∷ []) (Some sign) h = signed s x v sign h
-operator_answered s vals sign h = refused Raised h
+abbrev pub operator_answered : Seen → List Val → Option (List ℕ) → Place → Held → Answered
+operator_answered s (x ∷ v ∷ []) (Some sign) p h = signed s x v sign p h
+operator_answered s vals sign p h = refused Raised h
 
 -- ---- `with`
 
 abbrev pub kept_entered : Seen → Option Kept → Held → Answered
 kept_entered s (Some (kept.OfMachine x)) h = part_entered s x h
+kept_entered s (Some (kept.OfSimulator x)) h = vcd_passed x h
 kept_entered s k h = block_entered k h
 
 abbrev pub enter_answered : Seen → List Val → Held → Answered
@@ -144,6 +165,7 @@ enter_answered s vals h = refused Raised h
 
 abbrev pub kept_left : Option Kept → Held → Answered
 kept_left (Some (kept.OfMachine x)) h = part_left x h
+kept_left (Some (kept.OfSimulator x)) h = vcd_passed x h
 kept_left k h = block_left k h
 
 abbrev pub leave_answered : List Val → Held → Answered
@@ -160,7 +182,7 @@ own_answered s act.SetAttribute r h = store_answered s r.vals (only r.names) r.p
 own_answered s act.CallThing r h = call_answered s r (called r.vals r.names) h
 own_answered s act.Index r h = index_answered s r.vals h
 own_answered s act.SetIndex r h = index_store_answered s r.vals h
-own_answered s act.Operator r h = operator_answered s r.vals (only r.names) h
+own_answered s act.Operator r h = operator_answered s r.vals (only r.names) r.place h
 own_answered s act.Length r h = refused Raised h
 own_answered s act.Iterate r h = refused Raised h
 own_answered s act.Enter r h = enter_answered s r.vals h

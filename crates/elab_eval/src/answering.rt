@@ -4,7 +4,7 @@ ghost use Rattle.std.specs.Option.{option_copied};
 ghost use Rattle.py_values.specs.Heaps.{seen};
 ghost use Rattle.elab_store.specs.Calls.{called};
 ghost use Rattle.amh_things.specs.Things.{thing_of};
-ghost use Rattle.elab_eval.specs.Table.{equated_by, call_answered, attribute_answered, store_answered, index_answered, index_store_answered, operator_answered, kept_entered, kept_left, enter_answered, leave_answered, own_answered, name_called, kept_called, only, name_attribute, attribute_of, attribute_stored, added, signed};
+ghost use Rattle.elab_eval.specs.Table.{equated_by, call_answered, attribute_answered, store_answered, index_answered, index_store_answered, operator_answered, kept_entered, kept_left, enter_answered, leave_answered, own_answered, name_called, kept_called, only, name_attribute, attribute_of, attribute_stored, module_stored, added, signed};
 ghost use Rattle.elab_store.specs.Seen.{called_of};
 ghost use Rattle.elab_store.specs.Sound.{IsSound};
 ghost use Rattle.elab_store.specs.Stores.{kept_of};
@@ -15,6 +15,9 @@ use amh_values::{Method, Thing};
 use design_ir::ExprId;
 use elab_acts::blocks::{call_block, enter_block, leave_block};
 use elab_acts::component_classes::answer_class;
+use elab_acts::domains::{
+    add_definition, clock_domain_attribute, make_clock_domain, store_definition, store_definitions,
+};
 use elab_acts::equations::equate;
 use elab_acts::imports::import;
 use elab_acts::interfaces::answer_init;
@@ -23,6 +26,8 @@ use elab_acts::likes::{give_like, make_like};
 use elab_acts::member_calls::call_member;
 use elab_acts::sides::{add_statements, give_domain, index_name, module_attribute, store_domain};
 use elab_acts::signals::{make_module, make_signal};
+use elab_acts::simulators::{call_simulator_part, make_simulator, pass_vcd, simulator_attribute};
+use elab_acts::submodules::{add_submodule, give_submodule, store_submodule, store_submodules};
 use elab_acts::tops::{end_body, end_elaborate};
 use elab_machines::state_machines::{
     call_part, enter_part, leave_part, part_attribute, store_next,
@@ -50,8 +55,10 @@ fn call_name(
         HdlName::Module => make_module(elaboration, call),
         HdlName::Signal => make_signal(elaboration, heap, frozen, call),
         HdlName::Like => make_like(elaboration, heap, frozen, call),
+        HdlName::ClockDomain => make_clock_domain(elaboration, heap, frozen, call),
         HdlName::In => call_member(elaboration, heap, frozen, false, call),
         HdlName::Out => call_member(elaboration, heap, frozen, true, call),
+        HdlName::Simulator => make_simulator(elaboration, call),
         _ => elaboration.refuse(Cause::Raised),
     }
 }
@@ -71,6 +78,9 @@ fn call_kept(
         Some(Kept::Name(name)) => call_name(elaboration, heap, frozen, name, call),
         Some(Kept::BlockName { of, name }) => call_block(elaboration, heap, frozen, of, name, call),
         Some(Kept::OfMachine(part)) => call_part(elaboration, heap, frozen, part, call, place),
+        Some(Kept::OfSimulator(part)) => {
+            call_simulator_part(elaboration, heap, frozen, part, call, place)
+        }
         _ => elaboration.refuse(Cause::Raised),
     }
 }
@@ -92,7 +102,7 @@ fn call(
     }
 }
 
-// An attribute: `m.d` and its domains.
+// An attribute: `m.d` and its domains, `m.submodules` and what was added there, and those of a clock domain.
 fn attribute(elaboration: &mut Elaboration, request: &Request) -> Result<Answer, NoMemory>
     ensures { Gives result elaboration.new (attribute_answered request.now.vals (only request.now.names) (held_of elaboration.old)) }
 {
@@ -112,7 +122,10 @@ fn attribute_of(elaboration: &mut Elaboration, x: &Val, name: &str) -> Result<An
         Some(Kept::Name(n)) => name_attribute(elaboration, n, name),
         Some(Kept::Module(m)) => module_attribute(elaboration, m, name),
         Some(Kept::Domains(m)) => give_domain(elaboration, m, Some(name)),
+        Some(Kept::Submodules(m)) => give_submodule(elaboration, m, Some(name)),
+        Some(Kept::ClockDomain(number)) => clock_domain_attribute(elaboration, number, name),
         Some(Kept::OfMachine(part)) => part_attribute(elaboration, part, name),
+        Some(Kept::OfSimulator(part)) => simulator_attribute(elaboration, part, name),
         _ => elaboration.refuse(Cause::Raised),
     }
 }
@@ -134,7 +147,8 @@ fn name_attribute(
     }
 }
 
-// An assignment to an attribute: of a domain to its name again, and `m.next`.
+// An assignment to an attribute: of a domain to its name again, of a submodule, of a domain that is defined, and of `m.submodules`,
+// `m.domains` and `m.next`.
 fn store_attribute(
     elaboration: &mut Elaboration,
     heap: &Heap,
@@ -167,12 +181,36 @@ fn attribute_stored(
 {
     match elaboration.store.kept_of(*x) {
         Some(Kept::Domains(m)) => store_domain(elaboration, m, Some(name), v),
-        Some(Kept::Module(m)) => store_next(elaboration, heap, frozen, m, name, v, place),
+        Some(Kept::Submodules(m)) => store_submodule(elaboration, heap, frozen, m, Some(name), v),
+        Some(Kept::Definitions(m)) => store_definition(elaboration, m, name, v, place),
+        Some(Kept::Module(m)) => store_in_module(elaboration, heap, frozen, m, name, v, place),
         _ => elaboration.refuse(Cause::Raised),
     }
 }
 
-// An index: a domain by its name.
+// An assignment to an attribute of a module: `m.submodules` or `m.domains` again, or `m.next`.
+fn store_in_module(
+    elaboration: &mut Elaboration,
+    heap: &Heap,
+    frozen: &Frozen,
+    m: u32,
+    name: &str,
+    v: &Val,
+    place: Place,
+) -> Result<Answer, NoMemory>
+    requires { IsSound (held_of elaboration.old) }
+    ensures { Gives result elaboration.new (module_stored (seen frozen.now heap.now) m name.now v.now place (held_of elaboration.old)) }
+{
+    if is_text(name, "submodules") {
+        store_submodules(elaboration, m, v)
+    } else if is_text(name, "domains") {
+        store_definitions(elaboration, m, v)
+    } else {
+        store_next(elaboration, heap, frozen, m, name, v, place)
+    }
+}
+
+// An index: a domain or a submodule by its name.
 fn index(
     elaboration: &mut Elaboration,
     heap: &Heap,
@@ -184,13 +222,18 @@ fn index(
     match request.vals.as_slice() {
         [x, i] => match elaboration.store.kept_of(*x) {
             Some(Kept::Domains(m)) => give_domain(elaboration, m, index_name(heap, frozen, *i)),
+            Some(Kept::Submodules(m)) => give_submodule(
+                elaboration,
+                m,
+                index_name(heap, frozen, *i),
+            ),
             _ => elaboration.refuse(Cause::Raised),
         },
         _ => elaboration.refuse(Cause::Raised),
     }
 }
 
-// An assignment to an index: of a domain to its name again.
+// An assignment to an index: of a domain to its name again, and of a submodule.
 fn store_index(
     elaboration: &mut Elaboration,
     heap: &Heap,
@@ -202,13 +245,21 @@ fn store_index(
     match request.vals.as_slice() {
         [x, i, v] => match elaboration.store.kept_of(*x) {
             Some(Kept::Domains(m)) => store_domain(elaboration, m, index_name(heap, frozen, *i), v),
+            Some(Kept::Submodules(m)) => store_submodule(
+                elaboration,
+                heap,
+                frozen,
+                m,
+                index_name(heap, frozen, *i),
+                v,
+            ),
             _ => elaboration.refuse(Cause::Raised),
         },
         _ => elaboration.refuse(Cause::Raised),
     }
 }
 
-// An operator: statements that are put under a domain.
+// An operator: statements that are put under a domain, submodules that are added, and domains that are defined.
 fn operate(
     elaboration: &mut Elaboration,
     heap: &Heap,
@@ -216,11 +267,11 @@ fn operate(
     request: &Request,
 ) -> Result<Answer, NoMemory>
     requires { IsSound (held_of elaboration.old) }
-    ensures { Gives result elaboration.new (operator_answered (seen frozen.now heap.now) request.now.vals (only request.now.names) (held_of elaboration.old)) }
+    ensures { Gives result elaboration.new (operator_answered (seen frozen.now heap.now) request.now.vals (only request.now.names) request.now.place (held_of elaboration.old)) }
 {
     match request.vals.as_slice() {
         [x, v] => match only_name(request) {
-            Some(sign) => operate_by_sign(elaboration, heap, frozen, x, v, sign),
+            Some(sign) => operate_by_sign(elaboration, heap, frozen, x, v, sign, request.place),
             None => elaboration.refuse(Cause::Raised),
         },
         _ => elaboration.refuse(Cause::Raised),
@@ -234,12 +285,13 @@ fn operate_by_sign(
     x: &Val,
     v: &Val,
     sign: &str,
+    place: Place,
 ) -> Result<Answer, NoMemory>
     requires { IsSound (held_of elaboration.old) }
-    ensures { Gives result elaboration.new (signed (seen frozen.now heap.now) x.now v.now sign.now (held_of elaboration.old)) }
+    ensures { Gives result elaboration.new (signed (seen frozen.now heap.now) x.now v.now sign.now place (held_of elaboration.old)) }
 {
     if is_text(sign, "+=") {
-        add(elaboration, heap, frozen, x, v)
+        add(elaboration, heap, frozen, x, v, place)
     } else {
         elaboration.refuse(Cause::Raised)
     }
@@ -251,9 +303,10 @@ fn add(
     frozen: &Frozen,
     x: &Val,
     v: &Val,
+    place: Place,
 ) -> Result<Answer, NoMemory>
     requires { IsSound (held_of elaboration.old) }
-    ensures { Gives result elaboration.new (added (seen frozen.now heap.now) (kept_of elaboration.old.store x.now) x.now v.now (held_of elaboration.old)) }
+    ensures { Gives result elaboration.new (added (seen frozen.now heap.now) (kept_of elaboration.old.store x.now) x.now v.now place (held_of elaboration.old)) }
 {
     match elaboration.store.kept_of(*x) {
         Some(Kept::Domain { of, name }) => add_statements(
@@ -265,6 +318,8 @@ fn add(
             name,
             v,
         ),
+        Some(Kept::Submodules(m)) => add_submodule(elaboration, heap, frozen, x, m, v),
+        Some(Kept::Definitions(m)) => add_definition(elaboration, m, v, x, place),
         _ => elaboration.refuse(Cause::Raised),
     }
 }
@@ -296,6 +351,7 @@ fn enter_kept(
 {
     match elaboration.store.kept_of(*x) {
         Some(Kept::OfMachine(part)) => enter_part(elaboration, heap, frozen, part),
+        Some(Kept::OfSimulator(part)) => pass_vcd(elaboration, part),
         _ => enter_block(elaboration, x),
     }
 }
@@ -306,6 +362,7 @@ fn leave_kept(elaboration: &mut Elaboration, x: &Val) -> Result<Answer, NoMemory
 {
     match elaboration.store.kept_of(*x) {
         Some(Kept::OfMachine(part)) => leave_part(elaboration, part),
+        Some(Kept::OfSimulator(part)) => pass_vcd(elaboration, part),
         _ => leave_block(elaboration, x),
     }
 }

@@ -1,23 +1,22 @@
 // The end: what is held becomes a design.
-ghost use Rattle.std.specs.Prelude.{◌≡◌, ◌<◌, length, Some, None, IfOk};
+ghost use Rattle.std.specs.Prelude.{◌≡◌, IfOk};
 ghost use Rattle.std.specs.List.{list_any};
 ghost use Rattle.py_values.specs.Heaps.{nothing};
-ghost use Rattle.amh_host.specs.declared.place.Kind.TheVariants.{Raised};
 ghost use Rattle.design_ir.specs.Rising.{AllRisingSync};
-ghost use Rattle.clock_domains.specs.Resolved.{file_start};
-ghost use Rattle.elab_eval.specs.declared.refusal.ElabStop.TheVariants.{Refused};
-ghost use Rattle.elab_eval.specs.Elaborates.{IsFound, design_of, module_in, root_module, without_modules, unresolved_stop};
+ghost use Rattle.elab_eval.specs.Elaborates.{IsFound, design_of, without_modules, unresolved_stop};
 ghost use Rattle.elab_store.specs.Sound.{IsSound, is_reset};
 ghost use Rattle.elab_store.specs.Held.{held_of};
 
+use crate::clocks::clock_refused;
 use crate::object_tops::top_ports;
 use crate::refusal::ElabStop;
 use crate::running::Elaborated;
-use amh_host::{Kind, Place};
+use crate::trees::{raised, tree};
+use amh_host::Kind;
 use clock_domains::{ResolveStop, resolve};
 use design_ir::{Expr, ExprId, Exprs, Pool};
 use elab_store::store::{Elaboration, Store};
-use module_dsl::{BuildStop, Builder, one_process_each};
+use module_dsl::Builder;
 use py_machine::Machine;
 use py_values::Frozen;
 use std::alloc::Global;
@@ -43,17 +42,6 @@ fn has_reset(pool: &Pool) -> bool
     false
 }
 
-// The module of a number.
-fn module_in(modules: Vec<Builder>, root: Option<u32>) -> Option<Builder>
-    ensures { result ≡ module_in modules.items root }
-{
-    let mut modules = modules;
-    match root {
-        Some(m) if (m as usize) < modules.len() => Some(modules.swap_remove(m as usize)),
-        _ => None,
-    }
-}
-
 // What a refusal of the design is told as.
 fn unresolved_stop(stop: ResolveStop) -> ElabStop
     ensures { result ≡ unresolved_stop stop }
@@ -68,16 +56,9 @@ fn unresolved_stop(stop: ResolveStop) -> ElabStop
     }
 }
 
-// What raises where the file begins.
-fn raised() -> ElabStop
-    ensures { result ≡ Refused Raised file_start }
-{
-    ElabStop::Refused(Kind::Raised, Place { line: 1, col: 1 })
-}
-
-// The module that is the top, and the store without modules.
-fn part(store: Store, alloc: Global) -> (Option<Builder>, Store)
-    ensures root { result.0 ≡ root_module store }
+// The modules, and the store without them.
+fn part(store: Store, alloc: Global) -> (Vec<Builder>, Store)
+    ensures modules { result.0.items ≡ store.modules }
     ensures rest { result.1 ≡ without_modules store }
 {
     let Store {
@@ -88,11 +69,13 @@ fn part(store: Store, alloc: Global) -> (Option<Builder>, Store)
         statements: _,
         top,
         components,
+        hierarchy,
+        clock_domains,
         machines,
         domains,
         told,
+        simulation,
     } = store;
-    let root = module_in(modules, top.root);
     let rest = Store {
         things,
         kept,
@@ -101,11 +84,14 @@ fn part(store: Store, alloc: Global) -> (Option<Builder>, Store)
         statements: 0,
         top,
         components,
+        hierarchy,
+        clock_domains,
         machines,
         domains,
         told,
+        simulation,
     };
-    (root, rest)
+    (modules, rest)
 }
 
 /// What is held at the end of a program, as a design.
@@ -127,26 +113,23 @@ pub(crate) fn finish(
     };
     let Elaboration { alloc, pool, store } = elaboration;
     pool.known();
-    let (root, store) = part(store, alloc);
-    let Some(root) = root else {
-        return Err(raised());
-    };
-    let fragment = match root.finish() {
-        Ok(fragment) => fragment,
-        // a block is open
-        Err(BuildStop::Order) => return Err(raised()),
-        Err(_) => return Err(ElabStop::NoMemory),
+    let (modules, store) = part(store, alloc);
+    let root = match tree(alloc, modules, &store) {
+        Ok(root) => root,
+        Err(stop) => return Err(stop),
     };
     let Some(ports) = ports else {
         return Err(raised());
     };
-    one_process_each();
-    match resolve(alloc, pool, fragment, ports) {
-        Ok(design) => Ok(Elaborated {
-            design,
-            store,
-            frozen: machine.freeze(),
-        }),
+    match resolve(alloc, pool, root, ports) {
+        Ok(design) => match clock_refused(&design, store.simulation().clocks()) {
+            Some(place) => Err(ElabStop::Refused(Kind::Raised, place)),
+            None => Ok(Elaborated {
+                design,
+                store,
+                frozen: machine.freeze(),
+            }),
+        },
         Err(stop) => Err(unresolved_stop(stop)),
     }
 }

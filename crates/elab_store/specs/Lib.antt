@@ -1,10 +1,13 @@
 pub mod Calls
+pub mod ClockDomains
 pub mod Components
 pub mod Counts
 pub mod Held
+pub mod Hierarchies
 pub mod Kept
 pub mod OpenMachines
 pub mod Seen
 pub mod Shapes
+pub mod Simulations
 pub mod Sound
 pub mod Stores

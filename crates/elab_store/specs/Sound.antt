@@ -1,9 +1,14 @@
 -- What is held keeps to: whatever is named stands there.
-use Rattle.std.specs.Prelude.{◌≡◌, ℕ, ◌<◌, ⊤, List, length, slice_get, Some, Bool, true, false}
+use Rattle.std.specs.Prelude.{◌≡◌, ℕ, ◌<◌, ⊤, List, [], ◌∷◌, length, slice_get, Option, Some, None, Bool, true, false}
+use Rattle.std.specs.Option.{option_map_or}
 use Rattle.std.specs.List.{AllByRecursion}
 use Rattle.lists.specs.Names.{IsName}
 use Rattle.design_ir.specs.declared.signal.Sig.{Sig}
 use Rattle.design_ir.specs.declared.ids.ExprId.{ExprId}
+use Rattle.design_ir.specs.declared.ids.SigId.{SigId}
+use Rattle.design_ir.specs.declared.domain.Domain.{Domain}
+use Rattle.shape_rules.specs.Forms.{unsigned}
+use Rattle.design_ir.specs.Values.{signal_form}
 use Rattle.design_ir.specs.declared.port.Port.{Port}
 use Rattle.design_ir.specs.declared.expr.Expr.{Expr}
 use Rattle.design_ir.specs.declared.expr.Expr.TheVariants as expr
@@ -24,6 +29,8 @@ use Rattle.elab_store.specs.declared.kept.Kept.TheVariants as kept
 use Rattle.design_ir.specs.Settling.{is_signal}
 use Rattle.fsm_lowering.specs.Machines.{Machine, HasRegister}
 use Rattle.elab_store.specs.declared.own_machine.OwnMachine.{OwnMachine}
+use Rattle.elab_store.specs.declared.hierarchy.Addition.{Addition}
+use Rattle.elab_store.specs.declared.domains.ClockDomain.{ClockDomain}
 use Rattle.elab_store.specs.Stores.{Held}
 
 -- a reset; `ResetSignal` comes with domains that modules define
@@ -69,11 +76,15 @@ IsKept q (kept.Name n) = ⊤
 IsKept q (kept.Module m) = ⊤
 IsKept q (kept.Domains m) = ⊤
 IsKept q (kept.Domain m d) = ⊤
+IsKept q (kept.Submodules m) = ⊤
+IsKept q (kept.Definitions m) = ⊤
+IsKept q (kept.ClockDomain k) = ⊤
 IsKept q (kept.Member m) = ⊤
 IsKept q (kept.Signature n) = ⊤
 IsKept q (kept.BlockName m n) = ⊤
 IsKept q (kept.Block m b) = IsBegin q b
 IsKept q (kept.OfMachine x) = ⊤
+IsKept q (kept.OfSimulator x) = ⊤
 
 abbrev pub IsOpening : Pooled → Opening → Type 0
 IsOpening q (opening.If e) = e.0 < length q.exprs
@@ -102,6 +113,40 @@ pub record IsMachine (q : Pooled) (x : OwnMachine) : Type 0 where
   pub side : IsNamedSide x.machine.side
   pub front : IsFront q x.machine
 
+-- one bit of the pool
+pub record IsBit (q : Pooled) (s : SigId) : Type 0 where
+  pub there : s.0 < length q.signals
+  pub form : signal_form q.signals s.0 ≡ unsigned 1
+
+-- the reset of a clock domain is made behind its clock
+abbrev pub IsResetBehind : Pooled → SigId → Option SigId → Type 0
+IsResetBehind q clk None = ⊤
+IsResetBehind q clk (Some rst) = IsBit q rst × (clk.0 < rst.0)
+
+-- it rises, and resets at edges
+pub record IsClockDomain (q : Pooled) (x : ClockDomain) : Type 0 where
+  pub name : IsName x.domain.name
+  pub clock : IsBit q x.domain.clk
+  pub reset : IsResetBehind q x.domain.clk x.domain.rst
+  pub rising : x.domain.falling ≡ false
+  pub sync_reset : x.domain.async_reset ≡ false
+
+-- the last of its signals
+abbrev pub last_signal : Domain → ℕ
+last_signal d = option_map_or (λ (s : SigId). s.0) d.rst d.clk.0
+
+-- the signals of a clock domain were made before those of another one
+abbrev pub IsMadeBefore : ClockDomain → ClockDomain → Type 0
+IsMadeBefore x y = last_signal x.domain < y.domain.clk.0
+
+abbrev pub AreInOrder : List ClockDomain → Type 0
+AreInOrder [] = ⊤
+AreInOrder (x ∷ xs) = AllByRecursion (IsMadeBefore x) xs × AreInOrder xs
+
+pub record AreClockDomains (q : Pooled) (xs : List ClockDomain) : Type 0 where
+  pub each : AllByRecursion (IsClockDomain q) xs
+  pub order : AreInOrder xs
+
 pub record IsSound (h : Held) : Type 0 where
   pub names : AllByRecursion (λ (x : Sig). IsName x.name) h.pool.signals
   pub things : AreHeld (length h.pool.exprs) h.store.things
@@ -109,4 +154,6 @@ pub record IsSound (h : Held) : Type 0 where
   pub modules : AllByRecursion (IsBuilt h.pool) h.store.modules
   pub machines : AllByRecursion (IsMachine h.pool) h.store.machines
   pub domains : AllByRecursion IsName h.store.domains
+  pub additions : AllByRecursion (λ (a : Addition). IsName a.name) h.store.hierarchy.additions
+  pub clock_domains : AreClockDomains h.pool h.store.clock_domains.made
   pub ports : AllByRecursion (λ (o : ℕ × List Port). ArePorts h.pool o.1) h.store.components.objects

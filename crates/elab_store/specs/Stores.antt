@@ -25,6 +25,9 @@ use Rattle.elab_store.specs.declared.kept.DomainName.TheVariants as domain
 use Rattle.amh_host.specs.declared.place.Place.{Place}
 use Rattle.elab_store.specs.declared.own_machine.OwnMachine.{OwnMachine}
 use Rattle.elab_store.specs.Components.{Components, no_components}
+use Rattle.elab_store.specs.Hierarchies.{Hierarchy, no_hierarchy}
+use Rattle.elab_store.specs.ClockDomains.{ClockDomains, no_clock_domains}
+use Rattle.elab_store.specs.Simulations.{Simulation, no_simulation}
 
 pub record Stored : Type 0 where
   -- all things that a program may hold, by number
@@ -38,12 +41,18 @@ pub record Stored : Type 0 where
   pub top : Top
   -- classes over `Component`, and what their objects have
   pub components : Components
+  -- submodules
+  pub hierarchy : Hierarchy
+  -- clock domains that were made, and which module defines which
+  pub clock_domains : ClockDomains
   -- state machines in order of making
   pub machines : List OwnMachine
   -- the names of domains with a clock by which modules were asked
   pub domains : List (List ℕ)
   -- where the refusal is told, where this is not the place of the request
   pub told : Option Place
+  -- what the simulator was told
+  pub simulation : Simulation
 
 pub record Held : Type 0 where
   pub pool : Pooled
@@ -55,7 +64,7 @@ no_top = record { object = None; root = None }
 
 -- before the body of a program
 abbrev pub nothing_held : Held
-nothing_held = record { pool = record { signals = []; exprs = [] }; store = record { things = []; kept = []; modules = []; patterns = []; top = no_top; components = no_components; machines = []; domains = []; told = None } }
+nothing_held = record { pool = record { signals = []; exprs = [] }; store = record { things = []; kept = []; modules = []; patterns = []; top = no_top; components = no_components; hierarchy = no_hierarchy; clock_domains = no_clock_domains; machines = []; domains = []; told = None; simulation = no_simulation } }
 
 -- what a request is answered, and what is then held
 pub record Answered : Type 0 where

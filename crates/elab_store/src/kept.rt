@@ -25,6 +25,9 @@ pub enum HdlName {
     In,
     Out,
     Component,
+    ClockDomain,
+    /// `Simulator` of `amaranth.sim`.
+    Simulator,
 }
 
 /// A domain of a module, as it is named behind `m.d`.
@@ -101,6 +104,25 @@ pub enum MachinePart {
     Ongoing(usize),
 }
 
+/// What belongs to the simulator of a file.
+#[derive(Clone, Copy, Debug, PartialEq, Eq, Drop)]
+pub enum SimulatorPart {
+    /// What `Simulator(x)` gives.
+    Whole,
+    /// `sim.add_clock`.
+    AddClock,
+    /// `sim.add_testbench`.
+    AddTestbench,
+    /// `sim.run`.
+    Run,
+    /// `sim.run_until`.
+    RunUntil,
+    /// `sim.write_vcd`.
+    WriteVcd,
+    /// What `sim.write_vcd(..)` gives, over which a `with` may stand.
+    Vcd,
+}
+
 /// What a kept thing is.
 #[derive(Clone, Copy, Debug, PartialEq, Eq, Drop)]
 pub enum Kept {
@@ -112,6 +134,12 @@ pub enum Kept {
     Domains(u32),
     /// `m.d.comb`, `m.d.sync` or another domain of a module.
     Domain { of: u32, name: DomainName },
+    /// `m.submodules` of a module.
+    Submodules(u32),
+    /// `m.domains` of a module.
+    Definitions(u32),
+    /// A clock domain, by its number in order of making.
+    ClockDomain(u32),
     /// `x.eq(v)`.
     Statement(Equation),
     /// `In(shape)` or `Out(shape)`.
@@ -124,6 +152,8 @@ pub enum Kept {
     Block { of: u32, begin: Begin },
     /// What belongs to state machines.
     OfMachine(MachinePart),
+    /// What belongs to the simulator.
+    OfSimulator(SimulatorPart),
 }
 
 /// What is elaborated: the object of which it was asked first, where it was one, and the module that came of it.

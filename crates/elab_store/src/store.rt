@@ -1,5 +1,6 @@
 // What elaboration holds beside the heap of a program.
-ghost use Rattle.std.specs.Prelude.{◌≡◌, ◌++◌, ◌∷◌, [], length, IfOk, OnErr, Some, None, IsSome, option_map, slice_get};
+ghost use Rattle.std.specs.Prelude.{◌≡◌, ◌++◌, ◌∷◌, [], length, IfOk, OnOk, OnErr, Some, None, IsSome, option_map, slice_get};
+ghost use Rattle.std.specs.Option.{option_copied};
 ghost use Rattle.py_values.specs.Heaps.{seen};
 ghost use Rattle.py_values.specs.declared.val.Val.TheVariants as val;
 ghost use Rattle.amh_things.specs.declared.thing.Thing.TheVariants as thing;
@@ -10,15 +11,21 @@ ghost use Rattle.amh_things.specs.Members.{counted};
 ghost use Rattle.elab_store.specs.Stores.{store_and_module, naming_domain, side_of, is_domain};
 ghost use Rattle.elab_store.specs.declared.kept.DomainName.TheVariants as domain;
 ghost use Rattle.elab_store.specs.Components.{no_components};
+ghost use Rattle.elab_store.specs.ClockDomains.{no_clock_domains, with_clock_domain, with_definition};
+ghost use Rattle.elab_store.specs.Hierarchies.{no_hierarchy, with_addition, top_entered, node_taken};
+ghost use Rattle.elab_store.specs.Simulations.{no_simulation};
 ghost use Rattle.elab_store.specs.Stores.{nothing_held, no_top, kept_of, store_with, store_keeping, kept_given, given, refused, refused_at};
 ghost use Rattle.elab_store.specs.Stores.{with_root, with_object, module_of};
 ghost use Rattle.elab_store.specs.Held.{held_of, Gives};
 
 use crate::components::Components;
+use crate::domains::{ClockDomain, ClockDomains, Definition};
+use crate::hierarchy::Hierarchy;
 use crate::kept::{DomainName, Kept, Top};
 use crate::names::is_text;
 use crate::objects::first_object;
 use crate::own_machine::OwnMachine;
+use crate::simulation::Simulation;
 use amh_bits::Int;
 use amh_host::{Items, Place, Text};
 use amh_things::comparing::counted;
@@ -46,9 +53,12 @@ pub struct Store {
     pub statements: u32,
     pub top: Top,
     pub components: Components,
+    pub hierarchy: Hierarchy,
+    pub clock_domains: ClockDomains,
     pub machines: Vec<OwnMachine>,
     pub domains: Items<Text>,
     pub told: Option<Place>,
+    pub simulation: Simulation,
 }
 
 impl Model for Store {
@@ -58,7 +68,7 @@ impl Model for Store {
 
     ghost Value = { Stored };
 
-    ghost view = { λ a. record { things = a.things; kept = a.kept.items; modules = a.modules.items; patterns = a.patterns.items; top = a.top; components = a.components; machines = a.machines.items; domains = a.domains; told = a.told } };
+    ghost view = { λ a. record { things = a.things; kept = a.kept.items; modules = a.modules.items; patterns = a.patterns.items; top = a.top; components = a.components; hierarchy = a.hierarchy; clock_domains = a.clock_domains; machines = a.machines.items; domains = a.domains; told = a.told; simulation = a.simulation } };
 
     ghost invariant = { λ a. IsStore a.statements a.modules.items a.patterns.items };
 }
@@ -66,7 +76,7 @@ impl Model for Store {
 impl Store {
     /// Nothing yet, which takes no memory.
     fn new(alloc: Global) -> Store
-        ensures { result ≡ record { things = []; kept = []; modules = []; patterns = []; top = no_top; components = no_components; machines = []; domains = []; told = None } }
+        ensures { result ≡ record { things = []; kept = []; modules = []; patterns = []; top = no_top; components = no_components; hierarchy = no_hierarchy; clock_domains = no_clock_domains; machines = []; domains = []; told = None; simulation = no_simulation } }
     {
         Store {
             things: Values::new(alloc),
@@ -79,9 +89,12 @@ impl Store {
                 root: None,
             },
             components: Components::new(alloc),
+            hierarchy: Hierarchy::new(alloc),
+            clock_domains: ClockDomains::new(alloc),
             machines: Vec::new(alloc),
             domains: Items::new(alloc),
             told: None,
+            simulation: Simulation::new(alloc),
         }
     }
 
@@ -209,11 +222,60 @@ impl Store {
         Ok(number as u32)
     }
 
-    /// The module that is to be elaborated.
-    pub fn set_root(&mut self, root: u32)
-        ensures { self.new ≡ with_root root self.old }
+    /// What was added to modules, and the tree of it.
+    pub fn hierarchy(&self) -> &Hierarchy
+        ensures { result.now ≡ self.now.hierarchy }
+    {
+        &self.hierarchy
+    }
+
+    /// What is added to a module, under a name or without one.
+    pub fn add_submodule(
+        &mut self,
+        alloc: Global,
+        of: u32,
+        name: Option<&str>,
+        thing: Val,
+    ) -> Result<(), NoMemory>
+        ensures { OnOk result (self.new ≡ record self.old { hierarchy = with_addition of (option_copied name.entry) thing self.old.hierarchy }) }
+    {
+        self.hierarchy.add(alloc, of, name, thing)
+    }
+
+    /// Clock domains, and which module defines which.
+    pub fn clock_domains(&self) -> &ClockDomains
+        ensures { result.now ≡ self.now.clock_domains }
+    {
+        &self.clock_domains
+    }
+
+    /// A clock domain that is made.
+    pub fn add_clock_domain(&mut self, x: ClockDomain) -> Result<(), NoMemory>
+        ensures { OnOk result (self.new ≡ record self.old { clock_domains = with_clock_domain x self.old.clock_domains }) }
+    {
+        self.clock_domains.keep(x)
+    }
+
+    /// A module defines a clock domain.
+    pub fn define_domain(&mut self, definition: Definition) -> Result<(), NoMemory>
+        ensures { OnOk result (self.new ≡ record self.old { clock_domains = with_definition definition self.old.clock_domains }) }
+    {
+        self.clock_domains.define(definition)
+    }
+
+    /// The module that is to be elaborated, whose submodules wait.
+    pub fn enter_top(&mut self, root: u32) -> Result<(), NoMemory>
+        ensures { OnOk result (self.new ≡ record (with_root root self.old) { hierarchy = top_entered root self.old.hierarchy }) }
     {
         self.top.root = Some(root);
+        self.hierarchy.enter_top(root)
+    }
+
+    /// The module that what waits first came to.
+    pub fn take_node(&mut self, m: u32) -> Result<(), NoMemory>
+        ensures { OnOk result (self.new ≡ record self.old { hierarchy = node_taken m self.old.hierarchy }) }
+    {
+        self.hierarchy.take_node(m)
     }
 
     /// `elaborate` of an object is called.

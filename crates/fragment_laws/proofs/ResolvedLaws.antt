@@ -1,7 +1,7 @@
--- The design that `resolve` gives means what the module does.
-use Rattle.std.specs.Prelude.{◌≡◌, refl, ℕ, Bool, true, false, if◌then◌else◌, is_some, IsSome, List, [], ◌∷◌, ◌++◌, map, length, position, slice_get, Option, Some, None, option_map, Ok, Err}
+-- The design that `resolve` gives means what the module with those below it does.
+use Rattle.std.specs.Prelude.{◌≡◌, refl, ℕ, true, false, is_some, IsSome, List, [], ◌∷◌, ◌++◌, map, length, position, slice_get, Option, Some, None, option_map}
 use Rattle.std.specs.List.{AllByRecursion}
-use Rattle.std.proofs.Common.{sym, ◌∙◌, ap, subst, append-nil}
+use Rattle.std.proofs.Common.{sym, ◌∙◌, ap, subst}
 use Rattle.std.proofs.lemmas.Bool.{false≢true}
 use Rattle.lists.specs.Texts.{text_eq}
 use Rattle.design_ir.specs.declared.ids.ExprId.{ExprId}
@@ -12,22 +12,19 @@ use Rattle.design_ir.specs.declared.process.Side.TheVariants.{Comb, Clocked}
 use Rattle.design_ir.specs.declared.process.Process.{Process}
 use Rattle.design_ir.specs.declared.process.DesignProcess.{DesignProcess}
 use Rattle.design_ir.specs.declared.fragment.Fragment.{Fragment}
-use Rattle.design_ir.specs.Forests.{Forest, bare}
+use Rattle.design_ir.specs.Forests.{Forest, bare, grown}
 use Rattle.design_ir.specs.Trees.{done}
 use Rattle.design_ir.specs.Pools.{Pooled}
 use Rattle.design_ir.specs.PoolRules.{IsPool}
 use Rattle.design_ir.specs.Guards.{block_exprs}
 use Rattle.design_ir.specs.Circuits.{Circuit}
 use Rattle.clock_domains.specs.declared.top.TopPorts.{TopPorts}
-use Rattle.clock_domains.specs.declared.stop.ResolveStop.{ResolveStop}
-use Rattle.clock_domains.specs.declared.stop.ResolveStop.TheVariants as stop
-use Rattle.clock_domains.specs.Resolvable.{IsResolvable, IsSideOf, IsPlain}
-use Rattle.clock_domains.specs.Resolved.{domain_names, with_domains, domains_from, is_past_limit, file_start, driver_refusal, top_inputs, domain_number, process_in, is_clocked, ports_of, circuit_of, or_refused, resolved_in, resolved}
+use Rattle.clock_domains.specs.Resolvable.{IsResolvable, IsSideOf, IsPlain, IsTree, AreModules}
+use Rattle.clock_domains.specs.Resolved.{domain_names, made_names, with_domains, domains_from, is_past_limit, driver_refusal, design_inputs, domain_number, process_in, is_clocked, ports_of, circuit_of}
 use Rattle.clock_domains.specs.Ready.{IsReady}
-use Rattle.clock_domains.proofs.DesignSound.{sides_with}
-use Rattle.clock_domains.proofs.DesignParts.{numbers_found}
-use Rattle.clock_domains.proofs.ReadyLaws.{ready_design}
-use Rattle.fragment_laws.specs.Parts.{unnamed, all_processes, all_memories, processes_of, memories_of}
+use Rattle.clock_domains.proofs.ReadyLaws.{ready_apart, resolved_whole, walked_ready}
+use Rattle.clock_domains.specs.Walks.{all_processes, all_paths, all_definitions}
+use Rattle.fragment_laws.specs.Parts.{unnamed, all_memories, memories_of}
 use Rattle.fragment_laws.specs.Surroundings.{domain_of, pool_in}
 use Rattle.fragment_laws.specs.SamePools.{AllSame}
 use Rattle.fragment_laws.proofs.Twins.{all_imp}
@@ -40,67 +37,30 @@ all_mapped : {A B : Type 0} (P : B → Type 0) (f : A → B) (xs : List A) → A
 all_mapped P f [] h = tt
 all_mapped P f (x ∷ xs) h = (h.0, all_mapped P f xs h.1)
 
--- what was refused in neither way
-pub record IsAccepted (q : Pooled) (f : Fragment) (top : TopPorts) (c : Circuit) : Type 0 where
-  pub room : is_past_limit q (domain_names f.processes) ≡ false
-  pub free : driver_refusal (with_domains q (domain_names f.processes)) (top_inputs top) [] f.processes ≡ None
-  pub whole : circuit_of (with_domains q (domain_names f.processes)) (domains_from (length q.signals) (domain_names f.processes)) f.processes (ports_of (with_domains q (domain_names f.processes)) (domains_from (length q.signals) (domain_names f.processes)) f.processes top) ≡ c
+-- ---- modules have no memories
 
-accepted : (q : Pooled) (f : Fragment) (top : TopPorts) (c : Circuit) → resolved q f top ≡ Ok c → IsAccepted q f top c
-unfolding resolved resolved_in
-accepted q f top c e = by (is_past_limit q ns) refl e
-  where
-    ns : List (List ℕ)
-    ns = domain_names f.processes
+no_memories_below : (q : Pooled) (f : Forest) → AreModules q f → memories_of f ≡ []
+no_memories_below q bare h = refl
+no_memories_below q (grown l below rest) h = ap (λ ms. ms ++ (memories_of below ++ memories_of rest)) h.1.0.memories ∙ ap (λ ms. ms ++ memories_of rest) (no_memories_below q below h.1.1.0) ∙ no_memories_below q rest h.1.1.1
 
-    w : Pooled
-    w = with_domains q ns
+no_memories : (q : Pooled) (f : Fragment) → IsTree q f → all_memories f ≡ []
+no_memories q f h = ap (λ ms. map unnamed (ms ++ memories_of f.submodules)) h.own.memories ∙ ap (map unnamed) (no_memories_below q f.submodules h.below)
 
-    ds : List Domain
-    ds = domains_from (length q.signals) ns
-
-    made : Circuit
-    made = circuit_of w ds f.processes (ports_of w ds f.processes top)
-
-    or : (o : Option ResolveStop) → driver_refusal w (top_inputs top) [] f.processes ≡ o → is_past_limit q ns ≡ false → or_refused o made ≡ Ok c → IsAccepted q f top c
-    or None free room h = record { room = room; free = free; whole = cc }
-    or (Some x) free room h = cc
-
-    by : (past : Bool) → is_past_limit q ns ≡ past → (if past then Err (stop.Limit file_start) else or_refused (driver_refusal w (top_inputs top) [] f.processes) made) ≡ Ok c → IsAccepted q f top c
-    by true room h = cc
-    by false room h = or (driver_refusal w (top_inputs top) [] f.processes) refl room h
-
-module _ (q : Pooled) (f : Fragment) (top : TopPorts) (rules : IsPool q) (given : IsResolvable q f top) (room : is_past_limit q (domain_names f.processes) ≡ false) where
-  abbrev ns : List (List ℕ)
-  ns = domain_names f.processes
+module _ (q : Pooled) (f : Fragment) (top : TopPorts) (given : IsResolvable q f top) (room : is_past_limit q (all_definitions f) (domain_names f) ≡ false) where
+  abbrev ps : List Process
+  ps = all_processes f
 
   abbrev w : Pooled
-  w = with_domains q ns
+  w = with_domains q (made_names f)
 
   abbrev ds : List Domain
-  ds = domains_from (length q.signals) ns
+  ds = domains_from (all_definitions f) (length q.signals) (domain_names f)
 
   abbrev made : Circuit
-  made = circuit_of w ds f.processes (ports_of w ds f.processes top)
+  made = circuit_of w ds ps (all_paths f) (ports_of w ds f.processes ps top)
 
-  ready : IsReady w ds f.processes top
-  ready = record {
-    before = q;
-    given = record { pool = rules; room = room; sides = given.single.sides; processes = given.single.processes; names = given.names; ports = given.ports };
-    pool = refl;
-    domains = refl;
-  }
-
-  -- ---- the fragment alone
-
-  alone_processes : (below : Forest) → below ≡ bare → f.processes ≡ f.processes ++ processes_of below
-  alone_processes below e = sym (append-nil f.processes) ∙ ap (λ x. f.processes ++ processes_of x) (sym e)
-
-  processes_are : f.processes ≡ all_processes f
-  processes_are = alone_processes f.submodules given.single.alone
-
-  no_memories : [] ≡ all_memories f
-  no_memories = ap (λ ms. map unnamed (ms ++ memories_of bare)) (sym given.single.memories) ∙ ap (λ x. map unnamed (f.memories ++ memories_of x)) (sym given.single.alone)
+  ready : IsReady w ds f.processes ps (all_paths f) top
+  ready = walked_ready q f top given room
 
   -- ---- each clocked side has a domain
 
@@ -116,8 +76,8 @@ module _ (q : Pooled) (f : Fragment) (top : TopPorts) (rules : IsPool q) (given 
   by_side Comb h = tt
   by_side (Clocked n) h = is_found n (position (λ (d : Domain). text_eq d.name n) ds) refl h
 
-  named : AllByRecursion (λ (p : Process). IsSideNamed ds p.side) f.processes
-  named = all_imp (λ (p : Process) (h : is_some (domain_number ds p.side) ≡ is_clocked p). by_side p.side h) f.processes (numbers_found (length q.signals) f.processes)
+  named : AllByRecursion (λ (p : Process). IsSideNamed ds p.side) ps
+  named = all_imp (λ (p : Process) (h : is_some (domain_number ds p.side) ≡ is_clocked p). by_side p.side h) ps ready.known
 
   -- ---- its expressions
 
@@ -128,19 +88,18 @@ module _ (q : Pooled) (f : Fragment) (top : TopPorts) (rules : IsPool q) (given 
   is_root whole = record {
     pool = record {
       signals = refl;
-      processes = all_mapped (λ (x : DesignProcess). AllSame (pool_in ds w) w (block_exprs x.body)) (process_in ds) f.processes (all_imp (body_same whole) f.processes (sides_with q ns f.processes given.single.processes));
+      processes = all_mapped (λ (x : DesignProcess). AllSame (pool_in ds w) w (block_exprs x.body)) (process_in ds) ps (all_imp (body_same whole) ps ready.processes);
       memories = tt;
     };
-    processes = ap (map (process_in ds)) processes_are;
-    named = subst (AllByRecursion (λ (p : Process). IsSideNamed ds p.side)) processes_are named;
-    memories = no_memories;
+    processes = refl;
+    named = named;
+    memories = sym (no_memories q f given.tree);
   }
 
-  pub made_means : IsPool w → driver_refusal w (top_inputs top) [] f.processes ≡ None → MeansItsRoot w f made
-  made_means whole free = means w f made (ready_design w ds f.processes top ready whole free) (is_root whole)
+  pub made_means : IsPool w → driver_refusal w (design_inputs ds top) [] ps ≡ None → MeansItsRoot w f made
+  made_means whole free = means w f made (ready_apart w ds f.processes ps (all_paths f) top ready whole free) (is_root whole)
 
 pub resolved_means_its_root : ResolvedMeansItsRoot
 resolved_means_its_root q f top c rules whole given e =
-    let a = accepted q f top c e in
-    subst (MeansItsRoot (with_domains q (domain_names f.processes)) f) a.whole
-    (made_means q f top rules given a.room (subst (λ (x : Circuit). IsPool x.pool) (sym a.whole) whole) a.free)
+    let a = resolved_whole q f top c e in
+    subst (MeansItsRoot (with_domains q (made_names f)) f) a.whole (made_means q f top given a.room (subst (λ (x : Circuit). IsPool x.pool) (sym a.whole) whole) a.free)

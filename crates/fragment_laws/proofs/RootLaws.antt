@@ -7,10 +7,11 @@ use Rattle.design_ir.specs.declared.fragment.Fragment.{Fragment}
 use Rattle.design_ir.specs.declared.event.Event.{Event}
 use Rattle.design_ir.specs.Pools.{Pooled}
 use Rattle.design_ir.specs.Circuits.{Circuit, State, is_among}
-use Rattle.design_ir.specs.Designs.{IsDesign, drivers, share}
+use Rattle.design_ir.specs.Designs.{drivers, share}
 use Rattle.design_ir.specs.Settled.{delta}
 use Rattle.design_ir.specs.Steps as design
 use Rattle.design_ir.specs.Histories as history
+use Rattle.clock_domains.proofs.DesignWhole.{IsApart}
 use Rattle.fragment_laws.specs.Parts.{unnamed}
 use Rattle.fragment_laws.specs.Surroundings.{pool_in}
 use Rattle.fragment_laws.specs.Roots.{IsRoot, IsStateOf, MeansItsRoot, DesignsMeanTheirRoots}
@@ -21,7 +22,7 @@ use Rattle.fragment_laws.proofs.OneDriver.{IsDrivenOnce}
 use Rattle.fragment_laws.proofs.RootNumbers.{root_design}
 use Rattle.fragment_laws.proofs.RootHistories.{settled_alike, histories_alike, root_meaning}
 
-module _ (q : Pooled) (f : Fragment) (c : Circuit) (sound : IsDesign c) (root : IsRoot q f c) where
+module _ (q : Pooled) (f : Fragment) (c : Circuit) (sound : IsApart c) (root : IsRoot q f c) where
   abbrev over : Circuit
   over = record c { pool = pool_in c.domains q }
 
@@ -57,7 +58,7 @@ module _ (q : Pooled) (f : Fragment) (c : Circuit) (sound : IsDesign c) (root : 
   }
 
   meaning : MeansItsRoot q f d
-  meaning = root_meaning q f c.domains c.ports c.columns rules sound.domain_names root.named
+  meaning = root_meaning q f c.domains c.ports c.columns rules sound.names root.named
 
   memories_long : length c.memories ≡ length d.memories
   memories_long = sym (length_map unnamed c.memories) ∙ ap length root.memories
@@ -80,4 +81,4 @@ module _ (q : Pooled) (f : Fragment) (c : Circuit) (sound : IsDesign c) (root : 
   }
 
 pub designs_mean_their_roots : DesignsMeanTheirRoots
-designs_mean_their_roots q f c sound root = means q f c sound root
+designs_mean_their_roots q f c sound root = means q f c (record { names = sound.domain_names; one_driver = sound.one_driver; no_driven_input = sound.no_driven_input }) root

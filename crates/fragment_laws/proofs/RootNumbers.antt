@@ -33,7 +33,8 @@ use Rattle.design_ir.specs.Steps as design
 use Rattle.design_ir.proofs.Resets.{lists_same}
 use Rattle.design_ir.proofs.ClearedLaws.{clears_length}
 use Rattle.clock_domains.specs.Resolved.{domain_number, process_in}
-use Rattle.fragment_laws.specs.Parts.{all_processes, all_memories}
+use Rattle.clock_domains.specs.Walks.{all_processes}
+use Rattle.fragment_laws.specs.Parts.{all_memories}
 use Rattle.fragment_laws.specs.Surroundings.{pool_in}
 use Rattle.fragment_laws.specs.Givers.{ReadPort, giver_among, giver}
 use Rattle.fragment_laws.specs.Settling.{for_each, inits, rows_of, driven_number, read_number, given_number, given_numbers}

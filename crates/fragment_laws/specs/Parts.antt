@@ -1,21 +1,13 @@
--- All that stands in a fragment: its own, and then what the fragments below it hold, in their order. (Amaranth guide:
+-- All memories of a fragment: its own, and then those of the fragments below it, in their order. (Amaranth guide:
 -- Submodules, Elaboration)
 use Rattle.std.specs.Prelude.{List, [], ◌++◌, map}
 use Rattle.design_ir.specs.declared.memory.Memory.{Memory}
-use Rattle.design_ir.specs.declared.process.Process.{Process}
 use Rattle.design_ir.specs.declared.fragment.Fragment.{Fragment}
 use Rattle.design_ir.specs.Forests.{Forest, bare, grown}
-
-abbrev pub processes_of : Forest → List Process
-processes_of bare = []
-processes_of (grown l below rest) = l.processes ++ (processes_of below ++ processes_of rest)
 
 abbrev pub memories_of : Forest → List Memory
 memories_of bare = []
 memories_of (grown l below rest) = l.memories ++ (memories_of below ++ memories_of rest)
-
-abbrev pub all_processes : Fragment → List Process
-all_processes f = f.processes ++ processes_of f.submodules
 
 -- a memory but for its name, which is its path in a whole design and says nothing of what it does
 abbrev pub unnamed : Memory → Memory

@@ -8,7 +8,8 @@ pub fn designs_mean_their_roots()
     ensures { DesignsMeanTheirRoots }
 {}
 
-/// So it is where `resolve` of clock_domains gives the design of a module, over the pool with the signals of its domains.
+/// So it is where `resolve` of clock_domains gives the design of a module with those below it, over the pool with the
+/// signals of the domains that no module defines.
 pub fn resolved_means_its_root()
     ensures { ResolvedMeansItsRoot }
 {}

@@ -2,5 +2,5 @@ use Rattle.std.proofs.Common.{take}
 use Rattle.clock_domains.specs.Made.{AreMade}
 use Rattle.clock_domains.proofs.domains.domains_made.Given as goal
 
-abbrev pub invariant-loop-process : goal.invariant-loop-process
-invariant-loop-process l = AreMade l.fn.pool (take l.process-index l.processes) l.pool l.domains
+abbrev pub invariant-loop-name : goal.invariant-loop-name
+invariant-loop-name l = AreMade l.fn.pool l.definitions (take l.name-index l.names) l.pool l.domains

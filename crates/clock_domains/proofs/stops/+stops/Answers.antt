@@ -23,7 +23,7 @@ block_stop-statement_stop-requires t c =
       less,
       (
         statement_names (length c.args.on_inputs.now) items i item (subst (λ b. AllBelow (length c.args.on_inputs.now) (block_exprs b)) (sym body) c.requires.inputs) at,
-        statement_names (length c.args.taken.now) items i item (subst (λ b. AllBelow (length c.args.taken.now) (block_exprs b)) (sym body) c.requires.taken) at,
+        statement_names (length c.args.leasts.now) items i item (subst (λ b. AllBelow (length c.args.leasts.now) (block_exprs b)) (sym body) c.requires.leasts) at,
       ),
     )
 
@@ -40,6 +40,6 @@ choices_stop-block_stop-requires t c =
       less,
       (
         (arm_names (length c.args.on_inputs.now) items i item (subst (λ b. AllBelow (length c.args.on_inputs.now) (choices_exprs b)) (sym c.as_slice-arm-items.ensures.value) c.requires.inputs) at).1,
-        (arm_names (length c.args.taken.now) items i item (subst (λ b. AllBelow (length c.args.taken.now) (choices_exprs b)) (sym c.as_slice-arm-items.ensures.value) c.requires.taken) at).1,
+        (arm_names (length c.args.leasts.now) items i item (subst (λ b. AllBelow (length c.args.leasts.now) (choices_exprs b)) (sym c.as_slice-arm-items.ensures.value) c.requires.leasts) at).1,
       ),
     )

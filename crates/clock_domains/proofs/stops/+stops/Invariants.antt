@@ -1,6 +1,7 @@
 use Rattle.std.proofs.Common.{◌≡◌, drop}
 use Rattle.design_ir.specs.Statements.{statement_of, block_of, choices_of}
 use Rattle.design_ir.specs.Trees.{block_size, choices_size, statement_size}
+use Rattle.clock_domains.specs.Numbers.{bounded}
 use Rattle.clock_domains.specs.Stops.{block_stop, choices_stop, target_stop}
 use Rattle.clock_domains.proofs.stops.+stops.Given as goal
 
@@ -14,7 +15,7 @@ abbrev pub decreases-statement_stop : goal.decreases-statement_stop
 decreases-statement_stop l = statement_size (statement_of l.statement.now)
 
 abbrev pub invariant-block_stop-loop-statement : goal.invariant-block_stop-loop-statement
-invariant-block_stop-loop-statement l = block_stop (target_stop l.on_inputs l.taken) l.fn.body ≡ block_stop (target_stop l.on_inputs l.taken) (block_of (drop l.statement-index l.statement-items))
+invariant-block_stop-loop-statement l = block_stop (target_stop l.on_inputs (bounded l.number l.leasts)) l.fn.body ≡ block_stop (target_stop l.on_inputs (bounded l.number l.leasts)) (block_of (drop l.statement-index l.statement-items))
 
 abbrev pub invariant-choices_stop-loop-arm : goal.invariant-choices_stop-loop-arm
-invariant-choices_stop-loop-arm l = choices_stop (target_stop l.on_inputs l.taken) l.fn.arms ≡ choices_stop (target_stop l.on_inputs l.taken) (choices_of (drop l.arm-index l.arm-items))
+invariant-choices_stop-loop-arm l = choices_stop (target_stop l.on_inputs (bounded l.number l.leasts)) l.fn.arms ≡ choices_stop (target_stop l.on_inputs (bounded l.number l.leasts)) (choices_of (drop l.arm-index l.arm-items))

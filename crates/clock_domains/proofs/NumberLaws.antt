@@ -1,0 +1,214 @@
+-- Numbers below a bound are marks: what is done to the numbers is done to the marks.
+use Rattle.std.proofs.Common.{◌≡◌, ℕ, zero, suc, ◌+◌, ◌<◌, ◌≤◌, nat_lt, Bool, true, false, ◌&&◌, ◌||◌, cond, List, [], ◌∷◌, ◌++◌, length, take, Option, Some, None, slice_get, slice_set, replicate, refl, sym, ap, ◌∙◌, subst, arith}
+use Rattle.std.specs.Prelude.{option_map}
+use Rattle.std.specs.List.{AllByRecursion, filter, list_any}
+use Rattle.std.proofs.lemmas.Bool.{false≢true}
+use Rattle.std.proofs.lemmas.Bool.Decides.{nat_tests}
+use Rattle.std.proofs.lemmas.List.{length-set, take-append-le}
+use Rattle.std.proofs.lemmas.List.Concat.{flat_map-append}
+use Rattle.design_ir.specs.declared.process.Process.{Process}
+use Rattle.design_ir.specs.Pools.{Pooled}
+use Rattle.design_ir.specs.Guards.{driven}
+use Rattle.design_ir.specs.Circuits.{is_among}
+use Rattle.clock_domains.specs.Firsts.{first_at, first_clocked}
+use Rattle.clock_domains.specs.Marks.{is_marked, marked, comes_out}
+use Rattle.clock_domains.specs.Numbers.{lesser, lowered, is_below, bounded, process_targets}
+use Rattle.clock_domains.specs.Reads.{block_targets, is_driven}
+use Rattle.clock_domains.specs.Resolved.{is_clocked}
+use Rattle.clock_domains.proofs.Lists.{take-push, take_end, or_false, length_map}
+use Rattle.clock_domains.proofs.FirstLaws.{take_length}
+use Rattle.clock_domains.proofs.Markings.{marked-append}
+use Rattle.clock_domains.proofs.Outs.{spread_no, spread_yes}
+
+-- ---- lists of numbers
+
+pub length_lowered : (ks : List ℕ) (n : ℕ) (firsts : List (Option ℕ)) → length (lowered ks n firsts) ≡ length firsts
+length_lowered [] n firsts = refl
+length_lowered (k ∷ ks) n firsts =
+    let one = lesser (first_at firsts k) (Some n) in
+    length_lowered ks n (slice_set firsts k one) ∙ length-set firsts k one
+
+lowered-append : (xs ys : List ℕ) (n : ℕ) (firsts : List (Option ℕ)) → lowered (xs ++ ys) n firsts ≡ lowered ys n (lowered xs n firsts)
+lowered-append [] ys n firsts = refl
+lowered-append (x ∷ xs) ys n firsts = lowered-append xs ys n (slice_set firsts x (lesser (first_at firsts x) (Some n)))
+
+-- one more of some items
+pub lowered_turn : {X : Type 0} (f : List X → List ℕ) (n : ℕ) (items : List X) (i : ℕ) (x : X) (more : List ℕ) (old cur new : List (Option ℕ)) → slice_get items i ≡ Some x → f (take i items ++ x ∷ []) ≡ f (take i items) ++ more → cur ≡ lowered (f (take i items)) n old → new ≡ lowered more n cur
+    → new ≡ lowered (f (take (i + 1) items)) n old
+lowered_turn f n items i x more old cur new at push h k =
+    k ∙ ap (lowered more n) h ∙ sym (lowered-append (f (take i items)) more n old) ∙ ap (λ ks. lowered ks n old) (sym (ap f (take-push items i x at) ∙ push))
+
+-- ---- below a bound
+
+pub bounded_at : (i : ℕ) (firsts : List (Option ℕ)) (k : ℕ) → is_marked (bounded i firsts) k ≡ is_below i (first_at firsts k)
+bounded_at i [] k = refl
+bounded_at i (x ∷ xs) zero = refl
+bounded_at i (x ∷ xs) (suc k) = bounded_at i xs k
+
+pub bounded_none : (i n : ℕ) → bounded i (replicate n None) ≡ replicate n false
+bounded_none i zero = refl
+bounded_none i (suc n) = ap (λ bs. false ∷ bs) (bounded_none i n)
+
+bounded_set : (i : ℕ) (firsts : List (Option ℕ)) (k : ℕ) (o : Option ℕ) → bounded i (slice_set firsts k o) ≡ slice_set (bounded i firsts) k (is_below i o)
+bounded_set i [] k o = refl
+bounded_set i (x ∷ xs) zero o = refl
+bounded_set i (x ∷ xs) (suc k) o = ap (λ bs. is_below i x ∷ bs) (bounded_set i xs k o)
+
+same_set : (i : ℕ) (firsts : List (Option ℕ)) (k : ℕ) (b : Bool) → b ≡ is_below i (first_at firsts k) → slice_set (bounded i firsts) k b ≡ bounded i firsts
+same_set i [] k b e = refl
+same_set i (x ∷ xs) zero b e = ap (λ c. c ∷ bounded i xs) e
+same_set i (x ∷ xs) (suc k) b e = ap (λ bs. is_below i x ∷ bs) (same_set i xs k b e)
+
+pub below_lesser : (i : ℕ) (a b : Option ℕ) → is_below i (lesser a b) ≡ (is_below i a || is_below i b)
+below_lesser i None b = refl
+below_lesser i (Some m) None = sym (or_false (nat_lt m i))
+below_lesser i (Some m) (Some n) = split (nat_lt n m) (nat_lt m i) refl refl
+  where
+    less : (i m n : ℕ) → nat_lt n m ≡ true → nat_lt m i ≡ true → nat_lt n i ≡ true
+    less i m n e f = grind (arith, nat_tests)
+
+    more : (i m n : ℕ) → nat_lt n m ≡ false → nat_lt m i ≡ false → nat_lt n i ≡ false
+    more i m n e f = grind (arith, nat_tests)
+
+    split : (c d : Bool) → nat_lt n m ≡ c → nat_lt m i ≡ d → is_below i (cond c (Some n) (Some m)) ≡ (nat_lt m i || nat_lt n i)
+    split true true e f = less i m n e f ∙ ap (λ b. b || nat_lt n i) (sym f)
+    split true false e f = ap (λ b. b || nat_lt n i) (sym f)
+    split false true e f = f ∙ ap (λ b. b || nat_lt n i) (sym f)
+    split false false e f = f ∙ sym (more i m n e f) ∙ ap (λ b. b || nat_lt n i) (sym f)
+
+or_true : (a : Bool) → (a || true) ≡ true
+or_true true = refl
+or_true false = refl
+
+-- numbers below the bound are marks, and others are none
+lowered_below : (i n : ℕ) (ks : List ℕ) (firsts : List (Option ℕ)) → nat_lt n i ≡ true → bounded i (lowered ks n firsts) ≡ marked ks (bounded i firsts)
+lowered_below i n [] firsts e = refl
+lowered_below i n (k ∷ ks) firsts e =
+    let o = first_at firsts k in
+    lowered_below i n ks (slice_set firsts k (lesser o (Some n))) e
+    ∙ ap (marked ks) (bounded_set i firsts k (lesser o (Some n)) ∙ ap (slice_set (bounded i firsts) k) (below_lesser i o (Some n) ∙ ap (λ b. is_below i o || b) e ∙ or_true (is_below i o)))
+
+lowered_past : (i n : ℕ) (ks : List ℕ) (firsts : List (Option ℕ)) → nat_lt n i ≡ false → bounded i (lowered ks n firsts) ≡ bounded i firsts
+lowered_past i n [] firsts e = refl
+lowered_past i n (k ∷ ks) firsts e =
+    let o = first_at firsts k in
+    lowered_past i n ks (slice_set firsts k (lesser o (Some n))) e
+    ∙ bounded_set i firsts k (lesser o (Some n))
+    ∙ same_set i firsts k (is_below i (lesser o (Some n))) (below_lesser i o (Some n) ∙ ap (λ b. is_below i o || b) e ∙ or_false (is_below i o))
+
+-- ---- numbers that are handed down
+
+module _ (leads : ℕ → List ℕ) (i k s : ℕ) (targets signals : List (Option ℕ)) where
+  pub down_no : first_at targets k ≡ None → comes_out leads (bounded i targets) (bounded i signals) k s ≡ comes_out leads (bounded i targets) (bounded i signals) (k + 1) s
+  down_no e = spread_no leads (bounded i targets) (bounded i signals) k s (bounded_at i targets k ∙ ap (is_below i) e)
+
+  pub down_yes : (n : ℕ) (parts own : List ℕ) → first_at targets k ≡ Some n → k < length targets → AllByRecursion (λ j. j < k) parts → AllByRecursion (λ j. j < length signals) own
+      → is_among (leads k) s ≡ (is_among own s || list_any (λ j. is_among (leads j) s) parts) → comes_out leads (bounded i (lowered parts n targets)) (bounded i (lowered own n signals)) k s ≡ comes_out leads (bounded i targets) (bounded i signals) (k + 1) s
+  down_yes n parts own e there low inside whole = split (nat_lt n i) refl
+    where
+      here : is_marked (bounded i targets) k ≡ nat_lt n i
+      here = bounded_at i targets k ∙ ap (is_below i) e
+
+      split : (b : Bool) → nat_lt n i ≡ b → comes_out leads (bounded i (lowered parts n targets)) (bounded i (lowered own n signals)) k s ≡ comes_out leads (bounded i targets) (bounded i signals) (k + 1) s
+      split true f =
+          ap (λ ms. comes_out leads ms (bounded i (lowered own n signals)) k s) (lowered_below i n parts targets f)
+          ∙ ap (λ os. comes_out leads (marked parts (bounded i targets)) os k s) (lowered_below i n own signals f)
+          ∙ spread_yes leads (bounded i targets) (bounded i signals) k s parts own (here ∙ f) (omega (arith, there, length_map (is_below i) targets)) low
+          (subst (λ m. AllByRecursion (λ j. j < m) own) (sym (length_map (is_below i) signals)) inside) whole
+      split false f =
+          ap (λ ms. comes_out leads ms (bounded i (lowered own n signals)) k s) (lowered_past i n parts targets f)
+          ∙ ap (λ os. comes_out leads (bounded i targets) os k s) (lowered_past i n own signals f)
+          ∙ spread_no leads (bounded i targets) (bounded i signals) k s (here ∙ f)
+
+-- ---- processes in order, each with its number
+
+-- one process more, of those that are kept
+pub numbered_turn : (keep : List Process → List Process) (ps : List Process) (j : ℕ) (p : Process) (more : List Process) (old cur new : List (Option ℕ)) → slice_get ps j ≡ Some p → keep (take j ps ++ p ∷ []) ≡ keep (take j ps) ++ more
+    → ((i : ℕ) → bounded i cur ≡ marked (process_targets (keep (take i (take j ps)))) (bounded i old)) → new ≡ lowered (process_targets more) j cur → (i : ℕ) → bounded i new ≡ marked (process_targets (keep (take i (take (j + 1) ps)))) (bounded i old)
+numbered_turn keep ps j p more old cur new at push h k i = ap (bounded i) k ∙ split (nat_lt j i) refl
+  where
+    size : length (take j ps) ≡ j
+    size = take_length ps j p at
+
+    next : take (j + 1) ps ≡ take j ps ++ p ∷ []
+    next = take-push ps j p at
+
+    size' : length (take (j + 1) ps) ≡ j + 1
+    size' = omega (arith, ap length next, grown (take j ps) p, size)
+      where
+        grown : (xs : List Process) (x : Process) → length (xs ++ x ∷ []) ≡ suc (length xs)
+        grown [] x = refl
+        grown (y ∷ xs) x = ap suc (grown xs x)
+
+    below : nat_lt j i ≡ true → j < i
+    below e = grind (arith, nat_tests)
+
+    past : nat_lt j i ≡ false → i ≤ j
+    past e = grind (arith, nat_tests)
+
+    split : (b : Bool) → nat_lt j i ≡ b → bounded i (lowered (process_targets more) j cur) ≡ marked (process_targets (keep (take i (take (j + 1) ps)))) (bounded i old)
+    split true e =
+        let low = below e in
+        let all : take i (take j ps) ≡ take j ps = take_end (take j ps) i (omega (arith, low, size)) in
+        let all' : take i (take (j + 1) ps) ≡ take j ps ++ p ∷ [] = take_end (take (j + 1) ps) i (omega (arith, low, size')) ∙ next in
+        lowered_below i j (process_targets more) cur e
+        ∙ ap (marked (process_targets more)) (h i ∙ ap (λ qs. marked (process_targets (keep qs)) (bounded i old)) all)
+        ∙ sym (marked-append (process_targets (keep (take j ps))) (process_targets more) (bounded i old))
+        ∙ ap (λ ts. marked ts (bounded i old))
+        (sym (flat_map-append (λ (p : Process). block_targets p.body) (keep (take j ps)) more) ∙ ap process_targets (sym push) ∙ ap (λ qs. process_targets (keep qs)) (sym all'))
+    split false e =
+        let low = past e in
+        lowered_past i j (process_targets more) cur e
+        ∙ h i
+        ∙ ap (λ qs. marked (process_targets (keep qs)) (bounded i old)) (sym (ap (take i) next ∙ take-append-le i (take j ps) (p ∷ []) (omega (arith, low, size))))
+
+-- ---- the first clocked process
+
+none_below : (o : Option ℕ) → is_below 0 o ≡ false
+none_below None = refl
+none_below (Some n) = none n
+  where
+    none : (n : ℕ) → nat_lt n 0 ≡ false
+    none n = grind (arith, nat_tests)
+
+below_suc : (i : ℕ) (o : Option ℕ) → is_below (suc i) (option_map (λ (k : ℕ). suc k) o) ≡ is_below i o
+below_suc i None = refl
+below_suc i (Some n) = next n i
+  where
+    next : (n i : ℕ) → nat_lt (suc n) (suc i) ≡ nat_lt n i
+    next n i = grind (arith, nat_tests)
+
+pub below_first : (q : Pooled) (ps : List Process) (s i : ℕ) → is_below i (first_clocked q ps s) ≡ is_driven q (filter is_clocked (take i ps)) s
+below_first q [] s zero = refl
+below_first q [] s (suc i) = refl
+below_first q (p ∷ ps) s zero = none_below (first_clocked q (p ∷ ps) s)
+below_first q (p ∷ ps) s (suc i) =
+    let here = is_clocked p && is_among (driven q p.body) s in
+    split here (option_map (λ (k : ℕ). suc k) (first_clocked q ps s)) ∙ ap (λ b. here || b) (below_suc i (first_clocked q ps s) ∙ below_first q ps s i) ∙ filtered (is_clocked p)
+  where
+    one : (i : ℕ) → nat_lt 0 (suc i) ≡ true
+    one i = grind (arith, nat_tests)
+
+    split : (c : Bool) (o : Option ℕ) → is_below (suc i) (cond c (Some 0) o) ≡ (c || is_below (suc i) o)
+    split true o = one i
+    split false o = refl
+
+    filtered : (a : Bool) → ((a && is_among (driven q p.body) s) || is_driven q (filter is_clocked (take i ps)) s) ≡ is_driven q (cond a (p ∷ filter is_clocked (take i ps)) (filter is_clocked (take i ps))) s
+    filtered true = refl
+    filtered false = refl
+
+-- numbers that are below the same bounds
+pub below_same : (a b : Option ℕ) → ((i : ℕ) → is_below i a ≡ is_below i b) → a ≡ b
+below_same None None h = refl
+below_same (Some m) None h = absurd (false≢true (sym (h (suc m)) ∙ just_below m))
+  where
+    just_below : (m : ℕ) → nat_lt m (suc m) ≡ true
+    just_below m = grind (arith, nat_tests)
+below_same None (Some n) h = absurd (false≢true (h (suc n) ∙ just_below n))
+  where
+    just_below : (m : ℕ) → nat_lt m (suc m) ≡ true
+    just_below m = grind (arith, nat_tests)
+below_same (Some m) (Some n) h = ap Some (equal m n (h (suc m)) (h (suc n)))
+  where
+    equal : (m n : ℕ) → nat_lt m (suc m) ≡ nat_lt n (suc m) → nat_lt m (suc n) ≡ nat_lt n (suc n) → m ≡ n
+    equal m n a b = grind (arith, nat_tests)

@@ -1,0 +1,10 @@
+use Rattle.std.proofs.Common.{◌≡◌, ℕ, length, take}
+use Rattle.clock_domains.specs.Marks.{marked}
+use Rattle.clock_domains.specs.Numbers.{bounded, process_targets}
+use Rattle.clock_domains.proofs.firsts.number_targets.Given as goal
+
+abbrev pub invariant-loop-number : goal.invariant-loop-number
+invariant-loop-number l = record {
+  size : length l.targets.items ≡ length l.pool.exprs;
+  each : (i : ℕ) → bounded i l.targets.items ≡ marked (process_targets (take i (take l.number l.processes))) (bounded i l.fn.targets.items);
+}

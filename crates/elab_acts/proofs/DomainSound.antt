@@ -1,0 +1,162 @@
+-- What is held stays sound where clock domains are made and defined.
+use Rattle.std.proofs.Common.{◌≡◌, ℕ, ◌≤◌, refl, ap, ◌∙◌, sym, Bool, true, false, List, [], ◌∷◌, ◌++◌, length, Option, Some, None, true≢false, is_some, arith}
+use Rattle.std.specs.Prelude.{if◌then◌else◌, codes}
+use Rattle.std.specs.List.{list_all}
+use Rattle.std.proofs.lemmas.List.Sums.{AllPass-from_list_all}
+use Rattle.lists.specs.Names.{IsName, continues_name}
+use Rattle.lists.specs.Texts.{text_eq}
+use Rattle.amh_host.specs.declared.place.Place.{Place}
+use Rattle.identifiers.specs.Identifiers.{is_identifier}
+use Rattle.identifiers.proofs.NameLaws.{identifier_is_name}
+use Rattle.py_values.specs.declared.val.Val.{Val}
+use Rattle.py_values.specs.declared.val.Val.TheVariants as val
+use Rattle.py_values.specs.Heaps.{Seen, text_at}
+use Rattle.design_ir.specs.declared.ids.SigId.{SigId}
+use Rattle.design_ir.specs.Pools.{Pooled}
+use Rattle.clock_domains.specs.Resolved.{bit_signal, domain_prefix}
+use Rattle.amh_things.specs.declared.thing.Reading.TheVariants as reading
+use Rattle.elab_store.specs.declared.domains.ClockDomain.{ClockDomain}
+use Rattle.elab_store.specs.declared.kept.Kept.TheVariants as kept
+use Rattle.elab_store.specs.Stores.{Held, Answered, next_thing, kept_of}
+use Rattle.elab_store.specs.Sound.{IsBit, IsClockDomain, AreClockDomains, IsSound}
+use Rattle.elab_acts.specs.declared.signals.SignalArguments.{SignalArguments}
+use Rattle.elab_acts.specs.Signals.{call_name, signal_reset_less, signal_passes}
+use Rattle.elab_acts.specs.Submodules.{found_given}
+use Rattle.elab_acts.specs.ClockDomains.{without_cd, domain_formed, clock_domain_name, clock_signal, reset_signal, next_signal, with_bit, clock_domain, keeping_domain, clock_domain_kept, reset_made, clock_made, clock_domain_said, clock_domain_from, own_attribute, clock_domain_attribute, clock_domain_of, domain_defined, definition_added, has_domain_name, definition_stored, is_definitions_of, definitions_stored}
+use Rattle.elab_acts.proofs.GrownLaws.{keeping_sound, name_more}
+use Rattle.elab_acts.proofs.DomainLaws.{bit_stays, new_bit, domains_more}
+use Rattle.elab_acts.proofs.ComponentSound.{unlimited_sound}
+
+if_sound : (b : Bool) (x y : Answered) → IsSound x.held → IsSound y.held → IsSound (if b then x else y).held
+if_sound true x y h g = h
+if_sound false x y h g = g
+
+-- ---- names
+
+-- an identifier other than `comb`
+formed_name : (text name : List ℕ) → domain_formed text ≡ Some name → is_identifier name ≡ true
+formed_name text name e = by_tests (text_eq text (codes "comb")) (is_identifier text) refl e
+  where
+    by_tests : (c b : Bool) → is_identifier text ≡ b → (if c then None else (if b then Some text else None)) ≡ Some name → is_identifier name ≡ true
+    by_tests true b t e = absurd (true≢false (ap is_some (sym e)))
+    by_tests false true t e = let same : text ≡ name = cc in ap is_identifier (sym same) ∙ t
+    by_tests false false t e = absurd (true≢false (ap is_some (sym e)))
+
+given_name : (s : Seen) (call : List ℕ) (o : Option Val) (name : List ℕ) → clock_domain_name s call o ≡ Some name → is_identifier name ≡ true
+given_name s call None name e = formed_name (without_cd (call_name call)) name e
+given_name s call (Some val.None) name e = formed_name (without_cd (call_name call)) name e
+given_name s call (Some (val.Str x)) name e = formed_name (text_at s x.0) name e
+given_name s call (Some (val.Bool b)) name e = absurd (true≢false (ap is_some (sym e)))
+given_name s call (Some (val.Int b)) name e = absurd (true≢false (ap is_some (sym e)))
+given_name s call (Some (val.Time b)) name e = absurd (true≢false (ap is_some (sym e)))
+given_name s call (Some (val.List b)) name e = absurd (true≢false (ap is_some (sym e)))
+given_name s call (Some (val.Tuple b)) name e = absurd (true≢false (ap is_some (sym e)))
+given_name s call (Some (val.Dict b)) name e = absurd (true≢false (ap is_some (sym e)))
+given_name s call (Some (val.Range b)) name e = absurd (true≢false (ap is_some (sym e)))
+given_name s call (Some (val.Func b)) name e = absurd (true≢false (ap is_some (sym e)))
+given_name s call (Some (val.Class b)) name e = absurd (true≢false (ap is_some (sym e)))
+given_name s call (Some (val.Object b)) name e = absurd (true≢false (ap is_some (sym e)))
+given_name s call (Some (val.Hw b)) name e = absurd (true≢false (ap is_some (sym e)))
+
+clk_named : IsName (codes "clk")
+clk_named = record { first = 99; rest = codes "lk"; whole = refl; starts = refl; continues = AllPass-from_list_all continues_name (codes "lk") refl }
+
+rst_named : IsName (codes "rst")
+rst_named = record { first = 114; rest = codes "st"; whole = refl; starts = refl; continues = AllPass-from_list_all continues_name (codes "st") refl }
+
+-- a domain's signals have names
+signal_named : (name end : List ℕ) → IsName name → IsName end → list_all continues_name end ≡ true → IsName (domain_prefix name ++ end)
+signal_named name end n e all = by_test (text_eq name (codes "sync"))
+  where
+    by_test : (b : Bool) → IsName ((if b then [] else name ++ codes "_") ++ end)
+    by_test true = e
+    by_test false = name_more (name ++ codes "_") end (name_more name (codes "_") n refl) all
+
+-- ---- the clock domain
+
+bit_sound : (name : List ℕ) (h : Held) → IsName name → IsSound h → IsSound (with_bit (bit_signal name) h)
+bit_sound name h named t = unlimited_sound reading.Plain (bit_signal name) h named t
+
+with_domain_sound : (p : Pooled) (x : ClockDomain) (h : Held) → IsSound h → AreClockDomains p h.store.clock_domains.made → IsClockDomain h.pool x → length p.signals ≤ x.domain.clk.0 → IsSound (record h { store = keeping_domain x h.store })
+with_domain_sound p x h t before new le = record {
+  names = t.names;
+  things = t.things;
+  kept = t.kept;
+  modules = t.modules;
+  machines = t.machines;
+  domains = t.domains;
+  additions = t.additions;
+  clock_domains = domains_more p h.pool h.store.clock_domains.made x before t.clock_domains new le;
+  ports = t.ports;
+}
+
+kept_sound : (p : Pooled) (x : ClockDomain) (h : Held) → IsSound h → AreClockDomains p h.store.clock_domains.made → IsClockDomain h.pool x → length p.signals ≤ x.domain.clk.0 → IsSound (clock_domain_kept x h).held
+kept_sound p x h t before new le = keeping_sound (record h { store = keeping_domain x h.store }) (kept.ClockDomain (length h.store.clock_domains.made)) (with_domain_sound p x h t before new le) tt
+
+module _ (name : List ℕ) (named : IsName name) where
+  -- the pool p is that before the clock
+  reset_sound : (p : Pooled) (clk : SigId) (h : Held) → IsSound h → AreClockDomains p h.store.clock_domains.made → IsBit h.pool clk → length p.signals ≤ clk.0 → IsSound (reset_made name clk h).held
+  reset_sound p clk h t before clock le = if_sound (signal_passes h 1) _ _ t (
+      kept_sound p (clock_domain name clk (Some (record { sig = next_signal h; val = next_thing h }))) (with_bit (reset_signal name) h) after before (
+      record {
+        name = named;
+        clock = bit_stays h.pool (with_bit (reset_signal name) h).pool (reset_signal name ∷ []) refl clk clock;
+        reset = (new_bit h.pool (with_bit (reset_signal name) h).pool (reset_signal name) refl refl, clock.there);
+        rising = refl;
+        sync_reset = refl;
+      }
+      ) le
+      )
+    where
+      after : IsSound (with_bit (reset_signal name) h)
+      after = bit_sound (domain_prefix name ++ codes "rst") h (signal_named name (codes "rst") named rst_named refl) t
+
+  made_sound : (reset_less : Bool) (h : Held) → IsSound h → IsSound (clock_made name reset_less h).held
+  made_sound reset_less h t = if_sound (signal_passes h 1) _ _ t (by_reset reset_less)
+    where
+      after : IsSound (with_bit (clock_signal name) h)
+      after = bit_sound (domain_prefix name ++ codes "clk") h (signal_named name (codes "clk") named clk_named refl) t
+
+      clock : IsBit (with_bit (clock_signal name) h).pool (next_signal h)
+      clock = new_bit h.pool (with_bit (clock_signal name) h).pool (clock_signal name) refl refl
+
+      by_reset : (b : Bool) → IsSound (if b then clock_domain_kept (clock_domain name (next_signal h) None) (with_bit (clock_signal name) h) else reset_made name (next_signal h) (with_bit (clock_signal name) h)).held
+      by_reset true = kept_sound h.pool (clock_domain name (next_signal h) None) (with_bit (clock_signal name) h) after t.clock_domains (record { name = named; clock = clock; reset = tt; rising = refl; sync_reset = refl }) (omega arith)
+      by_reset false = reset_sound h.pool (next_signal h) (with_bit (clock_signal name) h) after t.clock_domains clock (omega arith)
+
+said_sound : (name : Option (List ℕ)) (r : Option Bool) (h : Held) → IsSound h → ((x : List ℕ) → name ≡ Some x → is_identifier x ≡ true) → IsSound (clock_domain_said name r h).held
+said_sound None r h t named = t
+said_sound (Some name) None h t named = t
+said_sound (Some name) (Some r) h t named = made_sound name (identifier_is_name name (named name refl)) r h t
+
+pub call_sound : (s : Seen) (name : List ℕ) (args : Option SignalArguments) (h : Held) → IsSound h → IsSound (clock_domain_from s name args h).held
+call_sound s name None h t = t
+call_sound s name (Some args) h t = said_sound (clock_domain_name s name args.name) (signal_reset_less s args.reset_less) h t (λ x e. given_name s name args.name x e)
+
+-- ---- attributes
+
+found_sound : (o : Option Val) (h : Held) → IsSound h → IsSound (found_given o h).held
+found_sound None h t = t
+found_sound (Some v) h t = t
+
+own_sound : (o : Option ClockDomain) (name : List ℕ) (h : Held) → IsSound h → IsSound (own_attribute o name h).held
+own_sound None name h t = t
+own_sound (Some x) name h t = if_sound (text_eq name (codes "rst")) _ _ (found_sound x.reset h t) (if_sound (text_eq name (codes "name")) _ _ t t)
+
+pub attribute_sound : (k : ℕ) (name : List ℕ) (h : Held) → IsSound h → IsSound (clock_domain_attribute k name h).held
+attribute_sound k name h t = own_sound _ name h t
+
+-- ---- definitions
+
+defined_sound : (m : ℕ) (o : Option ℕ) (gives : Val) (p : Place) (h : Held) → IsSound h → IsSound (domain_defined m o gives p h).held
+defined_sound m None gives p h t = t
+defined_sound m (Some k) gives p h t = record { names = t.names; things = t.things; kept = t.kept; modules = t.modules; machines = t.machines; domains = t.domains; additions = t.additions; clock_domains = t.clock_domains; ports = t.ports }
+
+pub added_sound : (m : ℕ) (v x : Val) (p : Place) (h : Held) → IsSound h → IsSound (definition_added m v x p h).held
+added_sound m v x p h t = defined_sound m (clock_domain_of (kept_of h.store v)) x p h t
+
+pub stored_sound : (m : ℕ) (name : List ℕ) (v : Val) (p : Place) (h : Held) → IsSound h → IsSound (definition_stored m name v p h).held
+stored_sound m name v p h t = if_sound (has_domain_name name h.store (clock_domain_of (kept_of h.store v))) _ _ (added_sound m v val.None p h t) t
+
+pub definitions_sound : (m : ℕ) (v : Val) (h : Held) → IsSound h → IsSound (definitions_stored m v h).held
+definitions_sound m v h t = if_sound (is_definitions_of m (kept_of h.store v)) _ _ t t

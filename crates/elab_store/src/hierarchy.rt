@@ -1,0 +1,237 @@
+// Submodules: what was added to which module, and the tree of modules that is elaborated of it.
+ghost use Rattle.std.specs.Prelude.{◌≡◌, ◌++◌, length, reverse, IfOk, OnOk, codes};
+ghost use Rattle.std.specs.Fmt.{decimal};
+ghost use Rattle.std.specs.Option.{option_copied};
+ghost use Rattle.elab_store.specs.Hierarchies.{no_hierarchy, numbers_of, addition_name, added_as, with_addition, waiting_for, top_entered, node_taken, first_waiting, thing_waiting, is_node};
+
+use amh_host::Text;
+use lists::NoMemory;
+use py_values::Val;
+use std::alloc::Global;
+use std::marker::Model;
+
+/// What was added to a module, and under which name. Where none was given, it is `u` and a number.
+#[derive(Drop)]
+pub struct Addition {
+    pub of: u32,
+    pub name: Text,
+    pub is_named: bool,
+    pub thing: Val,
+}
+
+/// A module of the tree below the top: by which addition it stands there, which module it is, and how many stand directly below it.
+#[derive(Clone, Copy, Debug, PartialEq, Eq, Drop)]
+pub struct Node {
+    pub addition: u32,
+    pub module: u32,
+    pub below: u32,
+}
+
+/// An addition that is still to be elaborated, and in how many modules it stands.
+#[derive(Clone, Copy, Debug, PartialEq, Eq, Drop)]
+pub struct Waiting {
+    pub addition: u32,
+    pub depth: u32,
+}
+
+/// All additions, and the tree as it is walked. Contracts see it as `Hierarchy`.
+#[derive(Drop)]
+pub struct Hierarchy {
+    additions: Vec<Addition>,
+    nodes: Vec<Node>,
+    /// The next one last.
+    waiting: Vec<Waiting>,
+}
+
+impl Model for Hierarchy {
+    ghost use Rattle.std.specs.Prelude.{reverse};
+    ghost use Rattle.elab_store.specs.Hierarchies.{Hierarchy};
+
+    ghost Value = { Hierarchy };
+
+    ghost view = { λ a. record { additions = a.additions.items; nodes = a.nodes.items; waiting = reverse a.waiting.items } };
+}
+
+// How many additions are to a module.
+fn child_count(additions: &[Addition], of: u32) -> usize
+    ensures { result ≡ length (numbers_of of 0 additions.now) }
+{
+    let mut count = 0;
+    for a in additions {
+        if a.of == of {
+            count += 1;
+        }
+    }
+    count
+}
+
+// The additions to a module wait in this depth, the first of them last.
+fn wait_for(
+    additions: &[Addition],
+    of: u32,
+    depth: u32,
+    waiting: &mut Vec<Waiting>,
+) -> Result<(), NoMemory>
+    ensures { OnOk result (waiting.new.items ≡ waiting.old.items ++ reverse (waiting_for depth (numbers_of of 0 additions.now))) }
+{
+    let count = additions.len();
+    if count > 4_294_967_295 {
+        return Err(NoMemory);
+    }
+    for i in 0..count {
+        let number = count - 1 - i;
+        if additions[number].of == of {
+            waiting.push(Waiting {
+                addition: number as u32,
+                depth,
+            })?;
+        }
+    }
+    Ok(())
+}
+
+/// A text once more.
+pub(crate) fn copied(alloc: Global, name: &str) -> Result<Text, NoMemory>
+    ensures { IfOk result (λ t. t ≡ name.now) }
+{
+    let mut text = Text::new(alloc);
+    text.push(name)?;
+    Ok(text)
+}
+
+// `u` and a number.
+fn numbered_name(alloc: Global, number: usize) -> Result<Text, NoMemory>
+    ensures { IfOk result (λ t. t ≡ codes "u" ++ decimal number) }
+{
+    let digits = format!(in alloc; "{number}")?;
+    let mut text = copied(alloc, "u")?;
+    text.push(digits.as_str())?;
+    Ok(text)
+}
+
+impl Hierarchy {
+    /// Nothing yet, which takes no memory.
+    pub fn new(alloc: Global) -> Hierarchy
+        ensures { result ≡ no_hierarchy }
+    {
+        Hierarchy {
+            additions: Vec::new(alloc),
+            nodes: Vec::new(alloc),
+            waiting: Vec::new(alloc),
+        }
+    }
+
+    /// All additions, in order.
+    pub fn additions(&self) -> &[Addition]
+        ensures { result.now ≡ self.now.additions }
+    {
+        self.additions.as_slice()
+    }
+
+    /// The modules of the tree below the top, each before those below it.
+    pub fn nodes(&self) -> &[Node]
+        ensures { result.now ≡ self.now.nodes }
+    {
+        self.nodes.as_slice()
+    }
+
+    /// What was added to a module under a name.
+    pub fn added_as(&self, of: u32, name: &str) -> Option<Val>
+        ensures { result ≡ added_as of name.now self.now }
+    {
+        let added = self
+            .additions
+            .iter()
+            .find(|a| a.of == of && a.is_named && a.name.is(name))?;
+        Some(added.thing)
+    }
+
+    // The name of an addition.
+    fn addition_name(&self, alloc: Global, of: u32, name: Option<&str>) -> Result<Text, NoMemory>
+        ensures { IfOk result (λ t. t ≡ addition_name of (option_copied name.entry) self.now) }
+    {
+        match name {
+            Some(name) => copied(alloc, name),
+            None => numbered_name(alloc, child_count(self.additions.as_slice(), of)),
+        }
+    }
+
+    /// An addition to a module, under a name or without one.
+    pub fn add(
+        &mut self,
+        alloc: Global,
+        of: u32,
+        name: Option<&str>,
+        thing: Val,
+    ) -> Result<(), NoMemory>
+        ensures { OnOk result (self.new ≡ with_addition of (option_copied name.entry) thing self.old) }
+    {
+        if self.additions.len() >= 4_294_967_295 {
+            return Err(NoMemory);
+        }
+        let addition = Addition {
+            of,
+            name: self.addition_name(alloc, of, name)?,
+            is_named: name.is_some(),
+            thing,
+        };
+        self.additions.push(addition)?;
+        Ok(())
+    }
+
+    /// The top is a module: what was added to it waits.
+    pub fn enter_top(&mut self, m: u32) -> Result<(), NoMemory>
+        ensures { OnOk result (self.new ≡ top_entered m self.old) }
+    {
+        wait_for(self.additions.as_slice(), m, 1, &mut self.waiting)
+    }
+
+    /// What waits first is a module, which stands in the tree from now on: what was added to it waits before all others.
+    pub fn take_node(&mut self, m: u32) -> Result<(), NoMemory>
+        ensures { OnOk result (self.new ≡ node_taken m self.old) }
+    {
+        let below = child_count(self.additions.as_slice(), m);
+        let Some(first) = self.waiting.pop() else {
+            return Ok(());
+        };
+        if below > 4_294_967_295 || first.depth == u32::MAX {
+            return Err(NoMemory);
+        }
+        self.nodes.push(Node {
+            addition: first.addition,
+            module: m,
+            below: below as u32,
+        })?;
+        wait_for(
+            self.additions.as_slice(),
+            m,
+            first.depth + 1,
+            &mut self.waiting,
+        )
+    }
+
+    /// What is to be elaborated next.
+    pub fn first_waiting(&self) -> Option<Waiting>
+        ensures { result ≡ first_waiting self.now }
+    {
+        self.waiting.last().copied()
+    }
+
+    /// The value that was added there.
+    pub fn thing_waiting(&self) -> Option<Val>
+        ensures { result ≡ thing_waiting self.now }
+    {
+        let first = self.first_waiting()?;
+        match self.additions.get(first.addition as usize) {
+            Some(added) => Some(added.thing),
+            None => None,
+        }
+    }
+
+    /// Whether a module stands in the tree below the top.
+    pub fn is_node(&self, m: u32) -> bool
+        ensures { result ≡ is_node m self.now }
+    {
+        self.nodes.iter().any(|x| x.module == m)
+    }
+}
