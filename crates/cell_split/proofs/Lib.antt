@@ -9,7 +9,6 @@ pub mod PieceRules
 pub mod Rules
 pub mod Lists
 pub mod BlockLaws
-pub mod Digits
 pub mod SplitCode
 pub mod Registers
 pub mod SpecNodes

@@ -1,6 +1,6 @@
 -- What the code must know of numbers in a module, and finds in its rules.
 -- Internal: no rule of the language.
-use Rattle.std.specs.Prelude.{◌≡◌, ◌≤◌, ◌<◌, ◌+◌, ◌^◌, ◌==◌, ℕ, Bool, true, false, List, [], ◌∷◌, length, All, IsTrue, codes}
+use Rattle.std.specs.Prelude.{◌≡◌, ◌≤◌, ◌<◌, ◌+◌, ◌^◌, ℕ, List, All, IsTrue, codes}
 use Rattle.shape_rules.specs.declared.cell.CellKind.{CellKind}
 use Rattle.shape_rules.specs.declared.cell.CellKind.TheVariants.{Mux}
 use Rattle.rtlil_text.specs.declared.sig.SigPart.{SigPart}
@@ -34,12 +34,3 @@ pub record IsPlainCell (c : RtlCell) : Type 0 where
 
 abbrev pub AreNarrow : List RtlWire → Type 0
 AreNarrow wires = All (λ (w : RtlWire). w.width < 2 ^ 32) wires
-
--- an id that only the module gives
-abbrev pub is_inner : List ℕ → Bool
-is_inner [] = false
-is_inner (b ∷ bs) = b == 36
-
--- such an id has at most so many bytes
-abbrev pub IsWithin : (longest : ℕ) → List ℕ → Type 0
-IsWithin longest id = is_inner id ≡ true → length id ≤ longest

@@ -14,7 +14,7 @@ const BLOCK: u128 = 18_446_744_073_709_551_616;
 
 /// The first of 2^64 numbers in a row that no id of the module has: of as many such blocks as there are ids and one
 /// more, one is free.
-pub(crate) fn first_of_block(alloc: Global, rtl: &RtlModule) -> Result<u128, NoMemory>
+pub(crate) fn free_number(alloc: Global, rtl: &RtlModule) -> Result<u128, NoMemory>
     ensures free { IfOk result (λ n. AreFree n (n + 2 ^ 64) (module_ids rtl.now)) }
     ensures small { IfOk result (λ n. n < 2 ^ 127) }
 {

@@ -13,13 +13,10 @@ mod copies;
 mod laws;
 mod needs;
 mod nodes;
-mod numbers;
 mod pieces;
 mod spec_nodes;
 mod split;
 mod tangled;
-#[cfg(test)]
-mod tests;
 
 pub use laws::{splits_keep_the_history, splits_keep_the_registers, splits_keep_the_rules};
 pub use split::split_tangled;

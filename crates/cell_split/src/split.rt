@@ -9,10 +9,10 @@ ghost use Rattle.cell_split.specs.Loops.{LoopsAreOfBits};
 ghost use Rattle.cell_split.specs.Needs.{is_marked};
 ghost use Rattle.cell_split.specs.Short.{IsPlainCell, AreNarrow, width_name};
 
+use crate::blocks::free_number;
 use crate::copies::copied_cell;
 use crate::laws::{splits_keep_the_history, splits_keep_the_registers, splits_keep_the_rules};
 use crate::needs::number;
-use crate::numbers::free_number;
 use crate::pieces::{is_bitwise, push_pieces};
 use crate::tangled::tangled;
 use amh_host::{Items, NoMemory};

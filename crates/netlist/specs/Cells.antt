@@ -26,24 +26,31 @@ pub record Operand : Type 0 where
 abbrev pub flag : Bool → ℕ
 flag b = cond b 1 0
 
+abbrev pub unary_parameters : Form → ℕ → List RtlParameter
+unary_parameters a width =
+    number_parameter (codes "\\A_SIGNED") (flag a.signed) ∷ number_parameter (codes "\\A_WIDTH") a.width ∷ number_parameter (codes "\\Y_WIDTH") width ∷ []
+
 -- a cell of one operand, with an output of this width
 abbrev pub unary_cell : CellKind → List ℕ → Operand → ℕ → List SigPart → RtlCell
 unary_cell k id a width y = record {
   kind = k;
   id = id;
-  parameters = number_parameter (codes "\\A_SIGNED") (flag a.form.signed) ∷ number_parameter (codes "\\A_WIDTH") a.form.width ∷ number_parameter (codes "\\Y_WIDTH") width ∷ [];
+  parameters = unary_parameters a.form width;
   ends = end_at (codes "\\A") a.spec ∷ end_at (codes "\\Y") y ∷ [];
 }
+
+abbrev pub binary_parameters : Form → Form → ℕ → List RtlParameter
+binary_parameters a b width =
+    number_parameter (codes "\\A_SIGNED") (flag a.signed) ∷ number_parameter (codes "\\A_WIDTH") a.width
+    ∷ number_parameter (codes "\\B_SIGNED") (flag b.signed) ∷ number_parameter (codes "\\B_WIDTH") b.width
+    ∷ number_parameter (codes "\\Y_WIDTH") width ∷ []
 
 -- a cell of two operands, with an output of this width
 abbrev pub binary_cell : CellKind → List ℕ → Operand → Operand → ℕ → List SigPart → RtlCell
 binary_cell k id a b width y = record {
   kind = k;
   id = id;
-  parameters =
-      number_parameter (codes "\\A_SIGNED") (flag a.form.signed) ∷ number_parameter (codes "\\A_WIDTH") a.form.width
-      ∷ number_parameter (codes "\\B_SIGNED") (flag b.form.signed) ∷ number_parameter (codes "\\B_WIDTH") b.form.width
-      ∷ number_parameter (codes "\\Y_WIDTH") width ∷ [];
+  parameters = binary_parameters a.form b.form width;
   ends = end_at (codes "\\A") a.spec ∷ end_at (codes "\\B") b.spec ∷ end_at (codes "\\Y") y ∷ [];
 }
 

@@ -124,6 +124,17 @@ reading c p m n r (Some d) word = clocked_read p (step_id (n + 4)) r.transparent
 abbrev pub flag_wire : ℕ → RtlWire
 flag_wire n = record { id = step_id (n + 8); width = 1; port = Inner; init = Some (false ∷ []) }
 
+-- the flag of a read port at this domain's edge, and the data that it shows
+abbrev pub flagged : Circuit → Memory → (n : ℕ) → MemRead → List ℕ → Drawing
+flagged c m n r d = record {
+  wires = flag_wire n ∷ inner_wire (step_id (n + 10)) 1 ∷ [];
+  cells =
+      register_cell (step_id (n + 7)) 1 (port_clock c d) (one_bit (step_id (n + 10))) (one_bit (step_id (n + 8)))
+      ∷ mux_cell (step_id (n + 9)) 1 (one_bit (step_id (n + 8))) (is_row c m n r.addr) (read_enable c r.enable) (one_bit (step_id (n + 10)))
+      ∷ zeros_unless (step_id (n + 6)) m.shape.width (wire_part (step_id (n + 5)) 0 m.shape.width) (one_bit (step_id (n + 8))) (whole (signal_value c r.word.0)) ∷ [];
+  links = [];
+}
+
 abbrev pub guarded_read : Circuit → Plan → Memory → (n : ℕ) → MemRead → Option (List ℕ) → Drawing
 guarded_read c p m n r None = record {
   wires = inner_wire (step_id (n + 5)) m.shape.width ∷ [];

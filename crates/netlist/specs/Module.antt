@@ -4,7 +4,7 @@ use Rattle.std.specs.List.{flat_map, range_with_len}
 use Rattle.design_ir.specs.Circuits.{Circuit}
 use Rattle.rtlil_text.specs.declared.module.RtlModule.{RtlModule}
 use Rattle.netlist.specs.Operators.{Drawing}
-pub use Rattle.netlist.specs.SignalDrawings.{public_id, column_of, wire_id, signal_value, expr_value, is_there, is_read, drives, driving_at, undriven, driving_by, driving, is_clocked, init_bits, at_first, at_last, bits_at_last, side_of, port_of, first_value, column_wire, column_wires, signal_wires, expr_wires, drawn_from, drawings, domain_of, reset_of, is_async, Heeding, NoReset, AtEdges, AtOnce, heeding_of, heeding, clock_at, no_clock, clock_of, register_cell, clear_cell, register_drawing, link_to, driving_drawing, signal_drawing, Driving, ByEvents, ByComb, ByClock, ByRead, ByNothing}
+pub use Rattle.netlist.specs.SignalDrawings.{public_id, column_of, wire_id, signal_value, expr_value, is_there, is_read, drives, driving_at, undriven, driving_by, driving, is_clocked, init_bits, at_first, at_last, bits_at_last, side_of, port_of, first_value, column_wire, column_wires, signal_wires, expr_wires, drawn_from, drawings, domain_of, reset_of, is_async, Heeding, NoReset, AtEdges, AtOnce, heeding_of, heeding, clock_at, no_clock, clock_of, edge_parameters, register_cell, clear_parameters, clear_cell, register_drawing, link_to, driving_drawing, signal_drawing, Driving, ByEvents, ByComb, ByClock, ByRead, ByNothing}
 use Rattle.netlist.specs.MemoryDrawings.{memory_drawings, memory_lines}
 
 -- ---- the module

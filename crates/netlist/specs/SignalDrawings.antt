@@ -1,5 +1,5 @@
 -- What drives each signal of a design, and the wires of signals and expressions.
-use Rattle.std.specs.Prelude.{ℕ, suc, ◌+◌, ◌*◌, ◌==◌, ◌&&◌, nat_lt, Bool, true, false, if◌then◌else◌, List, [], ◌∷◌, map, slice_get, Option, Some, None, option_map, unwrap_or, is_none, option_and_then, codes}
+use Rattle.std.specs.Prelude.{ℕ, suc, ◌+◌, ◌*◌, ◌==◌, ◌&&◌, nat_lt, Bool, true, false, if◌then◌else◌, List, [], ◌∷◌, ◌++◌, map, slice_get, Option, Some, None, option_map, unwrap_or, is_none, option_and_then, codes}
 use Rattle.std.specs.List.{find, list_any, range_with_len}
 use Rattle.amh_bits.specs.Patterns.{pattern}
 use Rattle.shape_rules.specs.declared.cell.CellKind.TheVariants as kind
@@ -16,6 +16,7 @@ use Rattle.design_ir.specs.declared.process.DesignProcess.{DesignProcess}
 use Rattle.design_ir.specs.Values.{form, signal_form}
 use Rattle.design_ir.specs.Guards.{driven}
 use Rattle.design_ir.specs.Circuits.{Circuit, is_among, is_input, option_test}
+use Rattle.rtlil_text.specs.declared.cell.RtlParameter.{RtlParameter}
 use Rattle.rtlil_text.specs.declared.sig.SigPart.{SigPart}
 use Rattle.rtlil_text.specs.declared.cell.RtlCell.{RtlCell}
 use Rattle.rtlil_text.specs.declared.module.RtlWire.{RtlWire}
@@ -197,11 +198,20 @@ no_clock = record { bit = []; falling = false }
 abbrev pub clock_of : Circuit → DomainId → Clock
 clock_of c d = unwrap_or (option_map (clock_at c) (domain_of c d)) no_clock
 
+-- a register's width, and at which edge it acts
+abbrev pub edge_parameters : ℕ → ℕ → List RtlParameter
+edge_parameters width polarity = number_parameter (codes "\\WIDTH") width ∷ number_parameter (codes "\\CLK_POLARITY") polarity ∷ []
+
+-- those of a register that a reset clears at once
+abbrev pub clear_parameters : ℕ → ℕ → List Bool → List RtlParameter
+clear_parameters width polarity first =
+    edge_parameters width polarity ++ number_parameter (codes "\\ARST_POLARITY") 1 ∷ bits_parameter (codes "\\ARST_VALUE") first ∷ []
+
 abbrev pub register_cell : List ℕ → ℕ → Clock → (next now : List SigPart) → RtlCell
 register_cell id width clock next now = record {
   kind = kind.Dff;
   id = id;
-  parameters = number_parameter (codes "\\WIDTH") width ∷ number_parameter (codes "\\CLK_POLARITY") (polarity clock) ∷ [];
+  parameters = edge_parameters width (polarity clock);
   ends = end_at (codes "\\CLK") clock.bit ∷ end_at (codes "\\D") next ∷ end_at (codes "\\Q") now ∷ [];
 }
 
@@ -210,9 +220,7 @@ abbrev pub clear_cell : List ℕ → ℕ → Clock → (reset : List SigPart) �
 clear_cell id width clock reset first next now = record {
   kind = kind.Adff;
   id = id;
-  parameters =
-      number_parameter (codes "\\WIDTH") width ∷ number_parameter (codes "\\CLK_POLARITY") (polarity clock)
-      ∷ number_parameter (codes "\\ARST_POLARITY") 1 ∷ bits_parameter (codes "\\ARST_VALUE") first ∷ [];
+  parameters = clear_parameters width (polarity clock) first;
   ends = end_at (codes "\\ARST") reset ∷ end_at (codes "\\CLK") clock.bit ∷ end_at (codes "\\D") next ∷ end_at (codes "\\Q") now ∷ [];
 }
 

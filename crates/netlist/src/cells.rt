@@ -1,7 +1,7 @@
 // Cells, with their parameters and ends.
-ghost use Rattle.std.specs.Prelude.{◌≡◌, IfOk};
-ghost use Rattle.netlist.specs.Cells.{number_parameter, bits_parameter, end_at, flag, unary_cell, binary_cell, mux_cell};
-ghost use Rattle.netlist.specs.Module.{register_cell, clear_cell};
+ghost use Rattle.std.specs.Prelude.{◌≡◌, ◌++◌, ◌∷◌, [], IfOk};
+ghost use Rattle.netlist.specs.Cells.{number_parameter, bits_parameter, end_at, flag, unary_parameters, unary_cell, binary_parameters, binary_cell, mux_cell};
+ghost use Rattle.netlist.specs.Module.{edge_parameters, register_cell, clear_parameters, clear_cell};
 ghost use Rattle.netlist.specs.Operands.{at_form, const_operand};
 
 use crate::ids::copied;
@@ -89,6 +89,57 @@ fn flag(set: bool) -> u32
     if set { 1 } else { 0 }
 }
 
+// Parameters with a number behind them. What stands before is given up where memory lacks, so that a cell has few ends to give back.
+fn and_number(
+    alloc: Global,
+    before: Items<RtlParameter>,
+    name: &str,
+    number: u32,
+) -> Result<Items<RtlParameter>, NoMemory>
+    ensures { IfOk result (λ ps. ps ≡ before ++ number_parameter name.now number ∷ []) }
+{
+    let mut all = before;
+    all.push(number_parameter(alloc, name, number)?)?;
+    Ok(all)
+}
+
+// Ends with one behind them.
+fn and_end(
+    alloc: Global,
+    before: Items<RtlEnd>,
+    name: &str,
+    spec: SigSpec,
+) -> Result<Items<RtlEnd>, NoMemory>
+    ensures { IfOk result (λ es. es ≡ before ++ end_at name.now spec ∷ []) }
+{
+    let mut all = before;
+    all.push(end_at(alloc, name, spec)?)?;
+    Ok(all)
+}
+
+fn unary_parameters(alloc: Global, a: Form, width: u32) -> Result<Items<RtlParameter>, NoMemory>
+    ensures { IfOk result (λ ps. ps ≡ unary_parameters a width) }
+{
+    let all = and_number(alloc, Items::new(alloc), "\\A_SIGNED", flag(a.signed))?;
+    let all = and_number(alloc, all, "\\A_WIDTH", a.width)?;
+    and_number(alloc, all, "\\Y_WIDTH", width)
+}
+
+fn binary_parameters(
+    alloc: Global,
+    a: Form,
+    b: Form,
+    width: u32,
+) -> Result<Items<RtlParameter>, NoMemory>
+    ensures { IfOk result (λ ps. ps ≡ binary_parameters a b width) }
+{
+    let all = and_number(alloc, Items::new(alloc), "\\A_SIGNED", flag(a.signed))?;
+    let all = and_number(alloc, all, "\\A_WIDTH", a.width)?;
+    let all = and_number(alloc, all, "\\B_SIGNED", flag(b.signed))?;
+    let all = and_number(alloc, all, "\\B_WIDTH", b.width)?;
+    and_number(alloc, all, "\\Y_WIDTH", width)
+}
+
 // ---- cells
 
 /// A cell of one operand, with an output of a width.
@@ -102,13 +153,9 @@ pub(crate) fn unary_cell(
 ) -> Result<RtlCell, NoMemory>
     ensures { IfOk result (λ c. c ≡ unary_cell kind id a width y) }
 {
-    let mut parameters = Items::new(alloc);
-    parameters.push(number_parameter(alloc, "\\A_SIGNED", flag(a.form.signed))?)?;
-    parameters.push(number_parameter(alloc, "\\A_WIDTH", a.form.width)?)?;
-    parameters.push(number_parameter(alloc, "\\Y_WIDTH", width)?)?;
-    let mut ends = Items::new(alloc);
-    ends.push(end_at(alloc, "\\A", a.spec)?)?;
-    ends.push(end_at(alloc, "\\Y", y)?)?;
+    let parameters = unary_parameters(alloc, a.form, width)?;
+    let ends = and_end(alloc, Items::new(alloc), "\\A", a.spec)?;
+    let ends = and_end(alloc, ends, "\\Y", y)?;
     Ok(RtlCell {
         kind,
         id,
@@ -129,16 +176,10 @@ pub(crate) fn binary_cell(
 ) -> Result<RtlCell, NoMemory>
     ensures { IfOk result (λ c. c ≡ binary_cell kind id a b width y) }
 {
-    let mut parameters = Items::new(alloc);
-    parameters.push(number_parameter(alloc, "\\A_SIGNED", flag(a.form.signed))?)?;
-    parameters.push(number_parameter(alloc, "\\A_WIDTH", a.form.width)?)?;
-    parameters.push(number_parameter(alloc, "\\B_SIGNED", flag(b.form.signed))?)?;
-    parameters.push(number_parameter(alloc, "\\B_WIDTH", b.form.width)?)?;
-    parameters.push(number_parameter(alloc, "\\Y_WIDTH", width)?)?;
-    let mut ends = Items::new(alloc);
-    ends.push(end_at(alloc, "\\A", a.spec)?)?;
-    ends.push(end_at(alloc, "\\B", b.spec)?)?;
-    ends.push(end_at(alloc, "\\Y", y)?)?;
+    let parameters = binary_parameters(alloc, a.form, b.form, width)?;
+    let ends = and_end(alloc, Items::new(alloc), "\\A", a.spec)?;
+    let ends = and_end(alloc, ends, "\\B", b.spec)?;
+    let ends = and_end(alloc, ends, "\\Y", y)?;
     Ok(RtlCell {
         kind,
         id,
@@ -159,19 +200,29 @@ pub(crate) fn mux_cell(
 ) -> Result<RtlCell, NoMemory>
     ensures { IfOk result (λ c. c ≡ mux_cell id width a b s y) }
 {
-    let mut parameters = Items::new(alloc);
-    parameters.push(number_parameter(alloc, "\\WIDTH", width)?)?;
-    let mut ends = Items::new(alloc);
-    ends.push(end_at(alloc, "\\A", a)?)?;
-    ends.push(end_at(alloc, "\\B", b)?)?;
-    ends.push(end_at(alloc, "\\S", s)?)?;
-    ends.push(end_at(alloc, "\\Y", y)?)?;
+    let parameters = and_number(alloc, Items::new(alloc), "\\WIDTH", width)?;
+    let ends = and_end(alloc, Items::new(alloc), "\\A", a)?;
+    let ends = and_end(alloc, ends, "\\B", b)?;
+    let ends = and_end(alloc, ends, "\\S", s)?;
+    let ends = and_end(alloc, ends, "\\Y", y)?;
     Ok(RtlCell {
         kind: CellKind::Mux,
         id,
         parameters,
         ends,
     })
+}
+
+// A register's width, and at which edge it acts.
+fn edge_parameters(
+    alloc: Global,
+    width: u32,
+    polarity: u32,
+) -> Result<Items<RtlParameter>, NoMemory>
+    ensures { IfOk result (λ ps. ps ≡ edge_parameters width polarity) }
+{
+    let all = and_number(alloc, Items::new(alloc), "\\WIDTH", width)?;
+    and_number(alloc, all, "\\CLK_POLARITY", polarity)
 }
 
 /// A register at the edge of its clock.
@@ -185,13 +236,10 @@ pub(crate) fn register_cell(
 ) -> Result<RtlCell, NoMemory>
     ensures { IfOk result (λ c. c ≡ register_cell id width clock next now) }
 {
-    let mut parameters = Items::new(alloc);
-    parameters.push(number_parameter(alloc, "\\WIDTH", width)?)?;
-    parameters.push(number_parameter(alloc, "\\CLK_POLARITY", clock.polarity())?)?;
-    let mut ends = Items::new(alloc);
-    ends.push(end_at(alloc, "\\CLK", clock.bit)?)?;
-    ends.push(end_at(alloc, "\\D", next)?)?;
-    ends.push(end_at(alloc, "\\Q", now)?)?;
+    let parameters = edge_parameters(alloc, width, clock.polarity())?;
+    let ends = and_end(alloc, Items::new(alloc), "\\CLK", clock.bit)?;
+    let ends = and_end(alloc, ends, "\\D", next)?;
+    let ends = and_end(alloc, ends, "\\Q", now)?;
     Ok(RtlCell {
         kind: CellKind::Dff,
         id,
@@ -209,6 +257,21 @@ pub(crate) struct ClearEnds {
     pub now: SigSpec,
 }
 
+// Those of a register that a reset clears at once.
+fn clear_parameters(
+    alloc: Global,
+    width: u32,
+    polarity: u32,
+    first: RtlBits,
+) -> Result<Items<RtlParameter>, NoMemory>
+    ensures { IfOk result (λ ps. ps ≡ clear_parameters width polarity first) }
+{
+    let all = edge_parameters(alloc, width, polarity)?;
+    let mut all = and_number(alloc, all, "\\ARST_POLARITY", 1)?;
+    all.push(bits_parameter(alloc, "\\ARST_VALUE", first)?)?;
+    Ok(all)
+}
+
 /// A register at the edge of its clock, which has these first bits wherever its reset is 1.
 pub(crate) fn clear_cell(
     alloc: Global,
@@ -219,16 +282,11 @@ pub(crate) fn clear_cell(
 ) -> Result<RtlCell, NoMemory>
     ensures { IfOk result (λ c. c ≡ clear_cell id width at.clock at.reset first at.next at.now) }
 {
-    let mut parameters = Items::new(alloc);
-    parameters.push(number_parameter(alloc, "\\WIDTH", width)?)?;
-    parameters.push(number_parameter(alloc, "\\CLK_POLARITY", at.clock.polarity())?)?;
-    parameters.push(number_parameter(alloc, "\\ARST_POLARITY", 1)?)?;
-    parameters.push(bits_parameter(alloc, "\\ARST_VALUE", first)?)?;
-    let mut ends = Items::new(alloc);
-    ends.push(end_at(alloc, "\\ARST", at.reset)?)?;
-    ends.push(end_at(alloc, "\\CLK", at.clock.bit)?)?;
-    ends.push(end_at(alloc, "\\D", at.next)?)?;
-    ends.push(end_at(alloc, "\\Q", at.now)?)?;
+    let parameters = clear_parameters(alloc, width, at.clock.polarity(), first)?;
+    let ends = and_end(alloc, Items::new(alloc), "\\ARST", at.reset)?;
+    let ends = and_end(alloc, ends, "\\CLK", at.clock.bit)?;
+    let ends = and_end(alloc, ends, "\\D", at.next)?;
+    let ends = and_end(alloc, ends, "\\Q", at.now)?;
     Ok(RtlCell {
         kind: CellKind::Adff,
         id,

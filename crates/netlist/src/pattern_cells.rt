@@ -1,12 +1,12 @@
 // The cells of patterns.
-ghost use Rattle.std.specs.Prelude.{◌≡◌, ◌<◌, ◌≤◌, ◌+◌, ◌*◌, ◌^◌, pos, length, nat_lt, IfOk};
+ghost use Rattle.std.specs.Prelude.{◌≡◌, ◌<◌, ◌≤◌, ◌+◌, ◌*◌, ◌^◌, max, pos, length, nat_lt, IfOk, OnOk};
 ghost use Rattle.shape_rules.specs.Forms.{unsigned};
 ghost use Rattle.shape_rules.specs.declared.cell.CellKind.TheVariants as kind;
 ghost use Rattle.netlist.specs.Ids.{part_id};
 ghost use Rattle.netlist.specs.Cells.{binary_cell};
 ghost use Rattle.netlist.specs.Operands.{wire_part, at_width, at_form, const_operand};
 ghost use Rattle.netlist.specs.Operators.{whole, one_bit};
-ghost use Rattle.netlist.specs.Expressions.{matched, no_match, matched_within, matched_any};
+ghost use Rattle.netlist.specs.Expressions.{and_also, matched, no_match, matched_within, matched_any};
 ghost use Rattle.netlist.specs.ItemSteps.{either_drawing};
 
 use crate::cells::{Operand, const_operand};
@@ -133,6 +133,51 @@ fn either(alloc: Global, n: u128, into: &Value) -> Result<Drawing, NoMemory>
     Ok(drawing)
 }
 
+// Adds the cells of one pattern. The drawing and the wire are lent, so that no end of this has to give them back.
+fn push_match(
+    alloc: Global,
+    n: u128,
+    a: &Value,
+    p: Pattern,
+    into: &mut Value,
+    drawing: &mut Drawing,
+) -> Result<(), NoMemory>
+    requires { n < 2 ^ 98 }
+    ensures drawn { OnOk result (drawing.new ≡ and_also (and_also drawing.old (matched_within n (unsigned (max 1 a.now.form.width)) a.now p)) (either_drawing n into.old)) }
+    ensures next { OnOk result (into.new ≡ record { id = part_id (n + 5); form = unsigned 1 }) }
+{
+    let shape = plain(1.max(a.shape.width));
+    drawing.also(matched_within(alloc, n, shape, a, p)?)?;
+    drawing.also(either(alloc, n, into)?)?;
+    *into = Value {
+        id: part_id(alloc, n + 5)?,
+        shape: plain(1),
+    };
+    Ok(())
+}
+
+// Adds the cells of all patterns. The wire that says whether one further on matches is given up here.
+fn push_matches(
+    alloc: Global,
+    n: u128,
+    a: &Value,
+    patterns: &[Pattern],
+    into: Value,
+    drawing: &mut Drawing,
+) -> Result<(), NoMemory>
+    requires { n + 6 * length patterns.now < 2 ^ 98 }
+    ensures { OnOk result (drawing.new ≡ and_also drawing.old (matched_any n a.now patterns.now into)) }
+{
+    let mut into = into;
+    let mut part = n;
+    for p in patterns {
+        push_match(alloc, part, a, *p, &mut into, drawing)?;
+        part += 6;
+    }
+    let none = const_spec(alloc, 1, zero())?;
+    drawing.also(linked(alloc, &into, none)?)
+}
+
 /// Whether a has one of these patterns.
 pub(crate) fn matched_any(
     alloc: Global,
@@ -144,23 +189,11 @@ pub(crate) fn matched_any(
     requires { n + 6 * length patterns.now < 2 ^ 98 }
     ensures { IfOk result (λ d. d ≡ matched_any n a.now patterns.now y.now) }
 {
-    let shape = plain(1.max(a.shape.width));
-    let mut drawing = Drawing::new(alloc);
-    let mut part = n;
-    let mut into = Value {
+    let into = Value {
         id: copied(alloc, y.id.as_str())?,
         shape: y.shape,
     };
-    for p in patterns {
-        drawing.also(matched_within(alloc, part, shape, a, *p)?)?;
-        drawing.also(either(alloc, part, &into)?)?;
-        into = Value {
-            id: part_id(alloc, part + 5)?,
-            shape: plain(1),
-        };
-        part += 6;
-    }
-    let none = const_spec(alloc, 1, zero())?;
-    drawing.also(linked(alloc, &into, none)?)?;
+    let mut drawing = Drawing::new(alloc);
+    push_matches(alloc, n, a, patterns, into, &mut drawing)?;
     Ok(drawing)
 }

@@ -135,11 +135,9 @@ pub(crate) fn address_guard(
         return Ok(drawing);
     }
     let a = address_value(alloc, design, e)?;
-    let test = compared(alloc, n, depth, &a)?;
-    let choice = chosen(alloc, n, &a)?;
+    drawing.push_cell(compared(alloc, n, depth, &a)?)?;
+    drawing.push_cell(chosen(alloc, n, &a)?)?;
     drawing.push(inner_wire(step_id(alloc, n + 1)?, 1))?;
     drawing.push(inner_wire(step_id(alloc, n + 3)?, a.width()))?;
-    drawing.push_cell(test)?;
-    drawing.push_cell(choice)?;
     Ok(drawing)
 }

@@ -12,7 +12,7 @@ ghost use Rattle.netlist.specs.Cells.{mux_cell};
 ghost use Rattle.netlist.specs.Operands.{wire_part};
 ghost use Rattle.netlist.specs.Operators.{one_bit, whole};
 ghost use Rattle.netlist.specs.Module.{signal_value, expr_value, register_cell};
-ghost use Rattle.netlist.specs.MemoryDrawings.{port_clock, zeros_unless, is_row, guarded_address, names_rows, address_guard, enable_spec, writing, write_enable, write_behind, write_drawing, read_enable, reading, flag_wire, guarded_read, read_behind, read_drawing};
+ghost use Rattle.netlist.specs.MemoryDrawings.{port_clock, zeros_unless, is_row, guarded_address, names_rows, address_guard, enable_spec, writing, write_enable, write_behind, write_drawing, read_enable, reading, flag_wire, flagged, guarded_read, read_behind, read_drawing};
 ghost use Rattle.netlist.specs.Tables.{AreTables};
 
 use crate::cells::{mux_cell, register_cell};
@@ -169,16 +169,31 @@ fn write_behind(
     if names_rows(design, m.depth, w.addr) {
         return one_cell(alloc, cell);
     }
+    let mut drawing = one_cell(alloc, enable_choice(alloc, design, m, n, w)?)?;
+    drawing.push(inner_wire(step_id(alloc, n + 5)?, m.shape.width as u32))?;
+    drawing.push_cell(cell)?;
+    Ok(drawing)
+}
+
+// The enable where the address is that of a row, else zeros.
+#[tactic(auto, using(crate::proofs::LowerPorts::write_addr, crate::proofs::LowerPorts::write_word, crate::proofs::LowerPorts::write_granularity))]
+fn enable_choice(
+    alloc: Global,
+    design: &Design,
+    m: &Memory,
+    n: u128,
+    w: &MemWrite,
+) -> Result<RtlCell, NoMemory>
+    requires few { n < 2 ^ 99 }
+    requires port { IsWritePort design.now m.now w.now }
+    requires narrow { (form design.now.pool w.now.addr.0).width ≤ 16 }
+    ensures { IfOk result (λ c. c ≡ zeros_unless (step_id (n + 4)) m.now.shape.width (enable_spec m.now w.now) (is_row design.now m.now n w.now.addr) (wire_part (step_id (n + 5)) 0 m.now.shape.width)) }
+{
     let width = m.shape.width;
     let enable = enable_spec(alloc, m, w)?;
     let row = row_bit(alloc, design, n, m.depth, w.addr)?;
     let output = step_bits(alloc, n + 5, width as u32)?;
-    let choice = zeros_unless(alloc, n + 4, width, enable, row, output)?;
-    let mut drawing = Drawing::new(alloc);
-    drawing.push(inner_wire(step_id(alloc, n + 5)?, width as u32))?;
-    drawing.push_cell(choice)?;
-    drawing.push_cell(cell)?;
-    Ok(drawing)
+    zeros_unless(alloc, n + 4, width, enable, row, output)
 }
 
 /// What write port k draws, its ids numbered from n on.
@@ -269,34 +284,46 @@ fn flag_wire(alloc: Global, n: u128) -> Result<RtlWire, NoMemory>
     })
 }
 
-// The register of the flag, and the multiplexer before it: a port that reads gives it whether its address is one of a row.
+// The register of the flag.
 #[tactic(auto, using(crate::proofs::LowerPorts::read_addr, crate::proofs::LowerPorts::read_word, crate::proofs::LowerPorts::enables_there))]
-fn flag_cells(
+fn flag_register(
     alloc: Global,
     design: &Design,
     t: &Tables,
-    m: &Memory,
     n: u128,
-    r: &MemRead,
     name: &str,
-) -> Result<(RtlCell, RtlCell), NoMemory>
+) -> Result<RtlCell, NoMemory>
     requires rules { IsDesign design.now }
     requires tables { AreTables design.now t.now }
     requires few { n < 2 ^ 99 }
-    requires port { IsReadPort design.now m.now r.now }
-    requires narrow { (form design.now.pool r.now.addr.0).width ≤ 16 }
-    ensures { IfOk result (λ cells. (cells.0 ≡ register_cell (step_id (n + 7)) 1 (port_clock design.now name.now) (one_bit (step_id (n + 10))) (one_bit (step_id (n + 8)))) × (cells.1 ≡ mux_cell (step_id (n + 9)) 1 (one_bit (step_id (n + 8))) (is_row design.now m.now n r.now.addr) (read_enable design.now r.now.enable) (one_bit (step_id (n + 10))))) }
+    ensures { IfOk result (λ c. c ≡ register_cell (step_id (n + 7)) 1 (port_clock design.now name.now) (one_bit (step_id (n + 10))) (one_bit (step_id (n + 8)))) }
 {
     let clock = port_clock(alloc, design, t, name)?;
     let next = step_bits(alloc, n + 10, 1)?;
     let now = step_bits(alloc, n + 8, 1)?;
-    let register = register_cell(alloc, step_id(alloc, n + 7)?, 1, clock, next, now)?;
+    register_cell(alloc, step_id(alloc, n + 7)?, 1, clock, next, now)
+}
+
+// The multiplexer before it: a port that reads gives it whether its address is one of a row.
+#[tactic(auto, using(crate::proofs::LowerPorts::read_addr, crate::proofs::LowerPorts::read_word, crate::proofs::LowerPorts::enables_there))]
+fn flag_choice(
+    alloc: Global,
+    design: &Design,
+    m: &Memory,
+    n: u128,
+    r: &MemRead,
+) -> Result<RtlCell, NoMemory>
+    requires rules { IsDesign design.now }
+    requires few { n < 2 ^ 99 }
+    requires port { IsReadPort design.now m.now r.now }
+    requires narrow { (form design.now.pool r.now.addr.0).width ≤ 16 }
+    ensures { IfOk result (λ c. c ≡ mux_cell (step_id (n + 9)) 1 (one_bit (step_id (n + 8))) (is_row design.now m.now n r.now.addr) (read_enable design.now r.now.enable) (one_bit (step_id (n + 10)))) }
+{
     let row = row_bit(alloc, design, n, m.depth, r.addr)?;
     let enable = read_enable(alloc, design, r)?;
     let kept = step_bits(alloc, n + 8, 1)?;
     let output = step_bits(alloc, n + 10, 1)?;
-    let choice = mux_cell(alloc, step_id(alloc, n + 9)?, 1, kept, row, enable, output)?;
-    Ok((register, choice))
+    mux_cell(alloc, step_id(alloc, n + 9)?, 1, kept, row, enable, output)
 }
 
 // Raw data goes to the signal where this bit is 1, else zeros.
@@ -342,21 +369,42 @@ fn guarded_read(
 {
     let width = m.shape.width as u32;
     let raw = step_bits(alloc, n + 5, width)?;
-    let mut drawing = Drawing::new(alloc);
+    let mut drawing = one_cell(alloc, reading(alloc, design, t, plan, m, n, r, raw)?)?;
     drawing.push(inner_wire(step_id(alloc, n + 5)?, width))?;
-    drawing.push_cell(reading(alloc, design, t, plan, m, n, r, raw)?)?;
-    let Some(name) = &r.domain else {
-        let row = row_bit(alloc, design, n, m.depth, r.addr)?;
-        drawing.push_cell(shown(alloc, design, t, m, n, r, row)?)?;
-        return Ok(drawing);
-    };
-    let (register, choice) = flag_cells(alloc, design, t, m, n, r, name.as_str())?;
+    match &r.domain {
+        Some(name) => drawing.also(flagged(alloc, design, t, m, n, r, name.as_str())?)?,
+        None => {
+            let row = row_bit(alloc, design, n, m.depth, r.addr)?;
+            drawing.push_cell(shown(alloc, design, t, m, n, r, row)?)?;
+        }
+    }
+    Ok(drawing)
+}
+
+// The flag, and the data that it shows.
+#[tactic(auto, using(crate::proofs::LowerPorts::read_addr, crate::proofs::LowerPorts::read_word, crate::proofs::LowerPorts::enables_there))]
+fn flagged(
+    alloc: Global,
+    design: &Design,
+    t: &Tables,
+    m: &Memory,
+    n: u128,
+    r: &MemRead,
+    name: &str,
+) -> Result<Drawing, NoMemory>
+    requires rules { IsDesign design.now }
+    requires tables { AreTables design.now t.now }
+    requires few { n < 2 ^ 99 }
+    requires port { IsReadPort design.now m.now r.now }
+    requires narrow { (form design.now.pool r.now.addr.0).width ≤ 16 }
+    ensures { IfOk result (λ d. d ≡ flagged design.now m.now n r.now name.now) }
+{
+    let mut drawing = one_cell(alloc, flag_register(alloc, design, t, n, name)?)?;
+    drawing.push_cell(flag_choice(alloc, design, m, n, r)?)?;
     let flag = step_bits(alloc, n + 8, 1)?;
+    drawing.push_cell(shown(alloc, design, t, m, n, r, flag)?)?;
     drawing.push(flag_wire(alloc, n)?)?;
     drawing.push(inner_wire(step_id(alloc, n + 10)?, 1))?;
-    drawing.push_cell(register)?;
-    drawing.push_cell(choice)?;
-    drawing.push_cell(shown(alloc, design, t, m, n, r, flag)?)?;
     Ok(drawing)
 }
 
