@@ -13,13 +13,13 @@ use Rattle.rtlil_text.specs.Ids.{IsId, IsPublicId}
 use Rattle.rtlil_text.specs.Rules.{IsModule, ValueFits, SpecFits, PartFits, WireFits, CellFits, LinkFits, module_ids}
 use Rattle.rtlil_text.specs.MemoryRules.{MemoryFits}
 use Rattle.rtlil_text.specs.Reads.{Reads}
-use Rattle.rtlil_text.specs.Written.{module_text}
+use Rattle.rtlil_text.specs.Written.{width_among, text_of}
 use Rattle.rtlil_text.specs.Meaning.{Inputs, bit}
 use Rattle.rtlil_text.specs.History.{rtl_history, first_state, wire_bit}
 use Rattle.rtlil_text.specs.Gate.{gate, gate_cell, bit_of, bit_wire}
 use Rattle.rtlil_text.proofs.Spelled.{Reads-module_text}
 use Rattle.rtlil_text.proofs.Distinct.{AreDistinct-are_distinct}
-use Rattle.rtlil_text.proofs.Found.{width_among, AreWidths-width_among}
+use Rattle.rtlil_text.proofs.Found.{AreWidths-width_among}
 
 pub public_letter : (letter : ℕ) → IsTrue (starts_name letter) → IsPublicId (92 ∷ letter ∷ [])
 public_letter letter h = (letter ∷ [], record { name = letter ∷ []; more = []; suffix = []; first = one_letter; others = All-nil IsName; ends = inl refl; whole = refl }, refl)
@@ -74,7 +74,7 @@ gate_text : List ℕ
 gate_text =
     codes "attribute \\top 1\nmodule \\top\n  wire width 1 input 1 \\a\n  wire width 1 input 2 \\b\n  wire width 1 output 3 \\y\n  wire width 1 $1\n  cell $and $2\n    parameter \\A_SIGNED 0\n    parameter \\A_WIDTH 1\n    parameter \\B_SIGNED 0\n    parameter \\B_WIDTH 1\n    parameter \\Y_WIDTH 1\n    connect \\A \\a\n    connect \\B \\b\n    connect \\Y $1\n  end\n  connect \\y $1\nend\n"
 
-gate_text_is : module_text (width_among gate.wires) gate ≡ gate_text
+gate_text_is : text_of gate ≡ gate_text
 unfolding gate gate_text numeral
 gate_text_is = refl
 

@@ -4,6 +4,7 @@ pub mod WidthLaws
 pub mod Spelled
 pub mod WriteLaws
 pub mod Builders
+pub mod TextSamples
 pub mod CellSanity
 pub mod Distinct
 pub mod Found

@@ -1,4 +1,4 @@
--- The module of one AND gate, for tests and sanity theorems.
+-- The module of one AND gate, for sanity theorems.
 -- Internal: no rule of the language.
 use Rattle.std.specs.Prelude.{ℕ, List, [], ◌∷◌, codes, None}
 use Rattle.shape_rules.specs.declared.cell.CellKind.TheVariants.{And}

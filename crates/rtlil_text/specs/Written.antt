@@ -1,7 +1,8 @@
 -- The one text that is written of each module, of all texts that stand for it.
 -- Internal: no rule of the language.
-use Rattle.std.specs.Prelude.{◌≡◌, ℕ, ◌+◌, ◌-◌, ◌==◌, ◌&&◌, Bool, false, if◌then◌else◌, List, [], ◌∷◌, Option, Some, None, codes}
+use Rattle.std.specs.Prelude.{◌≡◌, ℕ, ◌+◌, ◌-◌, ◌==◌, ◌&&◌, Bool, false, cond, if◌then◌else◌, List, [], ◌∷◌, fold, Option, Some, None, codes}
 use Rattle.std.specs.List.{flat_map}
+use Rattle.std.specs.Str.{bytes_eq}
 use Rattle.rtlil_text.specs.Numerals.{numeral}
 use Rattle.rtlil_text.specs.declared.sig.SigPart.{SigPart}
 use Rattle.rtlil_text.specs.declared.sig.SigPart.TheVariants as parts
@@ -12,6 +13,10 @@ use Rattle.rtlil_text.specs.declared.module.RtlLink.{RtlLink}
 use Rattle.rtlil_text.specs.declared.module.RtlModule.{RtlModule}
 use Rattle.rtlil_text.specs.Lines.{◌▸◌, end_line, const_text, wire_text, memory_text, parameter_text, cell_line, cell_end, head_text, module_end}
 use Rattle.rtlil_text.specs.Grammar.{IsWhole}
+
+-- the width of the last wire with this id, which is the only one where the module keeps the rules
+abbrev pub width_among : List RtlWire → List ℕ → Option ℕ
+width_among wires id = fold (λ found (w : RtlWire). cond (bytes_eq w.id id) (Some w.width) found) None wires
 
 -- the width that stands under an id is that of a wire with this id
 abbrev pub AreWidths : List RtlWire → (List ℕ → Option ℕ) → Type 0
@@ -56,3 +61,7 @@ closing_text widths m = flat_map (link_text widths) m.links ▸ module_end
 
 abbrev pub module_text : (List ℕ → Option ℕ) → RtlModule → List ℕ
 module_text widths m = opening_text m ▸ flat_map (cell_text widths) m.cells ▸ closing_text widths m
+
+-- the text that is written
+abbrev pub text_of : RtlModule → List ℕ
+text_of m = module_text (width_among m.wires) m

@@ -16,8 +16,6 @@ mod page;
 mod read;
 mod sig;
 mod spell;
-#[cfg(test)]
-mod tests;
 mod text;
 mod widths;
 

@@ -6,7 +6,7 @@ ghost use Rattle.amh_host.specs.Calls.{Adds};
 ghost use Rattle.amh_host.specs.Written.{Writes};
 ghost use Rattle.amh_host.specs.Causes.{HasCause};
 ghost use Rattle.rtlil_text.specs.Lines.{head_text, module_end, cell_end, memory_text, wire_text, parameter_text};
-ghost use Rattle.rtlil_text.specs.Written.{opening_text, closing_text, cell_text, end_text, link_text};
+ghost use Rattle.rtlil_text.specs.Written.{opening_text, closing_text, cell_text, end_text, link_text, text_of};
 ghost use Rattle.rtlil_text.specs.Widths.{width_in};
 ghost use Rattle.rtlil_text.specs.Rules.{IsModule};
 ghost use Rattle.rtlil_text.specs.Reads.{Reads};
@@ -23,6 +23,7 @@ use std::alloc::{AllocError, Global};
 
 /// Makes the file anew, with a text that stands for the module; each line is one `put`. After `Failed`, which comes
 /// only where the host's count of faults rose, and after `NoMemory`, the file is as it was or has a front of the text.
+/// Of all texts that stand for the module it is the one in which each whole wire is its id alone.
 pub fn write<H: Host>(
     alloc: Global,
     m: &RtlModule,
@@ -31,6 +32,20 @@ pub fn write<H: Host>(
 ) -> Result<(), HostStop>
     requires { IsModule m.now }
     ensures text { (text : List ℕ) × Reads text m.now × Writes name.now text result (H.seen host.old) (H.seen host.new) }
+    ensures spelled { Writes name.now (text_of m.now) result (H.seen host.old) (H.seen host.new) }
+    ensures cause { HasCause (H.faults host.old) (H.faults host.new) result }
+{
+    write_text(alloc, m, host, name)
+}
+
+// The same of any content.
+fn write_text<H: Host>(
+    alloc: Global,
+    m: &RtlModule,
+    host: &mut H,
+    name: &str,
+) -> Result<(), HostStop>
+    ensures text { Writes name.now (text_of m.now) result (H.seen host.old) (H.seen host.new) }
     ensures cause { HasCause (H.faults host.old) (H.faults host.new) result }
 {
     let widths = Widths::of(alloc, &m.wires)?;

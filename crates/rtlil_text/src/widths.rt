@@ -1,6 +1,6 @@
 // The width of each wire, found by its id.
 ghost use Rattle.std.specs.Prelude.{◌≡◌, IfOk};
-ghost use Rattle.rtlil_text.specs.Written.{AreWidths};
+ghost use Rattle.rtlil_text.specs.Written.{width_among};
 ghost use Rattle.rtlil_text.specs.Widths.{width_in};
 
 use crate::module::RtlWires;
@@ -16,7 +16,7 @@ pub(crate) struct Widths {
 impl Widths {
     /// The widths of these wires.
     pub(crate) fn of(alloc: Global, wires: &RtlWires) -> Result<Widths, AllocError>
-        ensures { IfOk result (λ w. AreWidths wires.now (width_in w)) }
+        ensures { IfOk result (λ w. width_in w ≡ width_among wires.now) }
     {
         let mut by_id = BTreeMap::new(alloc);
         for wire in wires.as_slice() {
