@@ -11,8 +11,6 @@ mod field;
 mod laws;
 mod layout;
 mod refusal;
-#[cfg(test)]
-mod tests;
 mod twins;
 
 pub use enumeration::{EnumShape, NumberedName, NumberedNames};

@@ -26,8 +26,6 @@ mod process;
 mod refusal;
 mod signal;
 mod stmt;
-#[cfg(test)]
-mod tests;
 
 pub use design::Design;
 pub use domain::{Domain, DomainDef, DomainDefs, Domains};
