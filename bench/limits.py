@@ -61,6 +61,36 @@ def domains(count):
     return HEAD + f'for i in range({count}):\n    q = Signal(name=f"q{{i}}")\n    m.d[f"d{{i}}"] += q.eq(~q)\ntop = m\n', f"edge {names}\n" * 10
 
 
+SUBMODULE = """class Sub(Elaboratable):
+    def __init__(self, size):
+        self.size = size
+    def elaborate(self, platform):
+        m = Module()
+        q = Signal(8)
+        x = q
+        for i in range(self.size):
+            x = ~x
+        m.d.sync += q.eq(x)
+        return m
+"""
+
+
+def submodules(count):
+    """Submodules of a register each."""
+    return HEAD + SUBMODULE + f"for i in range({count}):\n    m.submodules += Sub(1)\ntop = m\n", "edge sync\n" * 10
+
+
+def large_submodules(count):
+    """As many, of a register with as many operators as there is room for."""
+    return HEAD + SUBMODULE + f"for i in range({count}):\n    m.submodules += Sub(62)\ntop = m\n", "edge sync\n" * 10
+
+
+def nested_submodules(count):
+    """Submodules in one another, with a register each."""
+    text = SUBMODULE.replace("        return m\n", "        if self.size > 1:\n            m.submodules.n = Sub(self.size - 1)\n        return m\n")
+    return HEAD + text + f"m.submodules.n = Sub({count})\ntop = m\n", "edge sync\n" * 10
+
+
 def states(count):
     """A machine that goes through its states in turn."""
     return (HEAD + f"with m.FSM():\n    for i in range({count}):\n        with m.State(f\"S{{i}}\"):\n            j = (i + 1) % {count}\n"
@@ -116,6 +146,9 @@ CASES = [
     ("signals, written", written_signals, 16384),
     ("bits of signals", bits, 262144),
     ("domains", domains, 64),
+    ("submodules", submodules, 4096),
+    ("submodules, large", large_submodules, 4096),
+    ("nested submodules", nested_submodules, 64),
     ("states", states, 256),
     ("expressions, deep", deep, 262144),
     ("expressions, wide", wide, 262144),

@@ -1,6 +1,6 @@
 #!/usr/bin/env python3
 """Writes random design files, each with a script, into a folder:
-`random_designs.py FOLDER COUNT SEED [--spoiled] [--only NAMES] [--blocks] [--targets] [--machines] [--layouts] [--domains]`.
+`random_designs.py FOLDER COUNT SEED [--spoiled] [--only NAMES] [--blocks] [--targets] [--machines] [--layouts] [--domains] [--submodules]`.
 
 Each design is a text in the language that amh_tool accepts, with signals of random shapes, statements of `comb` and `sync` over
 random expressions, and a script of events. With `--spoiled` one thing in each text is broken: a token, a width, an argument, a
@@ -9,7 +9,7 @@ driver, a target, and of what the other words bring a block, a state, a field, a
 and `Default`; with `--targets` parts at an offset, items by an index, joins and casts are assigned, too. With `--machines` blocks are
 state machines, too, beside and in each other; with `--layouts` signals are views and values of enumerations, whose fields and members
 are read, assigned and matched. With `--domains` registers and state machines are of `sync`, `fast` and `slow`, whose clocks toggle alone
-and together.
+and together. With `--submodules` the statements stand in a tree of modules.
 
 The files are K.py and K.stim, K from 0 on, and depend on the seed and the words alone. Two tools that are run over them can be compared.
 """
@@ -21,6 +21,7 @@ import re
 from random_blocks import Statements, indented
 from random_shapes import Shapes, plain
 from random_spoils import spoiled
+from random_submodules import Branches
 from random_values import Signal
 
 
@@ -56,12 +57,16 @@ class Design:
         self.inputs, self.outputs, self.registers = (signals(dice, kind, front, self.shapes) for kind in "abr")
         self.all = self.inputs + self.outputs + self.registers
         self.made = Statements(dice, options, self.shapes)
+        self.tree, self.holds_top = Branches(dice, self) if options.submodules else None, front != ""
 
     def head(self):
         return ["from amaranth.lib import data, enum"] + self.shapes.lines if self.shapes else []
 
+    def classes(self):
+        return self.tree.classes(self.holds_top) if self.tree else []
+
     def statements(self):
-        return self.made.lines(self.inputs, self.outputs, self.registers)
+        return self.tree.top(self.holds_top) if self.tree else self.made.lines(self.inputs, self.outputs, self.registers)
 
     def init(self, s):
         return init_text(self.dice, s) if s not in self.inputs else ""
@@ -85,7 +90,7 @@ def behind_what_they_are_like(made):
 
 def module_text(dice, options):
     design = Design(dice, options, "")
-    lines = ["from amaranth import *"] + design.head() + ["m = Module()"]
+    lines = ["from amaranth import *"] + design.head() + design.classes() + ["m = Module()"]
     made = list(design.all)
     dice.shuffle(made)
     lines += [design.making(s) for s in behind_what_they_are_like(made)]
@@ -94,7 +99,7 @@ def module_text(dice, options):
 
 def object_text(dice, options):
     design = Design(dice, options, "self.")
-    lines = ["from amaranth import *"] + design.head() + ["", "class Top(Elaboratable):", "    def __init__(self):"]
+    lines = ["from amaranth import *"] + design.head() + design.classes() + ["", "class Top(Elaboratable):", "    def __init__(self):"]
     lines += indented(indented([design.making(s) for s in design.all]))
     lines += ["", "    def elaborate(self, platform):", "        m = Module()"]
     lines += indented(indented(design.statements()))
@@ -104,7 +109,7 @@ def object_text(dice, options):
 def component_text(dice, options):
     design = Design(dice, options, "self.")
     lines = ["from amaranth import *"] + design.head() + ["from amaranth.lib import wiring", "from amaranth.lib.wiring import In, Out"]
-    lines += ["", "class Top(wiring.Component):"]
+    lines += design.classes() + ["", "class Top(wiring.Component):"]
     for s in design.all:
         init = design.init(s) if options.layouts else ""
         lines.append(f"    {s.name[5:]}: {'In' if s in design.inputs else 'Out'}({s.shape.text}{init})")
@@ -158,7 +163,7 @@ def words():
     parser.add_argument("count", metavar="COUNT", type=int)
     parser.add_argument("seed", metavar="SEED", type=int)
     parser.add_argument("--only", metavar="NAMES", default=",".join(TOPS))
-    for name in ("spoiled", "blocks", "targets", "machines", "layouts", "domains"):
+    for name in ("spoiled", "blocks", "targets", "machines", "layouts", "domains", "submodules"):
         parser.add_argument(f"--{name}", action="store_true")
     return parser.parse_args()
 
