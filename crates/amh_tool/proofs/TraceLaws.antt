@@ -15,7 +15,7 @@ use Rattle.design_ir.specs.Steps.{step, first_state}
 use Rattle.design_ir.proofs.Runs.{Ends, extend, history_of}
 use Rattle.comb_graph.specs.Laws.{HasOneHistory}
 use Rattle.delta_sim.specs.Standing.{Simulated, Stands, state_of}
-use Rattle.netlist.specs.Histories.{IsHistory}
+use Rattle.netlist_laws.specs.Histories.{IsHistory}
 use Rattle.amh_tool.specs.declared.board.Board.{Board}
 use Rattle.amh_tool.specs.declared.accept.Accepted.{Accepted}
 use Rattle.amh_tool.specs.Headline.{IsTrace}

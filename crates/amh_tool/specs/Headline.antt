@@ -7,8 +7,8 @@ use Rattle.amh_host.specs.Causes.{Stood}
 use Rattle.design_ir.specs.Circuits.{Circuit}
 use Rattle.rtlil_text.specs.Reads.{Reads}
 use Rattle.rtlil_text.specs.declared.module.RtlModule.{RtlModule}
-use Rattle.netlist.specs.Corresponds.{Corresponds}
-use Rattle.netlist.specs.Histories.{SameHistory, IsHistory}
+use Rattle.netlist_laws.specs.Corresponds.{Corresponds}
+use Rattle.netlist_laws.specs.Histories.{SameHistory, IsHistory}
 use Rattle.amh_tool.specs.Boards.{board_of}
 use Rattle.amh_tool.specs.Trace.{Row, End, trace_text, events_in}
 use Rattle.amh_tool.specs.Plan.{plan_of}

@@ -8,7 +8,7 @@ use Rattle.design_ir.specs.declared.signal.Sig.{Sig}
 use Rattle.design_ir.specs.declared.domain.Domain.{Domain}
 use Rattle.design_ir.specs.Circuits.{Circuit}
 use Rattle.design_ir.specs.Designs.{IsDesign, IsClockDomain, IsReset}
-use Rattle.netlist.specs.Module.{reset_of}
+use Rattle.netlist_laws.specs.Module.{reset_of}
 
 -- what holds of each element holds of the one at a place
 pub at_place : {A : Type 0} (P : A → Type 0) (xs : List A) (k : ℕ) (x : A) → AllByRecursion P xs → slice_get xs k ≡ Some x → P x

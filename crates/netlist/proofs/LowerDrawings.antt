@@ -3,11 +3,11 @@ use Rattle.std.proofs.Common.{◌≡◌, ◌<◌, ◌≤◌, ◌+◌, ℕ, suc, 
 use Rattle.std.proofs.lemmas.List.{drop_more, drop_all}
 use Rattle.design_ir.specs.declared.expr.Expr.{Expr}
 use Rattle.design_ir.specs.Circuits.{Circuit}
-use Rattle.netlist.specs.Operators.{Drawing}
-use Rattle.netlist.specs.Expressions.{and_also, part_count, drawn}
-use Rattle.netlist.specs.Module.{signal_value, expr_value, drawn_from}
-use Rattle.netlist.specs.Tables.{together}
-use Rattle.netlist.proofs.LowerItems.{and_also_assoc}
+use Rattle.netlist_laws.specs.Operators.{Drawing}
+use Rattle.netlist_laws.specs.Expressions.{and_also, part_count, drawn}
+use Rattle.netlist_laws.specs.Module.{signal_value, expr_value, drawn_from}
+use Rattle.netlist_laws.specs.Tables.{together}
+use Rattle.netlist_cells.proofs.LowerItems.{and_also_assoc}
 
 pub also_nothing : (d : Drawing) → and_also d (together []) ≡ d
 also_nothing d = λ i. record { wires = append-nil d.wires i; cells = append-nil d.cells i; links = append-nil d.links i }

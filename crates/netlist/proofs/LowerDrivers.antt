@@ -27,10 +27,10 @@ use Rattle.design_ir.specs.Guards.{Guarded, driven, guarded, guarded_in, block_e
 use Rattle.design_ir.specs.Circuits.{Circuit, is_among}
 use Rattle.design_ir.proofs.Congruence.{AreSame, same_below}
 use Rattle.design_ir.proofs.Equations.{standing, answer_at}
-use Rattle.netlist.specs.Latest.{is_fixed, is_plain}
-use Rattle.netlist.specs.Module.{drives}
-use Rattle.netlist.specs.Tables.{ArePlaces, IsMarked}
-use Rattle.netlist.proofs.LowerPlaces.{one_write, places_more}
+use Rattle.netlist_laws.specs.Latest.{is_fixed, is_plain}
+use Rattle.netlist_laws.specs.Module.{drives}
+use Rattle.netlist_laws.specs.Tables.{ArePlaces, IsMarked}
+use Rattle.netlist_cells.proofs.LowerPlaces.{one_write, places_more}
 
 -- ---- the signals of a target, by those of the expressions that it names
 

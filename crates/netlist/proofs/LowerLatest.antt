@@ -18,15 +18,15 @@ use Rattle.design_ir.proofs.PutLaws.{apart, among_parts}
 use Rattle.rtlil_text.specs.Sources.{Source}
 use Rattle.netlist.specs.declared.sources.BitSource.{BitSource}
 use Rattle.netlist.specs.declared.sources.BitSource.TheVariants as sources
-use Rattle.netlist.specs.Operators.{Value}
-use Rattle.netlist.specs.Latest.{Latest, is_fixed, is_plain, places, source_at, with_source, given, latest_of}
-use Rattle.netlist.specs.Spelled.{spec_of}
-use Rattle.netlist.specs.Module.{expr_value, drives, driving, driving_at, is_clocked, at_first, at_last, bits_at_last}
-use Rattle.netlist.specs.Plain.{IsPlain}
-use Rattle.netlist.specs.Tables.{source_of, Shows, at_start, latest_of_all, last_spec}
-use Rattle.netlist.proofs.FixedTargets.{IsOfThese, places_of}
-use Rattle.netlist.proofs.OneDriver.{AreNone, IsOnly, find_only}
-use Rattle.netlist.proofs.Driven.{driven_by, distinct_processes}
+use Rattle.netlist_laws.specs.Operators.{Value}
+use Rattle.netlist_laws.specs.Latest.{Latest, is_fixed, is_plain, places, source_at, with_source, given, latest_of}
+use Rattle.netlist_laws.specs.Spelled.{spec_of}
+use Rattle.netlist_laws.specs.Module.{expr_value, drives, driving, driving_at, is_clocked, at_first, at_last, bits_at_last}
+use Rattle.netlist_laws.specs.Plain.{IsPlain}
+use Rattle.netlist_laws.specs.Tables.{source_of, Shows, at_start, latest_of_all, last_spec}
+use Rattle.netlist_laws.proofs.FixedTargets.{IsOfThese, places_of}
+use Rattle.netlist_laws.proofs.OneDriver.{AreNone, IsOnly, find_only}
+use Rattle.netlist_laws.proofs.Driven.{driven_by, distinct_processes}
 
 -- ---- a row of the table
 

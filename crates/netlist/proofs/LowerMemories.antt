@@ -16,16 +16,16 @@ use Rattle.memory_cells.specs.declared.plan.Plan.{Plan}
 use Rattle.memory_cells.specs.Plans.{planned}
 use Rattle.new_names.specs.Fresh.{fresh_name, given_names}
 use Rattle.rtlil_text.specs.declared.module.RtlMemory.{RtlMemory}
-use Rattle.netlist.specs.Operators.{Drawing}
-use Rattle.netlist.specs.Expressions.{and_also}
-use Rattle.netlist.specs.Module.{is_there}
-use Rattle.netlist.specs.MemoryDrawings.{Placed, Part, FirstRows, Reads, placed, plan_of, write_parts, parts_of, part_drawing, write_drawing, read_drawing, all_parts, drawn_parts, memories_of, memory_drawings, memory_lines}
-use Rattle.netlist.specs.Tables.{own_parts, placed_one, names_with, together}
-use Rattle.netlist.proofs.LowerItems.{and_also_assoc}
+use Rattle.netlist_laws.specs.Operators.{Drawing}
+use Rattle.netlist_laws.specs.Expressions.{and_also}
+use Rattle.netlist_laws.specs.Module.{is_there}
+use Rattle.netlist_laws.specs.MemoryDrawings.{Placed, Part, FirstRows, Reads, placed, plan_of, write_parts, parts_of, part_drawing, write_drawing, read_drawing, all_parts, drawn_parts, memories_of, memory_drawings, memory_lines}
+use Rattle.netlist_laws.specs.Tables.{own_parts, placed_one, names_with, together}
+use Rattle.netlist_cells.proofs.LowerItems.{and_also_assoc}
 use Rattle.netlist.proofs.LowerDrawings.{also_nothing, also_more}
 use Rattle.netlist.proofs.LowerModule.{together_append}
 use Rattle.netlist.proofs.LowerWires.{range_next, range_end}
-use Rattle.netlist.proofs.MemoryWrites.{drawn_parts-append}
+use Rattle.netlist_laws.proofs.MemoryWrites.{drawn_parts-append}
 
 -- ---- widths of rows' numbers
 

@@ -12,9 +12,9 @@ use Rattle.design_ir.specs.Values.{form}
 use Rattle.design_ir.specs.Circuits.{Circuit, domain_named}
 use Rattle.design_ir.specs.Designs.{IsAddress, IsGranularity, IsClocking, IsWritePort, IsReadPort}
 use Rattle.memory_cells.specs.declared.clock.Clock.{Clock}
-use Rattle.netlist.specs.Module.{no_clock, clock_of}
-use Rattle.netlist.specs.MemoryDrawings.{port_clock}
-use Rattle.netlist.proofs.PortEdges.{position_there}
+use Rattle.netlist_laws.specs.Module.{no_clock, clock_of}
+use Rattle.netlist_laws.specs.MemoryDrawings.{port_clock}
+use Rattle.netlist_laws.proofs.PortEdges.{position_there}
 
 -- ---- the clock of a name
 

@@ -12,11 +12,11 @@ use Rattle.design_ir.specs.Designs.{IsDesign}
 use Rattle.rtlil_text.specs.declared.sig.SigPart.{SigPart}
 use Rattle.rtlil_text.specs.declared.sig.SigPart.TheVariants as parts
 use Rattle.rtlil_text.specs.Sources.{Source, Constant, Net}
-use Rattle.netlist.specs.Ids.{signal_id}
-use Rattle.netlist.specs.Operands.{const_part}
-use Rattle.netlist.specs.Module.{public_id, wire_id}
-use Rattle.netlist.specs.Spelled.{one_part, below, added_below, spec_of}
-use Rattle.netlist.specs.Tables.{joins, bit_of, run_of, source_id, source_place}
+use Rattle.netlist_laws.specs.Ids.{signal_id}
+use Rattle.netlist_laws.specs.Operands.{const_part}
+use Rattle.netlist_laws.specs.Module.{public_id, wire_id}
+use Rattle.netlist_laws.specs.Spelled.{one_part, below, added_below, spec_of}
+use Rattle.netlist_laws.specs.Tables.{joins, bit_of, run_of, source_id, source_place}
 
 -- ---- signals that are not there
 

@@ -19,7 +19,7 @@ use Rattle.design_ir.specs.Targets.{Bit}
 use Rattle.design_ir.specs.Values.{signal_form}
 use Rattle.design_ir.proofs.Congruence.{AreSame, same_below}
 use Rattle.design_ir.proofs.Equations.{standing, answer_at}
-use Rattle.netlist.specs.Latest.{places_step, places}
+use Rattle.netlist_laws.specs.Latest.{places_step, places}
 
 -- ---- by the expressions that a target names
 

@@ -7,10 +7,10 @@ use Rattle.std.proofs.lemmas.Option.{get_or_from_slice_get}
 use Rattle.design_ir.specs.declared.port.Column.{Column}
 use Rattle.design_ir.specs.Circuits.{Circuit}
 use Rattle.rtlil_text.specs.declared.module.RtlWire.{RtlWire}
-use Rattle.netlist.specs.Operators.{Drawing}
-use Rattle.netlist.specs.Expressions.{and_also}
-use Rattle.netlist.specs.Module.{column_wire, column_wires}
-use Rattle.netlist.specs.Tables.{together}
+use Rattle.netlist_laws.specs.Operators.{Drawing}
+use Rattle.netlist_laws.specs.Expressions.{and_also}
+use Rattle.netlist_laws.specs.Module.{column_wire, column_wires}
+use Rattle.netlist_laws.specs.Tables.{together}
 use Rattle.netlist.proofs.LowerDrawings.{also_nothing, also_more}
 
 pub range_next : (i n : ℕ) → i < n → range_with_len i (n - i) ≡ i ∷ range_with_len (i + 1) (n - (i + 1))

@@ -1,13 +1,13 @@
 // The drawings of all expressions.
 ghost use Rattle.std.specs.Prelude.{◌≡◌, ◌<◌, ◌^◌, OnOk};
-ghost use Rattle.netlist.specs.Expressions.{and_also, part_total};
-ghost use Rattle.netlist.specs.Module.{drawings};
-ghost use Rattle.netlist.specs.Tables.{AreColumnPlaces, together};
+ghost use Rattle.netlist_laws.specs.Expressions.{and_also, part_total};
+ghost use Rattle.netlist_laws.specs.Module.{drawings};
+ghost use Rattle.netlist_laws.specs.Tables.{AreColumnPlaces, together};
 
-use crate::drawing::Drawing;
-use crate::expressions::{drawn, part_count};
 use amh_host::NoMemory;
 use design_ir::{Design, ExprId, Exprs};
+use netlist_cells::drawing::Drawing;
+use netlist_cells::expressions::{drawn, part_count};
 use std::alloc::Global;
 
 /// Adds the drawings of all expressions. They have so few parts that ids differ.

@@ -6,14 +6,14 @@ ghost use Rattle.design_ir.specs.PoolRules.{IsPool};
 ghost use Rattle.design_ir.specs.Targets.{target_signals};
 ghost use Rattle.design_ir.specs.Guards.{driven, block_exprs};
 ghost use Rattle.design_ir.specs.Designs.{IsDesign};
-ghost use Rattle.netlist.specs.Latest.{is_plain};
-ghost use Rattle.netlist.specs.Module.{drives, driving, is_clocked};
-ghost use Rattle.netlist.specs.Plain.{ArePlain};
-ghost use Rattle.netlist.specs.Tables.{ArePortPlaces, AreDrivers, IsMarked};
+ghost use Rattle.netlist_laws.specs.Latest.{is_plain};
+ghost use Rattle.netlist_laws.specs.Module.{drives, driving, is_clocked};
+ghost use Rattle.netlist_laws.specs.Plain.{ArePlain};
+ghost use Rattle.netlist_laws.specs.Tables.{ArePortPlaces, AreDrivers, IsMarked};
 
-use crate::tables::{is_input, no_places};
 use amh_host::NoMemory;
 use design_ir::{Design, DesignProcess, Expr, ExprId, Exprs, SigId, Stmt, Stmts};
+use netlist_cells::tables::{is_input, no_places};
 use std::alloc::Global;
 
 // Gives the signals of a target a place.

@@ -8,32 +8,17 @@
 //! the functions of `laws` carry it in their clauses.
 #![tactic(auto)]
 
-mod cells;
-mod drawing;
 mod drawings;
 mod drivers;
-mod expressions;
-mod ids;
-mod item_cells;
-mod laws;
 mod lowering;
 mod memories;
-mod muxes;
-mod operators;
-mod parts;
-mod pattern_cells;
 mod port_guards;
 mod ports;
 mod read_signals;
 mod signals;
 mod sources;
 mod spelling;
-mod tables;
 mod targets;
 mod wires;
 
-pub use laws::{
-    expressions_are_made, guards_are_made, memory_ports_are_made, modules_are_sound,
-    modules_have_the_history, operators_are_made,
-};
 pub use lowering::lower;

@@ -1,15 +1,15 @@
 // Specs of bits, where neighbours of one wire stand together.
 ghost use Rattle.std.specs.Prelude.{◌≡◌, ◌<◌, ◌≤◌, ℕ, List, map, length, IfOk};
 ghost use Rattle.design_ir.specs.Designs.{IsDesign};
-ghost use Rattle.netlist.specs.Module.{wire_id};
-ghost use Rattle.netlist.specs.Spelled.{spec_of};
-ghost use Rattle.netlist.specs.Tables.{AreColumnPlaces, source_of, joins, bit_of, run_of, source_id, source_place};
+ghost use Rattle.netlist_laws.specs.Module.{wire_id};
+ghost use Rattle.netlist_laws.specs.Spelled.{spec_of};
+ghost use Rattle.netlist_laws.specs.Tables.{AreColumnPlaces, source_of, joins, bit_of, run_of, source_id, source_place};
 
-use crate::ids::{signal_id, value_id};
 use crate::sources::BitSource;
-use crate::tables::wire_id;
 use amh_host::{Items, NoMemory, Text};
 use design_ir::{Design, SigId};
+use netlist_cells::ids::{signal_id, value_id};
+use netlist_cells::tables::wire_id;
 use rtlil_text::{RtlBits, SigPart, SigSpec};
 use std::alloc::Global;
 

@@ -3,7 +3,7 @@ ghost use Rattle.std.specs.Prelude.{◌≡◌, ◌<◌, length, take, drop, IfOk
 ghost use Rattle.design_ir.specs.PoolRules.{IsPool};
 ghost use Rattle.design_ir.specs.Targets.{bits_of};
 ghost use Rattle.design_ir.specs.Values.{signal_form};
-ghost use Rattle.netlist.specs.Latest.{places};
+ghost use Rattle.netlist_laws.specs.Latest.{places};
 
 use amh_host::NoMemory;
 use design_ir::{Design, Expr, ExprId, Exprs, SigId};

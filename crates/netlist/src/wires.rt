@@ -2,18 +2,18 @@
 ghost use Rattle.std.specs.Prelude.{◌≡◌, ◌<◌, ◌+◌, ◌^◌, ◌++◌, length, IfOk, OnOk};
 ghost use Rattle.std.specs.List.{flat_map, range_with_len};
 ghost use Rattle.design_ir.specs.Designs.{IsDesign};
-ghost use Rattle.netlist.specs.Module.{port_of, first_value, column_wire, column_wires, signal_wires, expr_wires};
-ghost use Rattle.netlist.specs.Tables.{AreTables};
+ghost use Rattle.netlist_laws.specs.Module.{port_of, first_value, column_wire, column_wires, signal_wires, expr_wires};
+ghost use Rattle.netlist_laws.specs.Tables.{AreTables};
 
-use crate::drawing::inner_wire;
 use crate::drivers::is_clocked;
-use crate::ids::{public_id, signal_id, value_id};
 use crate::signals::Tables;
 use crate::sources::init_bits;
-use crate::tables::{column_of, port_of};
 use crate::targets::signal_width;
 use amh_host::NoMemory;
 use design_ir::{Column, Design, ExprId, Exprs, SigId};
+use netlist_cells::drawing::inner_wire;
+use netlist_cells::ids::{public_id, signal_id, value_id};
+use netlist_cells::tables::{column_of, port_of};
 use rtlil_text::{RtlBits, RtlWire, WirePort};
 use std::alloc::Global;
 

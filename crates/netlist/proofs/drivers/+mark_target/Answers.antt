@@ -5,7 +5,7 @@ use Rattle.design_ir.specs.declared.ids.ExprId.{ExprId}
 use Rattle.design_ir.specs.Named.{AllBelow}
 use Rattle.design_ir.specs.Targets.{signals_step, target_signals}
 use Rattle.design_ir.proofs.Equations.{standing}
-use Rattle.netlist.proofs.LowerJoined.{below_get}
+use Rattle.netlist_cells.proofs.LowerJoined.{below_get}
 use Rattle.netlist.proofs.LowerDrivers.{target_signals_is, marked_one, marked_as, joined_signals, joined_below, leaf_marked, read_signals, read_below}
 use Rattle.netlist.proofs.drivers.+mark_target.Goals as goal
 

@@ -1,12 +1,12 @@
 use Rattle.std.proofs.Common.{sym, ◌∙◌, subst}
 use Rattle.std.proofs.lemmas.Result.{IfOk-weaker}
 use Rattle.rtlil_text.specs.Rules.{IsModule}
-use Rattle.netlist.specs.Corresponds.{Corresponds}
-use Rattle.netlist.specs.FirstValues.{HasFirstValues}
-use Rattle.netlist.proofs.FirstValues.{module_begins}
+use Rattle.netlist_laws.specs.Corresponds.{Corresponds}
+use Rattle.netlist_laws.specs.FirstValues.{HasFirstValues}
+use Rattle.netlist_laws.proofs.FirstValues.{module_begins}
 use Rattle.netlist.proofs.LowerModule.{module_drawn}
-use Rattle.netlist.proofs.ModuleRules.{module_rules}
-use Rattle.netlist.proofs.ModuleWires.{module_corresponds}
+use Rattle.netlist_laws.proofs.ModuleRules.{module_rules}
+use Rattle.netlist_laws.proofs.ModuleWires.{module_corresponds}
 use Rattle.netlist.proofs.lowering.draw.Goals as goal
 
 pub returns-clause-module : goal.returns-clause-module

@@ -2,10 +2,10 @@ use Rattle.std.specs.Prelude.{[], List, length, map}
 use Rattle.std.specs.List.{range_with_len}
 use Rattle.std.proofs.Common.{ap, ◌∙◌}
 use Rattle.rtlil_text.specs.declared.module.RtlWire.{RtlWire}
-use Rattle.netlist.specs.Operators.{Drawing}
-use Rattle.netlist.specs.Expressions.{and_also}
-use Rattle.netlist.specs.Module.{drawings, signal_drawing}
-use Rattle.netlist.specs.Tables.{together}
+use Rattle.netlist_laws.specs.Operators.{Drawing}
+use Rattle.netlist_laws.specs.Expressions.{and_also}
+use Rattle.netlist_laws.specs.Module.{drawings, signal_drawing}
+use Rattle.netlist_laws.specs.Tables.{together}
 use Rattle.netlist.proofs.lowering.drawing_of.Goals as goal
 
 pub returns-clause-drawn : goal.returns-clause-drawn

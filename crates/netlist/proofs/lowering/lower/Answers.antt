@@ -1,8 +1,8 @@
 use Rattle.std.specs.Prelude.{map}
 use Rattle.std.proofs.lemmas.Result.{IfOk-weaker}
 use Rattle.comb_graph.specs.Rankings.{bit_of}
-use Rattle.netlist.proofs.FlatModules.{Corresponds-flat, SameHistory-flat}
-use Rattle.netlist.proofs.FirstValues.{HasFirstValues-flat}
+use Rattle.netlist_laws.proofs.FlatModules.{Corresponds-flat, SameHistory-flat}
+use Rattle.netlist_laws.proofs.FirstValues.{HasFirstValues-flat}
 use Rattle.netlist.proofs.lowering.lower.Goals as goal
 
 pub lower_plain-requires : goal.lower_plain-requires

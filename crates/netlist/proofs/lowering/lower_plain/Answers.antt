@@ -4,11 +4,11 @@ use Rattle.std.proofs.lemmas.Result.{IfOk-weaker}
 use Rattle.rtlil_text.specs.declared.module.RtlModule.{RtlModule}
 use Rattle.comb_graph.specs.Rankings.{bit_of}
 use Rattle.cell_split.specs.Kept.{KeepsHistory}
-use Rattle.netlist.specs.Histories.{SameHistory}
-use Rattle.netlist.proofs.SplitModules.{Corresponds-wires, SameHistory-kept, IfOk-both}
+use Rattle.netlist_laws.specs.Histories.{SameHistory}
+use Rattle.netlist_laws.proofs.SplitModules.{Corresponds-wires, SameHistory-kept, IfOk-both}
 use Rattle.rtlil_text.specs.Inits.{register_bits}
-use Rattle.netlist.specs.FirstValues.{HasFirstValues}
-use Rattle.netlist.proofs.FirstValues.{HasFirstValues-cut}
+use Rattle.netlist_laws.specs.FirstValues.{HasFirstValues}
+use Rattle.netlist_laws.proofs.FirstValues.{HasFirstValues-cut}
 use Rattle.netlist.proofs.lowering.lower_plain.Goals as goal
 
 pub returns-clause-corresponds : goal.returns-clause-corresponds

@@ -1,4 +1,4 @@
-use Rattle.netlist.proofs.ByteStrides.{byte_strides-more}
+use Rattle.netlist_laws.proofs.ByteStrides.{byte_strides-more}
 use Rattle.netlist.proofs.lowering.strides_are_bytes.Goals as goal
 
 pub loop-k-preserved : goal.loop-k-preserved

@@ -2,8 +2,8 @@ use Rattle.std.proofs.Common.{◌≡◌, ◌+◌, ◌*◌, ◌∷◌, [], ◌++�
 use Rattle.memory_cells.specs.declared.plan.Plan.{Plan}
 use Rattle.new_names.specs.Fresh.{fresh_name}
 use Rattle.rtlil_text.specs.declared.module.RtlMemory.{RtlMemory}
-use Rattle.netlist.specs.Module.{is_there}
-use Rattle.netlist.specs.MemoryDrawings.{plan_of}
+use Rattle.netlist_laws.specs.Module.{is_there}
+use Rattle.netlist_laws.specs.MemoryDrawings.{plan_of}
 use Rattle.netlist.proofs.LowerMemories.{one_named, one_line, one_drawn, one_count, none_named, none_line, none_drawn, none_count}
 use Rattle.netlist.proofs.memories.push_memory.Goals as goal
 

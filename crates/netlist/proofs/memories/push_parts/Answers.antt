@@ -1,8 +1,8 @@
 use Rattle.std.proofs.Common.{List, ℕ, ℤ, ap, ◌∙◌}
 use Rattle.memory_cells.specs.Cells.{init_cell}
-use Rattle.netlist.specs.Ids.{step_id}
-use Rattle.netlist.specs.Operators.{Drawing, one_cell}
-use Rattle.netlist.specs.Expressions.{and_also}
+use Rattle.netlist_laws.specs.Ids.{step_id}
+use Rattle.netlist_laws.specs.Operators.{Drawing, one_cell}
+use Rattle.netlist_laws.specs.Expressions.{and_also}
 use Rattle.netlist.proofs.LowerMemories.{parts_together}
 use Rattle.netlist.proofs.memories.push_parts.Goals as goal
 

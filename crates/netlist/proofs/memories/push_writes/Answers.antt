@@ -1,10 +1,10 @@
 use Rattle.std.proofs.Common.{ap, ◌∙◌, arith}
 use Rattle.std.proofs.lemmas.Option.{get_or_from_slice_get}
 use Rattle.design_ir.specs.Designs.{IsWritePort}
-use Rattle.netlist.specs.Operators.{Drawing}
-use Rattle.netlist.specs.Expressions.{and_also}
-use Rattle.netlist.specs.MemoryDrawings.{write_parts, drawn_parts}
-use Rattle.netlist.specs.Tables.{own_parts, together}
+use Rattle.netlist_laws.specs.Operators.{Drawing}
+use Rattle.netlist_laws.specs.Expressions.{and_also}
+use Rattle.netlist_laws.specs.MemoryDrawings.{write_parts, drawn_parts}
+use Rattle.netlist_laws.specs.Tables.{own_parts, together}
 use Rattle.netlist.proofs.LowerDomains.{at_place}
 use Rattle.netlist.proofs.LowerPorts.{write_narrow}
 use Rattle.netlist.proofs.LowerMemories.{writes_begin, writes_turn, writes_end}

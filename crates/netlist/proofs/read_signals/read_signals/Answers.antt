@@ -3,7 +3,7 @@ use Rattle.std.specs.Prelude.{slice_index_or, slice_get}
 use Rattle.std.proofs.lemmas.List.{length-replicate}
 use Rattle.std.proofs.lemmas.Option.{get_or_from_slice_get}
 use Rattle.design_ir.specs.declared.memory.Memory.{Memory}
-use Rattle.netlist.specs.Module.{is_read}
+use Rattle.netlist_laws.specs.Module.{is_read}
 use Rattle.netlist.proofs.LowerReads.{stored_gives, rest_turn, rest_end, rest_begin, none_marked, memory_reads}
 use Rattle.netlist.proofs.read_signals.read_signals.Goals as goal
 

@@ -1,6 +1,6 @@
 use Rattle.std.proofs.Common.{◌≡◌, ℕ, false, length, drop}
 use Rattle.std.specs.Prelude.{slice_index_or}
-use Rattle.netlist.specs.Module.{is_read}
+use Rattle.netlist_laws.specs.Module.{is_read}
 use Rattle.netlist.proofs.LowerReads.{stored_gives, rest_or}
 use Rattle.netlist.proofs.read_signals.read_signals.Given as goal
 

@@ -1,5 +1,5 @@
 use Rattle.std.proofs.Common.{◌+◌, ◌-◌, replicate, false}
-use Rattle.netlist.proofs.LowerParts.{one_more, no_more, replicate_next, replicate_end}
+use Rattle.netlist_cells.proofs.LowerParts.{one_more, no_more, replicate_next, replicate_end}
 use Rattle.netlist.proofs.read_signals.unread.Goals as goal
 
 pub loop-i-preserved : goal.loop-i-preserved

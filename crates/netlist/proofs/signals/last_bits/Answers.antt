@@ -1,10 +1,10 @@
 use Rattle.std.proofs.Common.{◌≡◌, ◌+◌, ◌-◌, ◌*◌, length, map, take, drop, ap, ◌∙◌, arith}
 use Rattle.std.proofs.lemmas.Result.{IfOk-weaker}
 use Rattle.design_ir.specs.Values.{signal_form}
-use Rattle.netlist.specs.Spelled.{spec_of}
-use Rattle.netlist.specs.Module.{wire_id}
-use Rattle.netlist.specs.Tables.{source_of, at_start, latest_of_all}
-use Rattle.netlist.proofs.LowerStarts.{form_at}
+use Rattle.netlist_laws.specs.Spelled.{spec_of}
+use Rattle.netlist_laws.specs.Module.{wire_id}
+use Rattle.netlist_laws.specs.Tables.{source_of, at_start, latest_of_all}
+use Rattle.netlist_cells.proofs.LowerStarts.{form_at}
 use Rattle.netlist.proofs.LowerLatest.{row_shown}
 use Rattle.netlist.proofs.signals.last_bits.Goals as goal
 

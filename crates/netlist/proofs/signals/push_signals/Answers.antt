@@ -1,9 +1,9 @@
 use Rattle.std.proofs.Common.{length, map, ap, ◌∙◌, arith}
 use Rattle.std.specs.List.{range_with_len}
-use Rattle.netlist.specs.Operators.{Drawing}
-use Rattle.netlist.specs.Expressions.{and_also}
-use Rattle.netlist.specs.Module.{signal_drawing}
-use Rattle.netlist.specs.Tables.{together}
+use Rattle.netlist_laws.specs.Operators.{Drawing}
+use Rattle.netlist_laws.specs.Expressions.{and_also}
+use Rattle.netlist_laws.specs.Module.{signal_drawing}
+use Rattle.netlist_laws.specs.Tables.{together}
 use Rattle.netlist.proofs.LowerWires.{signals_turn}
 use Rattle.netlist.proofs.signals.push_signals.Goals as goal
 

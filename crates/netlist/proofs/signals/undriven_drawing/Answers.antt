@@ -1,7 +1,7 @@
 use Rattle.std.proofs.Common.{◌≡◌, List, Bool, true, false, length, sym, ap, ◌∙◌, arith}
 use Rattle.std.specs.Prelude.{slice_index_or}
 use Rattle.std.proofs.lemmas.Result.{IfOk-weaker}
-use Rattle.netlist.specs.Module.{link_to, driving_drawing}
+use Rattle.netlist_laws.specs.Module.{link_to, driving_drawing}
 use Rattle.netlist.proofs.LowerReads.{undriven_read, undriven_free}
 use Rattle.netlist.proofs.signals.undriven_drawing.Goals as goal
 

@@ -2,8 +2,8 @@ use Rattle.std.proofs.Common.{◌≡◌, refl, false, sym, ap, ◌∙◌}
 use Rattle.std.specs.Prelude.{Some, None, is_some}
 use Rattle.std.proofs.lemmas.Result.{IfOk-weaker}
 use Rattle.design_ir.specs.Circuits.{is_input}
-use Rattle.netlist.specs.Module.{is_clocked, driving_drawing}
-use Rattle.netlist.proofs.Driven.{driving-found}
+use Rattle.netlist_laws.specs.Module.{is_clocked, driving_drawing}
+use Rattle.netlist_laws.proofs.Driven.{driving-found}
 use Rattle.netlist.proofs.LowerLatest.{last_is, clocked_at}
 use Rattle.netlist.proofs.signals.wired_drawing.Goals as goal
 

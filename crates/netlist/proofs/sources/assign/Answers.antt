@@ -1,9 +1,9 @@
 use Rattle.std.proofs.Common.{sym, ◌∙◌, subst}
 use Rattle.shape_rules.specs.Forms.{Form}
-use Rattle.netlist.specs.Ids.{value_id}
-use Rattle.netlist.specs.Latest.{places, given}
-use Rattle.netlist.specs.Module.{expr_value}
-use Rattle.netlist.specs.Tables.{Shows}
+use Rattle.netlist_laws.specs.Ids.{value_id}
+use Rattle.netlist_laws.specs.Latest.{places, given}
+use Rattle.netlist_laws.specs.Module.{expr_value}
+use Rattle.netlist_laws.specs.Tables.{Shows}
 use Rattle.netlist.proofs.sources.assign.Goals as goal
 
 pub returns-clause-given : goal.returns-clause-given

@@ -1,10 +1,10 @@
 use Rattle.std.proofs.Common.{◌≡◌, ◌+◌, ◌*◌, sym, ◌∙◌, subst, get_or}
 use Rattle.std.proofs.lemmas.List.{length-set, take_all}
 use Rattle.design_ir.specs.Targets.{Bit}
-use Rattle.netlist.specs.Ids.{value_id}
-use Rattle.netlist.specs.Operators.{Value}
-use Rattle.netlist.specs.Latest.{given}
-use Rattle.netlist.specs.Tables.{Shows}
+use Rattle.netlist_laws.specs.Ids.{value_id}
+use Rattle.netlist_laws.specs.Operators.{Value}
+use Rattle.netlist_laws.specs.Latest.{given}
+use Rattle.netlist_laws.specs.Tables.{Shows}
 use Rattle.netlist.proofs.LowerSources.{given_turn}
 use Rattle.netlist.proofs.sources.give.Goals as goal
 

@@ -2,9 +2,9 @@ use Rattle.std.proofs.Common.{length, take, sym, ap, ◌∙◌, subst}
 use Rattle.std.proofs.lemmas.List.{take_all}
 use Rattle.design_ir.specs.declared.stmt.Stmt.{Stmt}
 use Rattle.design_ir.specs.Statements.{block_of}
-use Rattle.netlist.specs.Latest.{latest_of}
-use Rattle.netlist.specs.Module.{expr_value}
-use Rattle.netlist.specs.Tables.{Shows}
+use Rattle.netlist_laws.specs.Latest.{latest_of}
+use Rattle.netlist_laws.specs.Module.{expr_value}
+use Rattle.netlist_laws.specs.Tables.{Shows}
 use Rattle.netlist.proofs.LowerDrivers.{IsPlainStmt, plain_at}
 use Rattle.netlist.proofs.LowerSources.{latest_turn}
 use Rattle.netlist.proofs.sources.give_block.Goals as goal

@@ -7,8 +7,8 @@ use Rattle.design_ir.specs.Named.{AllBelow}
 use Rattle.design_ir.specs.Values.{signal_form}
 use Rattle.design_ir.specs.Targets.{bits_of}
 use Rattle.design_ir.proofs.Equations.{standing}
-use Rattle.netlist.specs.Latest.{places, places_step}
-use Rattle.netlist.proofs.LowerJoined.{below_get}
+use Rattle.netlist_laws.specs.Latest.{places, places_step}
+use Rattle.netlist_cells.proofs.LowerJoined.{below_get}
 use Rattle.netlist.proofs.LowerTargets.{places_is, bare_is}
 use Rattle.netlist.proofs.targets.+places.Goals as goal
 

@@ -1,7 +1,7 @@
 use Rattle.std.proofs.Common.{◌≡◌, take}
 use Rattle.std.specs.List.{flat_map}
 use Rattle.design_ir.specs.declared.ids.ExprId.{ExprId}
-use Rattle.netlist.specs.Latest.{places}
+use Rattle.netlist_laws.specs.Latest.{places}
 use Rattle.netlist.proofs.targets.+places.Given as goal
 
 abbrev pub decreases-places : goal.decreases-places

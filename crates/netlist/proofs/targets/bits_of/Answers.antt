@@ -1,7 +1,7 @@
 use Rattle.std.proofs.Common.{◌+◌, ◌-◌, map}
 use Rattle.std.specs.List.{range_with_len}
 use Rattle.design_ir.specs.Targets.{bits_of}
-use Rattle.netlist.proofs.LowerParts.{one_more, no_more}
+use Rattle.netlist_cells.proofs.LowerParts.{one_more, no_more}
 use Rattle.netlist.proofs.LowerTargets.{bit_at, bits_next, bits_end}
 use Rattle.netlist.proofs.targets.bits_of.Goals as goal
 

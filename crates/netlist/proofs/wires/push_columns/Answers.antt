@@ -1,6 +1,6 @@
 use Rattle.std.proofs.Common.{◌++◌, ◌∷◌, [], ap, ◌∙◌, arith}
 use Rattle.rtlil_text.specs.declared.module.RtlWire.{RtlWire}
-use Rattle.netlist.specs.Module.{column_wires}
+use Rattle.netlist_laws.specs.Module.{column_wires}
 use Rattle.netlist.proofs.LowerWires.{columns_turn}
 use Rattle.netlist.proofs.wires.push_columns.Goals as goal
 

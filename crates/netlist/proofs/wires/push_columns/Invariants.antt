@@ -1,5 +1,5 @@
 use Rattle.std.proofs.Common.{◌≡◌, ◌++◌, drop}
-use Rattle.netlist.specs.Module.{column_wires}
+use Rattle.netlist_laws.specs.Module.{column_wires}
 use Rattle.netlist.proofs.wires.push_columns.Given as goal
 
 abbrev pub invariant-loop-k : goal.invariant-loop-k

@@ -1,6 +1,6 @@
 use Rattle.std.proofs.Common.{◌++◌, length, arith}
 use Rattle.std.specs.List.{flat_map, range_with_len}
-use Rattle.netlist.specs.Module.{signal_wires}
+use Rattle.netlist_laws.specs.Module.{signal_wires}
 use Rattle.netlist.proofs.LowerWires.{rows_turn}
 use Rattle.netlist.proofs.wires.push_others.Goals as goal
 

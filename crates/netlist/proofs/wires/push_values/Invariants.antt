@@ -1,6 +1,6 @@
 use Rattle.std.proofs.Common.{◌≡◌, ◌++◌, ◌-◌, length}
 use Rattle.std.specs.List.{flat_map, range_with_len}
-use Rattle.netlist.specs.Module.{expr_wires}
+use Rattle.netlist_laws.specs.Module.{expr_wires}
 use Rattle.netlist.proofs.wires.push_values.Given as goal
 
 abbrev pub invariant-loop-i : goal.invariant-loop-i

@@ -1,6 +1,0 @@
-use Rattle.std.proofs.Common.{length}
-use Rattle.netlist.proofs.LowerJoined.{below_get}
-use Rattle.netlist.proofs.expressions.expr_values.Goals as goal
-
-pub expr_value-requires : goal.expr_value-requires
-expr_value-requires c = below_get (length c.args.design.now.pool.exprs) c.args.es.now c.loop-e.e-index (record { 0 = 0 }) c.requires c.loop-e-test.true

@@ -1,5 +1,0 @@
-use Rattle.netlist.proofs.MadeExpressions.{makes_expression}
-use Rattle.netlist.proofs.laws.expressions_are_made.Goals as goal
-
-pub returns : goal.returns
-returns c = makes_expression

@@ -1,7 +1,0 @@
-use Rattle.std.proofs.Common.{◌-◌, length}
-use Rattle.design_ir.specs.declared.port.Column.{Column}
-use Rattle.netlist.specs.Tables.{ArePlaces, shows_signal}
-use Rattle.netlist.proofs.tables.column_places.Given as goal
-
-abbrev pub invariant-loop-j : goal.invariant-loop-j
-invariant-loop-j l = ArePlaces Column shows_signal l.design.columns (l.count - l.j) (length l.design.pool.signals) l.places.items

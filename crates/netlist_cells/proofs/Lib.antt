@@ -1,0 +1,5 @@
+pub mod LowerParts
+pub mod LowerItems
+pub mod LowerJoined
+pub mod LowerPlaces
+pub mod LowerStarts

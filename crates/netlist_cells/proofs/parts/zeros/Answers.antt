@@ -1,0 +1,14 @@
+use Rattle.std.proofs.Common.{false, replicate, ◌+◌, ◌-◌}
+use Rattle.netlist_cells.proofs.LowerParts.{one_more, no_more, replicate_next, replicate_end}
+use Rattle.netlist_cells.proofs.parts.zeros.Goals as goal
+
+pub loop-i-preserved : goal.loop-i-preserved
+loop-i-preserved c =
+    let n = c.args.count in
+    one_more c.loop-i.bits c.push.new.self (replicate n false) (replicate (n - c.loop-i.i) false) (replicate (n - (c.loop-i.i + 1)) false) false
+    (replicate_next n c.loop-i.i false c.loop-i-test.true) c.in_ok-push.ensures.ok c.loop-i.invariant
+
+pub returns : goal.returns
+returns c =
+    let n = c.args.count in
+    no_more c.loop-i.bits (replicate n false) (replicate (n - c.loop-i.i) false) (replicate_end n c.loop-i.i false c.loop-i-test.false) c.loop-i.invariant
