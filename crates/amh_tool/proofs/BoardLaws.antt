@@ -5,7 +5,7 @@ use Rattle.std.proofs.Math.Seq.{take-append_seam}
 use Rattle.std.proofs.Common.{cond, take, sym, ap, ◌∙◌, subst, add-one, append_assoc}
 use Rattle.std.proofs.lemmas.Bool.{eqb-true, eq-eqb, false≢true}
 use Rattle.std.proofs.lemmas.List.{length-set, get_or-set_same, get_or-set_other, length-replicate}
-use Rattle.delta_sim.specs.Reading.{AreFirst}
+use Rattle.sim_plans.specs.Reading.{AreFirst}
 use Rattle.delta_sim.proofs.Starts.{drop_get}
 use Rattle.design_ir.specs.declared.domain.Domain.{Domain}
 use Rattle.design_ir.specs.declared.port.Port.{Port}

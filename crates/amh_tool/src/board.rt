@@ -1,6 +1,6 @@
 // What the trace and the script see of a design.
 ghost use Rattle.std.specs.Prelude.{◌≡◌, ◌<◌, false, fold, length, map, slice_set, IfOk};
-ghost use Rattle.delta_sim.specs.Reading.{AreFirst};
+ghost use Rattle.sim_plans.specs.Reading.{AreFirst};
 ghost use Rattle.design_ir.specs.Tests.{is_settable};
 ghost use Rattle.amh_tool.specs.BoardMarks.{mark_input, unmark_clock};
 ghost use Rattle.amh_tool.specs.Boards.{board_of, shown_of};

@@ -7,7 +7,7 @@ use crate::board::Shown;
 use crate::trace_events::number_of;
 use amh_bits::Int;
 use amh_host::{NoMemory, Text};
-use delta_sim::overwrite;
+use sim_plans::compute::overwrite;
 use design_ir::SigId;
 use number_text::push_int;
 use std::alloc::{AllocError, Global};

@@ -16,7 +16,7 @@ use Rattle.design_ir.specs.Targets.{Bit, bits_of, padded, target_step, target_bi
 use Rattle.design_ir.proofs.Congruence.{AreSame, same_below}
 use Rattle.design_ir.proofs.Equations.{standing, form_is}
 use Rattle.design_ir.proofs.TargetLaws.{target_is}
-use Rattle.delta_sim.specs.Reading.{AreNumbers, ArePlaces, IsPickSome, aimed_step}
+use Rattle.sim_plans.specs.Reading.{AreNumbers, ArePlaces, IsPickSome, aimed_step}
 
 pub drop_none : {A : Type 0} (xs : List A) → drop 0 xs ≡ xs
 drop_none [] = refl

@@ -15,18 +15,18 @@ use Rattle.comb_graph.specs.Laws.{FitsState, HasDeltas, DeltasAreFew}
 use Rattle.comb_graph.specs.Orders.{is_comb}
 use Rattle.comb_graph.proofs.DeltaLaws.{delta_length}
 use Rattle.comb_graph.proofs.EventStarts.{begin_ready}
-use Rattle.delta_sim.specs.declared.plan.Plan.{Plan}
-use Rattle.delta_sim.specs.Driven.{numbers_of}
-use Rattle.delta_sim.specs.Plans.{Rests, Wakes, WakesPorts, taken}
-use Rattle.delta_sim.specs.Settling.{EndsIn}
+use Rattle.sim_plans.specs.declared.plan.Plan.{Plan}
+use Rattle.sim_plans.specs.Driven.{numbers_of}
+use Rattle.sim_plans.specs.Plans.{Rests, Wakes, WakesPorts, taken}
+use Rattle.sim_plans.specs.Settling.{EndsIn}
 use Rattle.delta_sim.specs.Standing.{Simulated, state_of, AreNumbersOf, AreRowsOf, IsSimOf}
-use Rattle.delta_sim.specs.Woken.{AreChanged}
-use Rattle.delta_sim.proofs.DeltaSteps.{below_of}
+use Rattle.sim_plans.specs.Woken.{AreChanged}
+use Rattle.sim_plans.proofs.DeltaSteps.{below_of}
 use Rattle.delta_sim.proofs.Lives.{same_state, fits_state, step_numbers, step_rows}
 use Rattle.delta_sim.proofs.PortHeld.{comb_free}
 use Rattle.delta_sim.proofs.Resting.{rests_first}
-use Rattle.delta_sim.proofs.Settling.{same_lists}
-use Rattle.delta_sim.proofs.Taking.{taken_at, taken_other, taken_length}
+use Rattle.sim_plans.proofs.Settling.{same_lists}
+use Rattle.sim_plans.proofs.Taking.{taken_at, taken_other, taken_length}
 
 -- ---- what a state gives, put in
 

@@ -21,15 +21,15 @@ use Rattle.comb_graph.specs.Laws.{FitsState, rounds}
 use Rattle.comb_graph.specs.Orders.{is_comb, IsLongest}
 use Rattle.comb_graph.proofs.ChainRounds.{IsReady, settled_after}
 use Rattle.comb_graph.proofs.DeltaLaws.{delta_start, starts_length}
-use Rattle.delta_sim.specs.declared.plan.Plan.{Plan}
-use Rattle.delta_sim.specs.Plans.{IsPlan, Rests}
-use Rattle.delta_sim.specs.Settling.{EndsIn}
+use Rattle.sim_plans.specs.declared.plan.Plan.{Plan}
+use Rattle.sim_plans.specs.Plans.{IsPlan, Rests}
+use Rattle.sim_plans.specs.Settling.{EndsIn}
 use Rattle.delta_sim.specs.Standing.{state_of, AreNumbersOf}
-use Rattle.delta_sim.specs.Tasks.{AreFitting}
-use Rattle.delta_sim.proofs.Jobs.{driven_by}
+use Rattle.sim_plans.specs.Tasks.{AreFitting}
+use Rattle.sim_plans.proofs.Jobs.{driven_by}
 use Rattle.delta_sim.proofs.Lives.{fits_state, first_numbers, first_rows}
-use Rattle.delta_sim.proofs.TargetsInside.{inits}
-use Rattle.delta_sim.proofs.TaskValues.{starts_get}
+use Rattle.sim_plans.proofs.TargetsInside.{inits}
+use Rattle.sim_plans.proofs.TaskValues.{starts_get}
 use Rattle.delta_sim.proofs.Waking.{cases_int}
 
 -- ---- deltas end where rounds settle

@@ -13,7 +13,7 @@ use Rattle.design_ir.specs.Values.{signal_form}
 use Rattle.design_ir.proofs.Equations.{split_at}
 use Rattle.comb_graph.specs.Orders.{IsCombBit, IsCombChain, IsLongest, IsOrder, NeedsNext, same_bit}
 use Rattle.comb_graph.proofs.Positions.{position_of}
-use Rattle.delta_sim.proofs.CombPorts.{get_front}
+use Rattle.sim_plans.proofs.CombPorts.{get_front}
 
 -- ---- a chain falls along an order
 

@@ -15,15 +15,15 @@ use Rattle.design_ir.specs.Designs.{IsDesign}
 use Rattle.design_ir.specs.PoolRules.{IsPool}
 use Rattle.design_ir.proofs.Equations.{place_below}
 use Rattle.design_ir.proofs.NumbersFit.{element}
-use Rattle.delta_sim.specs.declared.plan.Plan.{Plan}
-use Rattle.delta_sim.specs.Plans.{IsPlan, Wakes, readers_of}
-use Rattle.delta_sim.specs.Ports.{comb_ports, unclocked}
-use Rattle.delta_sim.specs.Reads.{block_reads, stands_in}
-use Rattle.delta_sim.specs.Settling.{IsWoken}
-use Rattle.delta_sim.specs.Woken.{changed, is_woken, is_port_woken, ports_woken, same_rows, woken}
-use Rattle.delta_sim.proofs.CombPorts.{few_ports, memory_there}
+use Rattle.sim_plans.specs.declared.plan.Plan.{Plan}
+use Rattle.sim_plans.specs.Plans.{IsPlan, Wakes, readers_of}
+use Rattle.sim_plans.specs.Ports.{comb_ports, unclocked}
+use Rattle.sim_plans.specs.Reads.{block_reads, stands_in}
+use Rattle.sim_plans.specs.Settling.{IsWoken}
+use Rattle.sim_plans.specs.Woken.{changed, is_woken, is_port_woken, ports_woken, same_rows, woken}
+use Rattle.sim_plans.proofs.CombPorts.{few_ports, memory_there}
 use Rattle.delta_sim.proofs.SameRows.{same_rows_self}
-use Rattle.delta_sim.proofs.Waits.{none_marked}
+use Rattle.sim_plans.proofs.Waits.{none_marked}
 
 -- ---- tests
 

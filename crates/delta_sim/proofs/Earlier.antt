@@ -13,7 +13,7 @@ use Rattle.design_ir.specs.Values.{form, num, value_step}
 use Rattle.design_ir.proofs.Equations.{standing, num_is}
 use Rattle.design_ir.proofs.Looks.{value_looks}
 use Rattle.design_ir.proofs.NumbersFit.{FitsSignals, num_fits}
-use Rattle.delta_sim.specs.Reading.{AreFirst, AreNumbers, IsReady}
+use Rattle.sim_plans.specs.Reading.{AreFirst, AreNumbers, IsReady}
 
 pub ready : (p : Pooled) (env nums : List ℤ) (k : ℕ) (e : Expr) → IsPool p → length env ≡ length p.signals → FitsSignals p env → k < length p.exprs → AreNumbers p env k nums → slice_get p.exprs k ≡ Some e → IsReady p env nums e
 ready p env nums k e rules signals fit there known is =

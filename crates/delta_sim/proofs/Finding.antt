@@ -19,13 +19,13 @@ use Rattle.design_ir.proofs.Equations.{standing, num_is}
 use Rattle.design_ir.proofs.NumbersFit.{FitsSignals, num_fits}
 use Rattle.delta_sim.specs.declared.evaluation.Visit.{Visit}
 use Rattle.delta_sim.specs.Evaluations.{Evaluating, AreFound, IsFinding, IsIdle, IsPath, IsRooted, IsVisited, behind, lowest, number_of, work}
-use Rattle.delta_sim.specs.Marks.{is_marked, AreMarked, Stays}
-use Rattle.delta_sim.specs.Reading.{IsReady}
-use Rattle.delta_sim.specs.Waiting.{Waiting}
-use Rattle.delta_sim.proofs.Items.{below_at}
-use Rattle.delta_sim.proofs.Programs.{below_more, value_named}
-use Rattle.delta_sim.proofs.Spreading.{all_stay}
-use Rattle.delta_sim.proofs.Waits.{none_marked}
+use Rattle.sim_plans.specs.Marks.{is_marked, AreMarked, Stays}
+use Rattle.sim_plans.specs.Reading.{IsReady}
+use Rattle.sim_plans.specs.Waiting.{Waiting}
+use Rattle.sim_plans.proofs.Items.{below_at}
+use Rattle.sim_plans.proofs.Programs.{below_more, value_named}
+use Rattle.sim_plans.proofs.Spreading.{all_stay}
+use Rattle.sim_plans.proofs.Waits.{none_marked}
 
 -- ---- marks
 

@@ -3,10 +3,10 @@ use Rattle.std.specs.Prelude.{◌≡◌, ◌≢◌, refl, ℕ, zero, suc, ◌+�
 use Rattle.std.proofs.Common.{sym, ◌∙◌, ap, arith, ⊎_elim}
 use Rattle.std.proofs.lemmas.Bool.{cases_eq}
 use Rattle.std.proofs.lemmas.List.{length-set, get_or-set_same, get_or-set_other}
-use Rattle.delta_sim.specs.declared.task.PortTask.{PortTask}
-use Rattle.delta_sim.specs.Plans.{WakesPorts}
-use Rattle.delta_sim.specs.Waiting.{Waiting, IsWaiting}
-use Rattle.delta_sim.specs.Woken.{same_rows}
+use Rattle.sim_plans.specs.declared.task.PortTask.{PortTask}
+use Rattle.sim_plans.specs.Plans.{WakesPorts}
+use Rattle.sim_plans.specs.Waiting.{Waiting, IsWaiting}
+use Rattle.sim_plans.specs.Woken.{same_rows}
 use Rattle.delta_sim.proofs.Settles.{idle_of}
 
 abbrev set_if : Bool → List Bool → ℕ → List Bool

@@ -30,20 +30,20 @@ use Rattle.fragment_laws.specs.SamePools.{AllSame}
 use Rattle.fragment_laws.proofs.GrowthLaws.{growth_keeps_meaning, pools_same}
 use Rattle.fragment_laws.proofs.GrowthNeeds.{growth_keeps_needs}
 use Rattle.fragment_laws.proofs.Twins.{all_left, all_right, driven_same, put_same, register_same}
-use Rattle.delta_sim.specs.declared.plan.Plan.{Plan}
-use Rattle.delta_sim.specs.declared.task.Task.{Task}
-use Rattle.delta_sim.specs.Driven.{numbers_of}
+use Rattle.sim_plans.specs.declared.plan.Plan.{Plan}
+use Rattle.sim_plans.specs.declared.task.Task.{Task}
+use Rattle.sim_plans.specs.Driven.{numbers_of}
 use Rattle.delta_sim.specs.Growth.{GoesOnWith, GrowthKeepsSimulators}
-use Rattle.delta_sim.specs.Plans.{IsPlan, IsClockedTask, IsCombTask, IsTable}
-use Rattle.delta_sim.specs.Reading.{AreThere}
-use Rattle.delta_sim.specs.Reads.{stands_in, stands_step, places, placing_step, statement_reads, choices_read, block_reads}
+use Rattle.sim_plans.specs.Plans.{IsPlan, IsClockedTask, IsCombTask, IsTable}
+use Rattle.sim_plans.specs.Reading.{AreThere}
+use Rattle.sim_plans.specs.Reads.{stands_in, stands_step, places, placing_step, statement_reads, choices_read, block_reads}
 use Rattle.delta_sim.specs.Standing.{Simulated, AreNumbersOf, IsSimOf, state_of}
-use Rattle.delta_sim.specs.Tasks.{AreFitting, AreTargetsOf, IsProgram, IsTask, block_targets, picked}
-use Rattle.delta_sim.proofs.CombPorts.{all_ports, port_rules}
-use Rattle.delta_sim.proofs.EdgesFit.{all_get}
-use Rattle.delta_sim.proofs.Marks.{usable_there}
-use Rattle.delta_sim.proofs.Picking.{picked_all}
-use Rattle.delta_sim.proofs.PlaceWalks.{there_at}
+use Rattle.sim_plans.specs.Tasks.{AreFitting, AreTargetsOf, IsProgram, IsTask, block_targets, picked}
+use Rattle.sim_plans.proofs.CombPorts.{all_ports, port_rules}
+use Rattle.sim_plans.proofs.EdgesFit.{all_get}
+use Rattle.sim_plans.proofs.Marks.{usable_there}
+use Rattle.sim_plans.proofs.Picking.{picked_all}
+use Rattle.sim_plans.proofs.PlaceWalks.{there_at}
 
 -- ---- statements over a pool that grew
 

@@ -7,11 +7,11 @@ use Rattle.design_ir.specs.Circuits.{Circuit, at, is_among}
 use Rattle.design_ir.specs.Designs.{IsDesign}
 use Rattle.design_ir.specs.Values.{signal_form}
 use Rattle.comb_graph.specs.Orders.{is_comb}
-use Rattle.delta_sim.specs.declared.plan.Plan.{Plan}
-use Rattle.delta_sim.specs.Plans.{IsPlan, outs_at, taken}
+use Rattle.sim_plans.specs.declared.plan.Plan.{Plan}
+use Rattle.sim_plans.specs.Plans.{IsPlan, outs_at, taken}
 use Rattle.delta_sim.specs.Standing.{AreNumbersOf}
-use Rattle.delta_sim.proofs.Jobs.{out_comb}
-use Rattle.delta_sim.proofs.Taking.{taken_at, taken_length, taken_other}
+use Rattle.sim_plans.proofs.Jobs.{out_comb}
+use Rattle.sim_plans.proofs.Taking.{taken_at, taken_length, taken_other}
 
 module _ (c : Circuit) (from env new : List ℤ) (ss : List ℕ) (of_from : AreNumbersOf c from) (of_env : AreNumbersOf c env) (e : new ≡ taken from ss env) where
   pub given_numbers : AreNumbersOf c new

@@ -21,12 +21,12 @@ use Rattle.design_ir.proofs.NumbersFit.{FitsSignals}
 use Rattle.comb_graph.specs.Laws.{FitsRows, FitsState}
 use Rattle.comb_graph.proofs.StepFits.{first_fits, step_fits}
 use Rattle.delta_sim.specs.Standing.{Simulated, state_of, AreNumbersOf, AreRowsOf, IsSimOf, Stands}
-use Rattle.delta_sim.proofs.DrivenLists.{append_turn}
+use Rattle.sim_plans.proofs.DrivenLists.{append_turn}
 use Rattle.delta_sim.proofs.Starts.{drop_get}
-use Rattle.delta_sim.proofs.EdgesFit.{clocks_length, toggles_length}
+use Rattle.sim_plans.proofs.EdgesFit.{clocks_length, toggles_length}
 use Rattle.delta_sim.proofs.PortsFit.{reads_length, rows_length}
-use Rattle.delta_sim.proofs.TargetsInside.{inits, inits_fit}
-use Rattle.delta_sim.proofs.WritesFit.{set_fits}
+use Rattle.sim_plans.proofs.TargetsInside.{inits, inits_fit}
+use Rattle.sim_plans.proofs.WritesFit.{set_fits}
 
 module _ (c : Circuit) (rules : IsPool c.pool) (design : IsDesign c) where
   -- ---- events

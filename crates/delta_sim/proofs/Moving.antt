@@ -5,11 +5,11 @@ use Rattle.std.proofs.Common.{sym, ◌∙◌, ap, subst, ⊎_elim}
 use Rattle.std.proofs.lemmas.Bool.{cases_eq}
 use Rattle.std.proofs.lemmas.List.{length-set, get_or-set_same, get_or-set_other}
 use Rattle.design_ir.specs.Circuits.{Circuit, at}
-use Rattle.delta_sim.specs.Plans.{Notes}
-use Rattle.delta_sim.specs.Settling.{nobody}
+use Rattle.sim_plans.specs.Plans.{Notes}
+use Rattle.sim_plans.specs.Settling.{nobody}
 use Rattle.delta_sim.specs.Standing.{Simulated, AreSignals, Tells}
-use Rattle.delta_sim.specs.Waiting.{Waiting, IsWaiting}
-use Rattle.delta_sim.proofs.Waits.{none_waiting, replicate_length}
+use Rattle.sim_plans.specs.Waiting.{Waiting, IsWaiting}
+use Rattle.sim_plans.proofs.Waits.{none_waiting, replicate_length}
 use Rattle.delta_sim.proofs.Waking.{cases_int}
 
 pub notes_none : (env : List ℤ) (was : List Bool) → Notes env env was was

@@ -12,11 +12,11 @@ use Rattle.design_ir.specs.Circuits.{Circuit, is_among, is_input, is_held}
 use Rattle.design_ir.specs.Designs.{IsDesign, share, drivers}
 use Rattle.design_ir.specs.Guards.{driven}
 use Rattle.comb_graph.specs.Orders.{is_comb}
-use Rattle.delta_sim.proofs.Agrees.{left, right}
-use Rattle.delta_sim.proofs.CombPorts.{all_ports, stands, port_alone, ports_found}
-use Rattle.delta_sim.proofs.PortValues.{distinct_rest}
-use Rattle.delta_sim.proofs.TaskValues.{not_held}
-use Rattle.delta_sim.proofs.Walks.{all_parts}
+use Rattle.sim_plans.proofs.Agrees.{left, right}
+use Rattle.sim_plans.proofs.CombPorts.{all_ports, stands, port_alone, ports_found}
+use Rattle.sim_plans.proofs.PortValues.{distinct_rest}
+use Rattle.sim_plans.proofs.TaskValues.{not_held}
+use Rattle.sim_plans.proofs.Walks.{all_parts}
 
 none_or : (a b : Bool) → a ≡ false → b ≡ false → (a || b) ≡ false
 none_or true b e h = e

@@ -15,11 +15,11 @@ use Rattle.design_ir.specs.Pools.{Pooled}
 use Rattle.design_ir.specs.Rows.{address, row_at, written}
 use Rattle.design_ir.specs.Steps.{clocked_read, clocked_reads, port_active, read_word, rows_after, write_row}
 use Rattle.design_ir.specs.Values.{num}
-use Rattle.delta_sim.specs.Ports.{AreKnown}
-use Rattle.delta_sim.specs.Tasks.{AreAmong, IsRead}
-use Rattle.delta_sim.proofs.PlaceWalks.{among_index, there_at}
+use Rattle.sim_plans.specs.Ports.{AreKnown}
+use Rattle.sim_plans.specs.Tasks.{AreAmong, IsRead}
+use Rattle.sim_plans.proofs.PlaceWalks.{among_index, there_at}
 use Rattle.delta_sim.proofs.Starts.{drop_get}
-use Rattle.delta_sim.proofs.Walks.{all_parts}
+use Rattle.sim_plans.proofs.Walks.{all_parts}
 
 -- ---- expressions whose integers are known
 

@@ -15,7 +15,7 @@ use Rattle.design_ir.specs.Steps.{reads_now, read_word, clocked_read, clocked_re
 use Rattle.design_ir.proofs.NumbersFit.{FitsSignals}
 use Rattle.comb_graph.specs.Laws.{FitsRows}
 use Rattle.comb_graph.proofs.WrittenRows.{read_of}
-use Rattle.delta_sim.proofs.WritesFit.{OfSignal, set_fits}
+use Rattle.sim_plans.proofs.WritesFit.{OfSignal, set_fits}
 
 module _ (c : Circuit) (env : List ℤ) (listed : List DomainId) where
   -- ---- how many numbers

@@ -19,24 +19,24 @@ use Rattle.design_ir.proofs.NumbersFit.{FitsSignals, element}
 use Rattle.design_ir.proofs.PutLaws.{put_other}
 use Rattle.comb_graph.specs.Orders.{is_comb}
 use Rattle.comb_graph.proofs.DeltaLaws.{delta_other, starts_length}
-use Rattle.delta_sim.specs.declared.plan.Plan.{Plan}
-use Rattle.delta_sim.specs.declared.task.PortTask.{PortTask}
-use Rattle.delta_sim.specs.declared.task.Task.{Task}
-use Rattle.delta_sim.specs.Driven.{numbers_of}
-use Rattle.delta_sim.specs.Plans.{IsPlan, IsCombTask, Wakes, WakesPorts, IsUntouched, Rests, init_at, begun, readers_of}
-use Rattle.delta_sim.specs.Reads.{block_reads, stands_in}
+use Rattle.sim_plans.specs.declared.plan.Plan.{Plan}
+use Rattle.sim_plans.specs.declared.task.PortTask.{PortTask}
+use Rattle.sim_plans.specs.declared.task.Task.{Task}
+use Rattle.sim_plans.specs.Driven.{numbers_of}
+use Rattle.sim_plans.specs.Plans.{IsPlan, IsCombTask, Wakes, WakesPorts, IsUntouched, Rests, init_at, begun, readers_of}
+use Rattle.sim_plans.specs.Reads.{block_reads, stands_in}
 use Rattle.delta_sim.specs.Standing.{AreRowsOf}
-use Rattle.delta_sim.specs.Tasks.{AreAmong, picked}
-use Rattle.delta_sim.specs.Woken.{AreChanged, same_rows}
-use Rattle.delta_sim.proofs.Agrees.{num_agrees, put_agrees}
-use Rattle.delta_sim.proofs.CombPorts.{memory_there, port_at, port_fits, word_there}
-use Rattle.delta_sim.proofs.Jobs.{TaskOut, PortOut, PortAt, out_cases, port_of, port_word, driven_by}
+use Rattle.sim_plans.specs.Tasks.{AreAmong, picked}
+use Rattle.sim_plans.specs.Woken.{AreChanged, same_rows}
+use Rattle.sim_plans.proofs.Agrees.{num_agrees, put_agrees}
+use Rattle.sim_plans.proofs.CombPorts.{memory_there, port_at, port_fits, word_there}
+use Rattle.sim_plans.proofs.Jobs.{TaskOut, PortOut, PortAt, out_cases, port_of, port_word, driven_by}
 use Rattle.delta_sim.proofs.SameRows.{same_rows_is}
-use Rattle.delta_sim.proofs.Frames.{put_frame}
-use Rattle.delta_sim.proofs.PlaceWalks.{among_index, there_at}
-use Rattle.delta_sim.proofs.TaskValues.{delta_at, not_held, starts_init}
+use Rattle.sim_plans.proofs.Frames.{put_frame}
+use Rattle.sim_plans.proofs.PlaceWalks.{among_index, there_at}
+use Rattle.sim_plans.proofs.TaskValues.{delta_at, not_held, starts_init}
 use Rattle.delta_sim.proofs.Waking.{cases_int}
-use Rattle.delta_sim.proofs.WritesFit.{OfSignal, set_fits}
+use Rattle.sim_plans.proofs.WritesFit.{OfSignal, set_fits}
 
 all_below : (count n : ℕ) (list es : List ExprId) → AllByRecursion (λ (e : ExprId). e.0 < count) list → count ≤ n → AreAmong list es → AllByRecursion (λ (e : ExprId). e.0 < n) es
 all_below count n list [] there few h = tt

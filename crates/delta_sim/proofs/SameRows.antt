@@ -14,9 +14,9 @@ use Rattle.design_ir.specs.Pools.{Pooled}
 use Rattle.design_ir.specs.Rows.{address, row_at, written}
 use Rattle.design_ir.specs.Steps.{port_active, write_row}
 use Rattle.design_ir.proofs.Equations.{place_below}
-use Rattle.delta_sim.specs.Ports.{AreNoted, IsOther}
-use Rattle.delta_sim.specs.Woken.{same_rows}
-use Rattle.delta_sim.proofs.Settling.{same_lists}
+use Rattle.sim_plans.specs.Ports.{AreNoted, IsOther}
+use Rattle.sim_plans.specs.Woken.{same_rows}
+use Rattle.sim_plans.proofs.Settling.{same_lists}
 
 and_left : (a b : Bool) → (a && b) ≡ true → a ≡ true
 and_left true b e = refl

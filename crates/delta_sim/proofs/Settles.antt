@@ -10,16 +10,16 @@ use Rattle.design_ir.specs.Histories.{DeltasFrom}
 use Rattle.design_ir.specs.PoolRules.{IsPool}
 use Rattle.design_ir.specs.Settled.{delta, Settled}
 use Rattle.comb_graph.proofs.DeltaLaws.{delta_length}
-use Rattle.delta_sim.specs.declared.plan.Plan.{Plan}
-use Rattle.delta_sim.specs.Plans.{IsPlan, Rests, Wakes, readers_of}
-use Rattle.delta_sim.specs.Settling.{EndsIn, IsWoken}
-use Rattle.delta_sim.specs.Waiting.{Waiting, IsWaiting}
-use Rattle.delta_sim.specs.Woken.{woken, one_if_some, deltas_from, runs_from, deltas_of, runs_of}
+use Rattle.sim_plans.specs.declared.plan.Plan.{Plan}
+use Rattle.sim_plans.specs.Plans.{IsPlan, Rests, Wakes, readers_of}
+use Rattle.sim_plans.specs.Settling.{EndsIn, IsWoken}
+use Rattle.sim_plans.specs.Waiting.{Waiting, IsWaiting}
+use Rattle.sim_plans.specs.Woken.{woken, one_if_some, deltas_from, runs_from, deltas_of, runs_of}
 use Rattle.delta_sim.proofs.Counting.{woken_count, woken_same}
 use Rattle.delta_sim.proofs.SameRows.{no_change}
-use Rattle.delta_sim.proofs.Settling.{same_lists}
-use Rattle.delta_sim.proofs.WritesFit.{either}
-use Rattle.delta_sim.proofs.Waits.{none_marked, none_counted, all_false}
+use Rattle.sim_plans.proofs.Settling.{same_lists}
+use Rattle.sim_plans.proofs.WritesFit.{either}
+use Rattle.sim_plans.proofs.Waits.{none_marked, none_counted, all_false}
 
 -- none waits
 abbrev pub IsIdle : List Bool → Type 0

@@ -4,9 +4,9 @@ use Rattle.std.proofs.Common.{sym, ◌∙◌, ap, arith, subst, inl, inr, ⊎_el
 use Rattle.std.proofs.lemmas.Bool.{cases_eq, cases_lt, false≢true}
 use Rattle.std.proofs.lemmas.List.{get_or_past, get_or-set_same, get_or-set_other}
 use Rattle.design_ir.specs.Circuits.{at, is_among}
-use Rattle.delta_sim.specs.Given.{marked}
-use Rattle.delta_sim.specs.Plans.{readers_of, IsTable, Wakes}
-use Rattle.delta_sim.proofs.Marks.{marked_at, marked_length}
+use Rattle.sim_plans.specs.Given.{marked}
+use Rattle.sim_plans.specs.Plans.{readers_of, IsTable, Wakes}
+use Rattle.sim_plans.proofs.Marks.{marked_at, marked_length}
 
 pub cases_int : (x y : ℤ) → (x ≡ y) ⊎ (x ≢ y)
 cases_int (pos m) (pos n) = ⊎_elim (λ e. inl (ap pos e)) (λ e. inr (λ f. e (ap unsigned_abs f))) (cases_eq m n)

@@ -6,9 +6,9 @@ use Rattle.design_ir.specs.Named.{named}
 use Rattle.design_ir.specs.Pools.{Pooled}
 use Rattle.design_ir.specs.Values.{num}
 use Rattle.delta_sim.specs.declared.evaluation.Visit.{Visit}
-use Rattle.delta_sim.specs.Marks.{is_marked, AreMarked}
-use Rattle.delta_sim.specs.Settling.{nobody}
-use Rattle.delta_sim.specs.Waiting.{Waiting}
+use Rattle.sim_plans.specs.Marks.{is_marked, AreMarked}
+use Rattle.sim_plans.specs.Settling.{nobody}
+use Rattle.sim_plans.specs.Waiting.{Waiting}
 
 -- how many expressions a simulator has room to find the integers of: as many as a pool takes of those that are asked for
 abbrev pub eval_room : ℕ

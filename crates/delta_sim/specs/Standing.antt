@@ -12,11 +12,11 @@ use Rattle.design_ir.proofs.NumbersFit.{FitsSignals}
 use Rattle.comb_graph.specs.Laws.{FitsRows}
 use Rattle.comb_graph.specs.Orders.{is_comb, IsLongest}
 use Rattle.delta_sim.specs.declared.settle.Counts.{Counts}
-use Rattle.delta_sim.specs.declared.plan.Plan.{Plan}
-use Rattle.delta_sim.specs.Plans.{IsPlan}
-use Rattle.delta_sim.specs.Settling.{AreCounts, nobody}
-use Rattle.delta_sim.specs.Tasks.{AreFitting}
-use Rattle.delta_sim.specs.Waiting.{Waiting, IsWaiting}
+use Rattle.sim_plans.specs.declared.plan.Plan.{Plan}
+use Rattle.sim_plans.specs.Plans.{IsPlan}
+use Rattle.sim_plans.specs.Settling.{AreCounts, nobody}
+use Rattle.sim_plans.specs.Tasks.{AreFitting}
+use Rattle.sim_plans.specs.Waiting.{Waiting, IsWaiting}
 
 -- the numbers of all signals, those that the state holds and those of the settled environment; the rows of each memory;
 -- how many deltas and runs the last event took; the signals that it moved; and what the simulator works with, which only

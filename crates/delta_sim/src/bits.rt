@@ -3,7 +3,7 @@ ghost use Rattle.std.specs.Prelude.{◌≡◌, ◌+◌, ◌<◌, ◌≤◌, ◌^
 ghost use Rattle.amh_bits.specs.Patterns.{number, pattern, nat_bit};
 ghost use Rattle.design_ir.specs.Put.{with_bit, put_bit, put_place};
 ghost use Rattle.design_ir.specs.Values.{signal_form};
-ghost use Rattle.delta_sim.specs.Reading.{IsInside};
+ghost use Rattle.sim_plans.specs.Reading.{IsInside};
 
 use amh_bits::{Bits, Int};
 use design_ir::{Design, SigId};

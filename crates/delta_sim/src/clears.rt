@@ -1,40 +1,13 @@
 // What asynchronous resets leave.
-ghost use Rattle.std.specs.Prelude.{◌≡◌, ◌<◌, ℕ, length, fold, slice_get, Some, IfOk};
+ghost use Rattle.std.specs.Prelude.{◌≡◌, ◌<◌, ℕ, length, fold, slice_get, Some};
 ghost use Rattle.design_ir.specs.declared.process.DesignProcess.{DesignProcess};
 ghost use Rattle.design_ir.specs.Steps.{is_cleared, cleared};
-ghost use Rattle.delta_sim.specs.Plans.{IsPlan, is_clearable, clearable_processes};
+ghost use Rattle.sim_plans.specs.Plans.{IsPlan};
 
 use crate::clocks::{is_reset, reset_all};
-use crate::plan::Plan;
 use amh_bits::Int;
-use amh_host::{Items, NoMemory};
-use design_ir::{Design, DomainId, Exprs};
-use std::alloc::Global;
-
-/// The clocked processes whose domains are reset asynchronously.
-pub fn clearable_processes(alloc: Global, design: &Design) -> Result<Items<usize>, NoMemory>
-    ensures { IfOk result (λ list. list ≡ clearable_processes design.now) }
-{
-    let mut list = Items::new(alloc);
-    for k in 0..design.processes().len() {
-        if is_clearable(design, k) {
-            list.push(k)?;
-        }
-    }
-    Ok(list)
-}
-
-// Whether a process is clocked, and its domain is reset asynchronously.
-fn is_clearable(design: &Design, k: usize) -> bool
-    requires { k < length design.now.processes }
-    ensures { result ≡ is_clearable design.now k }
-{
-    let p = design.processes().get(k);
-    match p.domain {
-        Some(d) => design.domain(d).async_reset,
-        None => false,
-    }
-}
+use design_ir::{Design, DomainId};
+use sim_plans::plan::Plan;
 
 /// Gives the registers of domains whose asynchronous resets are 1 their inits.
 pub fn clear_all(design: &Design, plan: &Plan, held: &mut [Int])

@@ -8,21 +8,21 @@ ghost use Rattle.design_ir.specs.Circuits.{at};
 ghost use Rattle.design_ir.specs.Put.{put};
 ghost use Rattle.design_ir.specs.Steps.{is_before_edge, is_active, is_reset, reset_to, reset_all, clocked, clocked_reads, rows_after, toggle};
 ghost use Rattle.design_ir.proofs.NumbersFit.{FitsSignals};
-ghost use Rattle.delta_sim.specs.Driven.{numbers_of};
-ghost use Rattle.delta_sim.specs.Plans.{IsPlan, HasClocked};
-ghost use Rattle.delta_sim.specs.Settling.{nobody};
+ghost use Rattle.sim_plans.specs.Driven.{numbers_of};
+ghost use Rattle.sim_plans.specs.Plans.{IsPlan, HasClocked};
+ghost use Rattle.sim_plans.specs.Settling.{nobody};
 ghost use Rattle.delta_sim.specs.Standing.{AreRowsOf};
-ghost use Rattle.delta_sim.specs.Tasks.{AreFitting};
-ghost use Rattle.delta_sim.specs.Woken.{AreChanged};
+ghost use Rattle.sim_plans.specs.Tasks.{AreFitting};
+ghost use Rattle.sim_plans.specs.Woken.{AreChanged};
 
-use crate::agenda::Agenda;
-use crate::compute::compute;
-use crate::plan::Plan;
 use crate::ports::clock_memories;
-use crate::rows::Rows;
 use crate::statements::{is_zero, put_task};
 use amh_bits::Int;
 use design_ir::{Design, DesignProcess, Domain, DomainId, Exprs, SigId};
+use sim_plans::agenda::Agenda;
+use sim_plans::compute::compute;
+use sim_plans::plan::Plan;
+use sim_plans::rows::Rows;
 
 /// What is held after an edge of these domains, and the rows then, in place of those before it, by which all is read.
 pub fn after_edge(

@@ -5,17 +5,17 @@ ghost use Rattle.design_ir.specs.Circuits.{State, at, is_among};
 ghost use Rattle.design_ir.specs.Settled.{delta};
 ghost use Rattle.design_ir.proofs.NumbersFit.{FitsSignals};
 ghost use Rattle.comb_graph.specs.Laws.{FitsState};
-ghost use Rattle.delta_sim.specs.Plans.{IsPlan, IsTable, Notes, Rests, Wakes, IsUntouched, outs_at};
+ghost use Rattle.sim_plans.specs.Plans.{IsPlan, IsTable, Notes, Rests, Wakes, IsUntouched, outs_at};
 ghost use Rattle.delta_sim.specs.Standing.{AreRowsOf};
-ghost use Rattle.delta_sim.specs.Tasks.{AreFitting};
+ghost use Rattle.sim_plans.specs.Tasks.{AreFitting};
 
-use crate::agenda::Agenda;
-use crate::plan::Plan;
-use crate::rows::Rows;
 use crate::run::run;
 use crate::wake::take;
 use amh_bits::Int;
 use design_ir::{Design, Exprs};
+use sim_plans::agenda::Agenda;
+use sim_plans::plan::Plan;
+use sim_plans::rows::Rows;
 
 /// Runs the tasks that wait, all from the same numbers; then their signals take what they came to, the tasks wait that
 /// read a signal whose number changed, and that signal is noted.

@@ -6,13 +6,13 @@ ghost use Rattle.design_ir.specs.Named.{AllBelow, named};
 ghost use Rattle.design_ir.specs.Values.{num};
 ghost use Rattle.design_ir.proofs.NumbersFit.{FitsSignals};
 ghost use Rattle.delta_sim.specs.Evaluations.{number_of, AreFound, HasRoom, IsFinding, IsIdle};
-ghost use Rattle.delta_sim.specs.Marks.{is_marked, AreMarked};
+ghost use Rattle.sim_plans.specs.Marks.{is_marked, AreMarked};
 
-use crate::agenda::Agenda;
-use crate::expressions::value;
 use amh_bits::Int;
 use amh_host::NoMemory;
 use design_ir::{Design, Expr, ExprId, Exprs};
+use sim_plans::agenda::Agenda;
+use sim_plans::expressions::value;
 use std::alloc::Global;
 use std::marker::Model;
 

@@ -3,19 +3,19 @@ ghost use Rattle.std.specs.Prelude.{◌≡◌, ◌<◌, ◌≤◌, [], length, s
 ghost use Rattle.design_ir.specs.Legal.{IsLegal};
 ghost use Rattle.design_ir.specs.Steps.{moved, step};
 ghost use Rattle.design_ir.proofs.NumbersFit.{FitsSignals};
-ghost use Rattle.delta_sim.specs.Plans.{IsPlan};
-ghost use Rattle.delta_sim.specs.Settling.{nobody};
+ghost use Rattle.sim_plans.specs.Plans.{IsPlan};
+ghost use Rattle.sim_plans.specs.Settling.{nobody};
 ghost use Rattle.delta_sim.specs.Standing.{AreRowsOf, state_of};
-ghost use Rattle.delta_sim.specs.Tasks.{AreFitting};
-ghost use Rattle.delta_sim.specs.Woken.{AreChanged};
+ghost use Rattle.sim_plans.specs.Tasks.{AreFitting};
+ghost use Rattle.sim_plans.specs.Woken.{AreChanged};
 
-use crate::agenda::Agenda;
 use crate::clears::clear_all;
 use crate::clocks::after_edge;
-use crate::plan::Plan;
-use crate::rows::Rows;
 use amh_bits::Int;
 use design_ir::{Design, Event, Exprs};
+use sim_plans::agenda::Agenda;
+use sim_plans::plan::Plan;
+use sim_plans::rows::Rows;
 
 /// Puts what is held after an event, and the rows then, in place of those before it, and notes which memories have other
 /// rows.

@@ -3,18 +3,18 @@ ghost use Rattle.std.specs.Prelude.{◌≡◌, ◌+◌, ◌<◌, ℕ, false, len
 ghost use Rattle.std.specs.List.{AllByRecursion};
 ghost use Rattle.design_ir.specs.Circuits.{at};
 ghost use Rattle.comb_graph.specs.Orders.{is_comb};
-ghost use Rattle.delta_sim.specs.Driven.{numbers_of};
-ghost use Rattle.delta_sim.specs.Plans.{IsPlan, taken};
+ghost use Rattle.sim_plans.specs.Driven.{numbers_of};
+ghost use Rattle.sim_plans.specs.Plans.{IsPlan, taken};
 ghost use Rattle.delta_sim.specs.Standing.{AreNumbersOf, AreRowsOf};
-ghost use Rattle.delta_sim.specs.Tasks.{AreFitting};
+ghost use Rattle.sim_plans.specs.Tasks.{AreFitting};
 
-use crate::plan::Plan;
-use crate::rows::Rows;
 use crate::run::run;
 use amh_bits::Int;
 use amh_host::NoMemory;
 use comb_graph::RankedBit;
 use design_ir::{Design, Exprs, SigId};
+use sim_plans::plan::Plan;
+use sim_plans::rows::Rows;
 use std::alloc::Global;
 
 /// Runs each task once, in the order of the last of its bits, and gives its signals what it comes to. Where no task

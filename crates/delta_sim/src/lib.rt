@@ -1,56 +1,36 @@
 //! The simulator of a design: the numbers of its signals and the rows of its memories, from event to event.
 //!
 //! A `Sim` stands for a list of legal events (specs/Standing.antt): its numbers are those of the settled environment
-//! behind them, and its rows those of the state, as design_ir defines both. What is needed again and again is worked out
-//! once (specs/Plans.antt): tasks, each some statements of a process or a combinational read port, with the expressions
-//! that stand in them in order (specs/Tasks.antt), the expressions of memory ports (specs/Ports.antt), and who reads each
-//! signal (specs/Reads.antt). An event changes what is held, and rows; the tasks that read what changed wait, and run in
+//! behind them, and its rows those of the state, as design_ir defines both. What is needed again and again was worked out
+//! once, by sim_plans. An event changes what is held, and rows; the tasks that read what changed wait, and run in
 //! the next delta, all from the numbers before it; what they change wakes others, until none waits. How many deltas there
-//! were in which a process or a port ran, and how often one ran, is counted (specs/Woken.antt). No event takes memory, and
-//! none copies rows.
+//! were in which a process or a port ran, and how often one ran, is counted (specs/Woken.antt of sim_plans). No event takes
+//! memory, and none copies rows.
 //!
 //! An expression that is put to a simulator is evaluated in the settled environment: what stands in it is found behind
 //! what it names (specs/Evaluations.antt), in room that nothing is left in. The design may grow by expressions meanwhile
 //! (specs/Growth.antt).
 #![tactic(auto)]
 
-mod agenda;
 mod bits;
 mod clears;
 mod clocks;
-mod compile;
-mod compute;
 mod delta;
-mod driven;
 mod evaluation;
 mod event;
-mod expressions;
 mod first;
-mod given;
-mod group;
 mod growth;
 mod laws;
 mod place;
-mod plan;
-mod port_exprs;
-mod port_tasks;
 mod ports;
 mod room;
-mod roots;
-mod rows;
 mod run;
 mod settle;
 mod sim;
-mod spread;
 mod statements;
-mod tables;
-mod targets;
-mod task;
 mod wake;
 mod write;
-mod written;
 
-pub use compute::overwrite;
 pub use growth::growth_keeps_simulators;
 pub use laws::words_are_rows;
 pub use settle::Counts;

@@ -4,14 +4,14 @@ ghost use Rattle.design_ir.specs.Named.{AllBelow};
 ghost use Rattle.design_ir.specs.Circuits.{is_among};
 ghost use Rattle.design_ir.specs.Targets.{is_target};
 ghost use Rattle.design_ir.specs.Values.{form, signal_form};
-ghost use Rattle.delta_sim.specs.Tasks.{IsRead, places_of};
-ghost use Rattle.delta_sim.specs.Walked.{place_of, IsWalked, signal_place, window, item_at};
+ghost use Rattle.sim_plans.specs.Tasks.{IsRead, places_of};
+ghost use Rattle.sim_plans.specs.Walked.{place_of, IsWalked, signal_place, window, item_at};
 
 use crate::bits::SignalBit;
-use crate::expressions::size_of;
-use crate::task::Task;
 use amh_bits::Int;
 use design_ir::{Design, Expr, ExprId, Exprs, Ids, SigId};
+use sim_plans::expressions::size_of;
+use sim_plans::task::Task;
 
 /// Where a walk through a target goes on, or ends.
 pub enum Walk {

@@ -6,23 +6,23 @@ ghost use Rattle.design_ir.specs.Designs.{IsMemory, IsWritePort};
 ghost use Rattle.design_ir.specs.Rows.{row_at};
 ghost use Rattle.design_ir.specs.Steps.{clocked_read, clocked_reads, port_active, read_word, reads_now, rows_after, shown_through, write_row, writes_through};
 ghost use Rattle.design_ir.proofs.NumbersFit.{FitsSignals};
-ghost use Rattle.delta_sim.specs.Plans.{IsPlan};
-ghost use Rattle.delta_sim.specs.Ports.{AreKnown, AreNoted, IsOther, port_exprs, read_exprs, write_exprs};
-ghost use Rattle.delta_sim.specs.Settling.{nobody};
-ghost use Rattle.delta_sim.specs.Tasks.{AreFitting};
-ghost use Rattle.delta_sim.specs.Woken.{AreChanged, same_rows};
+ghost use Rattle.sim_plans.specs.Plans.{IsPlan};
+ghost use Rattle.sim_plans.specs.Ports.{AreKnown, AreNoted, IsOther, port_exprs, read_exprs, write_exprs};
+ghost use Rattle.sim_plans.specs.Settling.{nobody};
+ghost use Rattle.sim_plans.specs.Tasks.{AreFitting};
+ghost use Rattle.sim_plans.specs.Woken.{AreChanged, same_rows};
 
-use crate::agenda::Agenda;
 use crate::clocks::is_active;
-use crate::compute::compute;
-use crate::plan::Plan;
-use crate::rows::Rows;
 use crate::statements::is_zero;
 use crate::wake::differs;
-use crate::written::{at, written};
 use amh_bits::Int;
 use amh_host::Text;
 use design_ir::{Design, DomainId, Exprs, MemRead, MemWrite, Memory};
+use sim_plans::agenda::Agenda;
+use sim_plans::compute::compute;
+use sim_plans::plan::Plan;
+use sim_plans::rows::Rows;
+use sim_plans::written::{at, written};
 
 /// What read ports take from the rows, and then what write ports leave in them, all read before the edge. Memories whose
 /// rows changed are noted.

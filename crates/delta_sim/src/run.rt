@@ -7,19 +7,19 @@ ghost use Rattle.design_ir.specs.Put.{put};
 ghost use Rattle.design_ir.specs.Rows.{row_at};
 ghost use Rattle.design_ir.specs.Settled.{delta};
 ghost use Rattle.design_ir.proofs.NumbersFit.{FitsSignals};
-ghost use Rattle.delta_sim.specs.Driven.{numbers_of};
-ghost use Rattle.delta_sim.specs.Plans.{begun, init_at, outs_at, IsCombTask, IsPlan};
+ghost use Rattle.sim_plans.specs.Driven.{numbers_of};
+ghost use Rattle.sim_plans.specs.Plans.{begun, init_at, outs_at, IsCombTask, IsPlan};
 ghost use Rattle.delta_sim.specs.Standing.{AreRowsOf};
-ghost use Rattle.delta_sim.specs.Tasks.{AreAmong, AreFitting, IsProgram, picked};
+ghost use Rattle.sim_plans.specs.Tasks.{AreAmong, AreFitting, IsProgram, picked};
 
-use crate::compute::compute;
-use crate::plan::Plan;
-use crate::rows::Rows;
 use crate::statements::put_task;
-use crate::task::{PortTask, Task};
-use crate::written::at;
 use amh_bits::Int;
 use design_ir::{Design, Exprs, SigId};
+use sim_plans::compute::compute;
+use sim_plans::plan::Plan;
+use sim_plans::rows::Rows;
+use sim_plans::task::{PortTask, Task};
+use sim_plans::written::at;
 
 /// Runs a task: what it drives has what a delta leaves there, and nothing else changes.
 pub fn run(

@@ -4,19 +4,19 @@ ghost use Rattle.design_ir.specs.Histories.{DeltasFrom};
 ghost use Rattle.design_ir.specs.Settled.{Settled};
 ghost use Rattle.design_ir.proofs.NumbersFit.{FitsSignals};
 ghost use Rattle.comb_graph.specs.Laws.{FitsState};
-ghost use Rattle.delta_sim.specs.Plans.{IsPlan, Notes, Rests};
-ghost use Rattle.delta_sim.specs.Settling.{EndsIn, AreCounts, IsWoken, nobody};
+ghost use Rattle.sim_plans.specs.Plans.{IsPlan, Notes, Rests};
+ghost use Rattle.sim_plans.specs.Settling.{EndsIn, AreCounts, IsWoken, nobody};
 ghost use Rattle.delta_sim.specs.Standing.{AreRowsOf, state_of};
-ghost use Rattle.delta_sim.specs.Tasks.{AreFitting};
-ghost use Rattle.delta_sim.specs.Woken.{one_if_some};
+ghost use Rattle.sim_plans.specs.Tasks.{AreFitting};
+ghost use Rattle.sim_plans.specs.Woken.{one_if_some};
 
-use crate::agenda::Agenda;
 use crate::delta::delta;
-use crate::plan::Plan;
-use crate::rows::Rows;
 use amh_bits::Int;
 use amh_host::Steps;
 use design_ir::{Design, Exprs};
+use sim_plans::agenda::Agenda;
+use sim_plans::plan::Plan;
+use sim_plans::rows::Rows;
 use std::sync::ledger::Ledger;
 
 /// How many deltas there were in which a process or a read port without a clock ran, and how often they ran.

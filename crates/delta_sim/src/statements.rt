@@ -1,5 +1,5 @@
 // What statements leave.
-ghost use Rattle.std.specs.Prelude.{◌≡◌, ◌<◌, true, length, slice_index_or};
+ghost use Rattle.std.specs.Prelude.{◌≡◌, ◌<◌, true, length};
 ghost use Rattle.std.specs.List.{AllByRecursion};
 ghost use Rattle.shape_rules.specs.Operators.{is_zero};
 ghost use Rattle.design_ir.specs.Circuits.{is_among};
@@ -9,12 +9,12 @@ ghost use Rattle.design_ir.specs.Statements.{statement_of};
 ghost use Rattle.design_ir.specs.Trees.{statements};
 ghost use Rattle.design_ir.specs.Values.{num};
 ghost use Rattle.design_ir.proofs.NumbersFit.{FitsSignals};
-ghost use Rattle.delta_sim.specs.Tasks.{IsRead, AreAmong, AreTargetsOf, statement_targets, choices_targets, block_targets, picked, places_of};
+ghost use Rattle.sim_plans.specs.Tasks.{IsRead, AreAmong, AreTargetsOf, statement_targets, choices_targets, block_targets, picked, places_of};
 
-use crate::task::Task;
 use crate::write::put_target;
 use amh_bits::Int;
 use design_ir::{Arms, Design, ExprId, Stmt, Stmts};
+use sim_plans::task::{Task, statement};
 
 /// Carries out the statements of a task.
 pub fn put_task(
@@ -37,14 +37,6 @@ pub fn put_task(
     for i in task.statements.as_slice() {
         put_stmt(design, task, env, nums, statement(all, *i), cur);
     }
-}
-
-/// One of these statements.
-pub fn statement(all: &[Stmt], i: usize) -> &Stmt
-    requires { i < length all.now }
-    ensures { result.now ≡ slice_index_or all.now i result.now }
-{
-    &all[i]
 }
 
 // Carries out statements one after another.

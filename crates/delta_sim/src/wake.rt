@@ -2,14 +2,14 @@
 ghost use Rattle.std.specs.Prelude.{◌≡◌, ◌≢◌, ◌+◌, ◌<◌, ◌≤◌, ◌^◌, ℕ, true, false, length, slice_set};
 ghost use Rattle.std.specs.List.{AllByRecursion};
 ghost use Rattle.design_ir.specs.Circuits.{at};
-ghost use Rattle.delta_sim.specs.Driven.{numbers_of};
-ghost use Rattle.delta_sim.specs.Given.{marked};
-ghost use Rattle.delta_sim.specs.Plans.{IsTable, Notes, Wakes, WakesPorts, taken};
+ghost use Rattle.sim_plans.specs.Driven.{numbers_of};
+ghost use Rattle.sim_plans.specs.Given.{marked};
+ghost use Rattle.sim_plans.specs.Plans.{IsTable, Notes, Wakes, WakesPorts, taken};
 
-use crate::agenda::Agenda;
-use crate::plan::Plan;
 use amh_bits::Int;
 use design_ir::SigId;
+use sim_plans::agenda::Agenda;
+use sim_plans::plan::Plan;
 
 /// These signals take their numbers from others. Those whose number is another one now are noted, and what reads one of
 /// them waits: its tasks, and its processes.

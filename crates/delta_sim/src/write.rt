@@ -6,13 +6,13 @@ ghost use Rattle.design_ir.specs.Put.{put_number, put_bits};
 ghost use Rattle.design_ir.specs.Targets.{is_target, target_bits};
 ghost use Rattle.design_ir.specs.Values.{form, signal_form};
 ghost use Rattle.design_ir.proofs.NumbersFit.{FitsSignals};
-ghost use Rattle.delta_sim.specs.Tasks.{IsRead, places_of};
+ghost use Rattle.sim_plans.specs.Tasks.{IsRead, places_of};
 
 use crate::bits::{bit_at, put_place};
 use crate::place::place_at;
-use crate::task::Task;
 use amh_bits::Int;
 use design_ir::{Design, Expr, ExprId, Exprs, SigId};
+use sim_plans::task::Task;
 
 /// Writes the low bits of an integer into a target, as many as it has.
 pub fn put_target(

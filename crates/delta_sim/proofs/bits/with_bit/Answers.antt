@@ -1,5 +1,5 @@
 use Rattle.std.proofs.Common.{arith}
-use Rattle.delta_sim.proofs.OneBit.{written, written_below, written_fits}
+use Rattle.sim_plans.proofs.OneBit.{written, written_below, written_fits}
 use Rattle.delta_sim.proofs.bits.with_bit.Goals as goal
 
 pub overflow_mul-result-2 : goal.overflow_mul-result-2

@@ -1,11 +1,11 @@
 use Rattle.std.proofs.Common.{◌≡◌, ◌∙◌, sym, ap, subst, Some, slice_get}
 use Rattle.design_ir.specs.Guards.{driven}
 use Rattle.design_ir.specs.Steps.{reset_all, cleared}
-use Rattle.delta_sim.specs.declared.task.Task.{Task}
-use Rattle.delta_sim.specs.Driven.{numbers_of}
-use Rattle.delta_sim.proofs.Clearing.{clear_is}
-use Rattle.delta_sim.proofs.Clocking.{place_of}
-use Rattle.delta_sim.proofs.ResetLaws.{resets_like}
+use Rattle.sim_plans.specs.declared.task.Task.{Task}
+use Rattle.sim_plans.specs.Driven.{numbers_of}
+use Rattle.sim_plans.proofs.Clearing.{clear_is}
+use Rattle.sim_plans.proofs.Clocking.{place_of}
+use Rattle.sim_plans.proofs.ResetLaws.{resets_like}
 use Rattle.delta_sim.proofs.clears.clear.Goals as goal
 
 pub get-requires : goal.get-requires

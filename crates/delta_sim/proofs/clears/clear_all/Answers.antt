@@ -5,9 +5,9 @@ use Rattle.design_ir.specs.Guards.{driven}
 use Rattle.design_ir.specs.Circuits.{at, is_among}
 use Rattle.design_ir.proofs.ClearedLaws.{clears_length}
 use Rattle.design_ir.proofs.NumbersFit.{element}
-use Rattle.delta_sim.proofs.Clearing.{clears_same, clear_keeps, cleared_number, number_is, clearable_alone, clearable_below}
-use Rattle.delta_sim.proofs.EdgesFit.{all_get}
-use Rattle.delta_sim.proofs.Turns.{fold_turn, fold_end, all_here, any_default}
+use Rattle.sim_plans.proofs.Clearing.{clears_same, clear_keeps, cleared_number, number_is, clearable_alone, clearable_below}
+use Rattle.sim_plans.proofs.EdgesFit.{all_get}
+use Rattle.sim_plans.proofs.Turns.{fold_turn, fold_end, all_here, any_default}
 use Rattle.delta_sim.proofs.clears.clear_all.Goals as goal
 
 pub loop-k-init : goal.loop-k-init

@@ -3,7 +3,7 @@ use Rattle.std.specs.List.{AllByRecursion}
 use Rattle.design_ir.specs.declared.process.DesignProcess.{DesignProcess}
 use Rattle.design_ir.specs.Guards.{driven}
 use Rattle.design_ir.specs.Circuits.{at, is_among}
-use Rattle.delta_sim.proofs.Clearing.{cleared_number}
+use Rattle.sim_plans.proofs.Clearing.{cleared_number}
 use Rattle.delta_sim.proofs.clears.clear_all.Given as goal
 
 abbrev pub invariant-loop-k : goal.invariant-loop-k

@@ -1,10 +1,10 @@
 use Rattle.std.proofs.Common.{◌≡◌, ◌∙◌, sym, ap, subst, Some, slice_get}
 use Rattle.design_ir.specs.Guards.{driven}
 use Rattle.design_ir.specs.Steps.{reset_all, clocked}
-use Rattle.delta_sim.specs.declared.task.Task.{Task}
-use Rattle.delta_sim.specs.Driven.{numbers_of}
-use Rattle.delta_sim.proofs.Clocking.{place_of, clocked_reset}
-use Rattle.delta_sim.proofs.ResetLaws.{resets_like}
+use Rattle.sim_plans.specs.declared.task.Task.{Task}
+use Rattle.sim_plans.specs.Driven.{numbers_of}
+use Rattle.sim_plans.proofs.Clocking.{place_of, clocked_reset}
+use Rattle.sim_plans.proofs.ResetLaws.{resets_like}
 use Rattle.delta_sim.proofs.clocks.clock.Goals as goal
 
 pub get-requires : goal.get-requires

@@ -1,9 +1,9 @@
 use Rattle.std.proofs.Common.{◌<◌, ◌∷◌, [], ◌∙◌, sym, subst, length}
 use Rattle.design_ir.specs.Steps.{clocked}
 use Rattle.design_ir.proofs.NumbersFit.{FitsSignals, element}
-use Rattle.delta_sim.proofs.Clocking.{get_of}
-use Rattle.delta_sim.proofs.EdgesFit.{clocks_fit, clock_length}
-use Rattle.delta_sim.proofs.Turns.{fold_turn}
+use Rattle.sim_plans.proofs.Clocking.{get_of}
+use Rattle.sim_plans.proofs.EdgesFit.{clocks_fit, clock_length}
+use Rattle.sim_plans.proofs.Turns.{fold_turn}
 use Rattle.delta_sim.proofs.clocks.clock_all.Goals as goal
 
 pub loop-k-preserved : goal.loop-k-preserved

@@ -1,7 +1,7 @@
 use Rattle.std.proofs.Common.{◌≡◌, length, drop, fold}
 use Rattle.design_ir.specs.Steps.{clocked}
 use Rattle.design_ir.proofs.NumbersFit.{FitsSignals}
-use Rattle.delta_sim.specs.Tasks.{AreFitting}
+use Rattle.sim_plans.specs.Tasks.{AreFitting}
 use Rattle.delta_sim.proofs.clocks.clock_all.Given as goal
 
 abbrev pub invariant-loop-k : goal.invariant-loop-k

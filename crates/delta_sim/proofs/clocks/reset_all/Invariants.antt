@@ -1,6 +1,6 @@
 use Rattle.std.proofs.Common.{◌≡◌, length, drop}
 use Rattle.design_ir.specs.Steps.{reset_all}
-use Rattle.delta_sim.specs.Driven.{numbers_of}
+use Rattle.sim_plans.specs.Driven.{numbers_of}
 use Rattle.delta_sim.proofs.clocks.reset_all.Given as goal
 
 abbrev pub invariant-loop-s : goal.invariant-loop-s

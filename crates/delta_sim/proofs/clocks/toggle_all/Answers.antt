@@ -1,8 +1,8 @@
 use Rattle.std.proofs.Common.{◌≡◌, ◌<◌, length, slice_index_or, ◌∙◌}
 use Rattle.design_ir.specs.declared.ids.DomainId.{DomainId}
 use Rattle.design_ir.specs.Steps.{toggle}
-use Rattle.delta_sim.proofs.EdgesFit.{toggle_fits, toggle_length}
-use Rattle.delta_sim.proofs.Turns.{fold_turn, all_here, any_default}
+use Rattle.sim_plans.proofs.EdgesFit.{toggle_fits, toggle_length}
+use Rattle.sim_plans.proofs.Turns.{fold_turn, all_here, any_default}
 use Rattle.delta_sim.proofs.clocks.toggle_all.Goals as goal
 
 pub loop-d-preserved : goal.loop-d-preserved

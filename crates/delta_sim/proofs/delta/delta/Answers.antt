@@ -3,9 +3,9 @@ use Rattle.std.specs.List.{AllByRecursion}
 use Rattle.design_ir.specs.Circuits.{at, is_among}
 use Rattle.design_ir.specs.Settled.{delta}
 use Rattle.comb_graph.proofs.DeltaLaws.{delta_length}
-use Rattle.delta_sim.specs.Plans.{outs_at}
-use Rattle.delta_sim.proofs.DeltaSteps.{delta_is}
-use Rattle.delta_sim.proofs.Jobs.{outs_below}
+use Rattle.sim_plans.specs.Plans.{outs_at}
+use Rattle.sim_plans.proofs.DeltaSteps.{delta_is}
+use Rattle.sim_plans.proofs.Jobs.{outs_below}
 use Rattle.delta_sim.proofs.delta.delta.Goals as goal
 
 pub take_all-requires-clause-below : goal.take_all-requires-clause-below

@@ -1,8 +1,8 @@
 use Rattle.std.proofs.Common.{◌≡◌, ◌∙◌, ℕ, subst, true, false, get_or}
 use Rattle.design_ir.specs.Circuits.{State, at, is_among}
 use Rattle.design_ir.specs.Settled.{delta}
-use Rattle.delta_sim.specs.Plans.{outs_at}
-use Rattle.delta_sim.proofs.DeltaSteps.{run_turn}
+use Rattle.sim_plans.specs.Plans.{outs_at}
+use Rattle.sim_plans.proofs.DeltaSteps.{run_turn}
 use Rattle.delta_sim.proofs.delta.run_all.Goals as goal
 
 pub loop-i-preserved : goal.loop-i-preserved

@@ -2,8 +2,8 @@ use Rattle.std.proofs.Common.{◌≡◌, ℕ, true, length, take}
 use Rattle.design_ir.specs.Circuits.{State, at, is_among}
 use Rattle.design_ir.specs.Settled.{delta}
 use Rattle.design_ir.proofs.NumbersFit.{FitsSignals}
-use Rattle.delta_sim.specs.Plans.{outs_at}
-use Rattle.delta_sim.specs.Tasks.{AreFitting}
+use Rattle.sim_plans.specs.Plans.{outs_at}
+use Rattle.sim_plans.specs.Tasks.{AreFitting}
 use Rattle.delta_sim.proofs.delta.run_all.Given as goal
 
 abbrev pub invariant-loop-i : goal.invariant-loop-i

@@ -1,9 +1,9 @@
 use Rattle.std.proofs.Common.{◌≡◌, ◌<◌, ◌∙◌, sym, ap, subst, arith, get_or, length}
 use Rattle.std.specs.List.{AllByRecursion}
-use Rattle.delta_sim.specs.Plans.{outs_at, taken}
-use Rattle.delta_sim.proofs.DeltaSteps.{kept_turn, taken_turn, once_taken}
+use Rattle.sim_plans.specs.Plans.{outs_at, taken}
+use Rattle.sim_plans.proofs.DeltaSteps.{kept_turn, taken_turn, once_taken}
 use Rattle.delta_sim.proofs.Moving.{notes_more}
-use Rattle.delta_sim.proofs.Taking.{taken_length}
+use Rattle.sim_plans.proofs.Taking.{taken_length}
 use Rattle.delta_sim.proofs.Waking.{wakes_more}
 use Rattle.delta_sim.proofs.delta.take_all.Goals as goal
 

@@ -1,6 +1,6 @@
 use Rattle.std.proofs.Common.{◌≡◌, ◌⊎◌, ℕ, true, false, length, take}
 use Rattle.design_ir.specs.Circuits.{at, is_among}
-use Rattle.delta_sim.specs.Plans.{Notes, Wakes, outs_at}
+use Rattle.sim_plans.specs.Plans.{Notes, Wakes, outs_at}
 use Rattle.delta_sim.proofs.delta.take_all.Given as goal
 
 abbrev pub invariant-loop-i : goal.invariant-loop-i

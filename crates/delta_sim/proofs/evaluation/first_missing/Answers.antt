@@ -1,7 +1,7 @@
 use Rattle.std.proofs.Common.{◌≡◌, ◌<◌, sym, ◌∙◌, arith, true, length}
 use Rattle.design_ir.specs.Named.{named}
 use Rattle.design_ir.proofs.Equations.{place_below}
-use Rattle.delta_sim.specs.Marks.{is_marked}
+use Rattle.sim_plans.specs.Marks.{is_marked}
 use Rattle.delta_sim.proofs.Finding.{marked_next}
 use Rattle.delta_sim.proofs.evaluation.first_missing.Goals as goal
 

@@ -1,6 +1,6 @@
 use Rattle.std.proofs.Common.{◌-◌, length, take}
 use Rattle.design_ir.specs.Named.{named}
-use Rattle.delta_sim.specs.Marks.{AreMarked}
+use Rattle.sim_plans.specs.Marks.{AreMarked}
 use Rattle.delta_sim.proofs.evaluation.first_missing.Given as goal
 
 abbrev pub invariant-loop-name : goal.invariant-loop-name

@@ -1,7 +1,7 @@
 use Rattle.std.proofs.Common.{◌∙◌, ap, sym, refl, [], false, length, slice_index_or}
-use Rattle.delta_sim.specs.Waiting.{Waiting}
+use Rattle.sim_plans.specs.Waiting.{Waiting}
 use Rattle.delta_sim.proofs.SameRows.{no_change}
-use Rattle.delta_sim.proofs.Waits.{none_marked}
+use Rattle.sim_plans.proofs.Waits.{none_marked}
 use Rattle.delta_sim.proofs.event.change.Goals as goal
 
 pub returns-then-s-len-clause-changed : goal.returns-then-s-len-clause-changed

@@ -1,9 +1,9 @@
 use Rattle.std.proofs.Common.{◌≡◌, ◌<◌, ◌∙◌, ap, arith, length, pos, get_or, slice_set, length-set}
 use Rattle.design_ir.specs.declared.ids.SigId.{SigId}
 use Rattle.design_ir.specs.Circuits.{at}
-use Rattle.delta_sim.proofs.Grouping.{signal_has}
-use Rattle.delta_sim.proofs.Taking.{take_turn}
-use Rattle.delta_sim.proofs.Turns.{any_default}
+use Rattle.sim_plans.proofs.Grouping.{signal_has}
+use Rattle.sim_plans.proofs.Taking.{take_turn}
+use Rattle.sim_plans.proofs.Turns.{any_default}
 use Rattle.delta_sim.proofs.first.give.Goals as goal
 
 pub bounds-from-s : goal.bounds-from-s

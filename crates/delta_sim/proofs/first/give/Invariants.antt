@@ -1,6 +1,6 @@
 use Rattle.std.proofs.Common.{◌≡◌, length, drop}
-use Rattle.delta_sim.specs.Driven.{numbers_of}
-use Rattle.delta_sim.specs.Plans.{taken}
+use Rattle.sim_plans.specs.Driven.{numbers_of}
+use Rattle.sim_plans.specs.Plans.{taken}
 use Rattle.delta_sim.proofs.first.give.Given as goal
 
 abbrev pub invariant-loop-s : goal.invariant-loop-s

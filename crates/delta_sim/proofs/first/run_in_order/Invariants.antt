@@ -2,7 +2,7 @@ use Rattle.std.proofs.Common.{◌≡◌, ℕ, false, length}
 use Rattle.design_ir.specs.Circuits.{at}
 use Rattle.comb_graph.specs.Orders.{is_comb}
 use Rattle.delta_sim.specs.Standing.{AreNumbersOf}
-use Rattle.delta_sim.specs.Tasks.{AreFitting}
+use Rattle.sim_plans.specs.Tasks.{AreFitting}
 use Rattle.delta_sim.proofs.first.run_in_order.Given as goal
 
 abbrev pub invariant-loop-i : goal.invariant-loop-i

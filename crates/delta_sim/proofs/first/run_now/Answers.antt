@@ -1,8 +1,8 @@
 use Rattle.std.proofs.Common.{◌<◌, arith, subst, sym, length}
 use Rattle.std.specs.List.{AllByRecursion}
-use Rattle.delta_sim.specs.Driven.{numbers_of}
+use Rattle.sim_plans.specs.Driven.{numbers_of}
 use Rattle.delta_sim.proofs.Guessing.{given_numbers, given_others}
-use Rattle.delta_sim.proofs.Jobs.{outs_below}
+use Rattle.sim_plans.proofs.Jobs.{outs_below}
 use Rattle.delta_sim.proofs.first.run_now.Goals as goal
 
 pub outs-requires : goal.outs-requires

@@ -1,4 +1,4 @@
-use Rattle.delta_sim.proofs.PortValues.{word_at}
+use Rattle.sim_plans.proofs.PortValues.{word_at}
 use Rattle.delta_sim.proofs.laws.words_are_rows.Goals as goal
 
 pub returns : goal.returns

@@ -1,8 +1,8 @@
 use Rattle.std.proofs.Common.{◌≡◌, ◌<◌, ◌∙◌, sym, arith, length, pos, slice_index_or}
-use Rattle.delta_sim.specs.Ports.{write_exprs}
+use Rattle.sim_plans.specs.Ports.{write_exprs}
 use Rattle.delta_sim.proofs.PortTurns.{known_turn}
 use Rattle.delta_sim.proofs.SameRows.{noted_more, noted_all}
-use Rattle.delta_sim.proofs.Turns.{any_default}
+use Rattle.sim_plans.proofs.Turns.{any_default}
 use Rattle.delta_sim.proofs.ports.any_differs.Goals as goal
 
 pub written_row-row-requires : goal.written_row-row-requires

@@ -2,7 +2,7 @@ use Rattle.std.proofs.Common.{◌≡◌, ◌<◌, ℕ, drop, pos, slice_get, sli
 use Rattle.std.specs.List.{flat_map}
 use Rattle.design_ir.specs.declared.memory.MemWrite.{MemWrite}
 use Rattle.design_ir.specs.Rows.{row_at}
-use Rattle.delta_sim.specs.Ports.{AreKnown, write_exprs}
+use Rattle.sim_plans.specs.Ports.{AreKnown, write_exprs}
 use Rattle.delta_sim.proofs.ports.any_differs.Given as goal
 
 abbrev pub invariant-loop-i : goal.invariant-loop-i

@@ -1,14 +1,14 @@
 use Rattle.std.proofs.Common.{◌≡◌, ◌∙◌, ◌<◌, ◌≤◌, ℕ, ap, arith, refl, false, not, [], length, length-set, slice_index_or, fold}
 use Rattle.design_ir.specs.Steps.{clocked_read, write_row}
 use Rattle.design_ir.proofs.NumbersFit.{element}
-use Rattle.delta_sim.proofs.Clocking.{place_of}
-use Rattle.delta_sim.specs.Waiting.{Waiting}
-use Rattle.delta_sim.specs.Woken.{same_rows}
+use Rattle.sim_plans.proofs.Clocking.{place_of}
+use Rattle.sim_plans.specs.Waiting.{Waiting}
+use Rattle.sim_plans.specs.Woken.{same_rows}
 use Rattle.delta_sim.proofs.Flags.{flag_first, flag_turn, set_length}
 use Rattle.delta_sim.proofs.PortsFit.{port_length}
 use Rattle.delta_sim.proofs.PortTurns.{reads_turn, rows_are, done_turn, rest_turn}
-use Rattle.delta_sim.proofs.Turns.{any_default}
-use Rattle.delta_sim.proofs.Waits.{none_marked, replicate_length}
+use Rattle.sim_plans.proofs.Turns.{any_default}
+use Rattle.sim_plans.proofs.Waits.{none_marked, replicate_length}
 use Rattle.delta_sim.proofs.ports.clock_memories.Goals as goal
 
 pub loop-k-init : goal.loop-k-init

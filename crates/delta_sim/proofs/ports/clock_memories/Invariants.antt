@@ -1,7 +1,7 @@
 use Rattle.std.proofs.Common.{◌≡◌, ◌<◌, ◌≤◌, ℕ, [], length, drop, slice_get, slice_index_or, Some}
 use Rattle.design_ir.specs.declared.memory.Memory.{Memory}
 use Rattle.design_ir.specs.Steps.{clocked_reads}
-use Rattle.delta_sim.specs.Tasks.{AreFitting}
+use Rattle.sim_plans.specs.Tasks.{AreFitting}
 use Rattle.delta_sim.proofs.Flags.{AreFlagged}
 use Rattle.delta_sim.proofs.PortTurns.{after}
 use Rattle.delta_sim.proofs.ports.clock_memories.Given as goal

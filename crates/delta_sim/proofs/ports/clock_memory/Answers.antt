@@ -7,10 +7,10 @@ use Rattle.design_ir.specs.declared.memory.MemWrite.{MemWrite}
 use Rattle.design_ir.specs.declared.memory.Memory.{Memory}
 use Rattle.design_ir.specs.Designs.{IsMemory}
 use Rattle.design_ir.specs.Steps.{clocked_read, port_active, write_row}
-use Rattle.delta_sim.specs.Ports.{AreKnown, AreNoted, port_exprs, read_exprs, write_exprs}
-use Rattle.delta_sim.specs.Tasks.{AreAmong, IsProgram}
-use Rattle.delta_sim.proofs.Clocking.{place_of}
-use Rattle.delta_sim.proofs.EdgesFit.{all_get}
+use Rattle.sim_plans.specs.Ports.{AreKnown, AreNoted, port_exprs, read_exprs, write_exprs}
+use Rattle.sim_plans.specs.Tasks.{AreAmong, IsProgram}
+use Rattle.sim_plans.proofs.Clocking.{place_of}
+use Rattle.sim_plans.proofs.EdgesFit.{all_get}
 use Rattle.delta_sim.proofs.SameRows.{no_change, rows_other, rows_same}
 use Rattle.delta_sim.proofs.PortTurns.{idle_reads, idle_writes, known_of, known_parts}
 use Rattle.delta_sim.proofs.ports.clock_memory.Goals as goal

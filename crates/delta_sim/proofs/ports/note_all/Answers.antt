@@ -1,5 +1,5 @@
 use Rattle.std.proofs.Common.{◌<◌, ◌∙◌, arith, length, length-set}
-use Rattle.delta_sim.specs.Ports.{write_exprs}
+use Rattle.sim_plans.specs.Ports.{write_exprs}
 use Rattle.delta_sim.proofs.PortTurns.{known_turn}
 use Rattle.delta_sim.proofs.SameRows.{noted_turn, noted_all}
 use Rattle.delta_sim.proofs.ports.note_all.Goals as goal

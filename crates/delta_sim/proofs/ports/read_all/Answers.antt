@@ -1,7 +1,7 @@
 use Rattle.std.proofs.Common.{fold, sym, ap, subst}
 use Rattle.std.specs.List.{flat_map}
 use Rattle.design_ir.specs.Steps.{clocked_read}
-use Rattle.delta_sim.specs.Ports.{AreKnown, read_exprs, write_exprs}
+use Rattle.sim_plans.specs.Ports.{AreKnown, read_exprs, write_exprs}
 use Rattle.delta_sim.proofs.PortTurns.{known_parts}
 use Rattle.delta_sim.proofs.ports.read_all.Goals as goal
 

@@ -2,7 +2,7 @@ use Rattle.std.proofs.Common.{◌≡◌, drop, fold}
 use Rattle.std.specs.List.{AllByRecursion, flat_map}
 use Rattle.design_ir.specs.Designs.{IsWritePort}
 use Rattle.design_ir.specs.Steps.{write_row}
-use Rattle.delta_sim.specs.Ports.{AreKnown, write_exprs}
+use Rattle.sim_plans.specs.Ports.{AreKnown, write_exprs}
 use Rattle.delta_sim.proofs.ports.write_all.Given as goal
 
 abbrev pub invariant-loop-i : goal.invariant-loop-i

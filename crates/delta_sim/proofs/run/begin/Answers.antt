@@ -1,7 +1,7 @@
 use Rattle.std.proofs.Common.{◌∙◌, slice_index_or}
 use Rattle.design_ir.specs.declared.ids.SigId.{SigId}
-use Rattle.delta_sim.proofs.Taking.{begin_turn, begin_fits, begin_long}
-use Rattle.delta_sim.proofs.Turns.{any_default}
+use Rattle.sim_plans.proofs.Taking.{begin_turn, begin_fits, begin_long}
+use Rattle.sim_plans.proofs.Turns.{any_default}
 use Rattle.delta_sim.proofs.run.begin.Goals as goal
 
 pub loop-s-preserved : goal.loop-s-preserved

@@ -1,7 +1,7 @@
 use Rattle.std.proofs.Common.{◌≡◌, length, drop}
 use Rattle.design_ir.proofs.NumbersFit.{FitsSignals}
-use Rattle.delta_sim.specs.Driven.{numbers_of}
-use Rattle.delta_sim.specs.Plans.{begun}
+use Rattle.sim_plans.specs.Driven.{numbers_of}
+use Rattle.sim_plans.specs.Plans.{begun}
 use Rattle.delta_sim.proofs.run.begin.Given as goal
 
 abbrev pub invariant-loop-s : goal.invariant-loop-s

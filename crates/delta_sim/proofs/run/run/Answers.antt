@@ -1,11 +1,11 @@
 use Rattle.std.proofs.Common.{◌≡◌, ◌∙◌, ◌+◌, ◌-◌, ℕ, [], ap, arith, sym, true, false, length, slice_index_or, slice_set}
 use Rattle.design_ir.specs.Circuits.{is_among}
 use Rattle.design_ir.specs.Rows.{row_at}
-use Rattle.delta_sim.specs.Driven.{numbers_of}
-use Rattle.delta_sim.specs.Plans.{outs_at}
-use Rattle.delta_sim.proofs.CombPorts.{memory_there}
-use Rattle.delta_sim.proofs.DeltaSteps.{below_of}
-use Rattle.delta_sim.proofs.Jobs.{outs_task, outs_port, port_of}
+use Rattle.sim_plans.specs.Driven.{numbers_of}
+use Rattle.sim_plans.specs.Plans.{outs_at}
+use Rattle.sim_plans.proofs.CombPorts.{memory_there}
+use Rattle.sim_plans.proofs.DeltaSteps.{below_of}
+use Rattle.sim_plans.proofs.Jobs.{outs_task, outs_port, port_of}
 use Rattle.delta_sim.proofs.Resting.{run_gives, run_keeps, port_gives, port_keeps, port_next_fits}
 use Rattle.delta_sim.proofs.run.run.Goals as goal
 

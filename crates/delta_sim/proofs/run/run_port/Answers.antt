@@ -1,5 +1,5 @@
 use Rattle.std.proofs.Common.{◌∷◌, [], ap, sym, subst, arith, length}
-use Rattle.delta_sim.specs.Tasks.{AreAmong}
+use Rattle.sim_plans.specs.Tasks.{AreAmong}
 use Rattle.delta_sim.proofs.PortTurns.{known_of}
 use Rattle.delta_sim.proofs.run.run_port.Goals as goal
 

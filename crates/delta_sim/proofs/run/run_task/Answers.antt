@@ -1,7 +1,7 @@
 use Rattle.std.proofs.Common.{subst, sym}
 use Rattle.design_ir.proofs.NumbersFit.{FitsSignals}
-use Rattle.delta_sim.specs.Tasks.{picked}
-use Rattle.delta_sim.proofs.WritesFit.{put_fits}
+use Rattle.sim_plans.specs.Tasks.{picked}
+use Rattle.sim_plans.proofs.WritesFit.{put_fits}
 use Rattle.delta_sim.proofs.run.run_task.Goals as goal
 
 pub returns-clause-next_fits : goal.returns-clause-next_fits

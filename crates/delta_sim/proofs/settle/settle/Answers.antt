@@ -1,15 +1,15 @@
 use Rattle.std.proofs.Common.{◌≡◌, ◌+◌, ◌*◌, ◌≤◌, ◌∙◌, ℕ, sym, ap, subst, arith, false, refl, length, replicate}
 use Rattle.design_ir.proofs.NumbersFit.{FitsSignals}
 use Rattle.comb_graph.proofs.DeltaLaws.{delta_length, delta_fits}
-use Rattle.delta_sim.specs.Plans.{IsPlan, Wakes}
-use Rattle.delta_sim.specs.Settling.{nobody}
+use Rattle.sim_plans.specs.Plans.{IsPlan, Wakes}
+use Rattle.sim_plans.specs.Settling.{nobody}
 use Rattle.delta_sim.specs.Standing.{state_of}
-use Rattle.delta_sim.specs.Waiting.{Waiting}
+use Rattle.sim_plans.specs.Waiting.{Waiting}
 use Rattle.delta_sim.proofs.Counting.{few_agents}
 use Rattle.delta_sim.proofs.Moving.{notes_none, notes_more}
 use Rattle.delta_sim.proofs.Resting.{rests_next}
 use Rattle.delta_sim.proofs.Settles.{idle_of, left_first, left_turn, left_next, idle_settles, count_here, count_next, count_end, runs_fit, runs_next, awake, one_most}
-use Rattle.delta_sim.proofs.Waits.{count_most, replicate_length}
+use Rattle.sim_plans.proofs.Waits.{count_most, replicate_length}
 use Rattle.delta_sim.proofs.settle.settle.Goals as goal
 
 pub loop-init : goal.loop-init

@@ -1,11 +1,11 @@
 use Rattle.std.proofs.Common.{◌≡◌, ◌+◌, ◌*◌, ◌≤◌, ◌∷◌, List, ℤ, length}
 use Rattle.design_ir.specs.Histories.{DeltasFrom}
 use Rattle.design_ir.proofs.NumbersFit.{FitsSignals}
-use Rattle.delta_sim.specs.Plans.{Notes, Rests}
-use Rattle.delta_sim.specs.Settling.{IsWoken, nobody}
+use Rattle.sim_plans.specs.Plans.{Notes, Rests}
+use Rattle.sim_plans.specs.Settling.{IsWoken, nobody}
 use Rattle.delta_sim.specs.Standing.{state_of}
-use Rattle.delta_sim.specs.Tasks.{AreFitting}
-use Rattle.delta_sim.specs.Woken.{deltas_of, runs_of}
+use Rattle.sim_plans.specs.Tasks.{AreFitting}
+use Rattle.sim_plans.specs.Woken.{deltas_of, runs_of}
 use Rattle.delta_sim.proofs.Settles.{Left, Counted}
 use Rattle.delta_sim.proofs.settle.settle.Given as goal
 

@@ -2,15 +2,15 @@ use Rattle.std.proofs.Common.{◌∙◌, ◌+◌, ap, arith, sym, subst, false, 
 use Rattle.comb_graph.specs.Laws.{FitsState}
 use Rattle.design_ir.specs.Settled.{Settled}
 use Rattle.design_ir.proofs.NumbersFit.{FitsSignals}
-use Rattle.delta_sim.specs.Plans.{IsPlan, Rests}
-use Rattle.delta_sim.specs.Settling.{EndsIn}
-use Rattle.delta_sim.specs.Waiting.{Waiting}
+use Rattle.sim_plans.specs.Plans.{IsPlan, Rests}
+use Rattle.sim_plans.specs.Settling.{EndsIn}
+use Rattle.sim_plans.specs.Waiting.{Waiting}
 use Rattle.delta_sim.specs.Standing.{IsFresh, AreNumbersOf, AreRowsOf}
 use Rattle.delta_sim.proofs.Applying.{vec_whole}
 use Rattle.delta_sim.proofs.Beginning.{numbers, fit, first_ends, first_rests}
 use Rattle.delta_sim.proofs.Lives.{first_rows, move_state}
 use Rattle.delta_sim.proofs.Moving.{no_signals}
-use Rattle.delta_sim.proofs.Waits.{replicate_length}
+use Rattle.sim_plans.proofs.Waits.{replicate_length}
 use Rattle.delta_sim.proofs.sim.first_settled.Goals as goal
 
 pub settle-requires-clause-state : goal.settle-requires-clause-state

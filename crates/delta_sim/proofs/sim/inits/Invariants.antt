@@ -1,5 +1,5 @@
 use Rattle.std.proofs.Common.{◌≡◌, ◌++◌, drop}
-use Rattle.delta_sim.proofs.TargetsInside.{inits}
+use Rattle.sim_plans.proofs.TargetsInside.{inits}
 use Rattle.delta_sim.proofs.sim.inits.Given as goal
 
 abbrev pub invariant-loop-s : goal.invariant-loop-s

@@ -1,6 +1,6 @@
 use Rattle.std.proofs.Common.{◌∙◌, ap, arith, length, pos}
 use Rattle.std.specs.Prelude.{replicate}
-use Rattle.delta_sim.specs.Settling.{nobody}
+use Rattle.sim_plans.specs.Settling.{nobody}
 use Rattle.delta_sim.proofs.Beginning.{zeros_long}
 use Rattle.delta_sim.proofs.sim.spare_room.Goals as goal
 

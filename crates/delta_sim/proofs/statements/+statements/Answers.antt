@@ -5,9 +5,9 @@ use Rattle.design_ir.specs.Circuits.{is_among}
 use Rattle.design_ir.specs.Statements.{statement_of}
 use Rattle.design_ir.specs.Targets.{is_target}
 use Rattle.design_ir.proofs.NumbersFit.{FitsSignals}
-use Rattle.delta_sim.specs.Tasks.{places_of}
-use Rattle.delta_sim.proofs.StatementTurns.{exprs_turn, targets_turn, arm_exprs, arm_targets, statement_fits}
-use Rattle.delta_sim.proofs.Walks.{statement_length, block_turn, choices_turn}
+use Rattle.sim_plans.specs.Tasks.{places_of}
+use Rattle.sim_plans.proofs.StatementTurns.{exprs_turn, targets_turn, arm_exprs, arm_targets, statement_fits}
+use Rattle.sim_plans.proofs.Walks.{statement_length, block_turn, choices_turn}
 use Rattle.delta_sim.proofs.statements.+statements.Goals as goal
 
 pub put_arms-put_body-requires : goal.put_arms-put_body-requires

@@ -4,7 +4,7 @@ use Rattle.design_ir.specs.Put.{put, put_choices}
 use Rattle.design_ir.specs.Trees.{block_size, statement_size, choices_size}
 use Rattle.design_ir.specs.Statements.{statement_of, block_of, choices_of}
 use Rattle.design_ir.proofs.NumbersFit.{FitsSignals}
-use Rattle.delta_sim.specs.Tasks.{AreAmong, AreTargetsOf, block_targets, choices_targets}
+use Rattle.sim_plans.specs.Tasks.{AreAmong, AreTargetsOf, block_targets, choices_targets}
 use Rattle.delta_sim.proofs.statements.+statements.Given as goal
 
 abbrev pub decreases-put_arms : goal.decreases-put_arms

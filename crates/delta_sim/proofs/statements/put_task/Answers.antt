@@ -4,10 +4,10 @@ use Rattle.design_ir.specs.Circuits.{is_among}
 use Rattle.design_ir.specs.Statements.{statement_of}
 use Rattle.design_ir.specs.Targets.{is_target}
 use Rattle.design_ir.specs.Trees.{statements}
-use Rattle.delta_sim.specs.Tasks.{places_of}
-use Rattle.delta_sim.proofs.StatementTurns.{statements_length, picked_exprs, picked_targets, picked_turn, statement_fits}
-use Rattle.delta_sim.proofs.Turns.{all_here, any_default}
-use Rattle.delta_sim.proofs.Walks.{statement_length}
+use Rattle.sim_plans.specs.Tasks.{places_of}
+use Rattle.sim_plans.proofs.StatementTurns.{statements_length, picked_exprs, picked_targets, picked_turn, statement_fits}
+use Rattle.sim_plans.proofs.Turns.{all_here, any_default}
+use Rattle.sim_plans.proofs.Walks.{statement_length}
 use Rattle.delta_sim.proofs.statements.put_task.Goals as goal
 
 pub statement-requires : goal.statement-requires

@@ -4,7 +4,7 @@ use Rattle.design_ir.specs.Guards.{block_exprs}
 use Rattle.design_ir.specs.Put.{put}
 use Rattle.design_ir.specs.Trees.{statements}
 use Rattle.design_ir.proofs.NumbersFit.{FitsSignals}
-use Rattle.delta_sim.specs.Tasks.{AreAmong, AreTargetsOf, block_targets, picked}
+use Rattle.sim_plans.specs.Tasks.{AreAmong, AreTargetsOf, block_targets, picked}
 use Rattle.delta_sim.proofs.statements.put_task.Given as goal
 
 abbrev pub invariant-loop-i : goal.invariant-loop-i

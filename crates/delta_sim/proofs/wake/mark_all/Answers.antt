@@ -1,7 +1,7 @@
 use Rattle.std.proofs.Common.{◌<◌, ℕ, get_or, length, subst, sym, ap, ◌∙◌, length-set, drop, ◌+◌}
 use Rattle.std.specs.List.{AllByRecursion}
-use Rattle.delta_sim.proofs.Taking.{mark_turn}
-use Rattle.delta_sim.proofs.Turns.{all_here, any_default}
+use Rattle.sim_plans.proofs.Taking.{mark_turn}
+use Rattle.sim_plans.proofs.Turns.{all_here, any_default}
 use Rattle.delta_sim.proofs.wake.mark_all.Goals as goal
 
 pub loop-k-preserved : goal.loop-k-preserved

@@ -1,6 +1,6 @@
 use Rattle.std.proofs.Common.{◌≡◌, ◌<◌, length, drop}
 use Rattle.std.specs.List.{AllByRecursion}
-use Rattle.delta_sim.specs.Given.{marked}
+use Rattle.sim_plans.specs.Given.{marked}
 use Rattle.delta_sim.proofs.wake.mark_all.Given as goal
 
 abbrev pub invariant-loop-k : goal.invariant-loop-k

@@ -1,10 +1,10 @@
 use Rattle.std.proofs.Common.{◌<◌, length, subst, sym, ap, ◌∙◌, slice_index_or, length-set}
 use Rattle.std.specs.List.{AllByRecursion}
 use Rattle.design_ir.specs.declared.ids.SigId.{SigId}
-use Rattle.delta_sim.proofs.Likes.{numbers_at}
+use Rattle.sim_plans.proofs.Likes.{numbers_at}
 use Rattle.delta_sim.proofs.Moving.{notes_more}
-use Rattle.delta_sim.proofs.Taking.{take_turn, once_more, once_between}
-use Rattle.delta_sim.proofs.Turns.{any_default}
+use Rattle.sim_plans.proofs.Taking.{take_turn, once_more, once_between}
+use Rattle.sim_plans.proofs.Turns.{any_default}
 use Rattle.delta_sim.proofs.Waking.{wakes_more}
 use Rattle.delta_sim.proofs.wake.take.Goals as goal
 

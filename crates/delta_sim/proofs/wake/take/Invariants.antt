@@ -1,8 +1,8 @@
 use Rattle.std.proofs.Common.{◌≡◌, ◌<◌, ◌⊎◌, ℕ, length, drop}
 use Rattle.std.specs.List.{AllByRecursion}
 use Rattle.design_ir.specs.Circuits.{at}
-use Rattle.delta_sim.specs.Driven.{numbers_of}
-use Rattle.delta_sim.specs.Plans.{Notes, Wakes, taken}
+use Rattle.sim_plans.specs.Driven.{numbers_of}
+use Rattle.sim_plans.specs.Plans.{Notes, Wakes, taken}
 use Rattle.delta_sim.proofs.wake.take.Given as goal
 
 abbrev pub invariant-loop-s : goal.invariant-loop-s

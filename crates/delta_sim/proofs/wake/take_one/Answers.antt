@@ -1,10 +1,10 @@
 use Rattle.std.proofs.Common.{◌≢◌, ◌<◌, ℕ, [], pos, length, subst, sym, ap, ◌∙◌, refl}
 use Rattle.std.specs.List.{AllByRecursion}
 use Rattle.design_ir.specs.Circuits.{at}
-use Rattle.delta_sim.specs.Given.{marked}
+use Rattle.sim_plans.specs.Given.{marked}
 use Rattle.delta_sim.proofs.Moving.{notes_one}
-use Rattle.delta_sim.proofs.Taking.{readers_below}
-use Rattle.delta_sim.proofs.Turns.{any_default}
+use Rattle.sim_plans.proofs.Taking.{readers_below}
+use Rattle.sim_plans.proofs.Turns.{any_default}
 use Rattle.delta_sim.proofs.Waking.{wakes_one}
 use Rattle.delta_sim.proofs.wake.take_one.Goals as goal
 

@@ -4,7 +4,7 @@ use Rattle.design_ir.specs.Named.{named}
 use Rattle.design_ir.proofs.Elements.{some_is}
 use Rattle.delta_sim.specs.declared.evaluation.Visit.{Visit}
 use Rattle.delta_sim.specs.Evaluations.{Evaluating, IsFinding, work}
-use Rattle.delta_sim.specs.Marks.{AreMarked}
+use Rattle.sim_plans.specs.Marks.{AreMarked}
 use Rattle.delta_sim.proofs.Finding.{evaluating, first_visit, popped, pushed, last, within, names_inside, more_few, entered, entered_less, settled, settled_less, marked_all}
 use Rattle.delta_sim.proofs.evaluation.Evaluation.find.Goals as goal
 

@@ -1,7 +1,7 @@
 use Rattle.std.proofs.Common.{◌≡◌, ◌∙◌, sym, ap, subst, pos, take, slice_set, slice_index_or}
 use Rattle.design_ir.specs.Values.{form, num, value_step}
 use Rattle.delta_sim.specs.Evaluations.{Evaluating}
-use Rattle.delta_sim.specs.Reading.{IsReady}
+use Rattle.sim_plans.specs.Reading.{IsReady}
 use Rattle.delta_sim.proofs.Finding.{ready, number_is}
 use Rattle.delta_sim.proofs.evaluation.Evaluation.settle.Goals as goal
 

@@ -5,16 +5,16 @@ use Rattle.comb_graph.specs.Laws.{FitsState}
 use Rattle.design_ir.specs.Settled.{Settled}
 use Rattle.design_ir.specs.Steps.{step}
 use Rattle.design_ir.proofs.NumbersFit.{FitsSignals}
-use Rattle.delta_sim.specs.Driven.{numbers_of}
-use Rattle.delta_sim.specs.Plans.{taken, Notes, Rests, IsTable, IsPlan, Wakes}
-use Rattle.delta_sim.specs.Settling.{AreCounts, EndsIn, IsWoken, nobody}
+use Rattle.sim_plans.specs.Driven.{numbers_of}
+use Rattle.sim_plans.specs.Plans.{taken, Notes, Rests, IsTable, IsPlan, Wakes}
+use Rattle.sim_plans.specs.Settling.{AreCounts, EndsIn, IsWoken, nobody}
 use Rattle.delta_sim.specs.Standing.{Simulated, IsSimOf, Settles, Stands, Tells, state_of, AreNumbersOf, AreRowsOf, AreSignals}
-use Rattle.delta_sim.specs.Waiting.{Waiting}
+use Rattle.sim_plans.specs.Waiting.{Waiting}
 use Rattle.delta_sim.proofs.Applying.{begins, vec_whole}
 use Rattle.delta_sim.proofs.Lives.{happened, move_state, same_state, step_numbers, step_rows}
 use Rattle.delta_sim.proofs.Moving.{no_signals, notes_more, tells}
 use Rattle.delta_sim.proofs.Settles.{deltas_of_few}
-use Rattle.delta_sim.proofs.Waits.{replicate_length}
+use Rattle.sim_plans.proofs.Waits.{replicate_length}
 use Rattle.delta_sim.proofs.sim.Sim.apply.Goals as goal
 
 pub hold-requires : goal.hold-requires

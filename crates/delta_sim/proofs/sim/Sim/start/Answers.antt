@@ -1,8 +1,8 @@
 use Rattle.std.proofs.Common.{◌∙◌, ap, sym, subst, length, arith}
 use Rattle.std.specs.Prelude.{◌≤◌, ◌^◌, map}
 use Rattle.design_ir.specs.Circuits.{at}
-use Rattle.delta_sim.specs.Plans.{IsPlan}
-use Rattle.delta_sim.specs.Tasks.{AreFitting}
+use Rattle.sim_plans.specs.Plans.{IsPlan}
+use Rattle.sim_plans.specs.Tasks.{AreFitting}
 use Rattle.comb_graph.specs.Rankings.{bit_of}
 use Rattle.delta_sim.specs.Standing.{AreNumbersOf, AreRowsOf}
 use Rattle.delta_sim.proofs.Applying.{vec_whole}

@@ -1,6 +1,0 @@
-use Rattle.std.proofs.Common.{◌≡◌, take}
-use Rattle.delta_sim.specs.Tasks.{places_of}
-use Rattle.delta_sim.proofs.compile.ids.Given as goal
-
-abbrev pub invariant-loop-k : goal.invariant-loop-k
-invariant-loop-k l = places_of l.list ≡ take l.k-index l.numbers

@@ -1,5 +1,0 @@
-use Rattle.std.proofs.Common.{◌≡◌, ◌++◌, drop}
-use Rattle.delta_sim.proofs.driven.add_all.Given as goal
-
-abbrev pub invariant-loop-s : goal.invariant-loop-s
-invariant-loop-s l = l.signals ++ drop l.s-index l.more ≡ l.fn.signals ++ l.more

@@ -1,7 +1,0 @@
-use Rattle.std.proofs.Common.{false}
-use Rattle.design_ir.specs.Circuits.{is_input}
-use Rattle.delta_sim.specs.Reading.{AreFirst}
-use Rattle.delta_sim.proofs.given.inputs.Given as goal
-
-abbrev pub invariant-loop-s : goal.invariant-loop-s
-invariant-loop-s l = AreFirst false (is_input l.design) l.s l.given.items

@@ -1,7 +1,0 @@
-use Rattle.std.proofs.Common.{◌≡◌, drop}
-use Rattle.delta_sim.specs.Driven.{numbers_of}
-use Rattle.delta_sim.specs.Given.{marked}
-use Rattle.delta_sim.proofs.given.mark.Given as goal
-
-abbrev pub invariant-loop-s : goal.invariant-loop-s
-invariant-loop-s l = marked (numbers_of (drop l.s-index l.signals)) l.given ≡ marked (numbers_of l.signals) l.fn.given

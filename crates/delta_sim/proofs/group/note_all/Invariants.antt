@@ -1,9 +1,0 @@
-use Rattle.std.proofs.Common.{◌≡◌, length}
-use Rattle.delta_sim.specs.Groups.{AreNoted}
-use Rattle.delta_sim.proofs.group.note_all.Given as goal
-
-abbrev pub invariant-loop-i : goal.invariant-loop-i
-invariant-loop-i l = record {
-  count : length l.noted ≡ length l.initial.noted;
-  noted : AreNoted l.drives l.i l.noted;
-}

@@ -1,5 +1,0 @@
-use Rattle.delta_sim.proofs.PlanTables.{AddsUp}
-use Rattle.delta_sim.proofs.tables.add_reader.Given as goal
-
-abbrev pub invariant-loop-s : goal.invariant-loop-s
-invariant-loop-s l = AddsUp l.reads l.s-index l.n l.fn.lists.items l.lists.items

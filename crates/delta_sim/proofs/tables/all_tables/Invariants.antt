@@ -1,8 +1,0 @@
-use Rattle.delta_sim.specs.Tables.{AreTables, IsRoom}
-use Rattle.delta_sim.proofs.tables.all_tables.Given as goal
-
-abbrev pub invariant-loop-k : goal.invariant-loop-k
-invariant-loop-k l = record {
-  tables : AreTables l.design l.k l.tables.clocked l.tables.tasks l.tables.readers.items l.tables.processes.items;
-  room : IsRoom l.design l.tables.marks l.tables.noted.items;
-}

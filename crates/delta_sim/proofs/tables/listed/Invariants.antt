@@ -1,8 +1,0 @@
-use Rattle.std.proofs.Common.{◌≡◌, take, ℕ}
-use Rattle.design_ir.specs.Circuits.{is_among}
-use Rattle.delta_sim.specs.Driven.{numbers_of}
-use Rattle.delta_sim.specs.Marks.{is_marked}
-use Rattle.delta_sim.proofs.tables.listed.Given as goal
-
-abbrev pub invariant-loop-s : goal.invariant-loop-s
-invariant-loop-s l = (t : ℕ) → is_among (numbers_of l.list) t ≡ is_marked (take l.s l.marks) t

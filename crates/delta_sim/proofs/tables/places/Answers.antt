@@ -1,5 +1,0 @@
-use Rattle.delta_sim.proofs.Rooting.{range_turn}
-use Rattle.delta_sim.proofs.tables.places.Goals as goal
-
-pub loop-i-preserved : goal.loop-i-preserved
-loop-i-preserved c = range_turn c.loop-i.i c.loop-i.all c.push.new.self c.loop-i.invariant c.in_ok-push.ensures.ok

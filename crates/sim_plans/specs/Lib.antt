@@ -1,0 +1,16 @@
+pub mod Reading
+pub mod Driven
+pub mod Given
+pub mod Reads
+pub mod Woken
+pub mod Tasks
+pub mod Ports
+pub mod PortValues
+pub mod Groups
+pub mod Waiting
+pub mod Walked
+pub mod Plans
+pub mod Settling
+pub mod Marks
+pub mod Compiled
+pub mod Tables
