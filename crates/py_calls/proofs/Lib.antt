@@ -1,14 +1,7 @@
-pub mod AttributeLaws
-pub mod CalledLaws
 pub mod FrameLaws
 pub mod ArgumentLaws
-pub mod GoneLaws
 pub mod SliceLaws
 pub mod AugmentLaws
 pub mod BoundLaws
-pub mod MeetLaws
-pub mod EnterLaws
 pub mod CallOfLaws
-pub mod SuperLaws
-pub mod SumLaws
 pub mod TrailEnds

@@ -14,13 +14,13 @@ ghost use Rattle.py_tree.specs.Tree.{Trailed, Await};
 ghost use Rattle.py_frames.specs.Begun.{value_after};
 ghost use Rattle.py_frames.specs.Frames.{GoesOn, within};
 
-use crate::attribute::attribute;
 use crate::call_arguments::arguments_begun;
 use crate::call_of::call_of_begun;
 use crate::trail_augment::augmented_along;
 use crate::trail_slice::slice_begun;
 use crate::trail_store::{reach_along, store_along};
 use amh_host::Place;
+use py_callables::attribute::attribute;
 use py_frames::at_once::at_once;
 use py_frames::attribute_store::indexed;
 use py_frames::call_leaf::give;

@@ -10,8 +10,8 @@ ghost use Rattle.py_frames.specs.Call_frames.{trailers_of, augmented_along};
 ghost use Rattle.py_frames.specs.Tables.{IsTable};
 ghost use Rattle.py_frames.specs.Frames.{GoesOn};
 
-use crate::attribute::attribute;
 use crate::trail::trailed_one;
+use py_callables::attribute::attribute;
 use py_frames::call_leaf::raise;
 use py_frames::frame::{Along, CallFrame, Changed, Frame, Now, Purpose, StmtFrame};
 use py_frames::functions::Functions;

@@ -29,7 +29,7 @@ use Rattle.py_frames.specs.Def_frames.{def_goes}
 use Rattle.py_frames.specs.Doing.{Known, Doing, came, on_value, Done}
 use Rattle.py_frames.specs.Statements.{known, value_left}
 use Rattle.py_frames.specs.Frames.{GoesOn, KeepsRoom, Moves, finish, goes_on, now_means, def_room, stops_as}
-use Rattle.py_statements.specs.Def_begun.{GoesUnder}
+use Rattle.py_definitions.specs.Def_begun.{GoesUnder}
 use Rattle.py_frames.specs.Turns.{is_call_end}
 
 pub turns_begin : (fns : Functions) (frozen : Made) (x : Going) (budget : ℕ) (now : Now) → GoesOn fns frozen (Ok now) x x budget (λ k. now_means k now)

@@ -8,7 +8,7 @@ ghost use Rattle.py_frames.specs.Tables.{IsTable};
 ghost use Rattle.py_frames.specs.Frames.{GoesOn};
 
 use amh_host::{Place, Text};
-use py_calls::call_enter::enter;
+use py_callables::call_enter::enter;
 use py_calls::call_frame::{came, is_async};
 use py_frames::call_leaf::{give, raise};
 use py_frames::expr_values::{new_text, new_tuple};

@@ -4,11 +4,6 @@ pub mod WithLaws
 pub mod InsideLaws
 pub mod ImportLaws
 pub mod AnnotateLaws
-pub mod ParamLaws
-pub mod DefLaws
-pub mod ClassLaws
-pub mod ClassEnds
-pub mod DefGoes
 pub mod WordLaws
 pub mod AugmentBegins
 pub mod ChangeLaws

@@ -1,2 +1,1 @@
-pub mod Def_begun
 pub mod Augmented

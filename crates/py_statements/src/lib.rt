@@ -1,21 +1,13 @@
-//! Turns of statements and definitions.
+//! Turns of statements.
 //!
-//! Each takes a `Going` of py_frames and promises `GoesOn` of its part of the meaning: assignments, plain, annotated and augmented, `if`,
-//! `while`, `with`, imports, `def` with its defaults and annotations, and `class` from its arguments to its end. specs/Def_begun.antt
-//! says where definitions begin, and specs/Augmented.antt what an augmented assignment changes.
+//! Each takes a `Going` of py_frames and promises `GoesOn` of its part of the meaning: assignments, plain, annotated and
+//! augmented, `if`, `while`, `with`, and imports. specs/Augmented.antt says what an augmented assignment changes.
+//! Definitions have a crate of their own (py_definitions).
 #![tactic(auto)]
 
 pub mod annotate;
 pub mod augment;
 pub mod augment_begin;
-pub mod class_arguments;
-pub mod class_came;
-pub mod class_ends;
-pub mod class_words;
-pub mod classes;
-pub mod def_goes;
-pub mod def_parts;
-pub mod defs;
 pub mod import_words;
 pub mod imports;
 pub mod stmt_assign;

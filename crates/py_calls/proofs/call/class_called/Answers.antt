@@ -1,4 +1,4 @@
-use Rattle.py_calls.proofs.CalledLaws.{class_ok}
+use Rattle.py_callables.proofs.CalledLaws.{class_ok}
 use Rattle.py_calls.proofs.call.class_called.Goals as goal
 
 pub returns-in-Ok-clause-moves : goal.returns-in-Ok-clause-moves

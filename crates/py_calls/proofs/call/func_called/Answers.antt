@@ -1,4 +1,4 @@
-use Rattle.py_calls.proofs.CalledLaws.{func_read}
+use Rattle.py_callables.proofs.CalledLaws.{func_read}
 use Rattle.py_calls.proofs.call.func_called.Goals as goal
 
 pub returns-clause-moves : goal.returns-clause-moves

@@ -3,7 +3,7 @@ use Rattle.py_frames.specs.declared.frame.Frame.TheVariants as frame
 use Rattle.py_frames.specs.declared.frame.CallFrame.TheVariants as call
 use Rattle.py_frames.specs.Values.{method_called}
 use Rattle.py_frames.proofs.CallLaws.{pushed_as}
-use Rattle.py_calls.proofs.CalledLaws.{init_begun}
+use Rattle.py_callables.proofs.CalledLaws.{init_begun}
 use Rattle.py_calls.proofs.call.init_called.Goals as goal
 
 pub returns-in-Ok-push-clause-moves : goal.returns-in-Ok-push-clause-moves

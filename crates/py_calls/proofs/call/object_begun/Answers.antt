@@ -1,4 +1,4 @@
-use Rattle.py_calls.proofs.CalledLaws.{init_found}
+use Rattle.py_callables.proofs.CalledLaws.{init_found}
 use Rattle.py_calls.proofs.call.object_begun.Goals as goal
 
 pub returns-clause-moves : goal.returns-clause-moves

@@ -1,0 +1,10 @@
+use Rattle.std.proofs.Common.{◌≡◌}
+use Rattle.py_values.specs.Heaps.{seen}
+use Rattle.py_values.specs.Objects.{inherited as inherits}
+use Rattle.py_callables.proofs.AttributeLaws.{of_class_read}
+use Rattle.py_callables.proofs.attribute.of_this_class.Goals as goal
+
+pub returns-clause-moves : goal.returns-clause-moves
+returns-clause-moves c =
+    let e : c.inherited-found.result ≡ inherits (seen c.args.frozen.now c.args.going.now.state.heap) c.args.name.now c.args.class = cc (c.inherited-found.ensures, c.as_str.ensures) in
+    of_class_read c.args.functions.now c.args.frozen.now c.found_of_object.result c.args.going.now c.found_of_object.new.going c.args.budget c.args.rounds c.args.x c.args.class.0 c.args.name.now c.args.place c.inherited-found.result e c.found_of_object.ensures.moves

@@ -1,0 +1,10 @@
+use Rattle.std.proofs.Common.{◌≡◌}
+use Rattle.py_values.specs.Heaps.{seen}
+use Rattle.py_values.specs.Objects.{inherited as inherits}
+use Rattle.py_callables.proofs.AttributeLaws.{above_read}
+use Rattle.py_callables.proofs.attribute_super.above_base.Goals as goal
+
+pub returns-clause-moves : goal.returns-clause-moves
+returns-clause-moves c =
+    let e : c.inherited-found.result ≡ inherits (seen c.args.frozen.now c.args.going.now.state.heap) c.args.name.now c.args.base = cc (c.inherited-found.ensures, c.as_str.ensures) in
+    above_read c.args.functions.now c.args.frozen.now c.found_above.result c.args.going.now c.found_above.new.going c.args.budget c.args.rounds c.args.this c.args.base.0 c.args.name.now c.args.place c.inherited-found.result e c.found_above.ensures.moves

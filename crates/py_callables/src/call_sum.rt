@@ -1,0 +1,134 @@
+// `sum`, which asks for its additions where there are things among what it adds.
+ghost use Rattle.std.specs.Prelude.{◌≡◌, ◌<◌, ◌≤◌, IfOk, OnOk, drop};
+ghost use Rattle.py_values.specs.Heaps.{seen};
+ghost use Rattle.py_frames.specs.Values.{adds_things, sum_asked, summed, built_over};
+ghost use Rattle.py_callables.specs.Going_over.{start_of};
+ghost use Rattle.py_frames.specs.Frames.{GoesOn};
+
+use crate::call_enter::first_of;
+use amh_host::{NoMemory, Place};
+use py_frames::binds::refused;
+use py_frames::call_leaf::{give, raise};
+use py_frames::frame::{CallFrame, Frame, Now};
+use py_frames::functions::Functions;
+use py_frames::going::Going;
+use py_frames::operators::{built, has_thing, is_thing, operated};
+use py_frames::state::Halt;
+use py_values::{Builtin, Frozen, Number, PyOp, Val, Vals, ValueStop};
+
+// What `sum` goes over, where there are things among that or it begins with one.
+fn adds_things(going: &Going, frozen: &Frozen, args: &[Val]) -> Result<bool, NoMemory>
+    ensures { IfOk result (λ adds. adds ≡ adds_things (seen frozen.now going.now.state.heap) args.now) }
+{
+    let (row, begins) = match args {
+        [row] => (*row, false),
+        [row, start] => (*row, is_thing(start)),
+        _ => return Ok(false),
+    };
+    match going.state.heap.elements(frozen, row) {
+        Ok(vals) => Ok(begins || has_thing(vals.as_slice())),
+        Err(ValueStop::NoMemory) => Err(NoMemory),
+        Err(_) => Ok(begins),
+    }
+}
+
+// What `sum` begins with.
+fn start_of(args: &[Val]) -> Val
+    ensures { result ≡ start_of args.now }
+{
+    match args {
+        [_, start] => *start,
+        _ => Val::Int(Number::of_u128(0)),
+    }
+}
+
+/// Additions from the left, each as the operator asks for it, from the item of this number on.
+#[tactic(auto, using(crate::proofs::SumLaws::summed_none, py_frames::proofs::BeginLaws::turn_rules))]
+pub fn summed(
+    going: &mut Going,
+    functions: &Functions,
+    frozen: &Frozen,
+    total: Val,
+    row: Vals,
+    next: u64,
+    place: Place,
+    budget: u64,
+) -> Result<Now, Halt>
+    requires { going.old.state.used < budget }
+    ensures moves { GoesOn functions.now frozen.now result going.old going.new budget (λ k. summed k total (drop next row) place) }
+    ensures left { OnOk result (going.new.state.used < budget) }
+    ensures grows { going.old.state.used ≤ going.new.state.used }
+{
+    if next >= row.len() as u64 {
+        return give(going, functions, frozen, total, budget);
+    }
+    let x = row.as_slice()[next as usize];
+    let next = next + 1;
+    match going
+        .frames
+        .push(Frame::Call(CallFrame::Summing { row, next, place }))
+    {
+        Ok(()) => operated(
+            going,
+            functions,
+            frozen,
+            PyOp::Add,
+            &total,
+            &x,
+            place,
+            budget,
+        ),
+        Err(_) => Err(Halt::NoMemory),
+    }
+}
+
+// The additions of what `sum` goes over.
+#[tactic(auto, using(crate::proofs::SumLaws::asked_none, py_frames::proofs::BeginLaws::turn_rules))]
+fn sum_asked(
+    going: &mut Going,
+    functions: &Functions,
+    frozen: &Frozen,
+    args: &[Val],
+    place: Place,
+    budget: u64,
+) -> Result<Now, Halt>
+    requires { going.old.state.used < budget }
+    ensures moves { GoesOn functions.now frozen.now result going.old going.new budget (λ k. sum_asked k args.now place) }
+    ensures left { OnOk result (going.new.state.used < budget) }
+    ensures grows { going.old.state.used ≤ going.new.state.used }
+{
+    let Some(row) = first_of(args) else {
+        return raise(going, functions, frozen, place, budget);
+    };
+    let start = start_of(args);
+    match going.state.heap.elements(frozen, row) {
+        Ok(vals) => summed(going, functions, frozen, start, vals, 0, place, budget),
+        Err(stop) => Err(refused(stop, place)),
+    }
+}
+
+/// A builtin whose arguments are rows.
+#[tactic(auto, using(py_frames::proofs::BeginLaws::turn_rules))]
+pub fn built_over(
+    going: &mut Going,
+    functions: &Functions,
+    frozen: &Frozen,
+    builtin: Builtin,
+    vals: Vals,
+    place: Place,
+    budget: u64,
+) -> Result<Now, Halt>
+    requires { going.old.state.used < budget }
+    ensures moves { GoesOn functions.now frozen.now result going.old going.new budget (λ k. built_over k builtin vals place) }
+    ensures left { OnOk result (going.new.state.used < budget) }
+    ensures grows { going.old.state.used ≤ going.new.state.used }
+{
+    match builtin {
+        Builtin::Sum => match adds_things(going, frozen, vals.as_slice()) {
+            Ok(true) => sum_asked(going, functions, frozen, vals.as_slice(), place, budget),
+            Ok(false) => built(going, functions, frozen, Builtin::Sum, vals, place, budget),
+            Err(_) => Err(Halt::NoMemory),
+        },
+        b => built(going, functions, frozen, b, vals, place, budget),
+    }
+}

@@ -1,0 +1,5 @@
+pub mod ParamLaws
+pub mod DefLaws
+pub mod ClassLaws
+pub mod ClassEnds
+pub mod DefGoes

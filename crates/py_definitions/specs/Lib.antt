@@ -1,0 +1,1 @@
+pub mod Def_begun
