@@ -19,12 +19,12 @@ use Rattle.design_ir.specs.declared.signal.Sig.{Sig}
 use Rattle.elab_store.specs.declared.members.NamedMember.{NamedMember}
 use Rattle.elab_store.specs.Calls.{Called, called}
 use Rattle.elab_store.specs.Stores.{Answered, nothing_held}
-use Rattle.elab_acts.specs.Imports.{imported}
-use Rattle.elab_acts.specs.Libraries.{library_given, wiring_named}
-use Rattle.elab_acts.specs.Members.{member_called}
+use Rattle.elab_components.specs.Imports.{imported}
+use Rattle.elab_components.specs.Libraries.{library_given, wiring_named}
+use Rattle.elab_components.specs.Members.{member_called}
 use Rattle.elab_store.specs.Components.{members_in, class_members}
-use Rattle.elab_acts.specs.ComponentClasses.{class_answered}
-use Rattle.elab_acts.specs.Interfaces.{init_answered}
+use Rattle.elab_components.specs.ComponentClasses.{class_answered}
+use Rattle.elab_components.specs.Interfaces.{init_answered}
 
 unfoldable pub thing : ℕ → Val
 thing n = val.Hw (record { 0 = n })

@@ -23,17 +23,17 @@ use Rattle.elab_store.specs.declared.shapes.Shaped.{Shaped}
 use Rattle.elab_store.specs.declared.kept.HdlName.{HdlName}
 use Rattle.elab_store.specs.declared.kept.Kept.TheVariants as kept
 use Rattle.elab_store.specs.declared.members.NamedMember.{NamedMember}
-use Rattle.elab_acts.specs.declared.interfaces.Interface.{Interface}
+use Rattle.elab_components.specs.declared.interfaces.Interface.{Interface}
 use Rattle.identifiers.specs.Identifiers.{is_identifier}
 use Rattle.identifiers.proofs.NameLaws.{identifier_is_name}
 use Rattle.elab_store.specs.Calls.{Called, first_or, behind_first}
 use Rattle.elab_store.specs.Stores.{Held, Answered, refused, next_thing, thing_given}
-use Rattle.elab_acts.specs.Signals.{signal_passes, with_signal}
-use Rattle.elab_acts.specs.Libraries.{library_given}
-use Rattle.elab_acts.specs.Members.{member_shaped, member_said, member_placed, member_init, member_called}
-use Rattle.elab_acts.specs.ComponentClasses.{component_made, component_base, annotated, class_over, class_answered}
-use Rattle.elab_acts.specs.Classes.{class_made, base_called}
-use Rattle.elab_acts.specs.Interfaces.{are_named, are_members, member_signal, with_member, member_bound, no_interface, interface_made, interface_given, members_given, component_called, component_class, init_as, init_of, init_answered, signature_name}
+use Rattle.elab_components.specs.Signals.{signal_passes, with_signal}
+use Rattle.elab_components.specs.Libraries.{library_given}
+use Rattle.elab_components.specs.Members.{member_shaped, member_said, member_placed, member_init, member_called}
+use Rattle.elab_components.specs.ComponentClasses.{component_made, component_base, annotated, class_over, class_answered}
+use Rattle.elab_components.specs.Classes.{class_made, base_called}
+use Rattle.elab_components.specs.Interfaces.{are_named, are_members, member_signal, with_member, member_bound, no_interface, interface_made, interface_given, members_given, component_called, component_class, init_as, init_of, init_answered, signature_name}
 use Rattle.elab_store.specs.Sound.{IsKept, IsSound}
 use Rattle.elab_acts.proofs.GrownLaws.{all_and, pool_grown, things_grown, read_held, keeping_sound}
 use Rattle.elab_acts.proofs.PortLaws.{and_split, all_put, ports_stay, port_more}

@@ -19,8 +19,8 @@ use Rattle.elab_store.specs.declared.domains.ClockDomain.{ClockDomain}
 use Rattle.elab_store.specs.declared.kept.Kept.TheVariants as kept
 use Rattle.elab_store.specs.Stores.{Held, Answered, next_thing, kept_of}
 use Rattle.elab_store.specs.Sound.{IsBit, IsClockDomain, AreClockDomains, IsSound}
-use Rattle.elab_acts.specs.declared.signals.SignalArguments.{SignalArguments}
-use Rattle.elab_acts.specs.Signals.{call_name, signal_reset_less, signal_passes}
+use Rattle.elab_components.specs.declared.signals.SignalArguments.{SignalArguments}
+use Rattle.elab_components.specs.Signals.{call_name, signal_reset_less, signal_passes}
 use Rattle.elab_acts.specs.Submodules.{found_given}
 use Rattle.elab_acts.specs.ClockDomains.{without_cd, domain_formed, clock_domain_name, clock_signal, reset_signal, next_signal, with_bit, clock_domain, keeping_domain, clock_domain_kept, reset_made, clock_made, clock_domain_said, clock_domain_from, own_attribute, clock_domain_attribute, clock_domain_of, domain_defined, definition_added, has_domain_name, definition_stored, is_definitions_of, definitions_stored}
 use Rattle.elab_acts.proofs.GrownLaws.{keeping_sound, name_more}

@@ -1,4 +1,3 @@
-pub mod ComponentLaws
 pub mod ComponentSamples
 pub mod ComponentSound
 pub mod DomainLaws
@@ -10,7 +9,6 @@ pub mod EnterLaws
 pub mod GivenLaws
 pub mod GrownLaws
 pub mod LikeSamples
-pub mod ListLaws
 pub mod MachineSound
 pub mod PortLaws
 pub mod ShapeSamples

@@ -13,7 +13,7 @@ use Rattle.py_frames.specs.declared.request.Answer.TheVariants as answer
 use Rattle.py_frames.specs.declared.request.Cause.TheVariants.{Raised}
 use Rattle.amh_things.specs.declared.thing.Thing.TheVariants as thing
 use Rattle.elab_store.specs.Calls.{called}
-use Rattle.elab_acts.specs.Likes.{like_called}
+use Rattle.elab_components.specs.Likes.{like_called}
 use Rattle.elab_store.specs.Stores.{Held, Answered, nothing_held}
 
 hw : ℕ → Val

@@ -23,10 +23,10 @@ use Rattle.elab_store.specs.declared.kept.BlockName.TheVariants as named
 use Rattle.elab_store.specs.declared.kept.Begin.TheVariants as begin
 use Rattle.elab_store.specs.declared.members.NamedMember.{NamedMember}
 use Rattle.elab_store.specs.Calls.{Called, called}
-use Rattle.elab_acts.specs.Signals.{signal_called}
-use Rattle.elab_acts.specs.Likes.{like_called}
-use Rattle.elab_acts.specs.Members.{member_called}
-use Rattle.elab_acts.specs.Interfaces.{member_given}
+use Rattle.elab_components.specs.Signals.{signal_called}
+use Rattle.elab_components.specs.Likes.{like_called}
+use Rattle.elab_components.specs.Members.{member_called}
+use Rattle.elab_components.specs.Interfaces.{member_given}
 use Rattle.elab_acts.specs.Blocks.{case_patterns, condition_called}
 use Rattle.elab_store.specs.Stores.{Held, Answered, nothing_held}
 

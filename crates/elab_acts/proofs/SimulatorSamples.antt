@@ -12,7 +12,7 @@ use Rattle.elab_store.specs.declared.simulation.ClockCall.{ClockCall}
 use Rattle.elab_store.specs.declared.simulation.RunEnd.TheVariants.{WithTestbenches, Until}
 use Rattle.elab_store.specs.Calls.{called}
 use Rattle.elab_store.specs.Stores.{Held, Answered, nothing_held}
-use Rattle.elab_acts.specs.Signals.{module_called}
+use Rattle.elab_components.specs.Signals.{module_called}
 use Rattle.elab_acts.specs.Simulators.{simulator_called, simulator_attribute, time_meant, are_vcd_keywords, simulator_part_called}
 
 thing : ℕ → Val

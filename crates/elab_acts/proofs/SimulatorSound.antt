@@ -15,7 +15,7 @@ use Rattle.elab_store.specs.Stores.{Held, Answered, given}
 use Rattle.elab_store.specs.Sound.{IsSound}
 use Rattle.elab_acts.specs.declared.simulators.ClockArguments.{ClockArguments}
 use Rattle.elab_acts.specs.declared.simulators.BenchArguments.{BenchArguments}
-use Rattle.elab_acts.specs.Signals.{without_arguments, signal_reset_less}
+use Rattle.elab_components.specs.Signals.{without_arguments, signal_reset_less}
 use Rattle.elab_acts.specs.Simulators.{with_simulation, simulated, simulator_placed, simulator_called, call_named, simulator_part_given, simulator_attribute, time_meant, clock_arguments, given_time, phase_said, clock_domain, clock_said, clock_timed, clock_from, most_testbenches, bench_arguments, bench_function, bench_said, bench_from, with_run, until_timed, until_placed, are_vcd_keywords, vcd_placed, open_called, simulator_part_called, vcd_passed}
 use Rattle.elab_acts.proofs.GrownLaws.{keeping_sound}
 

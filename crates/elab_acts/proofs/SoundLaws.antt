@@ -51,25 +51,25 @@ use Rattle.elab_store.specs.declared.kept.DomainName.TheVariants as domain
 use Rattle.elab_store.specs.declared.kept.Equation.{Equation}
 use Rattle.elab_acts.specs.declared.tops.Calling.{Calling}
 use Rattle.elab_store.specs.declared.shapes.Shaped.{Shaped}
-use Rattle.elab_acts.specs.declared.signals.SignalArguments.{SignalArguments}
+use Rattle.elab_components.specs.declared.signals.SignalArguments.{SignalArguments}
 use Rattle.identifiers.specs.Identifiers.{is_identifier}
 use Rattle.identifiers.proofs.NameLaws.{identifier_is_name}
 use Rattle.elab_store.specs.Stores.{Stored, Held, Answered, refused, kept_given, kept_of, naming_domain, side_of}
 use Rattle.elab_store.specs.Calls.{Called}
-use Rattle.elab_acts.specs.Imports.{is_hdl, is_utils, own_named, star_names, is_sim, sim_named, sim_imported, hdl_thing, hdl_imported, bound_answer, all_bound, imported, import_answered}
-use Rattle.elab_acts.specs.Signals.{with_module, without_arguments, module_called, formed, call_name, signal_name, signal_init, signal_reset_less, signal_shape, signal_of, signal_passes, with_signal, signal_given, signal_shaped, signal_said, signal_from}
-use Rattle.elab_acts.specs.Equations.{equation_given, equation_made, equated}
+use Rattle.elab_components.specs.Imports.{is_hdl, is_utils, own_named, star_names, is_sim, sim_named, sim_imported, hdl_thing, hdl_imported, bound_answer, all_bound, imported, import_answered}
+use Rattle.elab_components.specs.Signals.{with_module, without_arguments, module_called, formed, call_name, signal_name, signal_init, signal_reset_less, signal_shape, signal_of, signal_passes, with_signal, signal_given, signal_shaped, signal_said, signal_from}
+use Rattle.elab_components.specs.Equations.{equation_given, equation_made, equated}
 use Rattle.elab_acts.specs.Sides.{clocked_given, domain_given, is_domain_of, domain_stored, has_no_place, built_with, store_with_statement, statement_refusal, statement_put, statement_told, statements_behind, statements_told, statements_added}
 use Rattle.elab_acts.specs.Blocks.{block_name_given, begin_with, condition_given, condition_called, plain_called, with_patterns, case_given, case_patterns, case_in, case_called, case_subject, block_called, block_of, store_told, with_entered, entering_by, entering, passed, entered_at, block_entered, leaving_by, leaving, left_at, block_left}
 use Rattle.elab_store.specs.declared.kept.BlockName.{BlockName}
 use Rattle.elab_store.specs.declared.kept.BlockName.TheVariants as named
 use Rattle.elab_store.specs.declared.kept.Begin.{Begin}
 use Rattle.elab_store.specs.declared.kept.Begin.TheVariants as begin
-use Rattle.elab_acts.specs.Classes.{is_base, is_keyword, class_made, base_called}
-use Rattle.elab_acts.specs.Tops.{elaborate_of, with_top, top_taken, walk, body_taken, top_of, body_ended, ended_by, elaborate_ended}
+use Rattle.elab_components.specs.Classes.{is_base, is_keyword, class_made, base_called}
+use Rattle.elab_components.specs.Tops.{elaborate_of, with_top, top_taken, walk, body_taken, top_of, body_ended, ended_by, elaborate_ended}
 use Rattle.elab_store.specs.Stores.{object_in, first_object, module_of}
-use Rattle.elab_acts.specs.Libraries.{is_enum, is_data, library_named, thing_name_given}
-use Rattle.elab_acts.specs.Likes.{liked, like_placed, like_init, own_reset_less, liked_shape, liked_signal}
+use Rattle.elab_components.specs.Libraries.{is_enum, is_data, library_named, thing_name_given}
+use Rattle.elab_components.specs.Likes.{liked, like_placed, like_init, own_reset_less, liked_shape, liked_signal}
 use Rattle.elab_store.specs.Sound.{IsEquation, IsBegin, IsKept, IsOpening, IsTold, IsBuilt, IsSound}
 use Rattle.elab_store.proofs.Pools.{IsGrown, target_stays, there_stays}
 use Rattle.elab_acts.proofs.GrownLaws.{all_and, pool_grown, things_grown, read_held, keeping_sound, built_stays, told_module, module_built, with_top_sound}

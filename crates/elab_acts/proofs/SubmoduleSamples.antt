@@ -11,9 +11,9 @@ use Rattle.py_frames.specs.declared.request.Cause.TheVariants.{Raised, Limit}
 use Rattle.elab_store.specs.declared.hierarchy.Addition.{Addition}
 use Rattle.elab_store.specs.Calls.{called}
 use Rattle.elab_store.specs.Stores.{Held, Answered, nothing_held}
-use Rattle.elab_acts.specs.Signals.{module_called}
+use Rattle.elab_components.specs.Signals.{module_called}
 use Rattle.elab_acts.specs.Submodules.{submodule_added, submodule_stored, submodule_given}
-use Rattle.elab_acts.specs.Tops.{body_ended, walked}
+use Rattle.elab_components.specs.Tops.{body_ended, walked}
 
 thing : ℕ → Val
 thing n = val.Hw (record { 0 = n })

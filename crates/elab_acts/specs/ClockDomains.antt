@@ -21,9 +21,9 @@ use Rattle.elab_store.specs.declared.kept.Kept.TheVariants as kept
 use Rattle.elab_store.specs.Calls.{Called}
 use Rattle.elab_store.specs.ClockDomains.{with_clock_domain, with_definition}
 use Rattle.elab_store.specs.Stores.{Stored, Held, Answered, refused, given, next_thing, with_thing, kept_given, kept_of}
-use Rattle.elab_acts.specs.declared.interfaces.NewSignal.{NewSignal}
-use Rattle.elab_acts.specs.declared.signals.SignalArguments.{SignalArguments}
-use Rattle.elab_acts.specs.Signals.{no_arguments, with_keywords, call_name, formed, signal_reset_less, signal_passes, with_signal}
+use Rattle.elab_components.specs.declared.interfaces.NewSignal.{NewSignal}
+use Rattle.elab_components.specs.declared.signals.SignalArguments.{SignalArguments}
+use Rattle.elab_components.specs.Signals.{no_arguments, with_keywords, call_name, formed, signal_reset_less, signal_passes, with_signal}
 use Rattle.elab_acts.specs.Submodules.{found_given}
 
 -- ---- the arguments

@@ -1,17 +1,6 @@
 pub mod Blocks
-pub mod Classes
 pub mod ClockDomains
-pub mod ComponentClasses
 pub mod Entering
-pub mod Equations
-pub mod Imports
-pub mod Interfaces
-pub mod Libraries
-pub mod Likes
-pub mod Members
-pub mod Puts
 pub mod Sides
-pub mod Signals
 pub mod Simulators
 pub mod Submodules
-pub mod Tops

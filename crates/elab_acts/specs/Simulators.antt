@@ -20,7 +20,7 @@ use Rattle.elab_store.specs.Simulations.{Simulation, with_subject, with_clock, w
 use Rattle.elab_store.specs.Stores.{Held, Answered, refused, given, kept_given}
 use Rattle.elab_acts.specs.declared.simulators.ClockArguments.{ClockArguments}
 use Rattle.elab_acts.specs.declared.simulators.BenchArguments.{BenchArguments}
-use Rattle.elab_acts.specs.Signals.{without_arguments, signal_reset_less}
+use Rattle.elab_components.specs.Signals.{without_arguments, signal_reset_less}
 
 abbrev pub with_simulation : Simulation → Held → Held
 with_simulation x h = record h { store = record h.store { simulation = x } }

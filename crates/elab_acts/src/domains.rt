@@ -7,15 +7,17 @@ ghost use Rattle.clock_domains.specs.Resolved.{bit_signal, domain_prefix};
 ghost use Rattle.amh_things.specs.declared.thing.Reading.TheVariants as reading;
 ghost use Rattle.elab_store.specs.Seen.{called_of};
 ghost use Rattle.elab_store.specs.Held.{held_of, Gives};
-ghost use Rattle.elab_acts.specs.Puts.{IsPut};
+ghost use Rattle.elab_components.specs.Puts.{IsPut};
 ghost use Rattle.elab_acts.specs.ClockDomains.{is_domain_keyword, placed_name, domain_arguments, without_cd, domain_formed, clock_domain_name, clock_domain, clock_domain_kept, reset_made, clock_made, clock_domain_called, clock_domain_attribute, clock_domain_of, domain_defined, definition_added, has_domain_name, definition_stored, is_definitions_of, definitions_stored};
 
-use crate::interfaces::{NewSignal, copied_text, new_signal};
-use crate::signals::{SignalArguments, call_name, formed, signal_reset_less, with_keywords};
 use amh_bits::Int;
 use amh_host::{Place, Text};
 use amh_things::thing::Reading;
 use design_ir::{Domain, Sig, SigId};
+use elab_components::interfaces::{NewSignal, copied_text, new_signal};
+use elab_components::signals::{
+    SignalArguments, call_name, formed, signal_reset_less, with_keywords,
+};
 use elab_store::calls::Called;
 use elab_store::domains::{ClockDomain, Definition};
 use elab_store::kept::Kept;

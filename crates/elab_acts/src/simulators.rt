@@ -6,9 +6,9 @@ ghost use Rattle.elab_store.specs.Seen.{called_of};
 ghost use Rattle.elab_store.specs.Held.{held_of, Gives};
 ghost use Rattle.elab_acts.specs.Simulators.{simulated, simulator_called, call_named, simulator_attribute, whole_seconds, seconds, time_meant, clock_once, clock_keyword, clock_keywords, clock_placed, clock_arguments, given_time, phase_said, clock_domain, clock_from, bench_once, bench_keyword, bench_keywords, bench_placed, bench_arguments, is_def, is_defined, bench_function, bench_said, bench_from, run_called, until_placed, is_vcd_keyword, are_vcd_keywords, vcd_placed, open_called, simulator_part_called, vcd_passed};
 
-use crate::signals::signal_reset_less;
 use amh_bits::Int;
 use amh_host::{Place, Text};
+use elab_components::signals::signal_reset_less;
 use elab_store::calls::Called;
 use elab_store::kept::{Kept, SimulatorPart};
 use elab_store::names::is_text;

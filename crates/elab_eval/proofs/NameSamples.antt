@@ -9,7 +9,7 @@ use Rattle.amh_things.specs.declared.thing.ThingName.TheVariants as name
 use Rattle.elab_store.specs.declared.kept.HdlName.TheVariants as hdl
 use Rattle.elab_store.specs.declared.kept.Kept.TheVariants as kept
 use Rattle.elab_store.specs.Stores.{Answered, nothing_held}
-use Rattle.elab_acts.specs.Imports.{imported}
+use Rattle.elab_components.specs.Imports.{imported}
 use Rattle.elab_eval.specs.Table.{name_attribute}
 
 hw : ℕ → Val

@@ -32,7 +32,7 @@ use Rattle.amh_things.specs.Things.{thing_of, held_expr}
 use Rattle.elab_store.specs.Stores.{Held}
 use Rattle.elab_store.specs.Components.{ports_at}
 use Rattle.elab_eval.specs.ComponentTops.{made_ports, component_ports}
-use Rattle.elab_acts.specs.Interfaces.{component_class}
+use Rattle.elab_components.specs.Interfaces.{component_class}
 use Rattle.elab_eval.specs.ObjectTops.{signal_in, held_signal, has_public_name, attribute_signal, attribute_signals, before_others, each_once, signal_ports, held_ports, ports_as}
 use Rattle.elab_eval.specs.Elaborates.{ports_of}
 use Rattle.elab_store.specs.Sound.{IsSound}

@@ -22,15 +22,15 @@ use Rattle.elab_store.specs.declared.kept.Kept.{Kept}
 use Rattle.elab_store.specs.declared.kept.Kept.TheVariants as kept_as
 use Rattle.elab_store.specs.Stores.{Held, kept_of, side_of}
 use Rattle.elab_store.specs.Calls.{Called, called}
-use Rattle.elab_acts.specs.Signals.{signal_arguments}
+use Rattle.elab_components.specs.Signals.{signal_arguments}
 use Rattle.elab_acts.specs.Sides.{index_name, equations_in, deepest}
 use Rattle.elab_acts.specs.Blocks.{block_named}
-use Rattle.elab_acts.specs.Tops.{global}
+use Rattle.elab_components.specs.Tops.{global}
 use Rattle.elab_eval.specs.Table.{kept_called, equated_by, called_by, call_answered, attribute_of, attribute_answered, module_stored, attribute_stored, store_answered, index_of, index_answered, index_stored, index_store_answered, added, operator_answered, kept_entered, kept_left, enter_answered, leave_answered, own_answered, only}
 use Rattle.elab_eval.specs.Table as table
-use Rattle.elab_acts.specs.Libraries.{wiring_named}
+use Rattle.elab_components.specs.Libraries.{wiring_named}
 use Rattle.elab_eval.specs.Table.{name_attribute}
-use Rattle.elab_acts.specs.Likes.{like_arguments}
+use Rattle.elab_components.specs.Likes.{like_arguments}
 use Rattle.elab_acts.specs.ClockDomains.{domain_arguments}
 use Rattle.elab_store.specs.Sound.{IsKept, IsSound}
 use Rattle.elab_acts.proofs.SideLaws.{equations_stand, kept_stands}

@@ -17,7 +17,7 @@ use Rattle.clock_domains.specs.declared.top.TopPorts.TheVariants as ports
 use Rattle.clock_domains.specs.Resolved.{port_of}
 use Rattle.amh_things.specs.Things.{thing_of, held_expr}
 use Rattle.elab_store.specs.Stores.{Held}
-use Rattle.elab_acts.specs.Interfaces.{component_class}
+use Rattle.elab_components.specs.Interfaces.{component_class}
 use Rattle.elab_eval.specs.ComponentTops.{component_ports}
 
 -- ---- signals among attributes

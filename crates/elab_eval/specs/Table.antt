@@ -21,22 +21,22 @@ use Rattle.elab_store.specs.declared.kept.HdlName.TheVariants as hdl
 use Rattle.elab_store.specs.declared.kept.Kept.{Kept}
 use Rattle.elab_store.specs.declared.kept.Kept.TheVariants as kept
 use Rattle.elab_store.specs.Stores.{Held, Answered, refused, kept_of, side_of}
-use Rattle.elab_acts.specs.Imports.{import_answered}
+use Rattle.elab_components.specs.Imports.{import_answered}
 use Rattle.elab_store.specs.Calls.{Called, called}
-use Rattle.elab_acts.specs.Signals.{module_called, signal_called}
-use Rattle.elab_acts.specs.Likes.{like_given, like_called}
-use Rattle.elab_acts.specs.Equations.{equated}
+use Rattle.elab_components.specs.Signals.{module_called, signal_called}
+use Rattle.elab_components.specs.Likes.{like_given, like_called}
+use Rattle.elab_components.specs.Equations.{equated}
 use Rattle.elab_acts.specs.Blocks.{block_called, block_entered, block_left}
 use Rattle.amh_host.specs.declared.place.Place.{Place}
 use Rattle.elab_machines.specs.StateMachines.{part_attribute, next_stored, part_called, part_entered, part_left}
 use Rattle.elab_acts.specs.Sides.{module_attribute, domain_given, index_name, domain_stored, deepest, equations_in, statements_added}
 use Rattle.elab_acts.specs.ClockDomains.{clock_domain_called, clock_domain_attribute, definition_added, definition_stored, definitions_stored}
 use Rattle.elab_acts.specs.Submodules.{submodule_added, submodule_stored, submodule_given, submodules_stored}
-use Rattle.elab_acts.specs.Libraries.{wiring_named, library_given, thing_name_given}
-use Rattle.elab_acts.specs.Members.{member_called}
-use Rattle.elab_acts.specs.ComponentClasses.{class_answered}
-use Rattle.elab_acts.specs.Interfaces.{init_answered}
-use Rattle.elab_acts.specs.Tops.{global, body_ended, elaborate_ended}
+use Rattle.elab_components.specs.Libraries.{wiring_named, library_given, thing_name_given}
+use Rattle.elab_components.specs.Members.{member_called}
+use Rattle.elab_components.specs.ComponentClasses.{class_answered}
+use Rattle.elab_components.specs.Interfaces.{init_answered}
+use Rattle.elab_components.specs.Tops.{global, body_ended, elaborate_ended}
 use Rattle.elab_acts.specs.Simulators.{simulator_called, simulator_attribute, simulator_part_called, vcd_passed}
 
 -- ---- calls

@@ -4,7 +4,7 @@ ghost use Rattle.elab_eval.specs.ComponentTops.{component_ports};
 
 use clock_domains::TopPorts;
 use design_ir::{Port, Ports};
-use elab_acts::interfaces::copied_text;
+use elab_components::interfaces::copied_text;
 use elab_store::store::Store;
 use lists::NoMemory;
 use py_values::ObjId;

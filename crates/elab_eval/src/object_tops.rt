@@ -13,7 +13,7 @@ ghost use Rattle.elab_store.specs.Held.{held_of};
 use crate::component_tops::component_ports;
 use clock_domains::TopPorts;
 use design_ir::{Expr, Exprs, Port, Ports, SigId};
-use elab_acts::interfaces::{component_class, copied_text};
+use elab_components::interfaces::{component_class, copied_text};
 use elab_acts::tops::first_in;
 use elab_store::store::Elaboration;
 use lists::NoMemory;

@@ -1,0 +1,11 @@
+pub mod Classes
+pub mod ComponentClasses
+pub mod Equations
+pub mod Imports
+pub mod Interfaces
+pub mod Libraries
+pub mod Likes
+pub mod Members
+pub mod Puts
+pub mod Signals
+pub mod Tops
