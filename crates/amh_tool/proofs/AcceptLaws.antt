@@ -11,9 +11,9 @@ use Rattle.design_ir.specs.Circuits.{Circuit}
 use Rattle.amh_tool.specs.declared.refusal.Refusal.{Refusal}
 use Rattle.amh_tool.specs.Plan.{Plan}
 use Rattle.amh_tool.specs.Designs.{Designed, gives, refuses, spends, IsDesigned, refusal, line_start}
-use Rattle.amh_tool.specs.Boards.{board_of}
-use Rattle.amh_tool.specs.Script.{script_events}
-use Rattle.amh_tool.specs.ScriptGives.{SaysAs, ReadsScript}
+use Rattle.play_text.specs.Boards.{board_of}
+use Rattle.play_text.specs.Script.{script_events}
+use Rattle.play_text.specs.ScriptGives.{SaysAs, ReadsScript}
 use Rattle.amh_tool.proofs.ScriptFronts.{script_events-front}
 use Rattle.amh_tool.proofs.DesignLaws.{IsDesigned-long}
 use Rattle.amh_tool.specs.Outcome.{Outcome, Unread, Refuses, Spends, FromDesign, IsJudged, IsPlanned, played}

@@ -6,10 +6,10 @@ use Rattle.std.specs.List.{flat_map}
 use Rattle.std.specs.Ordering.{int_eq}
 use Rattle.amh_bits.specs.Decimals.{int_text}
 use Rattle.design_ir.specs.Circuits.{at}
-use Rattle.amh_tool.specs.declared.board.Shown.{Shown}
-use Rattle.amh_tool.specs.declared.board.Board.{Board}
-use Rattle.amh_tool.specs.Lanes.{label_of, lane_at, lanes_at, lane_text, moved, row_head}
-use Rattle.amh_tool.specs.Trace.{Row, field, changed_field, changed_fields, event_text, row_line, line_feed}
+use Rattle.play_text.specs.declared.board.Shown.{Shown}
+use Rattle.play_text.specs.declared.board.Board.{Board}
+use Rattle.play_text.specs.Lanes.{label_of, lane_at, lanes_at, lane_text, moved, row_head}
+use Rattle.play_text.specs.Trace.{Row, field, changed_field, changed_fields, event_text, row_line, line_feed}
 
 -- a label and a number are the field
 label_field : (name : List ℕ) (value : ℤ) → label_of name ++ int_text value ≡ field name value

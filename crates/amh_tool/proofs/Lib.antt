@@ -1,17 +1,7 @@
 mod TraceSamples
-pub mod BoardLaws
 pub mod TraceLaws
 pub mod LaneLaws
-mod StripeLaws
 pub mod Refused
-pub mod TextLineLaws
-pub mod ScriptWordLaws
-pub mod ScriptNameLaws
-pub mod ScriptNumerals
-pub mod ScriptNumberLaws
-pub mod ScriptSetLaws
-pub mod ScriptEdgeLaws
-pub mod ScriptEvents
 pub mod ScriptTexts
 mod ScriptSamples
 pub mod ScriptFronts

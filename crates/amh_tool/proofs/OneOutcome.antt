@@ -4,8 +4,8 @@ use Rattle.std.proofs.Common.{subst}
 use Rattle.amh_host.specs.Seen.{Files}
 use Rattle.py_grammar.specs.Block_laws.{OneProgram, FrontOfFront}
 use Rattle.amh_tool.specs.Plan.{Plan, plan_of}
-use Rattle.amh_tool.specs.Boards.{board_of}
-use Rattle.amh_tool.specs.Script.{script_events}
+use Rattle.play_text.specs.Boards.{board_of}
+use Rattle.play_text.specs.Script.{script_events}
 use Rattle.elab_eval.specs.Elaborates.{OneOutcome as One_elaboration}
 use Rattle.amh_tool.specs.Designs.{Designed, gives, refuses, spends}
 use Rattle.amh_tool.specs.Outcome.{Outcome, Unread, BadWords, Refuses, Spends, played, Follows, IsJudged, FromDesign, IsPlanned}

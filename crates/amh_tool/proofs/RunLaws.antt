@@ -11,7 +11,7 @@ use Rattle.amh_host.proofs.SeenLaws.{file_of-with_file_here, file_of-with_file_a
 use Rattle.amh_host.specs.Written.{WritesFront, Writes}
 use Rattle.design_ir.specs.declared.event.Event.{Event}
 use Rattle.design_ir.specs.Circuits.{Circuit}
-use Rattle.amh_tool.specs.Trace.{Row, End, Done as EndDone, timed}
+use Rattle.play_text.specs.Trace.{Row, End, Done as EndDone, timed}
 use Rattle.amh_tool.specs.Plan.{Plan, plan_of, differ, are_distinct}
 use Rattle.amh_tool.specs.Outcome.{Outcome, Unread, BadWords, Refuses, Spends, BadLine, Accepts, IsOutcome, IsPlanned, status_of, said_of, warned_of, names, no_plan, usage_text}
 use Rattle.amh_tool.specs.Headline.{Tells, IfAccepted, IsAccepted, HoldsRtlil, HoldsTrace, IsWritten, grown}

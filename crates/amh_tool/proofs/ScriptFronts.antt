@@ -3,9 +3,9 @@ use Rattle.std.proofs.Common.{◌≡◌, refl, ℕ, zero, suc, ◌+◌, ◌-◌,
 use Rattle.std.specs.Prelude.{Err, nat_lt, ◌==◌}
 use Rattle.std.proofs.lemmas.List.{append-nil}
 use Rattle.std.proofs.lemmas.Bool.Decides.{nat_tests}
-use Rattle.amh_tool.specs.declared.board.Board.{Board}
-use Rattle.amh_tool.specs.TextLines.{Line, lines_in}
-use Rattle.amh_tool.specs.Script.{script_events, most_bytes, most_events, events_from, says, content, said_at, left_behind}
+use Rattle.play_text.specs.declared.board.Board.{Board}
+use Rattle.play_text.specs.TextLines.{Line, lines_in}
+use Rattle.play_text.specs.Script.{script_events, most_bytes, most_events, events_from, says, content, said_at, left_behind}
 
 -- the first line of a text ends in this front of it
 record Cut (front : List ℕ) : Type 0 where

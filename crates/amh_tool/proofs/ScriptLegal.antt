@@ -13,14 +13,14 @@ use Rattle.design_ir.specs.declared.event.Event.{Event}
 use Rattle.design_ir.specs.declared.event.Event.TheVariants.{Set, Edge}
 use Rattle.design_ir.specs.Circuits.{Circuit, is_input}
 use Rattle.design_ir.specs.Legal.{IsLegal, AllLegal, Ascending}
-use Rattle.amh_tool.specs.declared.board.Shown.{Shown}
-use Rattle.amh_tool.specs.declared.script_saying.Saying.{Saying}
-use Rattle.amh_tool.specs.declared.script_saying.Saying.TheVariants.{Nothing, Asks, Bad}
-use Rattle.amh_tool.specs.TextLines.{Line, lines_in}
-use Rattle.amh_tool.specs.Boards.{board_of, shown_of, is_clock}
-use Rattle.amh_tool.specs.Script.{script_events, events_from, most_bytes, most_events, says, asking, event_of, said_at, with_event, left_behind, content, is_passed, words_in, set_event, set_to, settable, integer_of, holds, edge_event, is_word, is_domain, all_apart, named_domains}
-use Rattle.amh_tool.specs.ScriptParts.{is_settable_as}
-use Rattle.amh_tool.proofs.ScriptEdgeLaws.{named, not_true}
+use Rattle.play_text.specs.declared.board.Shown.{Shown}
+use Rattle.play_text.specs.declared.script_saying.Saying.{Saying}
+use Rattle.play_text.specs.declared.script_saying.Saying.TheVariants.{Nothing, Asks, Bad}
+use Rattle.play_text.specs.TextLines.{Line, lines_in}
+use Rattle.play_text.specs.Boards.{board_of, shown_of, is_clock}
+use Rattle.play_text.specs.Script.{script_events, events_from, most_bytes, most_events, says, asking, event_of, said_at, with_event, left_behind, content, is_passed, words_in, set_event, set_to, settable, integer_of, holds, edge_event, is_word, is_domain, all_apart, named_domains}
+use Rattle.play_text.specs.ScriptParts.{is_settable_as}
+use Rattle.play_text.proofs.ScriptEdgeLaws.{named, not_true}
 
 -- what an option goes on with
 record Goes {T U : Type 0} (f : T → Option U) (o : Option T) (y : U) : Type 0 where

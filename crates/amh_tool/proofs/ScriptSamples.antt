@@ -3,8 +3,8 @@ use Rattle.std.specs.Prelude.{◌≡◌, refl, ℕ, true, false, pos, negsuc, Li
 use Rattle.shape_rules.specs.Forms.{unsigned, signed_form}
 use Rattle.design_ir.specs.declared.event.Event.{Event}
 use Rattle.design_ir.specs.declared.event.Event.TheVariants.{Set, Edge}
-use Rattle.amh_tool.specs.declared.board.Board.{Board}
-use Rattle.amh_tool.specs.Script.{script_events}
+use Rattle.play_text.specs.declared.board.Board.{Board}
+use Rattle.play_text.specs.Script.{script_events}
 
 -- the gate: inputs `a` and `b`, output `y`, each of one bit
 gate : Board

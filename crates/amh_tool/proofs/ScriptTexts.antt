@@ -8,13 +8,13 @@ use Rattle.std.specs.Char.{is_ascii_digit}
 use Rattle.amh_bits.specs.Decimals.{int_text}
 use Rattle.design_ir.specs.declared.ids.SigId.{SigId}
 use Rattle.design_ir.specs.declared.event.Event.TheVariants.{Set}
-use Rattle.amh_tool.specs.declared.board.Shown.{Shown}
-use Rattle.amh_tool.specs.declared.board.Board.{Board}
-use Rattle.amh_tool.specs.declared.script_saying.Saying.TheVariants.{Asks}
-use Rattle.amh_tool.specs.Trace.{event_text, name_of}
-use Rattle.amh_tool.specs.Script.{says, settable, digits_from, natural_of, opposite, integer_of, holds, words_in}
-use Rattle.amh_tool.proofs.ScriptNumberLaws.{integer_of-held}
-use Rattle.amh_tool.proofs.ScriptNumerals.{digit_low}
+use Rattle.play_text.specs.declared.board.Shown.{Shown}
+use Rattle.play_text.specs.declared.board.Board.{Board}
+use Rattle.play_text.specs.declared.script_saying.Saying.TheVariants.{Asks}
+use Rattle.play_text.specs.Trace.{event_text, name_of}
+use Rattle.play_text.specs.Script.{says, settable, digits_from, natural_of, opposite, integer_of, holds, words_in}
+use Rattle.play_text.proofs.ScriptNumberLaws.{integer_of-held}
+use Rattle.play_text.proofs.ScriptNumerals.{digit_low}
 
 -- a blank is among the bytes
 abbrev pub has_blank : List ℕ → Bool

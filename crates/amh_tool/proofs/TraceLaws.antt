@@ -16,10 +16,10 @@ use Rattle.design_ir.proofs.Runs.{Ends, extend, history_of}
 use Rattle.comb_graph.specs.Laws.{HasOneHistory}
 use Rattle.delta_sim.specs.Standing.{Simulated, Stands, state_of}
 use Rattle.netlist_laws.specs.Histories.{IsHistory}
-use Rattle.amh_tool.specs.declared.board.Board.{Board}
+use Rattle.play_text.specs.declared.board.Board.{Board}
 use Rattle.amh_tool.specs.declared.accept.Accepted.{Accepted}
 use Rattle.amh_tool.specs.Headline.{IsTrace}
-use Rattle.amh_tool.specs.Trace.{Row, Done, timed, events_in, head_line, done_line, column_line, first_line, row_line, row_lines, trace_text}
+use Rattle.play_text.specs.Trace.{Row, Done, timed, events_in, head_line, done_line, column_line, first_line, row_line, row_lines, trace_text}
 use Rattle.amh_tool.specs.Verdicts.{IsFitting}
 
 -- ---- lists of events

@@ -4,9 +4,9 @@ use Rattle.std.specs.Fmt.{digits}
 use Rattle.shape_rules.specs.Forms.{Form}
 use Rattle.design_ir.specs.declared.event.Event.{Event}
 use Rattle.design_ir.specs.declared.event.Event.TheVariants.{Set, Edge}
-use Rattle.amh_tool.specs.declared.board.Shown.{Shown}
-use Rattle.amh_tool.specs.declared.board.Board.{Board}
-use Rattle.amh_tool.specs.Trace.{Done, timed, head_line, column_line, shape_text, field, event_text, first_line, row_line, done_line, trace_text}
+use Rattle.play_text.specs.declared.board.Shown.{Shown}
+use Rattle.play_text.specs.declared.board.Board.{Board}
+use Rattle.play_text.specs.Trace.{Done, timed, head_line, column_line, shape_text, field, event_text, first_line, row_line, done_line, trace_text}
 
 set : ℕ → ℕ → Event
 set s n = Set (record { 0 = s }) (pos n)

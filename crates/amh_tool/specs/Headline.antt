@@ -9,8 +9,8 @@ use Rattle.rtlil_text.specs.Reads.{Reads}
 use Rattle.rtlil_text.specs.declared.module.RtlModule.{RtlModule}
 use Rattle.netlist_laws.specs.Corresponds.{Corresponds}
 use Rattle.netlist_laws.specs.Histories.{SameHistory, IsHistory}
-use Rattle.amh_tool.specs.Boards.{board_of}
-use Rattle.amh_tool.specs.Trace.{Row, End, trace_text, events_in}
+use Rattle.play_text.specs.Boards.{board_of}
+use Rattle.play_text.specs.Trace.{Row, End, trace_text, events_in}
 use Rattle.amh_tool.specs.Plan.{plan_of}
 use Rattle.amh_tool.specs.Outcome.{Outcome, IsOutcome, Unread, BadWords, Refuses, Spends, BadLine, Accepts, status_of, said_of, warned_of, names}
 use Rattle.amh_tool.specs.declared.running.Status.{Status}

@@ -1,12 +1,3 @@
-pub mod TextLines
-pub mod Boards
-pub mod BoardMarks
-pub mod Script
-pub mod ScriptParts
-pub mod ScriptGives
-pub mod Trace
-pub mod Lanes
-pub mod Stripes
 pub mod Plan
 pub mod Designs
 pub mod DesignGives

@@ -12,11 +12,11 @@ use Rattle.design_ir.specs.Circuits.{Circuit}
 use Rattle.amh_tool.specs.declared.refusal.Refusal.{Refusal}
 use Rattle.amh_tool.specs.declared.running.Status.{Status}
 use Rattle.amh_tool.specs.declared.running.Status.TheVariants.{Done, Refused, AssertFailed, Usage, Spent, Fault, NoMemory}
-use Rattle.amh_tool.specs.Trace.{Row, End, Done as EndDone, timed, ◌▸◌, line_feed}
+use Rattle.play_text.specs.Trace.{Row, End, Done as EndDone, timed, ◌▸◌, line_feed}
 use Rattle.amh_tool.specs.Plan.{Plan, plan_of}
 use Rattle.amh_tool.specs.Designs.{Designed, gives, refuses, spends, IsDesigned, budget}
-use Rattle.amh_tool.specs.Boards.{board_of}
-use Rattle.amh_tool.specs.Script.{script_events}
+use Rattle.play_text.specs.Boards.{board_of}
+use Rattle.play_text.specs.Script.{script_events}
 
 pub data Outcome : Type 0 where
   -- a file that is to be read is not held

@@ -3,8 +3,8 @@
 use Rattle.std.specs.Prelude.{◌≡◌}
 use Rattle.design_ir.specs.Legal.{AllLegal}
 use Rattle.comb_graph.specs.Rankings.{IsRanking}
-use Rattle.amh_tool.specs.Boards.{board_of}
-use Rattle.amh_tool.specs.Trace.{timed, Done}
+use Rattle.play_text.specs.Boards.{board_of}
+use Rattle.play_text.specs.Trace.{timed, Done}
 use Rattle.amh_tool.specs.Outcome.{Outcome, Refuses, Spends, BadLine, Accepts}
 use Rattle.amh_tool.specs.declared.design_text.Ranked.{Ranked}
 use Rattle.amh_tool.specs.declared.accept.Accepted.{Accepted}

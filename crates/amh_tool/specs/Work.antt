@@ -5,7 +5,7 @@ use Rattle.amh_host.specs.Seen.{Files, Seen, with_file, with_said, with_warned}
 use Rattle.amh_host.specs.Calls.{AddsFront}
 use Rattle.amh_host.specs.Written.{WritesFront}
 use Rattle.design_ir.specs.Circuits.{Circuit}
-use Rattle.amh_tool.specs.Trace.{Row, End}
+use Rattle.play_text.specs.Trace.{Row, End}
 use Rattle.amh_tool.specs.Plan.{Plan}
 use Rattle.amh_tool.specs.Outcome.{Outcome, Unread, BadWords, Refuses, Spends, BadLine, Accepts, IsPlanned, status_of, said_of, warned_of, usage_text, fault_text}
 use Rattle.amh_tool.specs.Headline.{StandsFor, IsTrace}

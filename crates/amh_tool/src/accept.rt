@@ -4,16 +4,16 @@ ghost use Rattle.amh_host.specs.Causes.{HasCause};
 ghost use Rattle.amh_tool.specs.Outcome.{IsPlanned, IsJudged};
 ghost use Rattle.amh_tool.specs.Designs.{gives, refusal, line_start};
 ghost use Rattle.amh_tool.specs.Verdicts.{verdict_seen, IsFit, IsReady};
-ghost use Rattle.amh_tool.specs.ScriptGives.{ReadsScript};
+ghost use Rattle.play_text.specs.ScriptGives.{ReadsScript};
 ghost use Rattle.amh_tool.specs.Views.{plan_seen};
 
-use crate::board::{Board, board_of};
 use crate::design_text::{Ranked, read_design};
 use crate::plan::Plan;
 use crate::refusal::{DesignStop, Refusal};
-use crate::script::{ScriptStop, read_script};
 use amh_host::{Host, HostStop, Items, Kind, Place, Steps, Whole, read_whole};
 use design_ir::Event;
+use play_text::board::{Board, board_of};
+use play_text::script::{ScriptStop, read_script};
 use std::alloc::Global;
 use std::sync::ledger::Ledger;
 

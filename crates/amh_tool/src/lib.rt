@@ -6,7 +6,6 @@
 #![tactic(auto)]
 
 mod accept;
-mod board;
 mod design_text;
 mod laws;
 mod perform;
@@ -14,20 +13,8 @@ mod plan;
 mod playing;
 mod refusal;
 mod running;
-mod script;
-mod script_edge;
-mod script_line;
-mod script_names;
-mod script_numbers;
-mod script_saying;
-mod script_words;
-mod text_lines;
 mod texts;
 mod trace;
-mod trace_columns;
-mod trace_events;
-mod trace_lines;
-mod trace_stripes;
 
 pub use laws::outcomes_are_one;
 pub use playing::play;

@@ -1,10 +1,10 @@
 use Rattle.std.proofs.Common.{◌≡◌, ◌∙◌, ap, sym, subst}
 use Rattle.std.specs.Prelude.{Ok, Err}
-use Rattle.amh_tool.specs.declared.board.Board.{Board}
-use Rattle.amh_tool.specs.declared.script.ScriptStop.{ScriptStop}
-use Rattle.amh_tool.specs.ScriptGives.{ScriptGives}
-use Rattle.amh_tool.specs.Boards.{board_of}
-use Rattle.amh_tool.specs.Script.{script_events}
+use Rattle.play_text.specs.declared.board.Board.{Board}
+use Rattle.play_text.specs.declared.script.ScriptStop.{ScriptStop}
+use Rattle.play_text.specs.ScriptGives.{ScriptGives}
+use Rattle.play_text.specs.Boards.{board_of}
+use Rattle.play_text.specs.Script.{script_events}
 use Rattle.amh_tool.specs.Outcome.{played, BadLine}
 use Rattle.amh_tool.specs.Views.{plan_seen}
 use Rattle.amh_tool.proofs.AcceptLaws.{read_script_of}

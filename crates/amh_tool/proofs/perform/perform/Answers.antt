@@ -4,9 +4,9 @@ use Rattle.amh_host.specs.Seen.{Seen, with_file, with_said}
 use Rattle.amh_host.specs.Calls.{Adds}
 use Rattle.amh_host.specs.Written.{WritesFront}
 use Rattle.amh_host.proofs.SeenLaws.{AddsFront-nothing, with_said-nil}
-use Rattle.amh_tool.specs.declared.board.Board.{Board}
-use Rattle.amh_tool.specs.Trace.{timed, Done}
-use Rattle.amh_tool.specs.Boards.{shown_of}
+use Rattle.play_text.specs.declared.board.Board.{Board}
+use Rattle.play_text.specs.Trace.{timed, Done}
+use Rattle.play_text.specs.Boards.{shown_of}
 use Rattle.amh_tool.specs.Headline.{StandsFor}
 use Rattle.amh_tool.specs.Outcome.{Accepts, done_text, said_of}
 use Rattle.amh_tool.specs.Views.{plan_seen}

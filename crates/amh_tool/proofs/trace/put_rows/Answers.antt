@@ -6,10 +6,10 @@ use Rattle.amh_host.specs.Seen.{written}
 use Rattle.amh_host.specs.Calls.{AddsFront}
 use Rattle.amh_host.proofs.SeenLaws.{written-nil, written-written}
 use Rattle.design_ir.specs.Legal.{AllLegal}
-use Rattle.amh_tool.specs.Lanes.{lanes_at, lane_text, moved, row_head}
-use Rattle.amh_tool.specs.Trace.{Row, line_feed, row_line, row_lines, timed}
-use Rattle.amh_tool.specs.Stripes.{IsNoted, grid, joined}
-use Rattle.amh_tool.proofs.StripeLaws.{noted_at}
+use Rattle.play_text.specs.Lanes.{lanes_at, lane_text, moved, row_head}
+use Rattle.play_text.specs.Trace.{Row, line_feed, row_line, row_lines, timed}
+use Rattle.play_text.specs.Stripes.{IsNoted, grid, joined}
+use Rattle.play_text.proofs.StripeLaws.{noted_at}
 use Rattle.amh_tool.proofs.LaneLaws.{lanes_moved, row_line-parts}
 use Rattle.amh_tool.proofs.TraceLaws.{GoesOn, drop_at, gone_next, legal_next, goes_from_first, goes_on, rows_front, row_front, rows_whole}
 use Rattle.amh_tool.proofs.trace.put_rows.Goals as goal

@@ -3,9 +3,9 @@ use Rattle.amh_host.specs.Seen.{written}
 use Rattle.design_ir.specs.declared.event.Event.{Event}
 use Rattle.design_ir.specs.Histories.{History}
 use Rattle.delta_sim.specs.Standing.{Stands}
-use Rattle.amh_tool.specs.Lanes.{lanes_at}
-use Rattle.amh_tool.specs.Stripes.{AreFound, grid, joined}
-use Rattle.amh_tool.specs.Trace.{row_lines, timed}
+use Rattle.play_text.specs.Lanes.{lanes_at}
+use Rattle.play_text.specs.Stripes.{AreFound, grid, joined}
+use Rattle.play_text.specs.Trace.{row_lines, timed}
 use Rattle.amh_tool.proofs.TraceLaws.{GoesOn}
 use Rattle.amh_tool.proofs.trace.put_rows.Given as goal
 

@@ -5,7 +5,7 @@ use Rattle.amh_host.specs.Seen.{written}
 use Rattle.amh_host.specs.Calls.{Adds, AddsFront}
 use Rattle.amh_host.proofs.SeenLaws.{IsAt, IsAt-put, IsAt-refused}
 use Rattle.rtlil_text.proofs.WriteLaws.{WritesFront-start, Writes-last}
-use Rattle.amh_tool.specs.Trace.{Done, timed, head_line, done_line, column_line, first_line, row_lines, trace_text}
+use Rattle.play_text.specs.Trace.{Done, timed, head_line, done_line, column_line, first_line, row_lines, trace_text}
 use Rattle.amh_tool.proofs.Refused.{HasCause-memory, HasCause-handed}
 use Rattle.amh_tool.proofs.TraceLaws.{begins_with, has_trace, history_trace, trace_text-order}
 use Rattle.amh_tool.proofs.trace.write_trace.Goals as goal

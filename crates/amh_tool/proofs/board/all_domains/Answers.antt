@@ -1,8 +1,0 @@
-use Rattle.std.proofs.Common.{◌∙◌, ◌++◌, ◌∷◌, [], ap}
-use Rattle.amh_tool.proofs.BoardLaws.{copy_turn}
-use Rattle.amh_tool.proofs.board.all_domains.Goals as goal
-
-pub loop-d-preserved : goal.loop-d-preserved
-loop-d-preserved c =
-    let grown = c.in_ok-push.ensures.ok ∙ ap (λ x. c.loop-d.domains ++ x ∷ []) c.in_ok-copied_domain.ensures in
-    copy_turn c.args.design.now.domains c.loop-d.d c.domain.result.now c.loop-d.domains c.push.new.self _ c.domain.ensures grown c.loop-d.invariant

@@ -1,6 +1,0 @@
-use Rattle.std.proofs.Common.{◌≡◌, drop}
-use Rattle.amh_tool.specs.Trace.{name_of}
-use Rattle.amh_tool.proofs.trace_events.name_of.Given as goal
-
-abbrev pub invariant-loop-x : goal.invariant-loop-x
-invariant-loop-x l = name_of (drop l.x-index l.columns) l.sig.0 ≡ name_of l.columns l.sig.0

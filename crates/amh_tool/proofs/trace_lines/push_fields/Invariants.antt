@@ -1,6 +1,0 @@
-use Rattle.std.proofs.Common.{◌≡◌, ◌++◌, drop}
-use Rattle.amh_tool.specs.Trace.{all_fields}
-use Rattle.amh_tool.proofs.trace_lines.push_fields.Given as goal
-
-abbrev pub invariant-loop-x : goal.invariant-loop-x
-invariant-loop-x l = l.text.items ++ all_fields (drop l.x-index l.columns) l.env ≡ l.fn.text.items ++ all_fields l.columns l.env

@@ -1,6 +1,0 @@
-use Rattle.std.proofs.Common.{◌≡◌, drop}
-use Rattle.amh_tool.specs.Stripes.{marked}
-use Rattle.amh_tool.proofs.trace_stripes.mark.Given as goal
-
-abbrev pub invariant-loop-b : goal.invariant-loop-b
-invariant-loop-b l = marked (drop l.b-index l.places) l.stripes.items ≡ marked l.places l.fn.stripes.items

@@ -1,6 +1,0 @@
-use Rattle.std.proofs.Common.{◌≡◌, drop}
-use Rattle.amh_tool.specs.Stripes.{marked_all}
-use Rattle.amh_tool.proofs.trace_stripes.mark_all.Given as goal
-
-abbrev pub invariant-loop-s : goal.invariant-loop-s
-invariant-loop-s l = marked_all l.shown (drop l.s-index l.signals) l.stripes.items ≡ marked_all l.shown l.signals l.fn.stripes.items

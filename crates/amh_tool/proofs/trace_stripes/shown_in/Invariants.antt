@@ -1,9 +1,0 @@
-use Rattle.std.proofs.Common.{◌≡◌, List, ℕ, drop, length}
-use Rattle.amh_tool.specs.Stripes.{AreFound, Grows, grid}
-use Rattle.amh_tool.proofs.trace_stripes.shown_in.Given as goal
-
-abbrev pub invariant-loop-b : goal.invariant-loop-b
-invariant-loop-b l = record {
-  found : (later : List (List ℕ)) → Grows l.shown.items later → AreFound later l.b (grid (drop l.b l.stripes)) → AreFound later 0 (grid l.stripes);
-  count : length l.shown.items ≡ l.signals;
-}

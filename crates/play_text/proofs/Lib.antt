@@ -1,0 +1,10 @@
+pub mod BoardLaws
+pub mod StripeLaws
+pub mod TextLineLaws
+pub mod ScriptWordLaws
+pub mod ScriptNameLaws
+pub mod ScriptNumerals
+pub mod ScriptNumberLaws
+pub mod ScriptSetLaws
+pub mod ScriptEdgeLaws
+pub mod ScriptEvents

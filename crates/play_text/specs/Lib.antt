@@ -1,0 +1,9 @@
+pub mod TextLines
+pub mod Boards
+pub mod BoardMarks
+pub mod Script
+pub mod ScriptParts
+pub mod ScriptGives
+pub mod Trace
+pub mod Lanes
+pub mod Stripes
