@@ -24,7 +24,7 @@ use Rattle.py_frames.specs.declared.going.Going.{Going}
 use Rattle.py_frames.specs.declared.request.Cause.{Cause}
 use Rattle.py_frames.specs.declared.request.Cause.TheVariants as cause
 use Rattle.py_frames.specs.Doing.{Doing, Known, World, heap_seen, give, stop, choose, cause_of}
-use Rattle.py_frames.specs.Binding.{refused}
+use Rattle.py_turns.specs.Binding.{refused}
 use Rattle.py_frames.specs.Statements.{known, first_of}
 use Rattle.py_frames.specs.Values.{operated, built, summed, adds_things, sum_over, sum_asked, built_over}
 use Rattle.py_callables.specs.Going_over.{start_of}

@@ -13,9 +13,9 @@ ghost use Rattle.py_frames.specs.Frames.{GoesOn};
 
 use crate::call_frame::call_for;
 use crate::call_part::{argument_at, argument_expr, named_val};
-use py_frames::at_once::{at_once, wait_or_come};
-use py_frames::attribute_store::as_row;
-use py_frames::call_leaf::raise;
+use py_turns::at_once::{at_once, wait_or_come};
+use py_turns::attribute_store::as_row;
+use py_turns::call_leaf::raise;
 use py_frames::frame::{CallFrame, Frame, Now, Purpose};
 use py_frames::functions::Functions;
 use py_frames::going::{Going, told};

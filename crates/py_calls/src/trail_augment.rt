@@ -12,7 +12,7 @@ ghost use Rattle.py_frames.specs.Frames.{GoesOn};
 
 use crate::trail::trailed_one;
 use py_callables::attribute::attribute;
-use py_frames::call_leaf::raise;
+use py_turns::call_leaf::raise;
 use py_frames::frame::{Along, CallFrame, Changed, Frame, Now, Purpose, StmtFrame};
 use py_frames::functions::Functions;
 use py_frames::going::{Going, wait_for};

@@ -9,8 +9,8 @@ ghost use Rattle.py_calls.specs.Slicing.{first_part, slice_in, slice_done};
 ghost use Rattle.py_frames.specs.Trailing.{first_trailer};
 ghost use Rattle.py_frames.specs.Frames.{GoesOn};
 
-use py_frames::attribute_store::sliced;
-use py_frames::call_leaf::{raise, vals_of};
+use py_turns::attribute_store::sliced;
+use py_turns::call_leaf::{raise, vals_of};
 use py_frames::frame::{CallFrame, Frame, Now};
 use py_frames::functions::Functions;
 use py_frames::going::{Going, wait_for};

@@ -31,13 +31,13 @@ use Rattle.py_frames.specs.Doing.{Doing, Known, after, on_value, came, stop, cho
 use Rattle.py_frames.specs.Asking.{request, ask}
 use Rattle.py_frames.specs.Values.{bind, named_vals, class_word}
 use Rattle.py_frames.specs.Expressions.{seen_from}
-use Rattle.py_frames.specs.Binding.{refused}
+use Rattle.py_turns.specs.Binding.{refused}
 use Rattle.py_frames.specs.Statements.{known, as_base, over_thing, known_as, class_known, made_known, known_class, kept_bindings, with_mark, are_keywords, class_bound, class_built, class_checked, class_ended}
 use Rattle.py_frames.specs.Def_frames.{class_left, class_told}
 use Rattle.py_definitions.specs.Def_begun.{GoesUnder, class_over, is_next}
 use Rattle.py_frames.specs.Frames.{finish, stops_as, GoesOn, within}
 use Rattle.py_frames.proofs.BeginLaws.{no_memory, stops_as-finish}
-use Rattle.py_frames.proofs.IfLaws.{here_same}
+use Rattle.py_turns.proofs.IfLaws.{here_same}
 use Rattle.py_definitions.proofs.DefLaws.{making_goes}
 
 -- what is not made in the heap

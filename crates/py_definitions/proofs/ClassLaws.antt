@@ -38,7 +38,7 @@ use Rattle.py_frames.specs.Own.{steps_names}
 use Rattle.py_frames.specs.Parts.{arguments_from, place_of}
 use Rattle.py_frames.specs.Values.{as_row, class_word}
 use Rattle.py_frames.specs.Expressions.{value_of, arguments_then, on_elements, seen_from, once_named}
-use Rattle.py_frames.specs.Binding.{refused}
+use Rattle.py_turns.specs.Binding.{refused}
 use Rattle.py_frames.specs.Statements.{known, run_all, base_of, over_thing, are_keywords, class_begun, class_within, class_ended, class_here}
 use Rattle.py_frames.specs.Stmt_begun.{run_after}
 use Rattle.py_frames.specs.Call_frames.{argument_came, elements_came}
@@ -47,7 +47,7 @@ use Rattle.py_definitions.specs.Def_begun.{argument_value, class_list, class_sta
 use Rattle.py_frames.specs.Frames.{GoesOn, within}
 use Rattle.py_frames.proofs.BeginLaws.{no_memory, stop_goes, pushed}
 use Rattle.py_frames.proofs.StmtLaws.{meant_same}
-use Rattle.py_frames.proofs.IfLaws.{here_same}
+use Rattle.py_turns.proofs.IfLaws.{here_same}
 use Rattle.py_definitions.proofs.DefLaws.{making_goes}
 
 -- ---- arguments by their number

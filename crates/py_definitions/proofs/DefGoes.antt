@@ -29,7 +29,7 @@ use Rattle.py_frames.specs.Frames.{GoesOn, def_room}
 use Rattle.py_frames.proofs.BeginLaws.{no_memory}
 use Rattle.py_frames.proofs.StmtLaws.{meant_same}
 use Rattle.py_frames.proofs.StmtGoes.{value_came, value_lacks, next_leaves, next_stays}
-use Rattle.py_frames.proofs.IfLaws.{here_same}
+use Rattle.py_turns.proofs.IfLaws.{here_same}
 use Rattle.py_definitions.proofs.ClassEnds.{under_no_memory}
 
 -- as many calls may still stand in one another

@@ -23,7 +23,7 @@ use Rattle.py_frames.specs.declared.frame.ExprFrame.TheVariants as expr
 use Rattle.py_frames.specs.declared.functions.Functions.{Functions}
 use Rattle.py_frames.specs.declared.going.Going.{Going}
 use Rattle.py_frames.specs.Begun.{Spends}
-use Rattle.py_frames.specs.Binding.{refused}
+use Rattle.py_turns.specs.Binding.{refused}
 use Rattle.py_frames.specs.Doing.{Doing, Known, ◌>>=◌, give, stop, choose, cause_of, spend_each}
 use Rattle.py_frames.specs.Statements.{known}
 use Rattle.py_frames.specs.Told.{TellsTruth}

@@ -9,7 +9,7 @@ ghost use Rattle.py_frames.specs.Frames.{GoesOn};
 
 use amh_host::{Place, Text};
 use py_frames::expr_names::name_value;
-use py_frames::expr_values::new_text;
+use py_turns::expr_values::new_text;
 use py_frames::frame::Now;
 use py_frames::functions::Functions;
 use py_frames::going::{Going, spend, stopped};

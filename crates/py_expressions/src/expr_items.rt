@@ -6,7 +6,7 @@ ghost use Rattle.py_frames.specs.Expressions.{values_then, pairs_then, dict_made
 ghost use Rattle.py_frames.specs.Expr_frames.{items_of, items_made, pairs_of, value_and_pairs};
 ghost use Rattle.py_frames.specs.Frames.{GoesOn};
 
-use py_frames::expr_values::{new_dict, new_tuple};
+use py_turns::expr_values::{new_dict, new_tuple};
 use py_frames::frame::{ExprFrame, Frame, Now};
 use py_frames::functions::Functions;
 use py_frames::going::{Going, new_list, wait_for};

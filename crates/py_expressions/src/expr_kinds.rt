@@ -10,7 +10,7 @@ use crate::expr_format::pieces_shown;
 use crate::expr_items::{next_item, next_pair};
 use crate::times::{decimal_time, divided_time};
 use py_frames::expr_names::read_name;
-use py_frames::expr_values::new_literal;
+use py_turns::expr_values::new_literal;
 use py_frames::frame::{Comprehended, Now};
 use py_frames::functions::Functions;
 use py_frames::going::{Going, stopped};

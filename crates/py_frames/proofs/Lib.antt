@@ -5,11 +5,8 @@ pub mod TableLaws
 pub mod Samples
 pub mod ExprParts
 pub mod ExprLaws
-pub mod ExprCharged
 pub mod ExprGoes
 pub mod ExprKinds
-pub mod LeafLaws
-pub mod AtOnceLaws
 pub mod ExprNames
 pub mod CallLaws
 pub mod KeywordLaws
@@ -17,11 +14,5 @@ pub mod StoreLaws
 pub mod TrailLaws
 pub mod StmtLaws
 pub mod StmtGoes
-pub mod StmtBegins
-pub mod BlockLaws
-pub mod IfLaws
-pub mod AssertLaws
-pub mod AskLaws
 pub mod PurposeLaws
-pub mod BindLaws
 pub mod CallGoes

@@ -24,4 +24,3 @@ pub mod Calling
 pub mod Trailing
 pub mod Stmt_begun
 pub mod Turns
-pub mod Binding

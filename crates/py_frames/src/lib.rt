@@ -5,33 +5,24 @@
 //! in the terms of specs/Doing.antt. specs/Frames.antt says what is left to come out of a list of frames, in the words of that
 //! meaning, and what a turn owes (`GoesOn`): it leaves that as it was, at its cost.
 //!
-//! A turn is a function over `Going`, which has the frames and the state. Those here spend units, put a frame, ask, make values, read
-//! and bind names, and carry out operators; each promises `GoesOn` of what it is called for. The crates above have the turns of
-//! targets and rows (py_walks), of expressions, calls and statements, and py_machine has the loop of them all.
+//! A turn is a function over `Going`, which has the frames and the state. Those here spend units, put a frame, ask and make values. The turns
+//! that all others use are in py_turns; the crates above have the turns of targets and rows (py_walks), of expressions, calls and
+//! statements, and py_machine has the loop of them all.
 #![tactic(auto)]
 
-pub mod asks;
-pub mod at_once;
-pub mod attribute_store;
-pub mod binds;
-pub mod block;
 pub mod boxed;
-pub mod call_leaf;
 pub mod expr_names;
-pub mod expr_values;
 pub mod frame;
 pub mod functions;
 pub mod going;
 pub mod keyword;
 pub mod leaf;
 pub mod leaf_value;
-pub mod operators;
 pub mod own;
 pub mod request;
 pub mod scopes;
 pub mod spots;
 pub mod start;
 pub mod state;
-pub mod stmt_plain;
 pub mod stmt_purpose;
 pub mod trail_leaf;

@@ -17,7 +17,7 @@ use crate::bench::{bench_begun, bench_state};
 use crate::reply::answered;
 use crate::turn::go;
 use amh_host::{Budget, NoMemory, Place, Steps};
-use py_frames::block::block_under;
+use py_turns::block::block_under;
 use py_frames::frame::{DefFrame, Frame, Frames, Now};
 use py_frames::functions::Functions;
 use py_frames::going::Going;

@@ -11,7 +11,7 @@ use py_frames::functions::Functions;
 use py_frames::going::{Going, MOST, spend, wait_for};
 use py_frames::request::Cause;
 use py_frames::state::{Got, Halt};
-use py_frames::stmt_plain::{begun_assert, begun_return, comes, stops};
+use py_turns::stmt_plain::{begun_assert, begun_return, comes, stops};
 use py_statements::annotate::begun_annotate;
 use py_statements::augment_begin::augment_begun;
 use py_definitions::class_arguments::begun_class;

@@ -31,7 +31,7 @@ use Rattle.py_frames.specs.Frames.{GoesOn, within}
 use Rattle.py_frames.proofs.BeginLaws.{no_memory, pushed}
 use Rattle.py_frames.proofs.StmtLaws.{meant_same}
 use Rattle.py_frames.proofs.StmtGoes.{next_leaves, next_stays}
-use Rattle.py_frames.proofs.IfLaws.{here_same}
+use Rattle.py_turns.proofs.IfLaws.{here_same}
 
 -- an annotation without a value: its target is reached, and then comes the annotation
 pub annotate_reaches : (fns : Functions) (frozen : Made) (r : Result Now Halt) (x z : Going) (budget : ℕ) (p : Place) (a b : Tree) (t : Step) (outer : Stmt) (fs : List Frame) → t ≡ Annotate p a b absent → step_of outer ≡ t → fs ≡ frame.Stmt (stmt.Annotating outer) ∷ x.frames → GoesOn fns frozen r (record x { frames = fs }) z budget (λ k. reach k a) → GoesOn fns frozen r x z budget (λ k. run_after k t)

@@ -19,7 +19,7 @@ use Rattle.py_frames.specs.declared.state.Got.{Got}
 use Rattle.py_frames.specs.declared.state.Got.TheVariants.{Next}
 use Rattle.py_frames.specs.declared.frame.Now.{Now}
 use Rattle.py_frames.specs.declared.frame.Now.TheVariants.{Begin}
-use Rattle.py_frames.specs.declared.at_once.Priced.{Priced}
+use Rattle.py_turns.specs.declared.at_once.Priced.{Priced}
 use Rattle.py_frames.specs.declared.frame.Purpose.{Purpose}
 use Rattle.py_frames.specs.declared.frame.Frame.{Frame}
 use Rattle.py_frames.specs.declared.frame.StmtFrame.TheVariants as stmt
@@ -36,7 +36,7 @@ use Rattle.py_frames.specs.Stmt_begun.{run_after, leaves, is_assign}
 use Rattle.py_frames.specs.Stmt_frames.{targets_of_step}
 use Rattle.py_frames.specs.Frames.{GoesOn, KeepsRoom, within}
 use Rattle.py_frames.specs.Leaves.{at_once}
-use Rattle.py_frames.proofs.AtOnceLaws.{at_once_goes}
+use Rattle.py_turns.proofs.AtOnceLaws.{at_once_goes}
 use Rattle.py_frames.proofs.BeginLaws.{no_memory, pushed}
 use Rattle.py_frames.proofs.ExprLaws.{same_total}
 use Rattle.py_frames.proofs.StmtLaws.{meant_same}

@@ -42,7 +42,7 @@ use Rattle.py_frames.specs.Frames.{told, GoesOn, within}
 use Rattle.py_frames.proofs.ExprGoes.{true_not_false}
 use Rattle.py_frames.proofs.BeginLaws.{pushed}
 use Rattle.py_frames.proofs.ExprLaws.{same_total, bind_goes}
-use Rattle.py_frames.proofs.ExprCharged.{charged_told}
+use Rattle.py_turns.proofs.ExprCharged.{charged_told}
 
 -- what comes beside a value
 pub came_goes : (fns : Functions) (frozen : Made) (x : Going) (budget : ℕ) (g : Got) → GoesOn fns frozen (Ok (Came g)) x x budget (λ k. came g)

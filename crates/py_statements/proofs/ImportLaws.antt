@@ -33,7 +33,7 @@ use Rattle.py_frames.specs.Stmt_frames.{imports_from, imported_at, import_came}
 use Rattle.py_frames.specs.Frames.{GoesOn, within}
 use Rattle.py_frames.proofs.BeginLaws.{no_memory}
 use Rattle.py_frames.proofs.ExprLaws.{bind_goes, bind_stops}
-use Rattle.py_frames.proofs.IfLaws.{here_same}
+use Rattle.py_turns.proofs.IfLaws.{here_same}
 
 imports_at : (xs : List Imported) (n : ℕ) (x : Imported) → slice_get xs n ≡ Some x → imports_from n (map import_of xs) ≡ import_of x ∷ imports_from (suc n) (map import_of xs)
 imports_at [] n x h = cc

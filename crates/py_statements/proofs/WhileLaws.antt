@@ -29,7 +29,7 @@ use Rattle.py_frames.specs.Frames.{GoesOn, within}
 use Rattle.py_frames.proofs.BeginLaws.{no_memory}
 use Rattle.py_frames.proofs.StmtLaws.{meant_same, spent_goes, each_stops}
 use Rattle.py_frames.proofs.StmtGoes.{turn_ends, turn_stays}
-use Rattle.py_frames.proofs.IfLaws.{truth_is, truth_lacks}
+use Rattle.py_turns.proofs.IfLaws.{truth_is, truth_lacks}
 
 pub turns_out : (fns : Functions) (frozen : Made) (r : Result Now Halt) (x y : Going) (budget n : ℕ) (p : Place) (a : Tree) (ss : Steps) → n ≤ 0 → GoesOn fns frozen r x y budget (λ k. stop cause.Spent p) → GoesOn fns frozen r x y budget (λ k. while_turns n k a (run_all k ss) p)
 unfolding while_turns

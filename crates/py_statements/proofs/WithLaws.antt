@@ -26,7 +26,7 @@ use Rattle.py_frames.specs.Frames.{GoesOn, within}
 use Rattle.py_frames.specs.declared.frame.Purpose.TheVariants.{Plain}
 use Rattle.py_frames.specs.Expressions.{value_of}
 use Rattle.py_frames.specs.Stmt_begun.{run_after}
-use Rattle.py_frames.proofs.StmtBegins.{step_meant}
+use Rattle.py_turns.proofs.StmtBegins.{step_meant}
 use Rattle.py_frames.proofs.BeginLaws.{no_memory}
 
 pub with_raises : (fns : Functions) (frozen : Made) (r : Result Now Halt) (x y : Going) (budget : ℕ) (p : Place) (a : Tree) (o : Perhaps) (ss : Steps) (t : Step) (v : Val) → t ≡ With p a o ss → is_thing v ≡ false → GoesOn fns frozen r x y budget (λ k. stop cause.Raised p) → GoesOn fns frozen r x y budget (λ k. with_came k t v)

@@ -16,14 +16,14 @@ ghost use Rattle.py_frames.specs.Frames.{GoesOn};
 
 use crate::stmt_assign::wait_as;
 use amh_host::Place;
-use py_frames::block::leaves;
-use py_frames::expr_values::named_val;
+use py_turns::block::leaves;
+use py_turns::expr_values::named_val;
 use py_frames::frame::{Frame, Now, StmtFrame};
 use py_frames::functions::Functions;
 use py_frames::going::{Going, wait_for};
 use py_frames::own::is_simple;
 use py_frames::state::{Got, Halt};
-use py_frames::stmt_plain::comes;
+use py_turns::stmt_plain::comes;
 use py_frames::stmt_purpose::target_purpose;
 use py_tree::{Expr, ExprKind, Name, Stmt, StmtKind};
 use py_values::{Frozen, Scope, Val};

@@ -12,14 +12,14 @@ use crate::stmt_if::branch_came;
 use crate::stmt_inside::{with_bound, with_entered};
 use crate::stmt_while::{while_came, while_left};
 use crate::stmt_with::{with_came, with_left};
-use py_frames::binds::names_came;
-use py_frames::block::{block_came, value_come};
+use py_turns::binds::names_came;
+use py_turns::block::{block_came, value_come};
 use py_frames::frame::{Now, StmtFrame};
 use py_frames::functions::Functions;
 use py_frames::going::Going;
 use py_frames::request::Cause;
 use py_frames::state::{Got, Halt};
-use py_frames::stmt_plain::{assert_came, comes, stops};
+use py_turns::stmt_plain::{assert_came, comes, stops};
 use py_values::{Frozen, Val};
 use py_walks::for_turns::{for_bound_left, for_left, for_row_came, for_source_came};
 

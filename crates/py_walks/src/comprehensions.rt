@@ -10,7 +10,7 @@ ghost use Rattle.py_walks.specs.Walk_parts.{comp_seen, Entered, row_over, where_
 ghost use Rattle.py_frames.specs.Frames.{GoesOn};
 
 use crate::walk_parts::{CompParts, comp_of, target_names};
-use py_frames::attribute_store::as_row;
+use py_turns::attribute_store::as_row;
 use py_frames::frame::{Comprehended, Frame, Now, Walk, WalkFrame};
 use py_frames::functions::Functions;
 use py_frames::going::{Going, wait_for};

@@ -9,9 +9,9 @@ ghost use Rattle.py_walks.specs.Walk_parts.{TellsElements};
 ghost use Rattle.py_frames.specs.Frames.{GoesOn};
 
 use amh_host::Place;
-use py_frames::at_once::wait_or_come;
-use py_frames::attribute_store::as_row;
-use py_frames::expr_values::bind;
+use py_turns::at_once::wait_or_come;
+use py_turns::attribute_store::as_row;
+use py_turns::expr_values::bind;
 use py_frames::frame::{Along, CallFrame, Frame, Now, WalkFrame};
 use py_frames::functions::Functions;
 use py_frames::going::{Going, spend, stopped, wait_for};

@@ -6,7 +6,7 @@ use Rattle.py_frames.specs.Doing.{Known, Doing}
 use Rattle.py_frames.specs.Parts.{place_of, trailers_from, arguments_from}
 use Rattle.py_frames.specs.Expressions.{arguments_then, call_for}
 use Rattle.py_frames.specs.Call_frames.{trailers_of, call_arguments}
-use Rattle.py_frames.proofs.AtOnceLaws.{at_once_goes}
+use Rattle.py_turns.proofs.AtOnceLaws.{at_once_goes}
 use Rattle.py_calls.proofs.ArgumentLaws.{positional_next}
 use Rattle.py_calls.proofs.call_arguments.positional_begun.Goals as goal
 

@@ -3,7 +3,7 @@ use Rattle.py_frames.specs.declared.frame.Purpose.TheVariants.{Plain}
 use Rattle.py_frames.specs.Parts.{place_of, trailers_from}
 use Rattle.py_frames.specs.Expressions.{trailed}
 use Rattle.py_frames.specs.Call_frames.{trailers_of}
-use Rattle.py_frames.proofs.AtOnceLaws.{at_once_goes}
+use Rattle.py_turns.proofs.AtOnceLaws.{at_once_goes}
 use Rattle.py_calls.proofs.trail.primary_begun.Goals as goal
 
 pub returns-clause-moves : goal.returns-clause-moves

@@ -1,7 +1,7 @@
 use Rattle.py_tree.specs.Seen.{tree}
 use Rattle.py_frames.specs.declared.frame.Purpose.TheVariants.{Plain}
 use Rattle.py_frames.specs.Values.{store_index}
-use Rattle.py_frames.proofs.AtOnceLaws.{at_once_goes}
+use Rattle.py_turns.proofs.AtOnceLaws.{at_once_goes}
 use Rattle.py_calls.proofs.trail_store.item_stored.Goals as goal
 
 pub returns-clause-moves : goal.returns-clause-moves

@@ -3,7 +3,7 @@ use Rattle.py_frames.specs.declared.frame.Purpose.TheVariants.{Plain}
 use Rattle.py_frames.specs.Parts.{place_of, links_from}
 use Rattle.py_frames.specs.Expressions.{linked}
 use Rattle.py_frames.specs.Expr_frames.{links_of}
-use Rattle.py_frames.proofs.AtOnceLaws.{at_once_goes}
+use Rattle.py_turns.proofs.AtOnceLaws.{at_once_goes}
 use Rattle.py_expressions.proofs.expr_chain.first_operand.Goals as goal
 
 pub returns-clause-moves : goal.returns-clause-moves

@@ -1,6 +1,6 @@
 -- A branch goes on by the truth of its test.
 use Rattle.std.proofs.Common.{sym}
-use Rattle.py_frames.proofs.IfLaws.{branch_holds, branch_fails}
+use Rattle.py_turns.proofs.IfLaws.{branch_holds, branch_fails}
 use Rattle.py_statements.proofs.stmt_if.branch_tested.Goals as goal
 
 pub returns-then-holds-clause-moves : goal.returns-then-holds-clause-moves

@@ -1,5 +1,5 @@
 -- The test of a branch is waited for.
-use Rattle.py_frames.proofs.IfLaws.{if_tests}
+use Rattle.py_turns.proofs.IfLaws.{if_tests}
 use Rattle.py_statements.proofs.stmt_if.branch_turn.Goals as goal
 
 pub returns-in-Some-clause-moves : goal.returns-in-Some-clause-moves

@@ -1,0 +1,9 @@
+pub mod ExprCharged
+pub mod LeafLaws
+pub mod AtOnceLaws
+pub mod StmtBegins
+pub mod BlockLaws
+pub mod IfLaws
+pub mod AssertLaws
+pub mod AskLaws
+pub mod BindLaws
