@@ -43,7 +43,7 @@ use Rattle.sim_plans.proofs.CombPorts.{all_ports, port_rules}
 use Rattle.sim_plans.proofs.EdgesFit.{all_get}
 use Rattle.sim_plans.proofs.Marks.{usable_there}
 use Rattle.sim_plans.proofs.Picking.{picked_all}
-use Rattle.sim_plans.proofs.PlaceWalks.{there_at}
+use Rattle.sim_plans.proofs.Among.{there_at}
 
 -- ---- statements over a pool that grew
 

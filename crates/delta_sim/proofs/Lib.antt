@@ -20,3 +20,5 @@ pub mod Starts
 pub mod Lives
 pub mod Finding
 pub mod GrowthLaws
+pub mod PlaceWalks
+pub mod BitTurns

@@ -17,7 +17,7 @@ use Rattle.design_ir.specs.Steps.{clocked_read, clocked_reads, port_active, read
 use Rattle.design_ir.specs.Values.{num}
 use Rattle.sim_plans.specs.Ports.{AreKnown}
 use Rattle.sim_plans.specs.Tasks.{AreAmong, IsRead}
-use Rattle.sim_plans.proofs.PlaceWalks.{among_index, there_at}
+use Rattle.sim_plans.proofs.Among.{among_index, there_at}
 use Rattle.delta_sim.proofs.Starts.{drop_get}
 use Rattle.sim_plans.proofs.Walks.{all_parts}
 

@@ -33,7 +33,7 @@ use Rattle.sim_plans.proofs.CombPorts.{memory_there, port_at, port_fits, word_th
 use Rattle.sim_plans.proofs.Jobs.{TaskOut, PortOut, PortAt, out_cases, port_of, port_word, driven_by}
 use Rattle.delta_sim.proofs.SameRows.{same_rows_is}
 use Rattle.sim_plans.proofs.Frames.{put_frame}
-use Rattle.sim_plans.proofs.PlaceWalks.{among_index, there_at}
+use Rattle.sim_plans.proofs.Among.{among_index, there_at}
 use Rattle.sim_plans.proofs.TaskValues.{delta_at, not_held, starts_init}
 use Rattle.delta_sim.proofs.Waking.{cases_int}
 use Rattle.sim_plans.proofs.WritesFit.{OfSignal, set_fits}

@@ -1,3 +1,4 @@
 pub mod Standing
 pub mod Evaluations
 pub mod Growth
+pub mod Walked

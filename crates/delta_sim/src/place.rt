@@ -5,7 +5,7 @@ ghost use Rattle.design_ir.specs.Circuits.{is_among};
 ghost use Rattle.design_ir.specs.Targets.{is_target};
 ghost use Rattle.design_ir.specs.Values.{form, signal_form};
 ghost use Rattle.sim_plans.specs.Tasks.{IsRead, places_of};
-ghost use Rattle.sim_plans.specs.Walked.{place_of, IsWalked, signal_place, window, item_at};
+ghost use Rattle.delta_sim.specs.Walked.{place_of, IsWalked, signal_place, window, item_at};
 
 use crate::bits::SignalBit;
 use amh_bits::Int;

@@ -21,3 +21,4 @@ pub mod SubmoduleSamples
 pub mod SubmoduleSound
 pub mod ToldLaws
 pub mod WalkLaws
+pub mod GlobalLaws

@@ -66,7 +66,7 @@ use Rattle.elab_store.specs.declared.kept.BlockName.TheVariants as named
 use Rattle.elab_store.specs.declared.kept.Begin.{Begin}
 use Rattle.elab_store.specs.declared.kept.Begin.TheVariants as begin
 use Rattle.elab_components.specs.Classes.{is_base, is_keyword, class_made, base_called}
-use Rattle.elab_components.specs.Tops.{elaborate_of, with_top, top_taken, walk, body_taken, top_of, body_ended, ended_by, elaborate_ended}
+use Rattle.elab_acts.specs.Tops.{elaborate_of, with_top, top_taken, walk, body_taken, top_of, body_ended, ended_by, elaborate_ended}
 use Rattle.elab_store.specs.Stores.{object_in, first_object, module_of}
 use Rattle.elab_components.specs.Libraries.{is_enum, is_data, library_named, thing_name_given}
 use Rattle.elab_components.specs.Likes.{liked, like_placed, like_init, own_reset_less, liked_shape, liked_signal}

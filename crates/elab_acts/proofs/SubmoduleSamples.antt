@@ -13,7 +13,7 @@ use Rattle.elab_store.specs.Calls.{called}
 use Rattle.elab_store.specs.Stores.{Held, Answered, nothing_held}
 use Rattle.elab_components.specs.Signals.{module_called}
 use Rattle.elab_acts.specs.Submodules.{submodule_added, submodule_stored, submodule_given}
-use Rattle.elab_components.specs.Tops.{body_ended, walked}
+use Rattle.elab_acts.specs.Tops.{body_ended, walked}
 
 thing : ℕ → Val
 thing n = val.Hw (record { 0 = n })

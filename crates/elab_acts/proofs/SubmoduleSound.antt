@@ -16,7 +16,7 @@ use Rattle.elab_store.specs.Stores.{Stored, Held, Answered, kept_of, module_of}
 use Rattle.elab_store.specs.Sound.{IsSound}
 use Rattle.elab_store.proofs.NumberNames.{numbered_is_name}
 use Rattle.elab_acts.specs.declared.tops.Calling.{Calling}
-use Rattle.elab_components.specs.Tops.{elaborate_of, most_submodules, deepest_submodule, with_node, with_top, below_called, node_or_called, thing_walked, next_walked, last_walked, walked, walk}
+use Rattle.elab_acts.specs.Tops.{elaborate_of, most_submodules, deepest_submodule, with_node, with_top, below_called, node_or_called, thing_walked, next_walked, last_walked, walked, walk}
 use Rattle.elab_acts.specs.Submodules.{is_elaboratable, is_elaborated, is_no_name, addition_refusal, addition_put, submodule_added, submodule_stored, found_given, submodule_given, is_submodules_of, submodules_stored}
 use Rattle.elab_acts.proofs.GrownLaws.{all_and}
 

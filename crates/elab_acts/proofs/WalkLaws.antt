@@ -8,7 +8,7 @@ use Rattle.py_frames.specs.declared.request.Cause.TheVariants.{Raised, Limit}
 use Rattle.elab_store.specs.declared.hierarchy.Waiting.{Waiting}
 use Rattle.elab_store.specs.Hierarchies.{first_waiting, thing_waiting}
 use Rattle.elab_store.specs.Stores.{Held, Answered, refused, given, kept_of, module_of}
-use Rattle.elab_components.specs.Tops.{elaborate_of, deepest_submodule, with_node, below_called, node_or_called, thing_walked, next_walked, last_walked, walked}
+use Rattle.elab_acts.specs.Tops.{elaborate_of, deepest_submodule, with_node, below_called, node_or_called, thing_walked, next_walked, last_walked, walked}
 
 -- nothing waits
 pub walked_ended : (j : ℕ) (s : Seen) (h : Held) (all : Answered) → first_waiting h.store.hierarchy ≡ None → walked j s h ≡ all → given val.None h ≡ all

@@ -4,3 +4,4 @@ pub mod Entering
 pub mod Sides
 pub mod Simulators
 pub mod Submodules
+pub mod Tops

@@ -11,7 +11,7 @@ use Rattle.elab_store.specs.declared.kept.Kept.{Kept}
 use Rattle.elab_store.specs.declared.kept.Kept.TheVariants as kept
 use Rattle.elab_store.specs.Hierarchies.{Hierarchy, added_as, with_addition, is_node}
 use Rattle.elab_store.specs.Stores.{Stored, Held, Answered, refused, given, kept_of, module_of}
-use Rattle.elab_components.specs.Tops.{elaborate_of, most_submodules}
+use Rattle.elab_acts.specs.Tops.{elaborate_of, most_submodules}
 
 -- a module, or an object with `elaborate`
 abbrev pub is_elaboratable : Seen → Val → Stored → Bool

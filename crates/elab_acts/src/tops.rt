@@ -3,7 +3,7 @@ ghost use Rattle.std.specs.Prelude.{◌≡◌, map, string_bytes, codes, Some, N
 ghost use Rattle.py_values.specs.declared.val.Val.TheVariants as val;
 ghost use Rattle.py_values.specs.Heaps.{seen, func_at};
 ghost use Rattle.py_values.specs.Objects.{first_in};
-ghost use Rattle.elab_components.specs.Tops.{is_unbound, is_method, method_calling, found_calling, class_calling, object_calling, elaborate_of, global, top_called, below_called, node_or_called, walk, elaborated, top_of, body_taken, body_ended, ended_by, elaborate_ended, call_args};
+ghost use Rattle.elab_acts.specs.Tops.{is_unbound, is_method, method_calling, found_calling, class_calling, object_calling, elaborate_of, global, top_called, below_called, node_or_called, walk, elaborated, top_of, body_taken, body_ended, ended_by, elaborate_ended, call_args};
 ghost use Rattle.elab_store.specs.Stores.{object_in, first_object, kept_of, module_of};
 ghost use Rattle.elab_store.specs.Held.{held_of, Gives};
 

@@ -8,4 +8,3 @@ pub mod Likes
 pub mod Members
 pub mod Puts
 pub mod Signals
-pub mod Tops

@@ -25,7 +25,7 @@ use Rattle.elab_store.specs.Calls.{Called, called}
 use Rattle.elab_components.specs.Signals.{signal_arguments}
 use Rattle.elab_acts.specs.Sides.{index_name, equations_in, deepest}
 use Rattle.elab_acts.specs.Blocks.{block_named}
-use Rattle.elab_components.specs.Tops.{global}
+use Rattle.elab_acts.specs.Tops.{global}
 use Rattle.elab_eval.specs.Table.{kept_called, equated_by, called_by, call_answered, attribute_of, attribute_answered, module_stored, attribute_stored, store_answered, index_of, index_answered, index_stored, index_store_answered, added, operator_answered, kept_entered, kept_left, enter_answered, leave_answered, own_answered, only}
 use Rattle.elab_eval.specs.Table as table
 use Rattle.elab_components.specs.Libraries.{wiring_named}

@@ -36,7 +36,7 @@ use Rattle.elab_components.specs.Libraries.{wiring_named, library_given, thing_n
 use Rattle.elab_components.specs.Members.{member_called}
 use Rattle.elab_components.specs.ComponentClasses.{class_answered}
 use Rattle.elab_components.specs.Interfaces.{init_answered}
-use Rattle.elab_components.specs.Tops.{global, body_ended, elaborate_ended}
+use Rattle.elab_acts.specs.Tops.{global, body_ended, elaborate_ended}
 use Rattle.elab_acts.specs.Simulators.{simulator_called, simulator_attribute, simulator_part_called, vcd_passed}
 
 -- ---- calls

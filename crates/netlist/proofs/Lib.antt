@@ -1,4 +1,3 @@
-pub mod LowerTables
 pub mod LowerDrawings
 pub mod LowerDrivers
 pub mod LowerTargets
@@ -11,3 +10,4 @@ pub mod LowerModule
 pub mod LowerMemories
 pub mod LowerPorts
 pub mod LowerReads
+pub mod LowerStarts

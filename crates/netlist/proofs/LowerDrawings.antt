@@ -6,7 +6,7 @@ use Rattle.design_ir.specs.Circuits.{Circuit}
 use Rattle.netlist_laws.specs.Operators.{Drawing}
 use Rattle.netlist_laws.specs.Expressions.{and_also, part_count, drawn}
 use Rattle.netlist_laws.specs.Module.{signal_value, expr_value, drawn_from}
-use Rattle.netlist_laws.specs.Tables.{together}
+use Rattle.netlist.specs.Tables.{together}
 use Rattle.netlist_cells.proofs.LowerItems.{and_also_assoc}
 
 pub also_nothing : (d : Drawing) → and_also d (together []) ≡ d

@@ -29,7 +29,8 @@ use Rattle.design_ir.proofs.Congruence.{AreSame, same_below}
 use Rattle.design_ir.proofs.Equations.{standing, answer_at}
 use Rattle.netlist_laws.specs.Latest.{is_fixed, is_plain}
 use Rattle.netlist_laws.specs.Module.{drives}
-use Rattle.netlist_laws.specs.Tables.{ArePlaces, IsMarked}
+use Rattle.netlist_cells.specs.Places.{ArePlaces}
+use Rattle.netlist.specs.Tables.{IsMarked}
 use Rattle.netlist_cells.proofs.LowerPlaces.{one_write, places_more}
 
 -- ---- the signals of a target, by those of the expressions that it names

@@ -23,7 +23,7 @@ use Rattle.netlist_laws.specs.Latest.{Latest, is_fixed, is_plain, places, source
 use Rattle.netlist_laws.specs.Spelled.{spec_of}
 use Rattle.netlist_laws.specs.Module.{expr_value, drives, driving, driving_at, is_clocked, at_first, at_last, bits_at_last}
 use Rattle.netlist_laws.specs.Plain.{IsPlain}
-use Rattle.netlist_laws.specs.Tables.{source_of, Shows, at_start, latest_of_all, last_spec}
+use Rattle.netlist.specs.Tables.{source_of, Shows, at_start, latest_of_all, last_spec}
 use Rattle.netlist_laws.proofs.FixedTargets.{IsOfThese, places_of}
 use Rattle.netlist_laws.proofs.OneDriver.{AreNone, IsOnly, find_only}
 use Rattle.netlist_laws.proofs.Driven.{driven_by, distinct_processes}

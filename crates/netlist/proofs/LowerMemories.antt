@@ -20,7 +20,7 @@ use Rattle.netlist_laws.specs.Operators.{Drawing}
 use Rattle.netlist_laws.specs.Expressions.{and_also}
 use Rattle.netlist_laws.specs.Module.{is_there}
 use Rattle.netlist_laws.specs.MemoryDrawings.{Placed, Part, FirstRows, Reads, placed, plan_of, write_parts, parts_of, part_drawing, write_drawing, read_drawing, all_parts, drawn_parts, memories_of, memory_drawings, memory_lines}
-use Rattle.netlist_laws.specs.Tables.{own_parts, placed_one, names_with, together}
+use Rattle.netlist.specs.Tables.{own_parts, placed_one, names_with, together}
 use Rattle.netlist_cells.proofs.LowerItems.{and_also_assoc}
 use Rattle.netlist.proofs.LowerDrawings.{also_nothing, also_more}
 use Rattle.netlist.proofs.LowerModule.{together_append}

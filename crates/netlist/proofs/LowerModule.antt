@@ -8,7 +8,7 @@ use Rattle.netlist_laws.specs.Operators.{Drawing}
 use Rattle.netlist_laws.specs.Expressions.{and_also}
 use Rattle.netlist_laws.specs.Module.{column_wires, signal_wires, expr_wires, drawings, signal_drawing, module_of}
 use Rattle.netlist_laws.specs.MemoryDrawings.{memory_drawings, memory_lines}
-use Rattle.netlist_laws.specs.Tables.{together, drawn_module, drawn_signals}
+use Rattle.netlist.specs.Tables.{together, drawn_module, drawn_signals}
 use Rattle.netlist_cells.proofs.LowerItems.{and_also_assoc}
 
 pub together_append : (ds es : List Drawing) → and_also (together ds) (together es) ≡ together (ds ++ es)

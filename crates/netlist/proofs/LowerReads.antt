@@ -9,7 +9,7 @@ use Rattle.design_ir.specs.declared.memory.Memory.{Memory}
 use Rattle.design_ir.specs.Circuits.{Circuit}
 use Rattle.design_ir.specs.Designs.{IsDesign, IsMemory, IsReadPort}
 use Rattle.netlist_laws.specs.Module.{is_there, undriven, ByRead, ByNothing}
-use Rattle.netlist_laws.specs.Tables.{AreMarked, AreReads}
+use Rattle.netlist.specs.Tables.{AreMarked, AreReads}
 use Rattle.netlist.proofs.LowerDomains.{at_place}
 
 -- ---- one after another

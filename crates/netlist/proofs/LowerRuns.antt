@@ -16,7 +16,7 @@ use Rattle.netlist_laws.specs.Ids.{signal_id}
 use Rattle.netlist_laws.specs.Operands.{const_part}
 use Rattle.netlist_laws.specs.Module.{public_id, wire_id}
 use Rattle.netlist_laws.specs.Spelled.{one_part, below, added_below, spec_of}
-use Rattle.netlist_laws.specs.Tables.{joins, bit_of, run_of, source_id, source_place}
+use Rattle.netlist.specs.Tables.{joins, bit_of, run_of, source_id, source_place}
 
 -- ---- signals that are not there
 

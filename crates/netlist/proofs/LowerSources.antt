@@ -15,7 +15,7 @@ use Rattle.netlist.specs.declared.sources.BitSource.{BitSource}
 use Rattle.netlist.specs.declared.sources.BitSource.TheVariants as sources
 use Rattle.netlist_laws.specs.Operators.{Value}
 use Rattle.netlist_laws.specs.Latest.{Latest, places, source_at, with_source, given, latest_of}
-use Rattle.netlist_laws.specs.Tables.{source_of, Shows, IsBitOf}
+use Rattle.netlist.specs.Tables.{source_of, Shows, IsBitOf}
 
 -- ---- one write
 

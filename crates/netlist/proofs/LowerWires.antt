@@ -10,7 +10,7 @@ use Rattle.rtlil_text.specs.declared.module.RtlWire.{RtlWire}
 use Rattle.netlist_laws.specs.Operators.{Drawing}
 use Rattle.netlist_laws.specs.Expressions.{and_also}
 use Rattle.netlist_laws.specs.Module.{column_wire, column_wires}
-use Rattle.netlist_laws.specs.Tables.{together}
+use Rattle.netlist.specs.Tables.{together}
 use Rattle.netlist.proofs.LowerDrawings.{also_nothing, also_more}
 
 pub range_next : (i n : ℕ) → i < n → range_with_len i (n - i) ≡ i ∷ range_with_len (i + 1) (n - (i + 1))

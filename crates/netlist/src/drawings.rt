@@ -2,7 +2,8 @@
 ghost use Rattle.std.specs.Prelude.{◌≡◌, ◌<◌, ◌^◌, OnOk};
 ghost use Rattle.netlist_laws.specs.Expressions.{and_also, part_total};
 ghost use Rattle.netlist_laws.specs.Module.{drawings};
-ghost use Rattle.netlist_laws.specs.Tables.{AreColumnPlaces, together};
+ghost use Rattle.netlist_cells.specs.Places.{AreColumnPlaces};
+ghost use Rattle.netlist.specs.Tables.{together};
 
 use amh_host::NoMemory;
 use design_ir::{Design, ExprId, Exprs};

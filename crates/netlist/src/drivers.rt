@@ -9,7 +9,8 @@ ghost use Rattle.design_ir.specs.Designs.{IsDesign};
 ghost use Rattle.netlist_laws.specs.Latest.{is_plain};
 ghost use Rattle.netlist_laws.specs.Module.{drives, driving, is_clocked};
 ghost use Rattle.netlist_laws.specs.Plain.{ArePlain};
-ghost use Rattle.netlist_laws.specs.Tables.{ArePortPlaces, AreDrivers, IsMarked};
+ghost use Rattle.netlist_cells.specs.Places.{ArePortPlaces};
+ghost use Rattle.netlist.specs.Tables.{AreDrivers, IsMarked};
 
 use amh_host::NoMemory;
 use design_ir::{Design, DesignProcess, Expr, ExprId, Exprs, SigId, Stmt, Stmts};

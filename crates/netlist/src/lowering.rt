@@ -14,7 +14,7 @@ ghost use Rattle.netlist_laws.specs.Histories.{SameHistory};
 ghost use Rattle.netlist_laws.specs.Made.{HasByteStride};
 ghost use Rattle.netlist_laws.specs.Plain.{IsPlain};
 ghost use Rattle.netlist_laws.specs.MemoryDrawings.{memories_of, all_parts};
-ghost use Rattle.netlist_laws.specs.Tables.{AreTables, drawn_module, drawn_signals};
+ghost use Rattle.netlist.specs.Tables.{AreTables, drawn_module, drawn_signals};
 
 use crate::drawings::push_expressions;
 use crate::memories::push_memories;

@@ -8,7 +8,7 @@ ghost use Rattle.memory_cells.specs.Plans.{planned};
 ghost use Rattle.netlist_laws.specs.Expressions.{and_also};
 ghost use Rattle.netlist_laws.specs.Module.{is_there};
 ghost use Rattle.netlist_laws.specs.MemoryDrawings.{row_width, plan_of, write_parts, parts_of, all_parts, drawn_parts, memories_of, memory_drawings, memory_lines, Placed, Reads};
-ghost use Rattle.netlist_laws.specs.Tables.{AreTables, names_with, own_parts, placed_one, together};
+ghost use Rattle.netlist.specs.Tables.{AreTables, names_with, own_parts, placed_one, together};
 
 use crate::ports::{read_drawing, write_drawing};
 use crate::signals::Tables;

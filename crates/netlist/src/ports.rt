@@ -13,7 +13,7 @@ ghost use Rattle.netlist_laws.specs.Operands.{wire_part};
 ghost use Rattle.netlist_laws.specs.Operators.{one_bit, whole};
 ghost use Rattle.netlist_laws.specs.Module.{signal_value, expr_value, register_cell};
 ghost use Rattle.netlist_laws.specs.MemoryDrawings.{port_clock, zeros_unless, is_row, guarded_address, names_rows, address_guard, enable_spec, writing, write_enable, write_behind, write_drawing, read_enable, reading, flag_wire, flagged, guarded_read, read_behind, read_drawing};
-ghost use Rattle.netlist_laws.specs.Tables.{AreTables};
+ghost use Rattle.netlist.specs.Tables.{AreTables};
 
 use crate::port_guards::{address_guard, guarded_address, names_rows, row_bit};
 use crate::signals::{Tables, clock_of, step_bits, whole_signal};

@@ -3,7 +3,7 @@ ghost use Rattle.std.specs.Prelude.{◌≡◌, ◌<◌, length, replicate, false
 ghost use Rattle.std.specs.List.{AllByRecursion};
 ghost use Rattle.design_ir.specs.declared.memory.MemRead.{MemRead};
 ghost use Rattle.design_ir.specs.Designs.{IsDesign};
-ghost use Rattle.netlist_laws.specs.Tables.{AreReads, AreMarked};
+ghost use Rattle.netlist.specs.Tables.{AreReads, AreMarked};
 
 use crate::memories::is_there;
 use amh_host::NoMemory;

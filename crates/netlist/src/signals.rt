@@ -14,7 +14,7 @@ ghost use Rattle.netlist_laws.specs.Expressions.{and_also};
 ghost use Rattle.netlist_laws.specs.Spelled.{spec_of};
 ghost use Rattle.netlist_laws.specs.Module.{signal_value, init_bits, clock_of, reset_of, is_async, NoReset, AtEdges, AtOnce, heeding_of, link_to, register_cell, register_drawing, bits_at_last, driving_at, driving, driving_drawing, undriven, signal_drawing};
 ghost use Rattle.netlist_laws.specs.Plain.{IsPlain};
-ghost use Rattle.netlist_laws.specs.Tables.{AreTables, last_spec, together};
+ghost use Rattle.netlist.specs.Tables.{AreTables, last_spec, together};
 
 use crate::drivers::{driver_of, driver_places};
 use crate::read_signals::{is_marked, read_signals};

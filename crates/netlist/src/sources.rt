@@ -10,7 +10,8 @@ ghost use Rattle.netlist_laws.specs.Ids.{value_id};
 ghost use Rattle.netlist_laws.specs.Latest.{Latest, places, source_at, given, latest_of, is_plain};
 ghost use Rattle.netlist_laws.specs.Module.{expr_value, wire_id, init_bits};
 ghost use Rattle.netlist_laws.specs.Plain.{ArePlain};
-ghost use Rattle.netlist_laws.specs.Tables.{ArePortPlaces, AreDrivers, source_of, Shows, at_start, latest_of_all, IsBitOf, IsRow};
+ghost use Rattle.netlist_cells.specs.Places.{ArePortPlaces};
+ghost use Rattle.netlist.specs.Tables.{AreDrivers, source_of, Shows, at_start, latest_of_all, IsBitOf, IsRow};
 
 use crate::drivers::is_clocked;
 use crate::targets::{Bit, places};

@@ -3,7 +3,8 @@ ghost use Rattle.std.specs.Prelude.{◌≡◌, ◌<◌, ◌≤◌, ℕ, List, ma
 ghost use Rattle.design_ir.specs.Designs.{IsDesign};
 ghost use Rattle.netlist_laws.specs.Module.{wire_id};
 ghost use Rattle.netlist_laws.specs.Spelled.{spec_of};
-ghost use Rattle.netlist_laws.specs.Tables.{AreColumnPlaces, source_of, joins, bit_of, run_of, source_id, source_place};
+ghost use Rattle.netlist_cells.specs.Places.{AreColumnPlaces};
+ghost use Rattle.netlist.specs.Tables.{source_of, joins, bit_of, run_of, source_id, source_place};
 
 use crate::sources::BitSource;
 use amh_host::{Items, NoMemory, Text};

@@ -3,7 +3,7 @@ ghost use Rattle.std.specs.Prelude.{◌≡◌, ◌<◌, ◌+◌, ◌^◌, ◌++�
 ghost use Rattle.std.specs.List.{flat_map, range_with_len};
 ghost use Rattle.design_ir.specs.Designs.{IsDesign};
 ghost use Rattle.netlist_laws.specs.Module.{port_of, first_value, column_wire, column_wires, signal_wires, expr_wires};
-ghost use Rattle.netlist_laws.specs.Tables.{AreTables};
+ghost use Rattle.netlist.specs.Tables.{AreTables};
 
 use crate::drivers::is_clocked;
 use crate::signals::Tables;
@@ -73,7 +73,7 @@ fn column_wire(
 }
 
 /// The wires of the columns, in order.
-#[tactic(auto, using(crate::proofs::LowerPlaces::column_there))]
+#[tactic(auto, using(netlist_cells::proofs::LowerPlaces::column_there))]
 pub(crate) fn push_columns(
     alloc: Global,
     design: &Design,

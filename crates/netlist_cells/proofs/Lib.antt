@@ -2,4 +2,5 @@ pub mod LowerParts
 pub mod LowerItems
 pub mod LowerJoined
 pub mod LowerPlaces
-pub mod LowerStarts
+pub mod LowerInputs
+pub mod LowerTables

@@ -10,7 +10,7 @@ use Rattle.design_ir.specs.declared.port.Column.{Column}
 use Rattle.design_ir.specs.Circuits.{Circuit}
 use Rattle.design_ir.specs.Designs.{IsDesign, port_signals}
 use Rattle.design_ir.proofs.Counts.{columns_there, all_left}
-use Rattle.netlist_laws.specs.Tables.{ArePlaces}
+use Rattle.netlist_cells.specs.Places.{ArePlaces}
 
 -- ---- no places
 

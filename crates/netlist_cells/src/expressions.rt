@@ -11,7 +11,7 @@ ghost use Rattle.netlist_laws.specs.Operators.{operator_drawing, linked, whole};
 ghost use Rattle.netlist_laws.specs.Ids.{value_id};
 ghost use Rattle.netlist_laws.specs.Expressions.{chosen, selected, matched_any, in_reach, joined, part_count, picked_of, shown, drawn};
 ghost use Rattle.netlist_laws.specs.Module.{signal_value, expr_value};
-ghost use Rattle.netlist_laws.specs.Tables.{AreColumnPlaces};
+ghost use Rattle.netlist_cells.specs.Places.{AreColumnPlaces};
 
 use crate::drawing::{Drawing, Value, linked};
 use crate::ids::value_id;
@@ -290,7 +290,7 @@ pub fn part_count(e: &Expr) -> u128
 }
 
 // What gives y an expression.
-#[tactic(auto, using(crate::proofs::OperatorExpressions::taken, crate::proofs::OperatorExpressions::unary_taken))]
+#[tactic(auto, using(netlist_laws::proofs::OperatorExpressions::taken, netlist_laws::proofs::OperatorExpressions::unary_taken))]
 fn shown(
     alloc: Global,
     design: &Design,

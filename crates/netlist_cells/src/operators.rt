@@ -498,7 +498,7 @@ fn operated(
 }
 
 /// The drawing of an operator at its own work shape; a value without bits takes nothing.
-#[tactic(auto, unfolding(crate::specs::Operators::operator_drawing))]
+#[tactic(auto, unfolding(netlist_laws::specs::Operators::operator_drawing))]
 pub fn operator_drawing(
     alloc: Global,
     op: Op,

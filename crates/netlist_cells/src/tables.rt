@@ -4,7 +4,7 @@ ghost use Rattle.std.specs.List.{find};
 ghost use Rattle.design_ir.specs.Circuits.{is_input};
 ghost use Rattle.design_ir.specs.Designs.{IsDesign};
 ghost use Rattle.netlist_laws.specs.Module.{column_of, wire_id};
-ghost use Rattle.netlist_laws.specs.Tables.{AreColumnPlaces, ArePortPlaces, is_port_of};
+ghost use Rattle.netlist_cells.specs.Places.{AreColumnPlaces, ArePortPlaces, is_port_of};
 
 use crate::ids::{public_id, signal_id};
 use amh_host::{NoMemory, Text};
@@ -94,7 +94,7 @@ pub fn port_of<'a>(design: &'a Design, ports: &[Option<u32>], s: SigId) -> Optio
 }
 
 /// Whether a signal is an input.
-#[tactic(auto, using(crate::proofs::LowerStarts::input_found))]
+#[tactic(auto, using(crate::proofs::LowerInputs::input_found))]
 pub fn is_input(design: &Design, ports: &[Option<u32>], s: SigId) -> bool
     requires rules { IsDesign design.now }
     requires places { ArePortPlaces design.now ports.now }

@@ -14,7 +14,6 @@ pub mod SignalDrawings
 pub mod PortGuards
 pub mod MemoryDrawings
 pub mod Module
-pub mod Tables
 pub mod PoolsDrawn
 pub mod Drives
 pub mod Corresponds

@@ -5,3 +5,4 @@ pub mod MeetLaws
 pub mod EnterLaws
 pub mod SuperLaws
 pub mod SumLaws
+pub mod BoundLaws

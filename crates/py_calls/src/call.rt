@@ -254,7 +254,7 @@ fn object_made(
 }
 
 // A class is called: a new object, and then its `__init__`.
-#[tactic(auto, using(crate::proofs::CalledLaws::class_err))]
+#[tactic(auto, using(py_callables::proofs::CalledLaws::class_err))]
 fn class_called(
     going: &mut Going,
     functions: &Functions,

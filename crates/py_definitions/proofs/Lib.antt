@@ -3,3 +3,4 @@ pub mod DefLaws
 pub mod ClassLaws
 pub mod ClassEnds
 pub mod DefGoes
+pub mod WordLaws

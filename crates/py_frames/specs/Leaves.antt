@@ -11,7 +11,7 @@ use Rattle.py_values.specs.Objects.{attributes, attribute_in}
 use Rattle.py_values.specs.At_once.{integers_operated, item_at}
 use Rattle.py_values.specs.declared.val.Val.{Val}
 use Rattle.py_values.specs.declared.val.Val.TheVariants as val
-use Rattle.py_turns.specs.declared.at_once.Priced.{Priced}
+use Rattle.py_frames.specs.declared.leaf.Priced.{Priced}
 use Rattle.py_frames.specs.Parts.{operator_of}
 use Rattle.py_frames.specs.Expressions.{constant_val}
 use Rattle.py_frames.specs.Expr_parts.{name_value}

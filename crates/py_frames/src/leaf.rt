@@ -15,6 +15,13 @@ use amh_host::{NoMemory, Place};
 use py_tree::{Constant, Expr, ExprKind, Link, Operator, Pair, Sign, Trailer};
 use py_values::{PyOp, Val};
 
+/// A value, and how many units it costs.
+#[derive(Clone, Copy, Drop)]
+pub struct Priced {
+    pub val: Val,
+    pub cost: u64,
+}
+
 /// The parts of a choice between which its test decides, and the place of the test.
 #[derive(Drop)]
 pub struct Choosing {

@@ -19,7 +19,7 @@ use Rattle.py_frames.specs.declared.state.Got.{Got}
 use Rattle.py_frames.specs.declared.state.Got.TheVariants.{Next}
 use Rattle.py_frames.specs.declared.frame.Now.{Now}
 use Rattle.py_frames.specs.declared.frame.Now.TheVariants.{Begin}
-use Rattle.py_turns.specs.declared.at_once.Priced.{Priced}
+use Rattle.py_frames.specs.declared.leaf.Priced.{Priced}
 use Rattle.py_frames.specs.declared.frame.Purpose.{Purpose}
 use Rattle.py_frames.specs.declared.frame.Frame.{Frame}
 use Rattle.py_frames.specs.declared.frame.StmtFrame.TheVariants as stmt

@@ -4,6 +4,5 @@ pub mod WithLaws
 pub mod InsideLaws
 pub mod ImportLaws
 pub mod AnnotateLaws
-pub mod WordLaws
 pub mod AugmentBegins
 pub mod ChangeLaws

@@ -132,7 +132,7 @@ fn instead(v: Val, given: Result<Val, ValueStop>) -> Result<Val, ValueStop>
 }
 
 // A list that another value changes in place.
-#[tactic(auto, using(crate::proofs::ChangeLaws::changed_told, py_frames::proofs::ExprCharged::charged_left, py_frames::proofs::BeginLaws::no_memory))]
+#[tactic(auto, using(crate::proofs::ChangeLaws::changed_told, py_turns::proofs::ExprCharged::charged_left, py_frames::proofs::BeginLaws::no_memory))]
 fn list_changed(
     going: &mut Going,
     functions: &Functions,

@@ -22,7 +22,7 @@ use py_tree::{Block, Branch, Expr, Stmt, StmtKind};
 use py_values::{Frozen, Val};
 
 // The branch of this number, and none past the last.
-#[tactic(auto, using(py_frames::proofs::IfLaws::branch_rules))]
+#[tactic(auto, using(py_turns::proofs::IfLaws::branch_rules))]
 fn branch_at(tests: &Vec<Branch>, n: u64) -> Option<&Branch>
     ensures { MatchOption result (branches_from n (branches (map branch_of tests.now.items)) ≡ no_branch) (λ b. (branches_from n (branches (map branch_of tests.now.items)) ≡ branch (branch_of b.now).0 (branch_of b.now).1 (branches_from (n + 1) (branches (map branch_of tests.now.items)))) × (n < 18446744073709551615)) }
 {
@@ -57,7 +57,7 @@ fn branch_body(b: &Branch) -> &Block
 }
 
 /// The branches from this number on: the test of the first of them, or what else there is.
-#[tactic(auto, using(py_frames::proofs::IfLaws::if_rules))]
+#[tactic(auto, using(py_turns::proofs::IfLaws::if_rules))]
 pub fn branch_turn(
     going: &mut Going,
     functions: &Functions,
@@ -94,7 +94,7 @@ pub fn branch_turn(
 }
 
 /// The test of a branch has come.
-#[tactic(auto, using(py_frames::proofs::IfLaws::came_rules))]
+#[tactic(auto, using(py_turns::proofs::IfLaws::came_rules))]
 pub fn branch_came(
     going: &mut Going,
     functions: &Functions,
@@ -140,7 +140,7 @@ fn branch_on(
     }
 }
 
-#[tactic(auto, using(py_frames::proofs::IfLaws::tested_rules))]
+#[tactic(auto, using(py_turns::proofs::IfLaws::tested_rules))]
 fn branch_tested(
     going: &mut Going,
     functions: &Functions,

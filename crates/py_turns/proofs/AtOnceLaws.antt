@@ -19,7 +19,7 @@ use Rattle.py_values.specs.declared.val.Val.{Val}
 use Rattle.py_values.specs.declared.val.Val.TheVariants as val
 use Rattle.py_values.specs.declared.val.ObjId.{ObjId}
 use Rattle.py_values.specs.declared.val.ValueStop.{ValueStop}
-use Rattle.py_turns.specs.declared.at_once.Priced.{Priced}
+use Rattle.py_frames.specs.declared.leaf.Priced.{Priced}
 use Rattle.py_frames.specs.declared.request.Act.TheVariants as act
 use Rattle.py_frames.specs.declared.request.Cause.TheVariants as cause
 use Rattle.py_frames.specs.declared.state.State.{State}

@@ -11,7 +11,7 @@ ghost use Rattle.py_frames.specs.Leaves.{at_cost, of_both, joined, item_of, own_
 use py_frames::frame::{Frame, Now};
 use py_frames::functions::Functions;
 use py_frames::going::{Going, wait_for};
-use py_frames::leaf::operator_of;
+use py_frames::leaf::{Priced, operator_of};
 use py_frames::leaf_value::leaf_value;
 use py_frames::state::{Got, Halt};
 use py_tree::{Expr, ExprKind, Link, Name, Operator, Trailer};
@@ -19,13 +19,6 @@ use py_values::{Frozen, Val, integers_operated};
 
 // How deep parts stand in one another that are tried.
 const DEPTH: u64 = 4;
-
-/// A value, and how many units it costs.
-#[derive(Clone, Copy, Drop)]
-pub struct Priced {
-    pub val: Val,
-    pub cost: u64,
-}
 
 /// The value of a part that is there at once, where the budget has its units.
 pub fn at_once(going: &Going, frozen: &Frozen, e: &Expr, budget: u64) -> Option<Priced>
@@ -42,7 +35,7 @@ pub fn at_once(going: &Going, frozen: &Frozen, e: &Expr, budget: u64) -> Option<
 }
 
 /// Begins a part of a node; a frame waits for its value, which has come where the part is there at once.
-#[tactic(auto, using(crate::proofs::BeginLaws::no_memory))]
+#[tactic(auto, using(py_frames::proofs::BeginLaws::no_memory))]
 pub fn wait_or_come(
     going: &mut Going,
     functions: &Functions,

@@ -19,7 +19,7 @@ use py_frames::state::Halt;
 use py_values::{Builtin, Frozen, Hw, ObjId, Val};
 
 // The store is told an attribute.
-#[tactic(auto, using(crate::proofs::StoreLaws::store_asked, crate::proofs::BeginLaws::turn_rules))]
+#[tactic(auto, using(py_frames::proofs::StoreLaws::store_asked, py_frames::proofs::BeginLaws::turn_rules))]
 fn store_thing(
     going: &mut Going,
     functions: &Functions,
@@ -53,7 +53,7 @@ fn store_thing(
 }
 
 // Of an object or a class.
-#[tactic(auto, using(crate::proofs::StoreLaws::attribute_stored))]
+#[tactic(auto, using(py_frames::proofs::StoreLaws::attribute_stored))]
 fn set_attribute(
     going: &mut Going,
     functions: &Functions,
@@ -94,7 +94,7 @@ pub fn store_attribute(
 }
 
 /// Asks about values alone.
-#[tactic(auto, using(crate::proofs::CallLaws::asked_same, crate::proofs::BeginLaws::turn_rules))]
+#[tactic(auto, using(py_frames::proofs::CallLaws::asked_same, py_frames::proofs::BeginLaws::turn_rules))]
 pub fn ask_about(
     going: &mut Going,
     functions: &Functions,
@@ -114,7 +114,7 @@ pub fn ask_about(
 }
 
 /// A builtin over values.
-#[tactic(auto, using(crate::proofs::StoreLaws::built_same, crate::proofs::BeginLaws::turn_rules))]
+#[tactic(auto, using(py_frames::proofs::StoreLaws::built_same, py_frames::proofs::BeginLaws::turn_rules))]
 pub fn built_of(
     going: &mut Going,
     functions: &Functions,
@@ -136,7 +136,7 @@ pub fn built_of(
 }
 
 /// `x[i]`.
-#[tactic(auto, using(crate::proofs::CallLaws::choose_rules))]
+#[tactic(auto, using(py_frames::proofs::CallLaws::choose_rules))]
 pub fn indexed(
     going: &mut Going,
     functions: &Functions,
@@ -167,7 +167,7 @@ pub fn indexed(
 }
 
 /// `x[i:j:step]`.
-#[tactic(auto, using(crate::proofs::CallLaws::choose_rules))]
+#[tactic(auto, using(py_frames::proofs::CallLaws::choose_rules))]
 pub fn sliced(
     going: &mut Going,
     functions: &Functions,
@@ -208,7 +208,7 @@ pub fn sliced(
 }
 
 // `x[i] = v`, before what follows.
-#[tactic(auto, using(crate::proofs::CallLaws::choose_rules))]
+#[tactic(auto, using(py_frames::proofs::CallLaws::choose_rules))]
 fn index_set(
     going: &mut Going,
     functions: &Functions,
@@ -248,7 +248,7 @@ fn index_set(
 }
 
 /// `x[i] = v`.
-#[tactic(auto, using(crate::proofs::StoreLaws::index_stored, crate::proofs::BeginLaws::turn_rules))]
+#[tactic(auto, using(py_frames::proofs::StoreLaws::index_stored, py_frames::proofs::BeginLaws::turn_rules))]
 pub fn store_index(
     going: &mut Going,
     functions: &Functions,
@@ -286,7 +286,7 @@ pub fn iterated(
 }
 
 /// What is gone over, with its elements: a thing gives a tuple first.
-#[tactic(auto, using(crate::proofs::CallLaws::choose_rules))]
+#[tactic(auto, using(py_frames::proofs::CallLaws::choose_rules))]
 pub fn as_row(
     going: &mut Going,
     functions: &Functions,

@@ -140,7 +140,7 @@ pub fn block_under(
 }
 
 /// A statement of a block left this, and then come those from this number on.
-#[tactic(auto, using(crate::proofs::StmtGoes::left_rules))]
+#[tactic(auto, using(py_frames::proofs::StmtGoes::left_rules))]
 pub fn block_came(
     going: &mut Going,
     functions: &Functions,

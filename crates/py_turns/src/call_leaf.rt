@@ -78,7 +78,7 @@ pub fn told_done(given: Result<(), ValueStop>, place: Place) -> Result<Now, Halt
 }
 
 /// A value.
-#[tactic(auto, using(crate::proofs::BeginLaws::turn_rules))]
+#[tactic(auto, using(py_frames::proofs::BeginLaws::turn_rules))]
 pub fn give(
     going: &Going,
     _functions: &Functions,
@@ -92,7 +92,7 @@ pub fn give(
 }
 
 /// Python raises.
-#[tactic(auto, using(crate::proofs::BeginLaws::turn_rules))]
+#[tactic(auto, using(py_frames::proofs::BeginLaws::turn_rules))]
 pub fn raise(
     going: &Going,
     _functions: &Functions,
@@ -109,7 +109,7 @@ pub fn raise(
 }
 
 /// The turns that a loop or a list of answers may take are used up.
-#[tactic(auto, using(crate::proofs::BeginLaws::turn_rules))]
+#[tactic(auto, using(py_frames::proofs::BeginLaws::turn_rules))]
 pub fn run_out(
     going: &Going,
     _functions: &Functions,
@@ -126,7 +126,7 @@ pub fn run_out(
 }
 
 /// Asks; a frame waits for the answer.
-#[tactic(auto, using(crate::proofs::BeginLaws::turn_rules))]
+#[tactic(auto, using(py_frames::proofs::BeginLaws::turn_rules))]
 pub fn ask_under(
     going: &mut Going,
     functions: &Functions,
@@ -146,7 +146,7 @@ pub fn ask_under(
 }
 
 /// A new function.
-#[tactic(auto, using(crate::proofs::CallLaws::func_told))]
+#[tactic(auto, using(py_frames::proofs::CallLaws::func_told))]
 pub fn new_func(
     going: &mut Going,
     functions: &Functions,

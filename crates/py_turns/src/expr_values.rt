@@ -139,7 +139,7 @@ pub fn bind(
 }
 
 /// A new tuple.
-#[tactic(auto, using(crate::proofs::ExprLaws::tuple_told))]
+#[tactic(auto, using(py_frames::proofs::ExprLaws::tuple_told))]
 pub fn new_tuple(
     going: &mut Going,
     functions: &Functions,
@@ -156,7 +156,7 @@ pub fn new_tuple(
 }
 
 /// A new dict of keys and values in turn.
-#[tactic(auto, using(crate::proofs::ExprLaws::dict_told))]
+#[tactic(auto, using(py_frames::proofs::ExprLaws::dict_told))]
 pub fn new_dict(
     going: &mut Going,
     functions: &Functions,
@@ -173,7 +173,7 @@ pub fn new_dict(
 }
 
 /// A string of the program's text.
-#[tactic(auto, using(crate::proofs::ExprLaws::literal_told))]
+#[tactic(auto, using(py_frames::proofs::ExprLaws::literal_told))]
 pub fn new_literal(
     going: &mut Going,
     functions: &Functions,
@@ -190,7 +190,7 @@ pub fn new_literal(
 }
 
 /// A new string.
-#[tactic(auto, using(crate::proofs::ExprLaws::text_told))]
+#[tactic(auto, using(py_frames::proofs::ExprLaws::text_told))]
 pub fn new_text(
     going: &mut Going,
     functions: &Functions,

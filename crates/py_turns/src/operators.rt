@@ -144,7 +144,7 @@ pub fn two_vals(alloc: Global, a: Val, b: Val) -> Result<Vals, NoMemory>
 }
 
 // An operator on values of which none is asked about.
-#[tactic(auto, using(crate::proofs::ExprCharged::operator_told, crate::proofs::ExprCharged::charged_left, crate::proofs::BeginLaws::no_memory))]
+#[tactic(auto, using(crate::proofs::ExprCharged::operator_told, crate::proofs::ExprCharged::charged_left, py_frames::proofs::BeginLaws::no_memory))]
 fn operator_made(
     going: &mut Going,
     functions: &Functions,
@@ -169,7 +169,7 @@ fn operator_made(
 }
 
 /// An operator of two operands.
-#[tactic(auto, using(crate::proofs::ExprCharged::operated_asks, crate::proofs::ExprCharged::operated_made, crate::proofs::BeginLaws::no_memory))]
+#[tactic(auto, using(crate::proofs::ExprCharged::operated_asks, crate::proofs::ExprCharged::operated_made, py_frames::proofs::BeginLaws::no_memory))]
 pub fn operated(
     going: &mut Going,
     functions: &Functions,
@@ -198,7 +198,7 @@ pub fn operated(
 }
 
 /// An operator of one operand.
-#[tactic(auto, using(crate::proofs::ExprCharged::turned_asks, crate::proofs::ExprCharged::turned_made, crate::proofs::BeginLaws::no_memory))]
+#[tactic(auto, using(crate::proofs::ExprCharged::turned_asks, crate::proofs::ExprCharged::turned_made, py_frames::proofs::BeginLaws::no_memory))]
 pub fn turned(
     going: &mut Going,
     functions: &Functions,
@@ -226,7 +226,7 @@ pub fn turned(
 }
 
 /// A builtin over values of which none is gone over as a thing.
-#[tactic(auto, using(crate::proofs::ExprCharged::built_told, crate::proofs::ExprCharged::charged_left, crate::proofs::BeginLaws::no_memory))]
+#[tactic(auto, using(crate::proofs::ExprCharged::built_told, crate::proofs::ExprCharged::charged_left, py_frames::proofs::BeginLaws::no_memory))]
 pub fn built(
     going: &mut Going,
     functions: &Functions,

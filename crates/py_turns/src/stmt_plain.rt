@@ -27,7 +27,7 @@ use py_tree::{Expr, Stmt, StmtKind};
 use py_values::{Frozen, Val};
 
 /// What has come at once.
-#[tactic(auto, using(crate::proofs::StmtLaws::came_goes))]
+#[tactic(auto, using(py_frames::proofs::StmtLaws::came_goes))]
 pub fn comes(
     going: &Going,
     _functions: &Functions,
@@ -41,7 +41,7 @@ pub fn comes(
 }
 
 /// What stops.
-#[tactic(auto, using(crate::proofs::BeginLaws::stop_goes))]
+#[tactic(auto, using(py_frames::proofs::BeginLaws::stop_goes))]
 pub fn stops(
     going: &Going,
     _functions: &Functions,
@@ -97,7 +97,7 @@ fn returned(
 }
 
 // `assert`: its test.
-#[tactic(auto, using(crate::proofs::StmtBegins::plain_rules, crate::proofs::StmtLaws::stmt_rules))]
+#[tactic(auto, using(crate::proofs::StmtBegins::plain_rules, py_frames::proofs::StmtLaws::stmt_rules))]
 pub fn begun_assert(
     going: &mut Going,
     functions: &Functions,

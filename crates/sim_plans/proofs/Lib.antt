@@ -12,10 +12,8 @@ pub mod Grouping
 pub mod GroupTables
 pub mod Picking
 pub mod Waits
-pub mod PlaceWalks
 pub mod Programs
 pub mod ReadMarks
-pub mod BitTurns
 pub mod Taking
 pub mod DeltaSteps
 pub mod Compiling
@@ -44,3 +42,4 @@ pub mod DrivenLists
 pub mod ResetLaws
 pub mod EdgesFit
 pub mod Marks
+pub mod Among

@@ -19,7 +19,7 @@ use Rattle.design_ir.proofs.Equations.{standing, num_is}
 use Rattle.design_ir.proofs.NumbersFit.{FitsSignals, element, num_fits}
 use Rattle.sim_plans.specs.Reading.{IsReady}
 use Rattle.sim_plans.specs.Tasks.{IsProgram, IsRead, AreAmong, AreFitting, places_of}
-use Rattle.sim_plans.proofs.PlaceWalks.{there_at}
+use Rattle.sim_plans.proofs.Among.{there_at}
 
 -- ---- the value of an expression is decided by those that it names
 

@@ -8,7 +8,6 @@ pub mod Ports
 pub mod PortValues
 pub mod Groups
 pub mod Waiting
-pub mod Walked
 pub mod Plans
 pub mod Settling
 pub mod Marks

@@ -1,7 +1,7 @@
 use Rattle.std.proofs.Common.{◌≡◌, length, drop}
 use Rattle.design_ir.specs.Named.{AllBelow}
 use Rattle.design_ir.specs.Values.{form}
-use Rattle.sim_plans.specs.Walked.{item_at}
+use Rattle.delta_sim.specs.Walked.{item_at}
 use Rattle.delta_sim.proofs.place.item_at.Given as goal
 
 abbrev pub invariant-loop-e : goal.invariant-loop-e

@@ -4,8 +4,8 @@ use Rattle.design_ir.specs.declared.expr.Expr as expr
 use Rattle.design_ir.specs.declared.expr.Expr.{Expr}
 use Rattle.design_ir.specs.declared.expr.Expr.TheVariants.{Slice, Cat, Part, Pick, Cast}
 use Rattle.design_ir.proofs.Equations.{standing}
-use Rattle.sim_plans.specs.Walked.{IsWalked}
-use Rattle.sim_plans.proofs.PlaceWalks.{among_there, among_below, among_named, signal_walked, slice_walked, cat_walked, part_walked, pick_walked, cast_walked, other_walked, all_there}
+use Rattle.delta_sim.specs.Walked.{IsWalked}
+use Rattle.delta_sim.proofs.PlaceWalks.{among_there, among_below, among_named, signal_walked, slice_walked, cat_walked, part_walked, pick_walked, cast_walked, other_walked, all_there}
 use Rattle.delta_sim.proofs.place.part_at.Goals as goal
 
 pub at-requires : goal.at-requires

@@ -2,7 +2,7 @@ use Rattle.std.proofs.Common.{◌≡◌, true}
 use Rattle.design_ir.specs.Circuits.{is_among}
 use Rattle.design_ir.specs.Targets.{is_target}
 use Rattle.sim_plans.specs.Tasks.{places_of}
-use Rattle.sim_plans.specs.Walked.{place_of}
+use Rattle.delta_sim.specs.Walked.{place_of}
 use Rattle.delta_sim.proofs.place.place_at.Given as goal
 
 abbrev pub invariant-loop-place : goal.invariant-loop-place

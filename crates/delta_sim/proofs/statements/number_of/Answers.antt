@@ -1,5 +1,5 @@
 use Rattle.std.proofs.Common.{◌∙◌, pos}
-use Rattle.sim_plans.proofs.PlaceWalks.{among_below, among_known}
+use Rattle.delta_sim.proofs.PlaceWalks.{among_below, among_known}
 use Rattle.sim_plans.proofs.Turns.{any_default}
 use Rattle.delta_sim.proofs.statements.number_of.Goals as goal
 

@@ -7,8 +7,8 @@ use Rattle.design_ir.specs.Put.{put_place}
 use Rattle.design_ir.specs.Targets.{target_bits}
 use Rattle.design_ir.proofs.TargetLaws.{target_length}
 use Rattle.sim_plans.specs.Reading.{IsInside}
-use Rattle.sim_plans.proofs.BitTurns.{bits_turn, bits_end, place_inside, place_long}
-use Rattle.sim_plans.proofs.PlaceWalks.{among_there}
+use Rattle.delta_sim.proofs.BitTurns.{bits_turn, bits_end, place_inside, place_long}
+use Rattle.delta_sim.proofs.PlaceWalks.{among_there}
 use Rattle.delta_sim.proofs.write.put_bits.Goals as goal
 
 pub shape-requires : goal.shape-requires

@@ -4,7 +4,7 @@ use Rattle.design_ir.specs.Put.{put_number}
 use Rattle.design_ir.proofs.Equations.{standing}
 use Rattle.design_ir.proofs.TargetLaws.{target_is}
 use Rattle.design_ir.proofs.Whole.{put_whole}
-use Rattle.sim_plans.proofs.PlaceWalks.{among_there}
+use Rattle.delta_sim.proofs.PlaceWalks.{among_there}
 use Rattle.delta_sim.proofs.write.put_target.Goals as goal
 
 pub at-requires : goal.at-requires

@@ -1,7 +1,7 @@
 use Rattle.std.proofs.Common.{sym, ◌∙◌, ap, map, drop, string_bytes, arith, length-drop}
 use Rattle.std.proofs.lemmas.List.{length-map}
 use Rattle.lists.specs.Texts.{text_eq}
-use Rattle.elab_components.proofs.ListLaws.{global_next, global_end}
+use Rattle.elab_acts.proofs.GlobalLaws.{global_next, global_end}
 use Rattle.elab_acts.proofs.tops.global.Goals as goal
 
 pub loop-i-preserved : goal.loop-i-preserved

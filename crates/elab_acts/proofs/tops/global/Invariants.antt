@@ -1,5 +1,5 @@
 use Rattle.std.proofs.Common.{◌≡◌, drop, map, string_bytes}
-use Rattle.elab_components.specs.Tops.{global}
+use Rattle.elab_acts.specs.Tops.{global}
 use Rattle.elab_acts.proofs.tops.global.Given as goal
 
 abbrev pub invariant-loop-i : goal.invariant-loop-i

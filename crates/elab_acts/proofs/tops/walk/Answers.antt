@@ -4,7 +4,7 @@ use Rattle.py_values.specs.Heaps.{seen}
 use Rattle.elab_store.specs.Hierarchies.{first_waiting, thing_waiting}
 use Rattle.elab_store.specs.Stores.{Stored, kept_of, module_of}
 use Rattle.elab_store.specs.Held.{held_of, Gives}
-use Rattle.elab_components.specs.Tops.{deepest_submodule, walked}
+use Rattle.elab_acts.specs.Tops.{deepest_submodule, walked}
 use Rattle.elab_acts.proofs.WalkLaws.{walked_ended, walked_last, walked_deep, walked_nothing, walked_called, walked_more}
 use Rattle.elab_acts.proofs.tops.walk.Goals as goal
 

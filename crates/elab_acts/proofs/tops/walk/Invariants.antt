@@ -1,7 +1,7 @@
 use Rattle.std.proofs.Common.{◌≡◌, ◌-◌}
 use Rattle.py_values.specs.Heaps.{seen}
 use Rattle.elab_store.specs.Held.{held_of}
-use Rattle.elab_components.specs.Tops.{walk, walked}
+use Rattle.elab_acts.specs.Tops.{walk, walked}
 use Rattle.elab_acts.proofs.tops.walk.Given as goal
 
 abbrev pub invariant-loop-i : goal.invariant-loop-i

@@ -4,7 +4,7 @@ use Rattle.design_ir.proofs.Equations.{standing}
 use Rattle.netlist_laws.specs.Operators.{Drawing}
 use Rattle.netlist_laws.specs.Expressions.{and_also, part_total}
 use Rattle.netlist_laws.specs.Module.{drawings}
-use Rattle.netlist_laws.specs.Tables.{together}
+use Rattle.netlist.specs.Tables.{together}
 use Rattle.netlist_laws.proofs.PartCounts.{part_total-more}
 use Rattle.netlist.proofs.LowerDrawings.{drawings_turn}
 use Rattle.netlist.proofs.drawings.push_expressions.Goals as goal

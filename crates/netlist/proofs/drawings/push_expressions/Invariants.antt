@@ -1,7 +1,7 @@
 use Rattle.std.proofs.Common.{◌≡◌, ◌≤◌, ◌*◌, ◌^◌, take, drop}
 use Rattle.netlist_laws.specs.Expressions.{and_also, part_total}
 use Rattle.netlist_laws.specs.Module.{drawn_from, drawings}
-use Rattle.netlist_laws.specs.Tables.{together}
+use Rattle.netlist.specs.Tables.{together}
 use Rattle.netlist.proofs.drawings.push_expressions.Given as goal
 
 abbrev pub invariant-loop-i : goal.invariant-loop-i

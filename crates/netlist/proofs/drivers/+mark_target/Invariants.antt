@@ -2,7 +2,7 @@ use Rattle.std.proofs.Common.{take}
 use Rattle.std.specs.List.{flat_map}
 use Rattle.design_ir.specs.declared.ids.ExprId.{ExprId}
 use Rattle.design_ir.specs.Targets.{target_signals}
-use Rattle.netlist_laws.specs.Tables.{IsMarked}
+use Rattle.netlist.specs.Tables.{IsMarked}
 use Rattle.netlist.proofs.drivers.+mark_target.Given as goal
 
 abbrev pub decreases-mark_target : goal.decreases-mark_target

@@ -1,7 +1,7 @@
 use Rattle.std.proofs.Common.{◌-◌, length, refl, sym, ◌∙◌, subst}
 use Rattle.design_ir.specs.declared.process.DesignProcess.{DesignProcess}
 use Rattle.design_ir.specs.Guards.{driven}
-use Rattle.netlist_laws.specs.Tables.{IsMarked}
+use Rattle.netlist.specs.Tables.{IsMarked}
 use Rattle.netlist.proofs.LowerDrivers.{drivers_turn}
 use Rattle.netlist.proofs.drivers.driver_places.Goals as goal
 

@@ -1,7 +1,7 @@
 use Rattle.std.proofs.Common.{◌-◌, length}
 use Rattle.design_ir.specs.declared.process.DesignProcess.{DesignProcess}
 use Rattle.netlist_laws.specs.Module.{drives}
-use Rattle.netlist_laws.specs.Tables.{ArePlaces}
+use Rattle.netlist_cells.specs.Places.{ArePlaces}
 use Rattle.netlist.proofs.drivers.driver_places.Given as goal
 
 abbrev pub invariant-loop-j : goal.invariant-loop-j

@@ -1,7 +1,7 @@
 use Rattle.std.proofs.Common.{take}
 use Rattle.design_ir.specs.Statements.{block_of}
 use Rattle.design_ir.specs.Guards.{driven}
-use Rattle.netlist_laws.specs.Tables.{IsMarked}
+use Rattle.netlist.specs.Tables.{IsMarked}
 use Rattle.netlist.proofs.drivers.mark_block.Given as goal
 
 abbrev pub invariant-loop-s : goal.invariant-loop-s

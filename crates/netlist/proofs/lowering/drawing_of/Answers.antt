@@ -5,7 +5,7 @@ use Rattle.rtlil_text.specs.declared.module.RtlWire.{RtlWire}
 use Rattle.netlist_laws.specs.Operators.{Drawing}
 use Rattle.netlist_laws.specs.Expressions.{and_also}
 use Rattle.netlist_laws.specs.Module.{drawings, signal_drawing}
-use Rattle.netlist_laws.specs.Tables.{together}
+use Rattle.netlist.specs.Tables.{together}
 use Rattle.netlist.proofs.lowering.drawing_of.Goals as goal
 
 pub returns-clause-drawn : goal.returns-clause-drawn

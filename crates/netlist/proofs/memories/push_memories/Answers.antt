@@ -4,7 +4,7 @@ use Rattle.design_ir.specs.declared.memory.Memory.{Memory}
 use Rattle.design_ir.specs.Designs.{IsMemory}
 use Rattle.netlist_laws.specs.Expressions.{and_also}
 use Rattle.netlist_laws.specs.MemoryDrawings.{all_parts, memories_of, memory_drawings, memory_lines}
-use Rattle.netlist_laws.specs.Tables.{together}
+use Rattle.netlist.specs.Tables.{together}
 use Rattle.netlist.proofs.LowerDomains.{at_place}
 use Rattle.netlist.proofs.LowerMemories.{turn_drawn, turn_lines, turn_total, begin_drawn, begin_lines, begin_total, end_drawn, end_lines, end_total, few_parts}
 use Rattle.netlist.proofs.memories.push_memories.Goals as goal

@@ -2,7 +2,7 @@ use Rattle.std.proofs.Common.{◌≡◌, ◌≤◌, ◌+◌, ◌*◌, ◌++◌, 
 use Rattle.memory_cells.specs.Plans.{planned}
 use Rattle.netlist_laws.specs.Expressions.{and_also}
 use Rattle.netlist_laws.specs.MemoryDrawings.{Placed, all_parts, drawn_parts, memories_of, memory_drawings, memory_lines}
-use Rattle.netlist_laws.specs.Tables.{together}
+use Rattle.netlist.specs.Tables.{together}
 use Rattle.netlist.proofs.LowerMemories.{placed_all}
 use Rattle.netlist.proofs.memories.push_memories.Given as goal
 

@@ -4,7 +4,7 @@ use Rattle.design_ir.specs.Designs.{IsReadPort}
 use Rattle.netlist_laws.specs.Operators.{Drawing}
 use Rattle.netlist_laws.specs.Expressions.{and_also}
 use Rattle.netlist_laws.specs.MemoryDrawings.{Reads, drawn_parts}
-use Rattle.netlist_laws.specs.Tables.{own_parts, together}
+use Rattle.netlist.specs.Tables.{own_parts, together}
 use Rattle.netlist.proofs.LowerDomains.{at_place}
 use Rattle.netlist.proofs.LowerPorts.{read_narrow}
 use Rattle.netlist.proofs.LowerMemories.{reads_begin, reads_turn, reads_end}

@@ -1,7 +1,7 @@
 use Rattle.std.proofs.Common.{◌≡◌, ◌+◌, ◌*◌, drop, map}
 use Rattle.netlist_laws.specs.Expressions.{and_also}
 use Rattle.netlist_laws.specs.MemoryDrawings.{Reads, drawn_parts}
-use Rattle.netlist_laws.specs.Tables.{own_parts, together}
+use Rattle.netlist.specs.Tables.{own_parts, together}
 use Rattle.netlist.proofs.memories.push_reads.Given as goal
 
 abbrev pub invariant-loop-k : goal.invariant-loop-k

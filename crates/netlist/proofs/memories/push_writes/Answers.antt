@@ -4,7 +4,7 @@ use Rattle.design_ir.specs.Designs.{IsWritePort}
 use Rattle.netlist_laws.specs.Operators.{Drawing}
 use Rattle.netlist_laws.specs.Expressions.{and_also}
 use Rattle.netlist_laws.specs.MemoryDrawings.{write_parts, drawn_parts}
-use Rattle.netlist_laws.specs.Tables.{own_parts, together}
+use Rattle.netlist.specs.Tables.{own_parts, together}
 use Rattle.netlist.proofs.LowerDomains.{at_place}
 use Rattle.netlist.proofs.LowerPorts.{write_narrow}
 use Rattle.netlist.proofs.LowerMemories.{writes_begin, writes_turn, writes_end}

@@ -3,8 +3,8 @@ use Rattle.std.proofs.lemmas.Result.{IfOk-weaker}
 use Rattle.design_ir.specs.Values.{signal_form}
 use Rattle.netlist_laws.specs.Spelled.{spec_of}
 use Rattle.netlist_laws.specs.Module.{wire_id}
-use Rattle.netlist_laws.specs.Tables.{source_of, at_start, latest_of_all}
-use Rattle.netlist_cells.proofs.LowerStarts.{form_at}
+use Rattle.netlist.specs.Tables.{source_of, at_start, latest_of_all}
+use Rattle.netlist.proofs.LowerStarts.{form_at}
 use Rattle.netlist.proofs.LowerLatest.{row_shown}
 use Rattle.netlist.proofs.signals.last_bits.Goals as goal
 

@@ -3,7 +3,7 @@ use Rattle.shape_rules.specs.Forms.{Form}
 use Rattle.netlist_laws.specs.Ids.{value_id}
 use Rattle.netlist_laws.specs.Latest.{places, given}
 use Rattle.netlist_laws.specs.Module.{expr_value}
-use Rattle.netlist_laws.specs.Tables.{Shows}
+use Rattle.netlist.specs.Tables.{Shows}
 use Rattle.netlist.proofs.sources.assign.Goals as goal
 
 pub returns-clause-given : goal.returns-clause-given

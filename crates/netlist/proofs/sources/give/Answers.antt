@@ -4,7 +4,7 @@ use Rattle.design_ir.specs.Targets.{Bit}
 use Rattle.netlist_laws.specs.Ids.{value_id}
 use Rattle.netlist_laws.specs.Operators.{Value}
 use Rattle.netlist_laws.specs.Latest.{given}
-use Rattle.netlist_laws.specs.Tables.{Shows}
+use Rattle.netlist.specs.Tables.{Shows}
 use Rattle.netlist.proofs.LowerSources.{given_turn}
 use Rattle.netlist.proofs.sources.give.Goals as goal
 

@@ -1,7 +1,7 @@
 use Rattle.std.proofs.Common.{◌≡◌, ◌*◌, ℕ, List, length, take}
 use Rattle.netlist_laws.specs.Ids.{value_id}
 use Rattle.netlist_laws.specs.Latest.{Latest, given}
-use Rattle.netlist_laws.specs.Tables.{Shows}
+use Rattle.netlist.specs.Tables.{Shows}
 use Rattle.netlist.proofs.sources.give.Given as goal
 
 abbrev pub invariant-loop-k : goal.invariant-loop-k

@@ -4,7 +4,7 @@ use Rattle.design_ir.specs.declared.stmt.Stmt.{Stmt}
 use Rattle.design_ir.specs.Statements.{block_of}
 use Rattle.netlist_laws.specs.Latest.{latest_of}
 use Rattle.netlist_laws.specs.Module.{expr_value}
-use Rattle.netlist_laws.specs.Tables.{Shows}
+use Rattle.netlist.specs.Tables.{Shows}
 use Rattle.netlist.proofs.LowerDrivers.{IsPlainStmt, plain_at}
 use Rattle.netlist.proofs.LowerSources.{latest_turn}
 use Rattle.netlist.proofs.sources.give_block.Goals as goal

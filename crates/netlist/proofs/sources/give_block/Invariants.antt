@@ -2,7 +2,7 @@ use Rattle.std.proofs.Common.{◌≡◌, ◌*◌, ℕ, List, length, take}
 use Rattle.design_ir.specs.Statements.{block_of}
 use Rattle.netlist_laws.specs.Latest.{Latest, latest_of}
 use Rattle.netlist_laws.specs.Module.{expr_value}
-use Rattle.netlist_laws.specs.Tables.{Shows}
+use Rattle.netlist.specs.Tables.{Shows}
 use Rattle.netlist.proofs.sources.give_block.Given as goal
 
 abbrev pub invariant-loop-s : goal.invariant-loop-s

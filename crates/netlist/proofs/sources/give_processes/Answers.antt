@@ -1,7 +1,7 @@
 use Rattle.std.proofs.Common.{length, take, sym, ◌∙◌, subst}
 use Rattle.std.proofs.lemmas.List.{take_all}
-use Rattle.netlist_laws.specs.Tables.{Shows, latest_of_all}
-use Rattle.netlist_cells.proofs.LowerStarts.{all_turn}
+use Rattle.netlist.specs.Tables.{Shows, latest_of_all}
+use Rattle.netlist.proofs.LowerStarts.{all_turn}
 use Rattle.netlist.proofs.sources.give_processes.Goals as goal
 
 pub loop-p-preserved : goal.loop-p-preserved

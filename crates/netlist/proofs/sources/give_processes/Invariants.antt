@@ -1,6 +1,6 @@
 use Rattle.std.proofs.Common.{◌≡◌, ◌*◌, ℕ, List, length, take}
 use Rattle.netlist_laws.specs.Latest.{Latest}
-use Rattle.netlist_laws.specs.Tables.{Shows, latest_of_all}
+use Rattle.netlist.specs.Tables.{Shows, latest_of_all}
 use Rattle.netlist.proofs.sources.give_processes.Given as goal
 
 abbrev pub invariant-loop-p : goal.invariant-loop-p

@@ -1,4 +1,4 @@
-use Rattle.netlist_laws.specs.Tables.{IsRow}
+use Rattle.netlist.specs.Tables.{IsRow}
 use Rattle.netlist.proofs.sources.row.Given as goal
 
 abbrev pub invariant-loop-i : goal.invariant-loop-i

@@ -1,4 +1,4 @@
-use Rattle.netlist_cells.proofs.LowerStarts.{shows_row}
+use Rattle.netlist.proofs.LowerStarts.{shows_row}
 use Rattle.netlist.proofs.sources.start.Goals as goal
 
 pub loop-i-preserved : goal.loop-i-preserved

@@ -1,5 +1,5 @@
 use Rattle.netlist_laws.specs.Module.{wire_id}
-use Rattle.netlist_laws.specs.Tables.{Shows, at_start}
+use Rattle.netlist.specs.Tables.{Shows, at_start}
 use Rattle.netlist.proofs.sources.start.Given as goal
 
 abbrev pub invariant-loop-i : goal.invariant-loop-i

@@ -1,6 +1,6 @@
 use Rattle.std.proofs.Common.{map, ap, ◌∙◌}
 use Rattle.std.proofs.lemmas.List.{take_all}
-use Rattle.netlist_laws.specs.Tables.{source_of, bit_of}
+use Rattle.netlist.specs.Tables.{source_of, bit_of}
 use Rattle.netlist.proofs.LowerRuns.{bits_more}
 use Rattle.netlist.proofs.spelling.constants.Goals as goal
 

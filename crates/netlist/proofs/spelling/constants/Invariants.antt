@@ -1,5 +1,5 @@
 use Rattle.std.proofs.Common.{◌≡◌, ℕ, List, map, take}
-use Rattle.netlist_laws.specs.Tables.{source_of, bit_of}
+use Rattle.netlist.specs.Tables.{source_of, bit_of}
 use Rattle.netlist.proofs.spelling.constants.Given as goal
 
 abbrev pub invariant-loop-x : goal.invariant-loop-x

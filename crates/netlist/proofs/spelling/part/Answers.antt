@@ -1,5 +1,5 @@
 use Rattle.netlist_laws.specs.Module.{wire_id}
-use Rattle.netlist_laws.specs.Tables.{source_of}
+use Rattle.netlist.specs.Tables.{source_of}
 use Rattle.netlist.proofs.LowerRuns.{run_constant}
 use Rattle.netlist.proofs.spelling.part.Goals as goal
 

@@ -2,7 +2,7 @@ use Rattle.std.proofs.Common.{◌≡◌, ◌≤◌, ◌+◌, ◌-◌, ◌++◌, 
 use Rattle.netlist.specs.declared.sources.BitSource.TheVariants as sources
 use Rattle.netlist_laws.specs.Module.{wire_id}
 use Rattle.netlist_laws.specs.Spelled.{spec_of}
-use Rattle.netlist_laws.specs.Tables.{source_of, run_of}
+use Rattle.netlist.specs.Tables.{source_of, run_of}
 use Rattle.netlist.proofs.LowerRuns.{spelled_none, spelled_first, spelled_joined, spelled_split}
 use Rattle.netlist.proofs.spelling.spec_of.Goals as goal
 use Rattle.netlist.proofs.spelling.spec_of.Goals.{then-not-branch+in_ok-part+in_ok-push, else-not-branch}

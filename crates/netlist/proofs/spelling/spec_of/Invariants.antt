@@ -1,7 +1,7 @@
 use Rattle.std.proofs.Common.{◌≡◌, ◌<◌, ◌≤◌, ◌-◌, ◌++◌, ◌∷◌, [], length, map, take, drop}
 use Rattle.netlist_laws.specs.Module.{wire_id}
 use Rattle.netlist_laws.specs.Spelled.{spec_of}
-use Rattle.netlist_laws.specs.Tables.{source_of, run_of}
+use Rattle.netlist.specs.Tables.{source_of, run_of}
 use Rattle.netlist.proofs.spelling.spec_of.Given as goal
 
 abbrev pub invariant-loop-j : goal.invariant-loop-j

@@ -1,6 +1,6 @@
 use Rattle.std.proofs.Common.{length, refl}
 use Rattle.design_ir.specs.declared.port.Column.{Column}
-use Rattle.netlist_laws.specs.Tables.{shows_signal}
+use Rattle.netlist_cells.specs.Places.{shows_signal}
 use Rattle.netlist_cells.proofs.LowerPlaces.{places_turn, column_there}
 use Rattle.netlist_cells.proofs.tables.column_places.Goals as goal
 

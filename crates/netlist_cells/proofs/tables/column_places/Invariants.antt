@@ -1,6 +1,6 @@
 use Rattle.std.proofs.Common.{◌-◌, length}
 use Rattle.design_ir.specs.declared.port.Column.{Column}
-use Rattle.netlist_laws.specs.Tables.{ArePlaces, shows_signal}
+use Rattle.netlist_cells.specs.Places.{ArePlaces, shows_signal}
 use Rattle.netlist_cells.proofs.tables.column_places.Given as goal
 
 abbrev pub invariant-loop-j : goal.invariant-loop-j

@@ -1,7 +1,7 @@
 use Rattle.std.proofs.Common.{ap, ◌∙◌}
 use Rattle.design_ir.specs.declared.port.Port.{Port}
 use Rattle.design_ir.specs.Circuits.{option_test}
-use Rattle.netlist_cells.proofs.LowerStarts.{input_found}
+use Rattle.netlist_cells.proofs.LowerInputs.{input_found}
 use Rattle.netlist_cells.proofs.tables.is_input.Goals as goal
 
 pub returns-in-Some : goal.returns-in-Some

@@ -1,6 +1,6 @@
 use Rattle.std.proofs.Common.{length, refl, arith}
 use Rattle.design_ir.specs.declared.port.Port.{Port}
-use Rattle.netlist_laws.specs.Tables.{is_port_of}
+use Rattle.netlist_cells.specs.Places.{is_port_of}
 use Rattle.netlist_cells.proofs.LowerPlaces.{places_turn, port_there}
 use Rattle.netlist_cells.proofs.tables.port_places.Goals as goal
 

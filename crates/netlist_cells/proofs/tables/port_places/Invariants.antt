@@ -1,6 +1,6 @@
 use Rattle.std.proofs.Common.{◌-◌, length}
 use Rattle.design_ir.specs.declared.port.Port.{Port}
-use Rattle.netlist_laws.specs.Tables.{ArePlaces, is_port_of}
+use Rattle.netlist_cells.specs.Places.{ArePlaces, is_port_of}
 use Rattle.netlist_cells.proofs.tables.port_places.Given as goal
 
 abbrev pub invariant-loop-j : goal.invariant-loop-j

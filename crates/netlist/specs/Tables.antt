@@ -1,6 +1,6 @@
 -- What is kept for each signal of a design while its module is made.
-use Rattle.std.specs.Prelude.{◌≡◌, ◌<◌, ◌==◌, ◌+◌, ◌*◌, ℕ, Bool, true, false, cond, if◌then◌else◌, suc, ◌&&◌, ◌||◌, map, List, [], ◌∷◌, ◌++◌, length, drop, slice_get, slice_index_or, Option, Some, None, option_and_then}
-use Rattle.std.specs.List.{find, flat_map, list_any, range_with_len}
+use Rattle.std.specs.Prelude.{◌≡◌, ◌<◌, ◌==◌, ◌+◌, ◌*◌, ℕ, Bool, true, false, cond, if◌then◌else◌, suc, ◌&&◌, ◌||◌, map, List, [], ◌∷◌, ◌++◌, length, slice_index_or, Option, Some, None}
+use Rattle.std.specs.List.{flat_map, list_any, range_with_len}
 use Rattle.lists.specs.Texts.{text_eq}
 use Rattle.rtlil_text.specs.declared.module.RtlModule.{RtlModule}
 use Rattle.rtlil_text.specs.declared.module.RtlMemory.{RtlMemory}
@@ -8,13 +8,12 @@ use Rattle.rtlil_text.specs.declared.sig.SigPart.{SigPart}
 use Rattle.rtlil_text.specs.declared.sig.SigPart.TheVariants as parts
 use Rattle.design_ir.specs.declared.memory.MemRead.{MemRead}
 use Rattle.design_ir.specs.declared.memory.Memory.{Memory}
-use Rattle.design_ir.specs.declared.port.Port.{Port}
-use Rattle.design_ir.specs.declared.port.Column.{Column}
 use Rattle.design_ir.specs.declared.process.DesignProcess.{DesignProcess}
 use Rattle.design_ir.specs.Values.{signal_form}
 use Rattle.design_ir.specs.Targets.{Bit}
 use Rattle.design_ir.specs.Circuits.{Circuit, is_among}
 use Rattle.netlist_laws.specs.Operators.{Drawing}
+use Rattle.netlist_cells.specs.Places.{ArePlaces, AreColumnPlaces, ArePortPlaces}
 use Rattle.rtlil_text.specs.Sources.{Source, Constant, Net}
 use Rattle.netlist.specs.declared.signals.Tables.{Tables}
 use Rattle.netlist.specs.declared.sources.BitSource.{BitSource}
@@ -27,24 +26,6 @@ use Rattle.new_names.specs.Fresh.{fresh_name}
 use Rattle.netlist_laws.specs.Expressions.{and_also}
 use Rattle.netlist_laws.specs.Module.{expr_value, wire_id, column_wires, signal_wires, expr_wires, drawings, signal_drawing, is_there, is_read, is_clocked, drives, driving, at_first}
 use Rattle.netlist_laws.specs.MemoryDrawings.{Placed, Part, plan_of}
-
--- for each of n signals the place of the first of these, from one place on, that passes the signal's test
-pub record ArePlaces (X : Type 0) (test : ℕ → X → Bool) (xs : List X) (from n : ℕ) (places : List (Option ℕ)) : Type 0 where
-  pub long : length places ≡ n
-  pub inside : (s k : ℕ) → slice_index_or places s None ≡ Some k → k < length xs
-  pub each : (s : ℕ) → s < n → option_and_then (slice_get xs) (slice_index_or places s None) ≡ find (test s) (drop from xs)
-
-abbrev pub shows_signal : ℕ → Column → Bool
-shows_signal s x = x.sig.0 == s
-
-abbrev pub AreColumnPlaces : Circuit → List (Option ℕ) → Type 0
-AreColumnPlaces c places = ArePlaces Column shows_signal c.columns 0 (length c.pool.signals) places
-
-abbrev pub is_port_of : ℕ → Port → Bool
-is_port_of s p = p.sig.0 == s
-
-abbrev pub ArePortPlaces : Circuit → List (Option ℕ) → Type 0
-ArePortPlaces c places = ArePlaces Port is_port_of c.ports 0 (length c.pool.signals) places
 
 abbrev pub AreDrivers : Circuit → List (Option ℕ) → Type 0
 AreDrivers c places = ArePlaces DesignProcess (drives c) c.processes 0 (length c.pool.signals) places

@@ -1,8 +1,8 @@
 -- The place of one bit of a target, by what the target is made of.
-use Rattle.std.specs.Prelude.{◌≡◌, ⊤, refl, ℕ, zero, suc, ◌+◌, ◌-◌, ◌*◌, ◌<◌, ◌≤◌, nat_lt, ◌||◌, ◌==◌, pos, min, Bool, true, false, cond, List, [], ◌∷◌, ◌++◌, map, length, take, drop, replicate, slice_get, ℤ, unsigned_abs, Option, Some, None}
-use Rattle.std.specs.List.{AllByRecursion, flat_map, list_all, range_with_len}
+use Rattle.std.specs.Prelude.{◌≡◌, ⊤, refl, ℕ, zero, suc, ◌+◌, ◌-◌, ◌*◌, ◌<◌, ◌≤◌, nat_lt, pos, min, Bool, true, false, cond, List, [], ◌∷◌, ◌++◌, map, length, take, drop, replicate, slice_get, ℤ, unsigned_abs, Option, Some, None}
+use Rattle.std.specs.List.{flat_map, list_all, range_with_len}
 use Rattle.std.proofs.Common.{sym, ◌∙◌, ap, arith, subst, ⊎_elim, get_or}
-use Rattle.std.proofs.lemmas.Bool.{cases_Bool, ltb-true, ltb-false, lt-ltb, le-ltb, cases_lt, eqb-true, false≢true}
+use Rattle.std.proofs.lemmas.Bool.{cases_Bool, ltb-true, ltb-false, lt-ltb, le-ltb, cases_lt, false≢true}
 use Rattle.std.proofs.lemmas.List.{get_or-take, get_or-drop, get_or_past, at_drop_more}
 use Rattle.std.proofs.Math.ListN.{get_or-append}
 use Rattle.shape_rules.specs.Forms.{Form}
@@ -19,10 +19,11 @@ use Rattle.design_ir.specs.Targets.{Bit, padded, target_test, target_bits, is_ta
 use Rattle.design_ir.specs.Values.{form, num, signal_form, picked, common_of_all}
 use Rattle.design_ir.proofs.Equations.{standing, form_is}
 use Rattle.design_ir.proofs.TargetLaws.{and_true, target_is, is_target_is, target_length, padded_length}
-use Rattle.sim_plans.specs.declared.place.Walk.{Walk}
-use Rattle.sim_plans.specs.declared.place.Walk.TheVariants.{Ends, GoesOn}
+use Rattle.delta_sim.specs.declared.place.Walk.{Walk}
+use Rattle.delta_sim.specs.declared.place.Walk.TheVariants.{Ends, GoesOn}
 use Rattle.sim_plans.specs.Tasks.{IsRead, AreAmong, places_of}
-use Rattle.sim_plans.specs.Walked.{signal_place, window, item_at, place_of, IsWalked}
+use Rattle.delta_sim.specs.Walked.{signal_place, window, item_at, place_of, IsWalked}
+use Rattle.sim_plans.proofs.Among.{among_index, all_first, there_at}
 use Rattle.sim_plans.proofs.Items.{below_at, picked_is}
 use Rattle.sim_plans.proofs.TargetsInside.{target_few}
 
@@ -70,35 +71,6 @@ bits_past : (s a w i : ℕ) → w ≤ i → get_or (map (λ b. Some b) (map (bit
 bits_past s a zero i h = refl
 bits_past s a (suc w) zero h = absurd (omega (arith, h))
 bits_past s a (suc w) (suc i) h = bits_past s (a + 1) w i (omega (arith, h))
-
--- ---- what is among a program
-
-pub among_index : (list : List ExprId) (k : ℕ) → is_among (places_of list) k ≡ true → (i : ℕ) × (e : ExprId) × (slice_get list i ≡ Some e) × (e.0 ≡ k)
-among_index [] k h = absurd (false≢true h)
-among_index (x ∷ list) k h =
-    ⊎_elim
-    (λ (t : (x.0 == k) ≡ true). (0, x, refl, eqb-true x.0 k t))
-    (λ (t : (x.0 == k) ≡ false). let r = among_index list k (sym (ap (λ b. b || is_among (places_of list) k) t) ∙ h) in (suc r.0, r.1, r.2, r.3))
-    (cases_Bool (x.0 == k))
-
-among_first : (i : ℕ) (list : List ExprId) (k : ℕ) → is_among (places_of (take i list)) k ≡ true → is_among (places_of list) k ≡ true
-among_first zero [] k h = absurd (false≢true h)
-among_first zero (x ∷ list) k h = absurd (false≢true h)
-among_first (suc i) [] k h = absurd (false≢true h)
-among_first (suc i) (x ∷ list) k h =
-    ⊎_elim
-    (λ (t : (x.0 == k) ≡ true). ap (λ b. b || is_among (places_of list) k) t)
-    (λ (t : (x.0 == k) ≡ false). ap (λ b. b || is_among (places_of list) k) t ∙ among_first i list k (sym (ap (λ b. b || is_among (places_of (take i list)) k) t) ∙ h))
-    (cases_Bool (x.0 == k))
-
-all_first : (i : ℕ) (list es : List ExprId) → AreAmong (take i list) es → AreAmong list es
-all_first i list [] h = tt
-all_first i list (e ∷ es) h = (among_first i list e.0 h.0, all_first i list es h.1)
-
-pub there_at : (count : ℕ) (list : List ExprId) (i : ℕ) (e : ExprId) → AllByRecursion (λ (x : ExprId). x.0 < count) list → slice_get list i ≡ Some e → e.0 < count
-there_at count [] i e h is = cc
-there_at count (x ∷ list) zero e h is = let same : x ≡ e = cc in subst (λ (y : ExprId). y.0 < count) same h.0
-there_at count (x ∷ list) (suc i) e h is = there_at count list i e h.1 is
 
 -- ---- steps
 

@@ -8,7 +8,7 @@ use Rattle.design_ir.specs.Pools.{Pooled}
 use Rattle.design_ir.specs.Put.{put_bits, put_place}
 use Rattle.design_ir.specs.Targets.{Bit, target_bits}
 use Rattle.sim_plans.specs.Reading.{IsInside}
-use Rattle.sim_plans.specs.Walked.{place_of}
+use Rattle.delta_sim.specs.Walked.{place_of}
 use Rattle.sim_plans.proofs.TargetsInside.{target_inside}
 
 pub place_long : (p : Pooled) (x : Option Bit) (b : ℕ) (cur : List ℤ) → length (put_place p x b cur) ≡ length cur

@@ -1,24 +1,21 @@
--- Bits of signals of the pool, inputs, and the first sources of bits.
-use Rattle.std.proofs.Common.{◌≡◌, ◌<◌, ◌≤◌, ◌+◌, ◌*◌, ◌==◌, ◌&&◌, ◌||◌, ℕ, zero, suc, Bool, true, false, cond, List, [], ◌∷◌, ◌++◌, map, length, take, get_or, refl, sym, ap, ◌∙◌, arith, ⊎_elim}
-use Rattle.std.specs.Prelude.{nat_eq, Some}
-use Rattle.std.specs.List.{AllByRecursion, IsDistinct, find, list_any}
-use Rattle.std.proofs.lemmas.Bool.{eqb-true, eqb-false, ne_eqb, cases_lt}
+-- Bits of signals of the pool, and the first sources of bits.
+use Rattle.std.proofs.Common.{◌≡◌, ◌<◌, ◌≤◌, ◌+◌, ◌*◌, ℕ, zero, suc, Bool, true, false, List, [], ◌∷◌, ◌++◌, length, take, get_or, refl, sym, ap, ◌∙◌, arith, ⊎_elim}
+use Rattle.std.specs.List.{AllByRecursion}
+use Rattle.std.proofs.lemmas.Bool.{cases_lt}
 use Rattle.std.proofs.lemmas.List.{take_more, length-append, get_or_append_left, get_or-append-add}
 use Rattle.shape_rules.specs.Forms.{IsForm}
 use Rattle.design_ir.specs.declared.signal.Sig.{Sig}
-use Rattle.design_ir.specs.declared.port.Port.{Port}
 use Rattle.design_ir.specs.declared.process.DesignProcess.{DesignProcess}
 use Rattle.design_ir.specs.Pools.{Pooled}
 use Rattle.design_ir.specs.PoolRules.{IsPool}
 use Rattle.design_ir.specs.Values.{signal_form}
 use Rattle.design_ir.specs.Targets.{Bit}
-use Rattle.design_ir.specs.Circuits.{Circuit, is_input, option_test}
-use Rattle.design_ir.specs.Designs.{IsDesign}
+use Rattle.design_ir.specs.Circuits.{Circuit}
 use Rattle.netlist_laws.specs.Latest.{Latest, places, latest_of}
 use Rattle.netlist.specs.declared.sources.BitSource.{BitSource}
 use Rattle.netlist.specs.declared.sources.BitSource.TheVariants as sources
 use Rattle.netlist_laws.specs.Module.{expr_value, wire_id, is_clocked, driving, at_first}
-use Rattle.netlist_laws.specs.Tables.{is_port_of, source_of, Shows, at_start, IsBitOf, IsRow, latest_of_all}
+use Rattle.netlist.specs.Tables.{source_of, Shows, at_start, IsBitOf, IsRow, latest_of_all}
 use Rattle.netlist_laws.proofs.FixedTargets.{IsInside, places_inside}
 
 -- ---- bits of signals
@@ -43,43 +40,6 @@ bits_inside p pool (b ∷ bs) h = ((there_at p.signals b.sig b.index h.0, omega 
 
 pub places_bits : (p : Pooled) (k : ℕ) → IsPool p → AllByRecursion (IsBitOf (length p.signals)) (places p k)
 places_bits p k pool = bits_inside p pool (places p k) (places_inside p k)
-
--- ---- inputs
-
-abbrev takes_in : Port → Bool
-takes_in p = p.is_input
-
-none_ports : (ps : List Port) (s t : ℕ) → s ≡ t → AllByRecursion (λ u. nat_eq s u ≡ false) (map (λ (p : Port). p.sig.0) ps) → list_any (λ (p : Port). p.is_input && (p.sig.0 == t)) ps ≡ false
-none_ports [] s t e h = refl
-none_ports (p ∷ ps) s t e h =
-    let f : (p.sig.0 == t) ≡ false = ne_eqb p.sig.0 t (λ g. eqb-false s p.sig.0 h.0 (e ∙ sym g)) in
-    let z : (p.is_input && false) ≡ false = and_no p.is_input in
-    rw (f, z) (none_ports ps s t e h.1)
-  where
-    and_no : (b : Bool) → (b && false) ≡ false
-    and_no true = refl
-    and_no false = refl
-
-ports_input : (ps : List Port) (s : ℕ) → IsDistinct nat_eq (map (λ (p : Port). p.sig.0) ps) → option_test (λ (p : Port). p.is_input) (find (is_port_of s) ps) ≡ list_any (λ (p : Port). p.is_input && (p.sig.0 == s)) ps
-unfolding IsDistinct
-ports_input [] s h = refl
-ports_input (p ∷ ps) s h = by (ports_input ps s h.1) (p.sig.0 == s) refl
-  where
-    either : (q : Bool) → q ≡ ((q && true) || false)
-    either true = refl
-    either false = refl
-
-    and_no : (b : Bool) → (b && false) ≡ false
-    and_no true = refl
-    and_no false = refl
-
-    by : option_test (λ (q : Port). q.is_input) (find (is_port_of s) ps) ≡ list_any (λ (q : Port). q.is_input && (q.sig.0 == s)) ps → (b : Bool) → (p.sig.0 == s) ≡ b
-        → option_test (λ (q : Port). q.is_input) (cond b (Some p) (find (is_port_of s) ps)) ≡ ((p.is_input && b) || list_any (λ (q : Port). q.is_input && (q.sig.0 == s)) ps)
-    by later true t = either p.is_input ∙ ap (λ r. (p.is_input && true) || r) (sym (none_ports ps p.sig.0 s (eqb-true p.sig.0 s t) h.0))
-    by later false t = later ∙ ap (λ b. b || list_any (λ (q : Port). q.is_input && (q.sig.0 == s)) ps) (sym (and_no p.is_input))
-
-pub input_found : (c : Circuit) (s : ℕ) → IsDesign c → option_test (λ (p : Port). p.is_input) (find (is_port_of s) c.ports) ≡ is_input c s
-input_found c s h = ports_input c.ports s h.ports
 
 -- ---- one process more
 

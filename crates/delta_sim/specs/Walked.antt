@@ -5,8 +5,8 @@ use Rattle.design_ir.specs.declared.ids.ExprId.{ExprId}
 use Rattle.design_ir.specs.Circuits.{is_among}
 use Rattle.design_ir.specs.Pools.{Pooled}
 use Rattle.design_ir.specs.Targets.{Bit, is_target, target_bits}
-use Rattle.sim_plans.specs.declared.place.Walk.{Walk}
-use Rattle.sim_plans.specs.declared.place.Walk.TheVariants.{Ends, GoesOn}
+use Rattle.delta_sim.specs.declared.place.Walk.{Walk}
+use Rattle.delta_sim.specs.declared.place.Walk.TheVariants.{Ends, GoesOn}
 use Rattle.sim_plans.specs.Tasks.{places_of}
 
 -- ---- single steps
