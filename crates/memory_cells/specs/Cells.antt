@@ -32,20 +32,33 @@ abbrev pub of_memory : Plan → List RtlParameter
 of_memory p = record { name = codes "\\MEMID"; value = values.Id p.id } ∷ number_at (codes "\\ABITS") p.address ∷ number_at (codes "\\WIDTH") p.width ∷ []
 
 -- the first rows
+abbrev pub init_parameters : Plan → List RtlParameter
+init_parameters p = of_memory p ++ number_at (codes "\\WORDS") p.depth ∷ number_at (codes "\\PRIORITY") 0 ∷ []
+
+abbrev pub init_ends : Plan → List ℤ → List RtlEnd
+init_ends p rows = end_at (codes "\\ADDR") (constant (replicate p.address false)) ∷ end_at (codes "\\DATA") (constant (rows_bits p.width rows)) ∷ end_at (codes "\\EN") (constant (replicate p.width true)) ∷ []
+
 abbrev pub init_cell : Plan → List ℕ → List ℤ → RtlCell
 init_cell p id rows = record {
   kind = MemoryInit;
   id = id;
-  parameters = of_memory p ++ number_at (codes "\\WORDS") p.depth ∷ number_at (codes "\\PRIORITY") 0 ∷ [];
-  ends = end_at (codes "\\ADDR") (constant (replicate p.address false)) ∷ end_at (codes "\\DATA") (constant (rows_bits p.width rows)) ∷ end_at (codes "\\EN") (constant (replicate p.width true)) ∷ [];
+  parameters = init_parameters p;
+  ends = init_ends p rows;
 }
 
+-- a memory, and whether its port has a clock, and at which edge it acts
+abbrev pub clock_parameters : Plan → (clocked edge : ℕ) → List RtlParameter
+clock_parameters p clocked edge = of_memory p ++ number_at (codes "\\CLK_ENABLE") clocked ∷ number_at (codes "\\CLK_POLARITY") edge ∷ []
+
 -- write port k at the edge of a clock
+abbrev pub write_parameters : Plan → (k edge : ℕ) → List RtlParameter
+write_parameters p k edge = clock_parameters p 1 edge ++ number_at (codes "\\PORTID") k ∷ bits_at (codes "\\PRIORITY_MASK") (priority_mask (mask_bits p) k) ∷ []
+
 abbrev pub write_cell : Plan → List ℕ → ℕ → Clock → (enable address word : List SigPart) → RtlCell
 write_cell p id k clock enable address word = record {
   kind = MemoryWrite;
   id = id;
-  parameters = of_memory p ++ number_at (codes "\\CLK_ENABLE") 1 ∷ number_at (codes "\\CLK_POLARITY") (polarity clock) ∷ number_at (codes "\\PORTID") k ∷ bits_at (codes "\\PRIORITY_MASK") (priority_mask (mask_bits p) k) ∷ [];
+  parameters = write_parameters p k (polarity clock);
   ends = end_at (codes "\\CLK") clock.bit ∷ end_at (codes "\\EN") enable ∷ end_at (codes "\\ADDR") address ∷ end_at (codes "\\DATA") word ∷ [];
 }
 
@@ -59,10 +72,14 @@ zero_row p name = bits_at name (replicate p.width false)
 -- of a read port: with a clock or without, at which edge, and transparent for the write ports of a mask
 abbrev pub read_parameters : Plan → (clocked edge : ℕ) → List Bool → List RtlParameter
 read_parameters p clocked edge mask =
-    of_memory p ++ number_at (codes "\\CLK_ENABLE") clocked ∷ number_at (codes "\\CLK_POLARITY") edge
-    ∷ bits_at (codes "\\TRANSPARENCY_MASK") mask ∷ bits_at (codes "\\COLLISION_X_MASK") (replicate (mask_bits p) false)
+    clock_parameters p clocked edge
+    ++ bits_at (codes "\\TRANSPARENCY_MASK") mask ∷ bits_at (codes "\\COLLISION_X_MASK") (replicate (mask_bits p) false)
     ∷ zero_row p (codes "\\ARST_VALUE") ∷ zero_row p (codes "\\SRST_VALUE") ∷ zero_row p (codes "\\INIT_VALUE")
     ∷ number_at (codes "\\CE_OVER_SRST") 0 ∷ []
+
+-- what is at the ends of a read cell
+abbrev pub read_ends : (clock enable address word : List SigPart) → List RtlEnd
+read_ends clock enable address word = end_at (codes "\\CLK") clock ∷ end_at (codes "\\EN") enable ∷ bit_end (codes "\\ARST") false ∷ bit_end (codes "\\SRST") false ∷ end_at (codes "\\ADDR") address ∷ end_at (codes "\\DATA") word ∷ []
 
 -- a read cell with these parameters
 abbrev pub read_with : List ℕ → List RtlParameter → (clock enable address word : List SigPart) → RtlCell
@@ -70,7 +87,7 @@ read_with id parameters clock enable address word = record {
   kind = MemoryRead;
   id = id;
   parameters = parameters;
-  ends = end_at (codes "\\CLK") clock ∷ end_at (codes "\\EN") enable ∷ bit_end (codes "\\ARST") false ∷ bit_end (codes "\\SRST") false ∷ end_at (codes "\\ADDR") address ∷ end_at (codes "\\DATA") word ∷ [];
+  ends = read_ends clock enable address word;
 }
 
 -- it reads at once

@@ -1,5 +1,5 @@
 // The cells of a memory.
-ghost use Rattle.std.specs.Prelude.{◌≡◌, ◌<◌, ◌≤◌, IfOk, max, length};
+ghost use Rattle.std.specs.Prelude.{◌≡◌, ◌<◌, ◌≤◌, ◌++◌, ◌∷◌, [], true, false, replicate, codes, IfOk, max, length};
 ghost use Rattle.memory_cells.specs.Plans.{planned, mask_bits, through_mask};
 ghost use Rattle.memory_cells.specs.Cells as cells;
 
@@ -33,31 +33,70 @@ pub(crate) fn copied(alloc: Global, text: &str) -> Result<Text, NoMemory>
     Ok(copy)
 }
 
-fn number_at(alloc: Global, name: &str, number: u32) -> Result<RtlParameter, NoMemory>
-    ensures { IfOk result (λ p. p ≡ cells.number_at name.now number) }
+// Parameters with one behind them. What stands before is given up where memory lacks, so that a cell has few ends to
+// give back.
+fn and_parameter(
+    alloc: Global,
+    before: RtlParameters,
+    name: &str,
+    value: RtlValue,
+) -> Result<RtlParameters, NoMemory>
+    ensures { IfOk result (λ ps. ps ≡ before ++ record { name = name.now; value = value } ∷ []) }
 {
-    Ok(RtlParameter {
-        name: copied(alloc, name)?,
-        value: RtlValue::Number(number),
-    })
+    let mut all = before;
+    let name = copied(alloc, name)?;
+    all.push(RtlParameter { name, value })?;
+    Ok(all)
 }
 
-fn bits_at(alloc: Global, name: &str, bits: RtlBits) -> Result<RtlParameter, NoMemory>
-    ensures { IfOk result (λ p. p ≡ cells.bits_at name.now bits) }
+fn and_number(
+    alloc: Global,
+    before: RtlParameters,
+    name: &str,
+    number: u32,
+) -> Result<RtlParameters, NoMemory>
+    ensures { IfOk result (λ ps. ps ≡ before ++ cells.number_at name.now number ∷ []) }
 {
-    Ok(RtlParameter {
-        name: copied(alloc, name)?,
-        value: RtlValue::Bits(bits),
-    })
+    and_parameter(alloc, before, name, RtlValue::Number(number))
 }
 
-fn end_at(alloc: Global, name: &str, spec: SigSpec) -> Result<RtlEnd, NoMemory>
-    ensures { IfOk result (λ e. e ≡ cells.end_at name.now spec) }
+fn and_bits(
+    alloc: Global,
+    before: RtlParameters,
+    name: &str,
+    bits: RtlBits,
+) -> Result<RtlParameters, NoMemory>
+    ensures { IfOk result (λ ps. ps ≡ before ++ cells.bits_at name.now bits ∷ []) }
 {
-    Ok(RtlEnd {
-        name: copied(alloc, name)?,
-        spec,
-    })
+    and_parameter(alloc, before, name, RtlValue::Bits(bits))
+}
+
+// Parameters with one behind them that is 0 at a width.
+fn and_zeros(
+    alloc: Global,
+    before: RtlParameters,
+    name: &str,
+    width: u32,
+) -> Result<RtlParameters, NoMemory>
+    ensures { IfOk result (λ ps. ps ≡ before ++ cells.bits_at name.now (replicate width false) ∷ []) }
+{
+    let bits = repeated(alloc, false, width)?;
+    and_bits(alloc, before, name, bits)
+}
+
+// Ends with one behind them.
+fn and_end(
+    alloc: Global,
+    before: Items<RtlEnd>,
+    name: &str,
+    spec: SigSpec,
+) -> Result<Items<RtlEnd>, NoMemory>
+    ensures { IfOk result (λ es. es ≡ before ++ cells.end_at name.now spec ∷ []) }
+{
+    let mut all = before;
+    let name = copied(alloc, name)?;
+    all.push(RtlEnd { name, spec })?;
+    Ok(all)
 }
 
 fn constant(alloc: Global, bits: RtlBits) -> Result<SigSpec, NoMemory>
@@ -68,34 +107,76 @@ fn constant(alloc: Global, bits: RtlBits) -> Result<SigSpec, NoMemory>
     Ok(spec)
 }
 
-// An end with one constant bit.
-fn bit_end(alloc: Global, name: &str, bit: bool) -> Result<RtlEnd, NoMemory>
-    ensures { IfOk result (λ e. e ≡ cells.bit_end name.now bit) }
+// Ends with one behind them that has constant bits.
+fn and_constant(
+    alloc: Global,
+    before: Items<RtlEnd>,
+    name: &str,
+    bits: RtlBits,
+) -> Result<Items<RtlEnd>, NoMemory>
+    ensures { IfOk result (λ es. es ≡ before ++ cells.end_at name.now (cells.constant bits) ∷ []) }
 {
-    let bits = repeated(alloc, bit, 1)?;
-    end_at(alloc, name, constant(alloc, bits)?)
+    let spec = constant(alloc, bits)?;
+    and_end(alloc, before, name, spec)
 }
 
-// A parameter that is 0 at the width of a row.
-fn zero_row(alloc: Global, plan: &Plan, name: &str) -> Result<RtlParameter, NoMemory>
-    ensures { IfOk result (λ p. p ≡ cells.zero_row plan.now name.now) }
+// Ends with one behind them that has one bit so many times.
+fn and_repeated(
+    alloc: Global,
+    before: Items<RtlEnd>,
+    name: &str,
+    bit: bool,
+    count: u32,
+) -> Result<Items<RtlEnd>, NoMemory>
+    ensures { IfOk result (λ es. es ≡ before ++ cells.end_at name.now (cells.constant (replicate count bit)) ∷ []) }
 {
-    let bits = repeated(alloc, false, plan.width as u32)?;
-    bits_at(alloc, name, bits)
+    let bits = repeated(alloc, bit, count)?;
+    and_constant(alloc, before, name, bits)
 }
 
 // Which memory, and how wide its addresses and its rows are.
 fn of_memory(alloc: Global, plan: &Plan) -> Result<RtlParameters, NoMemory>
     ensures { IfOk result (λ ps. ps ≡ cells.of_memory plan.now) }
 {
-    let mut parameters = Items::new(alloc);
-    parameters.push(RtlParameter {
-        name: copied(alloc, "\\MEMID")?,
-        value: RtlValue::Id(copied(alloc, plan.id.as_str())?),
-    })?;
-    parameters.push(number_at(alloc, "\\ABITS", plan.address)?)?;
-    parameters.push(number_at(alloc, "\\WIDTH", plan.width as u32)?)?;
-    Ok(parameters)
+    let id = RtlValue::Id(copied(alloc, plan.id.as_str())?);
+    let all = and_parameter(alloc, Items::new(alloc), "\\MEMID", id)?;
+    let all = and_number(alloc, all, "\\ABITS", plan.address)?;
+    and_number(alloc, all, "\\WIDTH", plan.width as u32)
+}
+
+// Those of a memory, then whether its port has a clock, and at which edge it acts.
+fn clock_parameters(
+    alloc: Global,
+    plan: &Plan,
+    clocked: u32,
+    edge: u32,
+) -> Result<RtlParameters, NoMemory>
+    ensures { IfOk result (λ ps. ps ≡ cells.clock_parameters plan.now clocked edge) }
+{
+    let all = of_memory(alloc, plan)?;
+    let all = and_number(alloc, all, "\\CLK_ENABLE", clocked)?;
+    and_number(alloc, all, "\\CLK_POLARITY", edge)
+}
+
+// The clock of a port and its enable.
+fn clock_ends(alloc: Global, clock: SigSpec, enable: SigSpec) -> Result<Items<RtlEnd>, NoMemory>
+    ensures { IfOk result (λ es. es ≡ cells.end_at (codes "\\CLK") clock ∷ cells.end_at (codes "\\EN") enable ∷ []) }
+{
+    let ends = and_end(alloc, Items::new(alloc), "\\CLK", clock)?;
+    and_end(alloc, ends, "\\EN", enable)
+}
+
+// Ends with an address and a word behind them.
+fn and_access(
+    alloc: Global,
+    before: Items<RtlEnd>,
+    address: SigSpec,
+    word: SigSpec,
+) -> Result<Items<RtlEnd>, NoMemory>
+    ensures { IfOk result (λ es. es ≡ before ++ cells.end_at (codes "\\ADDR") address ∷ cells.end_at (codes "\\DATA") word ∷ []) }
+{
+    let ends = and_end(alloc, before, "\\ADDR", address)?;
+    and_end(alloc, ends, "\\DATA", word)
 }
 
 // ---- a memory and its cells
@@ -111,27 +192,54 @@ pub fn memory(alloc: Global, plan: &Plan) -> Result<RtlMemory, NoMemory>
     })
 }
 
+fn init_parameters(alloc: Global, plan: &Plan) -> Result<RtlParameters, NoMemory>
+    ensures { IfOk result (λ ps. ps ≡ cells.init_parameters plan.now) }
+{
+    let all = of_memory(alloc, plan)?;
+    let all = and_number(alloc, all, "\\WORDS", plan.depth)?;
+    and_number(alloc, all, "\\PRIORITY", 0)
+}
+
+fn init_ends(alloc: Global, plan: &Plan, rows: &[Int]) -> Result<Items<RtlEnd>, NoMemory>
+    requires { plan.now.width ≤ 128 }
+    ensures { IfOk result (λ es. es ≡ cells.init_ends plan.now rows.now) }
+{
+    let none = Items::new(alloc);
+    let ends = and_repeated(alloc, none, "\\ADDR", false, plan.address)?;
+    let bits = rows_bits(alloc, plan.width, rows)?;
+    let ends = and_constant(alloc, ends, "\\DATA", bits)?;
+    and_repeated(alloc, ends, "\\EN", true, plan.width as u32)
+}
+
 /// The cell of the first rows.
 pub fn init_cell(alloc: Global, plan: &Plan, id: Text, rows: &[Int]) -> Result<RtlCell, NoMemory>
     requires { plan.now.width ≤ 128 }
     ensures { IfOk result (λ c. c ≡ cells.init_cell plan.now id rows.now) }
 {
-    let mut parameters = of_memory(alloc, plan)?;
-    parameters.push(number_at(alloc, "\\WORDS", plan.depth)?)?;
-    parameters.push(number_at(alloc, "\\PRIORITY", 0)?)?;
-    let address = repeated(alloc, false, plan.address)?;
-    let rows = rows_bits(alloc, plan.width, rows)?;
-    let enable = repeated(alloc, true, plan.width as u32)?;
-    let mut ends = Items::new(alloc);
-    ends.push(end_at(alloc, "\\ADDR", constant(alloc, address)?)?)?;
-    ends.push(end_at(alloc, "\\DATA", constant(alloc, rows)?)?)?;
-    ends.push(end_at(alloc, "\\EN", constant(alloc, enable)?)?)?;
+    let parameters = init_parameters(alloc, plan)?;
+    let ends = init_ends(alloc, plan, rows)?;
     Ok(RtlCell {
         kind: CellKind::MemoryInit,
         id,
         parameters,
         ends,
     })
+}
+
+// Those of write port `k`, which acts at an edge.
+fn write_parameters(
+    alloc: Global,
+    plan: &Plan,
+    k: u32,
+    edge: u32,
+) -> Result<RtlParameters, NoMemory>
+    requires { k < plan.now.writes }
+    ensures { IfOk result (λ ps. ps ≡ cells.write_parameters plan.now k edge) }
+{
+    let all = clock_parameters(alloc, plan, 1, edge)?;
+    let all = and_number(alloc, all, "\\PORTID", k)?;
+    let mask = priority_mask(alloc, plan.mask_bits(), k)?;
+    and_bits(alloc, all, "\\PRIORITY_MASK", mask)
 }
 
 /// The cell of write port `k`, at the edge of its clock.
@@ -145,17 +253,9 @@ pub fn write_cell(
     requires { k < plan.now.writes }
     ensures { IfOk result (λ c. c ≡ cells.write_cell plan.now id k port.clock port.enable port.address port.word) }
 {
-    let mut parameters = of_memory(alloc, plan)?;
-    parameters.push(number_at(alloc, "\\CLK_ENABLE", 1)?)?;
-    parameters.push(number_at(alloc, "\\CLK_POLARITY", port.clock.polarity())?)?;
-    parameters.push(number_at(alloc, "\\PORTID", k)?)?;
-    let mask = priority_mask(alloc, plan.mask_bits(), k)?;
-    parameters.push(bits_at(alloc, "\\PRIORITY_MASK", mask)?)?;
-    let mut ends = Items::new(alloc);
-    ends.push(end_at(alloc, "\\CLK", port.clock.bit)?)?;
-    ends.push(end_at(alloc, "\\EN", port.enable)?)?;
-    ends.push(end_at(alloc, "\\ADDR", port.address)?)?;
-    ends.push(end_at(alloc, "\\DATA", port.word)?)?;
+    let parameters = write_parameters(alloc, plan, k, port.clock.polarity())?;
+    let ends = clock_ends(alloc, port.clock.bit, port.enable)?;
+    let ends = and_access(alloc, ends, port.address, port.word)?;
     Ok(RtlCell {
         kind: CellKind::MemoryWrite,
         id,
@@ -174,41 +274,35 @@ fn read_parameters(
 ) -> Result<RtlParameters, NoMemory>
     ensures { IfOk result (λ ps. ps ≡ cells.read_parameters plan.now clocked edge mask) }
 {
-    let mut parameters = of_memory(alloc, plan)?;
-    parameters.push(number_at(alloc, "\\CLK_ENABLE", clocked)?)?;
-    parameters.push(number_at(alloc, "\\CLK_POLARITY", edge)?)?;
-    parameters.push(bits_at(alloc, "\\TRANSPARENCY_MASK", mask)?)?;
-    let collisions = repeated(alloc, false, plan.mask_bits())?;
-    parameters.push(bits_at(alloc, "\\COLLISION_X_MASK", collisions)?)?;
-    parameters.push(zero_row(alloc, plan, "\\ARST_VALUE")?)?;
-    parameters.push(zero_row(alloc, plan, "\\SRST_VALUE")?)?;
-    parameters.push(zero_row(alloc, plan, "\\INIT_VALUE")?)?;
-    parameters.push(number_at(alloc, "\\CE_OVER_SRST", 0)?)?;
-    Ok(parameters)
+    let all = clock_parameters(alloc, plan, clocked, edge)?;
+    let all = and_bits(alloc, all, "\\TRANSPARENCY_MASK", mask)?;
+    let all = and_zeros(alloc, all, "\\COLLISION_X_MASK", plan.mask_bits())?;
+    let all = and_zeros(alloc, all, "\\ARST_VALUE", plan.width as u32)?;
+    let all = and_zeros(alloc, all, "\\SRST_VALUE", plan.width as u32)?;
+    let all = and_zeros(alloc, all, "\\INIT_VALUE", plan.width as u32)?;
+    and_number(alloc, all, "\\CE_OVER_SRST", 0)
 }
 
-// A read cell.
-fn read_cell(
+// Ends with the resets of a read cell, which are never, its address and its word behind them.
+fn and_read(
     alloc: Global,
-    id: Text,
-    parameters: RtlParameters,
-    port: PortEnds,
-) -> Result<RtlCell, NoMemory>
-    ensures { IfOk result (λ c. c ≡ cells.read_with id parameters port.clock.bit port.enable port.address port.word) }
+    before: Items<RtlEnd>,
+    address: SigSpec,
+    word: SigSpec,
+) -> Result<Items<RtlEnd>, NoMemory>
+    ensures { IfOk result (λ es. es ≡ before ++ cells.bit_end (codes "\\ARST") false ∷ cells.bit_end (codes "\\SRST") false ∷ cells.end_at (codes "\\ADDR") address ∷ cells.end_at (codes "\\DATA") word ∷ []) }
 {
-    let mut ends = Items::new(alloc);
-    ends.push(end_at(alloc, "\\CLK", port.clock.bit)?)?;
-    ends.push(end_at(alloc, "\\EN", port.enable)?)?;
-    ends.push(bit_end(alloc, "\\ARST", false)?)?;
-    ends.push(bit_end(alloc, "\\SRST", false)?)?;
-    ends.push(end_at(alloc, "\\ADDR", port.address)?)?;
-    ends.push(end_at(alloc, "\\DATA", port.word)?)?;
-    Ok(RtlCell {
-        kind: CellKind::MemoryRead,
-        id,
-        parameters,
-        ends,
-    })
+    let ends = and_repeated(alloc, before, "\\ARST", false, 1)?;
+    let ends = and_repeated(alloc, ends, "\\SRST", false, 1)?;
+    and_access(alloc, ends, address, word)
+}
+
+fn comb_ends(alloc: Global, address: SigSpec, word: SigSpec) -> Result<Items<RtlEnd>, NoMemory>
+    ensures { IfOk result (λ es. es ≡ cells.read_ends (cells.constant (false ∷ [])) (cells.constant (true ∷ [])) address word) }
+{
+    let ends = and_repeated(alloc, Items::new(alloc), "\\CLK", false, 1)?;
+    let ends = and_repeated(alloc, ends, "\\EN", true, 1)?;
+    and_read(alloc, ends, address, word)
 }
 
 /// The cell of a read port that reads at once.
@@ -221,20 +315,15 @@ pub fn comb_read(
 ) -> Result<RtlCell, NoMemory>
     ensures { IfOk result (λ c. c ≡ cells.comb_read plan.now id address word) }
 {
+    let ends = comb_ends(alloc, address, word)?;
     let mask = repeated(alloc, false, plan.mask_bits())?;
     let parameters = read_parameters(alloc, plan, 0, 1, mask)?;
-    let clock = repeated(alloc, false, 1)?;
-    let enable = repeated(alloc, true, 1)?;
-    let port = PortEnds {
-        clock: Clock {
-            bit: constant(alloc, clock)?,
-            falling: false,
-        },
-        enable: constant(alloc, enable)?,
-        address,
-        word,
-    };
-    read_cell(alloc, id, parameters, port)
+    Ok(RtlCell {
+        kind: CellKind::MemoryRead,
+        id,
+        parameters,
+        ends,
+    })
 }
 
 /// The cell of a read port that reads at the edge of its clock, and takes at once what the write ports of these
@@ -250,5 +339,12 @@ pub fn clocked_read(
 {
     let mask = through_mask(alloc, through, plan.mask_bits())?;
     let parameters = read_parameters(alloc, plan, 1, port.clock.polarity(), mask)?;
-    read_cell(alloc, id, parameters, port)
+    let ends = clock_ends(alloc, port.clock.bit, port.enable)?;
+    let ends = and_read(alloc, ends, port.address, port.word)?;
+    Ok(RtlCell {
+        kind: CellKind::MemoryRead,
+        id,
+        parameters,
+        ends,
+    })
 }
