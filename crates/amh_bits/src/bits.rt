@@ -7,7 +7,7 @@ use crate::int::{Int, TooWide};
 use std::marker::Model;
 
 /// A bit vector of at most 128 bits, as a number whose lowest bit is the first one.
-#[derive(Clone, Copy, Debug, PartialEq, Eq)]
+#[derive(Clone, Copy, PartialEq, Eq)]
 pub struct Bits {
     pub width: u8,
     pub bits: u128,

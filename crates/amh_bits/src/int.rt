@@ -10,7 +10,7 @@ use std::fmt;
 use std::marker::Model;
 
 /// An integer from -2^127 to 2^128 - 1: a sign and a size, where 0 has no sign.
-#[derive(Clone, Copy, Debug, PartialEq, Eq)]
+#[derive(Clone, Copy, PartialEq, Eq)]
 pub struct Int {
     pub negative: bool,
     pub size: u128,
@@ -49,7 +49,7 @@ impl fmt::Display for Int {
 }
 
 /// The integer does not fit the range of `Int`, or the bit vector does not fit 128 bits.
-#[derive(Clone, Copy, Debug, PartialEq, Eq)]
+#[derive(Clone, Copy, PartialEq, Eq)]
 pub struct TooWide;
 
 impl Int {

@@ -1,14 +1,14 @@
 // Places in a source, the kinds of refusal, and the budget.
 
 /// A place in a source: a line and a column in characters, both counted from 1.
-#[derive(Clone, Copy, Debug, PartialEq, Eq, Drop)]
+#[derive(Clone, Copy, PartialEq, Eq, Drop)]
 pub struct Place {
     pub line: u32,
     pub col: u32,
 }
 
 /// Why a source or a script is refused.
-#[derive(Clone, Copy, Debug, PartialEq, Eq, Drop)]
+#[derive(Clone, Copy, PartialEq, Eq, Drop)]
 pub enum Kind {
     /// The bytes are not UTF-8.
     Text,
@@ -33,7 +33,7 @@ pub enum Kind {
 }
 
 /// How many units of cost are left.
-#[derive(Clone, Copy, Debug, PartialEq, Eq, Drop)]
+#[derive(Clone, Copy, PartialEq, Eq, Drop)]
 pub struct Budget {
     pub left: u64,
 }

@@ -20,7 +20,7 @@ use py_values::{Hw, Val};
 use shape_rules::Shape;
 
 /// A value as it is, or a number as a constant.
-#[derive(Clone, Copy, Debug, PartialEq, Eq, Drop)]
+#[derive(Clone, Copy, PartialEq, Eq, Drop)]
 pub enum Operand {
     /// The value of an expression, which has this shape.
     Held { e: ExprId, shape: Shape },

@@ -8,7 +8,7 @@ use py_values::{Hw, Vals};
 use shape_rules::Shape;
 
 /// A name of Amaranth that is called to make a shape, a value, an array or a layout, or over which a class makes an enumeration or a layout.
-#[derive(Clone, Copy, Debug, PartialEq, Eq, Drop)]
+#[derive(Clone, Copy, PartialEq, Eq, Drop)]
 pub enum ThingName {
     Const,
     C,
@@ -26,7 +26,7 @@ pub enum ThingName {
 }
 
 /// A method of a value, or of a view.
-#[derive(Clone, Copy, Debug, PartialEq, Eq, Drop)]
+#[derive(Clone, Copy, PartialEq, Eq, Drop)]
 pub enum Method {
     Bool,
     Any,
@@ -45,7 +45,7 @@ pub enum Method {
 }
 
 /// A member of an enumeration.
-#[derive(Clone, Copy, Debug, PartialEq, Eq, Drop)]
+#[derive(Clone, Copy, PartialEq, Eq, Drop)]
 pub struct Member {
     /// The enumeration.
     pub of: Hw,
@@ -57,7 +57,7 @@ pub struct Member {
 }
 
 /// What the bits of a value are read as: a number of its shape, a number of an enumeration, or the fields of a layout.
-#[derive(Clone, Copy, Debug, PartialEq, Eq, Drop)]
+#[derive(Clone, Copy, PartialEq, Eq, Drop)]
 pub enum Reading {
     Plain,
     Numbered(Hw),

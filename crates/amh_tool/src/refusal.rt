@@ -3,14 +3,14 @@
 use amh_host::{Kind, NoMemory, Place};
 
 /// Why a design file is refused, and where.
-#[derive(Clone, Copy, Debug, PartialEq, Eq, Drop)]
+#[derive(Clone, Copy, PartialEq, Eq, Drop)]
 pub struct Refusal {
     pub place: Place,
     pub kind: Kind,
 }
 
 /// Why a design file gives no design.
-#[derive(Clone, Copy, Debug, PartialEq, Eq, Drop)]
+#[derive(Clone, Copy, PartialEq, Eq, Drop)]
 pub enum DesignStop {
     /// It is refused.
     Refused(Refusal),

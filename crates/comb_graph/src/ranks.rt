@@ -6,7 +6,7 @@ use design_ir::SigId;
 use std::marker::Model;
 
 /// A bit of a combinational signal, or of the data of a combinational read port.
-#[derive(Clone, Copy, Debug, PartialEq, Eq, Drop)]
+#[derive(Clone, Copy, PartialEq, Eq, Drop)]
 pub struct RankedBit {
     pub sig: SigId,
     pub bit: u8,

@@ -4,7 +4,7 @@ use amh_host::{NoMemory, Place};
 use design_ir::SigId;
 
 /// Why a design is not ranked.
-#[derive(Clone, Copy, Debug, PartialEq, Eq, Drop)]
+#[derive(Clone, Copy, PartialEq, Eq, Drop)]
 pub enum GraphStop {
     /// This bit needs itself, and no lesser one does; the place is that of the first assignment that may write it.
     Loop { sig: SigId, bit: u8, place: Place },

@@ -11,7 +11,7 @@ use shape_rules::Shape;
 use std::marker::Model;
 
 /// One bit of a signal.
-#[derive(Clone, Copy, Debug, PartialEq, Eq, Drop)]
+#[derive(Clone, Copy, PartialEq, Eq, Drop)]
 pub struct SignalBit {
     pub sig: SigId,
     pub index: u8,

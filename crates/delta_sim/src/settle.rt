@@ -20,7 +20,7 @@ use sim_plans::rows::Rows;
 use std::sync::ledger::Ledger;
 
 /// How many deltas there were in which a process or a read port without a clock ran, and how often they ran.
-#[derive(Clone, Copy, Debug, PartialEq, Eq, Drop)]
+#[derive(Clone, Copy, PartialEq, Eq, Drop)]
 pub struct Counts {
     pub deltas: u32,
     pub runs: u64,

@@ -3,11 +3,11 @@
 use amh_host::Items;
 
 /// The number of a signal in its pool, in order of making.
-#[derive(Clone, Copy, Debug, PartialEq, Eq, Drop)]
+#[derive(Clone, Copy, PartialEq, Eq, Drop)]
 pub struct SigId(pub u32);
 
 /// The number of an expression in its pool, in order of making.
-#[derive(Clone, Copy, Debug, PartialEq, Eq, Drop)]
+#[derive(Clone, Copy, PartialEq, Eq, Drop)]
 pub struct ExprId(pub u32);
 
 /// The number of a domain in its design.

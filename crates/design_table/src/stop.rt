@@ -5,7 +5,7 @@ use design_ir::PoolStop;
 use std::alloc::{AllocError, AllocFailed};
 
 /// Why there is no answer.
-#[derive(Clone, Copy, Debug, PartialEq, Eq, Drop)]
+#[derive(Clone, Copy, PartialEq, Eq, Drop)]
 pub enum Stop {
     /// The lines are no design.
     NoCase,

@@ -7,7 +7,7 @@ use std::alloc::Global;
 use std::marker::Model;
 
 /// An edge from a node to one that it leads to.
-#[derive(Clone, Copy, Debug, PartialEq, Eq, Drop)]
+#[derive(Clone, Copy, PartialEq, Eq, Drop)]
 pub struct Edge {
     pub from: usize,
     pub upto: usize,

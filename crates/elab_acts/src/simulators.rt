@@ -22,7 +22,7 @@ use py_values::{Code, Frozen, FuncId, Heap, Val};
 const MOST_TESTBENCHES: usize = 64;
 
 /// The arguments of `sim.add_clock`, where they are given.
-#[derive(Clone, Copy, Debug, PartialEq, Eq, Drop)]
+#[derive(Clone, Copy, PartialEq, Eq, Drop)]
 pub struct ClockArguments {
     pub period: Option<Val>,
     pub phase: Option<Val>,
@@ -30,7 +30,7 @@ pub struct ClockArguments {
 }
 
 /// The arguments of `sim.add_testbench`, where they are given.
-#[derive(Clone, Copy, Debug, PartialEq, Eq, Drop)]
+#[derive(Clone, Copy, PartialEq, Eq, Drop)]
 pub struct BenchArguments {
     pub function: Option<Val>,
     pub background: Option<Val>,

@@ -22,7 +22,7 @@ pub(crate) const MOST_SUBMODULES: usize = 4_096;
 const DEEPEST_SUBMODULE: u32 = 64;
 
 /// `elaborate` of an object: what is called, and whether with the object before the platform.
-#[derive(Clone, Copy, Debug, PartialEq, Eq, Drop)]
+#[derive(Clone, Copy, PartialEq, Eq, Drop)]
 pub struct Calling {
     pub callee: Val,
     pub first: Option<ObjId>,

@@ -35,7 +35,7 @@ pub struct Interface {
 }
 
 /// A signal that was made, and the value that stands for it.
-#[derive(Clone, Copy, Debug, PartialEq, Eq, Drop)]
+#[derive(Clone, Copy, PartialEq, Eq, Drop)]
 pub struct NewSignal {
     pub sig: SigId,
     pub val: Val,

@@ -28,7 +28,7 @@ use shape_rules::Shape;
 use std::alloc::Global;
 
 /// The arguments of a signal, where they are given.
-#[derive(Clone, Copy, Debug, PartialEq, Eq, Drop)]
+#[derive(Clone, Copy, PartialEq, Eq, Drop)]
 pub struct SignalArguments {
     pub shape: Option<Val>,
     pub name: Option<Val>,

@@ -14,21 +14,21 @@ use amh_host::Place;
 use amh_values::{Method, Thing};
 use design_ir::ExprId;
 use elab_acts::blocks::{call_block, enter_block, leave_block};
-use elab_components::component_classes::answer_class;
 use elab_acts::domains::{
     add_definition, clock_domain_attribute, make_clock_domain, store_definition, store_definitions,
 };
+use elab_acts::sides::{add_statements, give_domain, index_name, module_attribute, store_domain};
+use elab_acts::simulators::{call_simulator_part, make_simulator, pass_vcd, simulator_attribute};
+use elab_acts::submodules::{add_submodule, give_submodule, store_submodule, store_submodules};
+use elab_acts::tops::{end_body, end_elaborate};
+use elab_components::component_classes::answer_class;
 use elab_components::equations::equate;
 use elab_components::imports::import;
 use elab_components::interfaces::answer_init;
 use elab_components::libraries::{give_base, give_layout, give_library, wiring_named};
 use elab_components::likes::{give_like, make_like};
 use elab_components::member_calls::call_member;
-use elab_acts::sides::{add_statements, give_domain, index_name, module_attribute, store_domain};
 use elab_components::signals::{make_module, make_signal};
-use elab_acts::simulators::{call_simulator_part, make_simulator, pass_vcd, simulator_attribute};
-use elab_acts::submodules::{add_submodule, give_submodule, store_submodule, store_submodules};
-use elab_acts::tops::{end_body, end_elaborate};
 use elab_machines::state_machines::{
     call_part, enter_part, leave_part, part_attribute, store_next,
 };

@@ -3,7 +3,7 @@
 use amh_host::{Kind, Place};
 
 /// Why a program gives no design.
-#[derive(Clone, Copy, Debug, PartialEq, Eq, Drop)]
+#[derive(Clone, Copy, PartialEq, Eq, Drop)]
 pub enum ElabStop {
     /// It is refused: the kind and the place.
     Refused(Kind, Place),

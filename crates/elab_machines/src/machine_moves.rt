@@ -23,7 +23,7 @@ use lists::NoMemory;
 use module_dsl::{Block, Builder};
 
 /// What is done with a machine at the begin or the end of a `with`.
-#[derive(Clone, Copy, Debug, PartialEq, Eq, Drop)]
+#[derive(Clone, Copy, PartialEq, Eq, Drop)]
 pub enum Action {
     BeginState,
     EndState,

@@ -26,7 +26,7 @@ use py_values::{Frozen, Heap, StrId, Val};
 use std::alloc::Global;
 
 /// The arguments of `m.FSM`, where they are given.
-#[derive(Clone, Copy, Debug, PartialEq, Eq, Drop)]
+#[derive(Clone, Copy, PartialEq, Eq, Drop)]
 pub struct MachineArguments {
     pub init: Option<Val>,
     pub domain: Option<Val>,

@@ -19,7 +19,7 @@ pub struct ClockDomain {
 }
 
 /// That a module defines a clock domain, by its number in order of making, and where.
-#[derive(Clone, Copy, Debug, PartialEq, Eq, Drop)]
+#[derive(Clone, Copy, PartialEq, Eq, Drop)]
 pub struct Definition {
     pub of: u32,
     pub clock_domain: u32,

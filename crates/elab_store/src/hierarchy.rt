@@ -20,7 +20,7 @@ pub struct Addition {
 }
 
 /// A module of the tree below the top: by which addition it stands there, which module it is, and how many stand directly below it.
-#[derive(Clone, Copy, Debug, PartialEq, Eq, Drop)]
+#[derive(Clone, Copy, PartialEq, Eq, Drop)]
 pub struct Node {
     pub addition: u32,
     pub module: u32,
@@ -28,7 +28,7 @@ pub struct Node {
 }
 
 /// An addition that is still to be elaborated, and in how many modules it stands.
-#[derive(Clone, Copy, Debug, PartialEq, Eq, Drop)]
+#[derive(Clone, Copy, PartialEq, Eq, Drop)]
 pub struct Waiting {
     pub addition: u32,
     pub depth: u32,

@@ -6,7 +6,7 @@ use design_ir::ExprId;
 use py_values::StrId;
 
 /// A name of Amaranth's modules that is served here.
-#[derive(Clone, Copy, Debug, PartialEq, Eq, Drop)]
+#[derive(Clone, Copy, PartialEq, Eq, Drop)]
 pub enum HdlName {
     Module,
     Signal,
@@ -31,7 +31,7 @@ pub enum HdlName {
 }
 
 /// A domain of a module, as it is named behind `m.d`.
-#[derive(Clone, Copy, Debug, PartialEq, Eq, Drop)]
+#[derive(Clone, Copy, PartialEq, Eq, Drop)]
 pub enum DomainName {
     Comb,
     /// A domain with a clock, by the number of its name among those that the store holds.
@@ -39,7 +39,7 @@ pub enum DomainName {
 }
 
 /// The name of a block, as it is an attribute of a module.
-#[derive(Clone, Copy, Debug, PartialEq, Eq, Drop)]
+#[derive(Clone, Copy, PartialEq, Eq, Drop)]
 pub enum BlockName {
     If,
     Elif,
@@ -50,7 +50,7 @@ pub enum BlockName {
 }
 
 /// How a block begins that was called.
-#[derive(Clone, Copy, Debug, PartialEq, Eq, Drop)]
+#[derive(Clone, Copy, PartialEq, Eq, Drop)]
 pub enum Begin {
     If(ExprId),
     Elif(ExprId),
@@ -64,7 +64,7 @@ pub enum Begin {
 }
 
 /// What `x.eq(v)` gives: the statement that x takes v, with the place of the call.
-#[derive(Clone, Copy, Debug, PartialEq, Eq, Drop)]
+#[derive(Clone, Copy, PartialEq, Eq, Drop)]
 pub struct Equation {
     pub target: ExprId,
     pub value: ExprId,
@@ -72,7 +72,7 @@ pub struct Equation {
 }
 
 /// `m.FSM(..)`: the first state, the domain and the name, where they were given, and the place of the call.
-#[derive(Clone, Copy, Debug, PartialEq, Eq, Drop)]
+#[derive(Clone, Copy, PartialEq, Eq, Drop)]
 pub struct MachineCall {
     pub of: u32,
     pub init: Option<StrId>,
@@ -82,7 +82,7 @@ pub struct MachineCall {
 }
 
 /// `m.State("S")`, with the place of the call.
-#[derive(Clone, Copy, Debug, PartialEq, Eq, Drop)]
+#[derive(Clone, Copy, PartialEq, Eq, Drop)]
 pub struct StateCall {
     pub of: u32,
     pub name: StrId,
@@ -90,7 +90,7 @@ pub struct StateCall {
 }
 
 /// What belongs to the state machines of a module.
-#[derive(Clone, Copy, Debug, PartialEq, Eq, Drop)]
+#[derive(Clone, Copy, PartialEq, Eq, Drop)]
 pub enum MachinePart {
     /// `m.FSM` of a module.
     Fsm(u32),
@@ -105,7 +105,7 @@ pub enum MachinePart {
 }
 
 /// What belongs to the simulator of a file.
-#[derive(Clone, Copy, Debug, PartialEq, Eq, Drop)]
+#[derive(Clone, Copy, PartialEq, Eq, Drop)]
 pub enum SimulatorPart {
     /// What `Simulator(x)` gives.
     Whole,
@@ -124,7 +124,7 @@ pub enum SimulatorPart {
 }
 
 /// What a kept thing is.
-#[derive(Clone, Copy, Debug, PartialEq, Eq, Drop)]
+#[derive(Clone, Copy, PartialEq, Eq, Drop)]
 pub enum Kept {
     /// A name.
     Name(HdlName),
@@ -157,7 +157,7 @@ pub enum Kept {
 }
 
 /// What is elaborated: the object of which it was asked first, where it was one, and the module that came of it.
-#[derive(Clone, Copy, Debug, PartialEq, Eq, Drop)]
+#[derive(Clone, Copy, PartialEq, Eq, Drop)]
 pub struct Top {
     pub object: Option<py_values::ObjId>,
     pub root: Option<u32>,

@@ -9,7 +9,7 @@ use py_values::ObjId;
 use std::alloc::Global;
 
 /// What `In(shape, init=n)` and `Out(shape, init=n)` give. The signal of a member has the number wrapped to the shape.
-#[derive(Clone, Copy, Debug, PartialEq, Eq, Drop)]
+#[derive(Clone, Copy, PartialEq, Eq, Drop)]
 pub struct Member {
     pub is_out: bool,
     pub shape: Shaped,

@@ -11,7 +11,7 @@ use py_values::{Frozen, Heap, Val};
 use shape_rules::Shape;
 
 /// A shape, and what the bits of a value of it are read as.
-#[derive(Clone, Copy, Debug, PartialEq, Eq, Drop)]
+#[derive(Clone, Copy, PartialEq, Eq, Drop)]
 pub struct Shaped {
     pub form: Shape,
     pub reading: Reading,

@@ -19,14 +19,14 @@ pub struct ClockCall {
 }
 
 /// `sim.add_testbench(..)`: a function, and whether the run may end before it does.
-#[derive(Clone, Copy, Debug, PartialEq, Eq, Drop)]
+#[derive(Clone, Copy, PartialEq, Eq, Drop)]
 pub struct Testbench {
     pub function: FuncId,
     pub background: bool,
 }
 
 /// How a run ends.
-#[derive(Clone, Copy, Debug, PartialEq, Eq, Drop)]
+#[derive(Clone, Copy, PartialEq, Eq, Drop)]
 pub enum RunEnd {
     /// `sim.run()`: with its testbenches.
     WithTestbenches,

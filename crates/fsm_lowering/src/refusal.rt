@@ -3,7 +3,7 @@
 use amh_host::{NoMemory, Place};
 
 /// Why a state machine refuses. `Order` is told first, then the first of the others in this order.
-#[derive(Clone, Copy, Debug, PartialEq, Eq, Drop)]
+#[derive(Clone, Copy, PartialEq, Eq, Drop)]
 pub enum FsmStop {
     /// A state that was never entered, at its first mention; the `init` that was never mentioned, at its machine.
     UndefinedState(Place),

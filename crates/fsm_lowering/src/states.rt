@@ -39,7 +39,7 @@ impl State {
 }
 
 /// Where a machine stands.
-#[derive(Clone, Copy, Debug, PartialEq, Eq, Drop)]
+#[derive(Clone, Copy, PartialEq, Eq, Drop)]
 pub enum Stage {
     /// No state is open.
     Between,

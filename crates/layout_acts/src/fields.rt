@@ -13,7 +13,7 @@ use data_layouts::Field;
 use shape_rules::Shape;
 
 /// A field as it is read: where it begins, its shape, and what its bits are read as.
-#[derive(Clone, Copy, Debug, PartialEq, Eq, Drop)]
+#[derive(Clone, Copy, PartialEq, Eq, Drop)]
 pub struct FieldRead {
     pub low: u8,
     pub shape: Shape,

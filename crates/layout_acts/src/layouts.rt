@@ -30,7 +30,7 @@ use shape_rules::Shape;
 use std::alloc::Global;
 
 /// Where the fields of a layout stand: one above the other, or all at bit 0.
-#[derive(Clone, Copy, Debug, PartialEq, Eq, Drop)]
+#[derive(Clone, Copy, PartialEq, Eq, Drop)]
 pub enum LayoutKind {
     Structure,
     Union,
@@ -72,7 +72,7 @@ fn members_of_row(alloc: Global, shown: &Shown<'_>, row: &[Val]) -> Result<Named
 // ---- their shapes
 
 /// The shape that a member has, or none where it is too wide.
-#[derive(Clone, Copy, Debug, PartialEq, Eq, Drop)]
+#[derive(Clone, Copy, PartialEq, Eq, Drop)]
 struct MemberShape {
     shape: Shape,
     is_wide: bool,

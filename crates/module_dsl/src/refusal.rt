@@ -3,7 +3,7 @@
 use amh_host::NoMemory;
 
 /// Why a builder refuses. Of several reasons the first in this order is told.
-#[derive(Clone, Copy, Debug, PartialEq, Eq, Drop)]
+#[derive(Clone, Copy, PartialEq, Eq, Drop)]
 pub enum BuildStop {
     /// A block is not open that should be, or is open that should not.
     Order,

@@ -21,7 +21,7 @@ pub enum Block {
 }
 
 /// The begin of a block, with the expression of its condition or, for a `Switch`, its subject.
-#[derive(Clone, Copy, Debug, PartialEq, Eq, Drop)]
+#[derive(Clone, Copy, PartialEq, Eq, Drop)]
 pub enum Opening {
     If(ExprId),
     Elif(ExprId),
@@ -48,7 +48,7 @@ pub enum Step {
 }
 
 /// The block of a choice that is open.
-#[derive(Clone, Copy, Debug, PartialEq, Eq, Drop)]
+#[derive(Clone, Copy, PartialEq, Eq, Drop)]
 pub enum OpenBlock {
     /// An `If` or an `Elif` with this condition.
     Branch(ExprId),

@@ -20,7 +20,7 @@ const MOST_BYTES: usize = 16_777_216;
 const MOST_EVENTS: usize = 1_000_000;
 
 /// Why a script gives no events.
-#[derive(Clone, Copy, Debug, PartialEq, Eq, Drop)]
+#[derive(Clone, Copy, PartialEq, Eq, Drop)]
 pub enum ScriptStop {
     /// The first bad line, counted from 1.
     Line(u32),

@@ -4,7 +4,7 @@ use amh_host::{Items, Names, Place, Text};
 use py_values::{Val, Vals};
 
 /// What is asked of the store of hardware things.
-#[derive(Clone, Copy, Debug, PartialEq, Eq, Drop)]
+#[derive(Clone, Copy, PartialEq, Eq, Drop)]
 pub enum Act {
     /// An imported name, or `*`: the module and the name.
     Import,
@@ -81,7 +81,7 @@ pub enum Answer {
 }
 
 /// Why a program stops.
-#[derive(Clone, Copy, Debug, PartialEq, Eq, Drop)]
+#[derive(Clone, Copy, PartialEq, Eq, Drop)]
 pub enum Cause {
     /// Evaluation meets what is not defined, or a `raise`.
     Raised,
@@ -96,7 +96,7 @@ pub enum Cause {
 }
 
 /// Why and where a program stops.
-#[derive(Clone, Copy, Debug, PartialEq, Eq, Drop)]
+#[derive(Clone, Copy, PartialEq, Eq, Drop)]
 pub struct Stop {
     pub cause: Cause,
     pub place: Place,

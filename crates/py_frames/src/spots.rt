@@ -9,7 +9,7 @@ use indexmap::IndexSet;
 use std::alloc::Global;
 
 /// A place, as a key.
-#[derive(Clone, Copy, Debug, PartialEq, Eq, Hash)]
+#[derive(Clone, Copy, PartialEq, Eq, Hash)]
 pub struct Spot {
     pub line: u32,
     pub col: u32,

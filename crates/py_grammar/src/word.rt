@@ -26,7 +26,7 @@ pub struct Word {
 }
 
 /// Why a reader read nothing.
-#[derive(Clone, Copy, Debug, PartialEq, Eq, Drop)]
+#[derive(Clone, Copy, PartialEq, Eq, Drop)]
 pub enum Stop {
     /// Nothing that it reads stands there.
     Unread,
@@ -35,7 +35,7 @@ pub enum Stop {
 }
 
 /// The rules of the grammar that call themselves inside a bracket.
-#[derive(Clone, Copy, Debug, PartialEq, Eq, Drop)]
+#[derive(Clone, Copy, PartialEq, Eq, Drop)]
 pub enum Kind {
     Target,
     Unary,

@@ -11,7 +11,7 @@ use py_tree::Program;
 use std::alloc::Global;
 
 /// Why no program was read.
-#[derive(Clone, Copy, Debug, PartialEq, Eq, Drop)]
+#[derive(Clone, Copy, PartialEq, Eq, Drop)]
 pub enum FileStop {
     /// The number of the line that is refused.
     Line(usize),

@@ -31,7 +31,7 @@ pub(crate) trait ReadLine {
 }
 
 /// Why the reading of lines stopped.
-#[derive(Clone, Copy, Debug, PartialEq, Eq, Drop)]
+#[derive(Clone, Copy, PartialEq, Eq, Drop)]
 pub(crate) enum Halt {
     /// The number of the line that cannot stand there, or of the lines where there is no more.
     Stuck(usize),
@@ -61,7 +61,7 @@ impl<T: Drop> From<AllocFailed<T>> for Halt {
 }
 
 /// What stands around a statement.
-#[derive(Clone, Copy, Debug, PartialEq, Eq, Drop)]
+#[derive(Clone, Copy, PartialEq, Eq, Drop)]
 pub(crate) struct Around {
     pub in_function: bool,
     pub is_async: bool,
@@ -69,7 +69,7 @@ pub(crate) struct Around {
 }
 
 /// Where a statement stands: in what surroundings, at which indent, and how many blocks may be nested in its own.
-#[derive(Clone, Copy, Debug, PartialEq, Eq, Drop)]
+#[derive(Clone, Copy, PartialEq, Eq, Drop)]
 pub(crate) struct Site {
     pub around: Around,
     pub indent: u32,

@@ -18,7 +18,7 @@ use py_tree::Program;
 use std::alloc::Global;
 
 /// Why a text has no program.
-#[derive(Clone, Copy, Debug, PartialEq, Eq, Drop)]
+#[derive(Clone, Copy, PartialEq, Eq, Drop)]
 pub enum ParseStop {
     /// The first logical line with no derivation, a broken condition or a wrong indent begins here.
     Subset(Place),

@@ -17,7 +17,7 @@ pub enum Constant {
 }
 
 /// The operators that stand between two operands, and before the `=` of an augmented assignment.
-#[derive(Clone, Copy, Debug, Drop)]
+#[derive(Clone, Copy, Drop)]
 pub enum Operator {
     Mul,
     FloorDiv,

@@ -7,7 +7,7 @@ use crate::val::Val;
 use amh_bits::Int;
 
 /// What tells a key from the others that are not equal to it.
-#[derive(Clone, Copy, Debug, PartialEq, Eq, Hash)]
+#[derive(Clone, Copy, PartialEq, Eq, Hash)]
 pub(crate) enum Code {
     /// A number, by its sign and its size.
     Number(bool, u128),

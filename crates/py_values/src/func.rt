@@ -7,7 +7,7 @@ use crate::vals::Vals;
 use amh_host::Place;
 
 /// What a function runs.
-#[derive(Clone, Copy, Debug, PartialEq, Eq, Drop)]
+#[derive(Clone, Copy, PartialEq, Eq, Drop)]
 pub enum Code {
     /// The `def` statement that stands at this place of the program.
     Def(Place),

@@ -5,7 +5,7 @@ use amh_bits::Int;
 use std::marker::Model;
 
 /// An integer from -2^127 to 2^128 - 1, as a value holds it.
-#[derive(Clone, Copy, Debug, PartialEq, Eq)]
+#[derive(Clone, Copy, PartialEq, Eq)]
 pub struct Number {
     negative: bool,
     size: Size,
@@ -59,7 +59,7 @@ impl Number {
 }
 
 // The size of a number in four parts of 32 bits, the lowest first. A `u128` would align what holds it to 16 bytes.
-#[derive(Clone, Copy, Debug, PartialEq, Eq)]
+#[derive(Clone, Copy, PartialEq, Eq)]
 struct Size {
     first: u32,
     second: u32,

@@ -18,7 +18,7 @@ use lists::Words;
 use std::alloc::Global;
 
 /// What a class has under a name, by itself or from its base.
-#[derive(Clone, Copy, Debug, PartialEq, Eq, Drop)]
+#[derive(Clone, Copy, PartialEq, Eq, Drop)]
 pub enum Inherited {
     /// This value, of this class.
     Found(Val, Val),

@@ -1,7 +1,7 @@
 // The operators and builtins.
 
 /// An operator. For one operand the second is not looked at.
-#[derive(Clone, Copy, Debug, PartialEq, Eq, Drop)]
+#[derive(Clone, Copy, PartialEq, Eq, Drop)]
 pub enum PyOp {
     Add,
     Sub,
@@ -35,7 +35,7 @@ pub enum PyOp {
 }
 
 /// A builtin, a method, an index, a slice or an assignment to an index.
-#[derive(Clone, Copy, Debug, PartialEq, Eq, Drop)]
+#[derive(Clone, Copy, PartialEq, Eq, Drop)]
 pub enum Builtin {
     Range,
     Len,

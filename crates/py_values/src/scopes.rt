@@ -13,7 +13,7 @@ use crate::heap::{Frozen, Heap, next_number};
 use crate::val::{ScopeId, Val, ValueStop};
 
 /// What a name means where it is read.
-#[derive(Clone, Copy, Debug, PartialEq, Eq, Drop)]
+#[derive(Clone, Copy, PartialEq, Eq, Drop)]
 pub enum LookUp {
     /// This value.
     Found(Val),

@@ -3,27 +3,27 @@
 use crate::number::Number;
 
 /// A thing of the Amaranth store, by its number there.
-#[derive(Clone, Copy, Debug, PartialEq, Eq, Drop)]
+#[derive(Clone, Copy, PartialEq, Eq, Drop)]
 pub struct Hw(pub u32);
 
 /// The number of a string, counted over what was frozen and then what the machine made.
-#[derive(Clone, Copy, Debug, PartialEq, Eq, Drop)]
+#[derive(Clone, Copy, PartialEq, Eq, Drop)]
 pub struct StrId(pub u32);
 
 /// The number of a list, tuple, dict, range, class or object, counted likewise.
-#[derive(Clone, Copy, Debug, PartialEq, Eq, Drop)]
+#[derive(Clone, Copy, PartialEq, Eq, Drop)]
 pub struct ObjId(pub u32);
 
 /// The number of a function, counted likewise.
-#[derive(Clone, Copy, Debug, PartialEq, Eq, Drop)]
+#[derive(Clone, Copy, PartialEq, Eq, Drop)]
 pub struct FuncId(pub u32);
 
 /// The number of a scope, counted likewise.
-#[derive(Clone, Copy, Debug, PartialEq, Eq, Drop)]
+#[derive(Clone, Copy, PartialEq, Eq, Drop)]
 pub struct ScopeId(pub u32);
 
 /// A value of a program.
-#[derive(Clone, Copy, Debug, PartialEq, Eq, Drop)]
+#[derive(Clone, Copy, PartialEq, Eq, Drop)]
 pub enum Val {
     /// `None`.
     None,
@@ -54,7 +54,7 @@ pub enum Val {
 }
 
 /// Why a value is not given.
-#[derive(Clone, Copy, Debug, PartialEq, Eq, Drop)]
+#[derive(Clone, Copy, PartialEq, Eq, Drop)]
 pub enum ValueStop {
     /// Python raises, or the operands are not defined.
     Raised,
@@ -69,7 +69,7 @@ pub enum ValueStop {
 }
 
 /// Why an operator on numbers gives none.
-#[derive(Clone, Copy, Debug, PartialEq, Eq, Drop)]
+#[derive(Clone, Copy, PartialEq, Eq, Drop)]
 pub(crate) enum NumberStop {
     Raised,
     Width,

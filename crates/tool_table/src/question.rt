@@ -23,7 +23,7 @@ pub struct Fault<'a> {
 }
 
 /// What is asked of a run.
-#[derive(Clone, Copy, Debug, PartialEq, Eq, Drop)]
+#[derive(Clone, Copy, PartialEq, Eq, Drop)]
 pub enum Asked {
     /// What it answers.
     Once,
