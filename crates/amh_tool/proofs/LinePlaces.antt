@@ -15,7 +15,7 @@ use Rattle.py_grammar.specs.declared.word.Word.{Word}
 use Rattle.py_grammar.specs.declared.word.Mark.{Mark}
 use Rattle.py_grammar.specs.declared.word.Mark.TheVariants as mark
 use Rattle.py_grammar.specs.Blocks.{Line as Words_line}
-use Rattle.py_parser.specs.Words_of.{word_of, words_of, joined, joined_to, string_before, before}
+use Rattle.py_words.specs.Words_of.{word_of, words_of, joined, joined_to, string_before, before}
 use Rattle.py_parser.specs.Parsing.{words_line}
 
 -- ---- words

@@ -7,7 +7,7 @@ use Rattle.py_tree.specs.Steps.{Step, If, Steps, branches, else_of}
 use Rattle.py_grammar.specs.Blocks.{Line, Around}
 use Rattle.py_grammar.specs.Block_reading.{Part, Taken, Stuck, Takes, ◌>>=◌, Form, Inner, many, maybe, repeat, next_at, elif_block, else_block, choice, statements, block}
 use Rattle.py_parser.specs.Files.{file_form, within}
-use Rattle.py_parser.proofs.Lists.{map_pushed}
+use Rattle.py_words.proofs.Lists.{map_pushed}
 
 pub repeat_step : {A : Type 0} (goes : List Line → Bool) (rd : Takes A) (most turn : ℕ) (xs : List A) (ls : List Line) → turn < most → repeat goes rd (most - turn) xs ls ≡ (if goes ls then (rd ls >>= λ x r. repeat goes rd (most - (turn + 1)) (xs ++ x ∷ []) r) else Taken xs ls)
 unfolding repeat

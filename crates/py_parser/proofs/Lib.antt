@@ -1,14 +1,8 @@
-pub mod Lists
 pub mod Loops
 pub mod Runs
 pub mod Assigned
 pub mod Wholes
-pub mod Values
-pub mod Utf8
-pub mod Parts
-pub mod Joins
 pub mod Word_samples
-pub mod Numbers
 pub mod BlockLines
 pub mod BlockLoops
 pub mod BlockWholes

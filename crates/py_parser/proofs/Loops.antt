@@ -6,7 +6,7 @@ use Rattle.py_grammar.specs.Readers.{Read, ◌>>=◌, repeat, ◌▹◌, made, s
 use Rattle.amh_host.specs.declared.place.Place.{Place}
 use Rattle.py_tree.specs.declared.expr.Operator.{Operator}
 use Rattle.py_grammar.specs.Seen.{Seen, Deep, and_one, after_comma, link_seen}
-use Rattle.py_parser.proofs.Lists.{map_one_more}
+use Rattle.py_words.proofs.Lists.{map_one_more}
 use Rattle.py_grammar.specs.declared.word.Kind.{Kind}
 use Rattle.py_grammar.specs.Reading.{Inner, unary, negated, chain, level, operand, inner, by_kind, operator, link, plain_of}
 

@@ -7,7 +7,7 @@ use Rattle.py_grammar.specs.Readers.{Read, ◌>>=◌, repeat, many, ◌▹◌, m
 use Rattle.py_grammar.specs.Line_reading.{and_then, dotted, names, import_name, name_next, commas, bases_read}
 use Rattle.py_grammar.specs.Reading.{Inner, comma_then, call}
 use Rattle.py_parser.specs.Line_forms.{second, name_behind}
-use Rattle.py_parser.proofs.Lists.{map_one_more}
+use Rattle.py_words.proofs.Lists.{map_one_more}
 use Rattle.py_parser.proofs.Loops.{repeat_step}
 
 -- what was read, seen through a function

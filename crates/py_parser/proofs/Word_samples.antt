@@ -2,7 +2,7 @@
 use Rattle.std.specs.Prelude.{◌≡◌, refl, pos, negsuc, [], ◌∷◌, ◌++◌, codes}
 use Rattle.py_grammar.specs.declared.word.Mark.TheVariants as mark
 use Rattle.py_lexer.specs.Numbers.{value_from}
-use Rattle.py_parser.specs.Words_of.{number_mark, decimal_mark, between_quotes, meaning_from}
+use Rattle.py_words.specs.Words_of.{number_mark, decimal_mark, between_quotes, meaning_from}
 
 hex : number_mark (codes "0x1F") ≡ mark.Number 31
 unfolding value_from

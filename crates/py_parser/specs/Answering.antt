@@ -4,8 +4,8 @@ use Rattle.std.specs.Prelude.{Result, Ok, Err}
 use Rattle.py_grammar.specs.declared.word.Stop.{Stop}
 use Rattle.py_grammar.specs.declared.word.Stop.TheVariants.{Unread, NoMemory}
 use Rattle.py_grammar.specs.Seen.{Seen}
-use Rattle.py_parser.specs.declared.phrase.Phrase.{Phrase}
-use Rattle.py_parser.specs.Phrases.{seen_of}
+use Rattle.py_words.specs.declared.phrase.Phrase.{Phrase}
+use Rattle.py_words.specs.Phrases.{seen_of}
 
 -- nothing was read since the words stand for nothing, unless memory ran out
 abbrev pub NothingStands : (Seen → Type 0) → Stop → Type 0

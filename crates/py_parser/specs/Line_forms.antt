@@ -6,7 +6,7 @@ use Rattle.py_tree.specs.Tree.{Tree, perhaps}
 use Rattle.py_tree.specs.Seen.{tree, trailer_of}
 use Rattle.py_tree.specs.Steps.{bases_of}
 use Rattle.py_tree.specs.Programs.{step_of, parameter_of}
-use Rattle.py_parser.specs.declared.phrase.Phrase.{Phrase}
+use Rattle.py_words.specs.declared.phrase.Phrase.{Phrase}
 use Rattle.py_parser.specs.declared.line.Noted.{Noted as NotedOf}
 use Rattle.py_parser.specs.declared.line.Head.{Head as HeadOf}
 use Rattle.py_parser.specs.declared.line.Head.TheVariants as heads
@@ -14,7 +14,7 @@ use Rattle.py_parser.specs.declared.line.LineForm.{LineForm as FormOf}
 use Rattle.py_parser.specs.declared.line.LineForm.TheVariants as forms
 use Rattle.py_grammar.specs.Seen.{Seen}
 use Rattle.py_grammar.specs.Shapes.{Head, IfHead, ElifHead, ElseHead, WhileHead, ForHead, WithHead, DefHead, ClassHead, Noted, LineForm, Simple, Headed}
-use Rattle.py_parser.specs.Phrases.{seen_of}
+use Rattle.py_words.specs.Phrases.{seen_of}
 
 -- what stands behind a sign
 abbrev pub second : {A : Type 0} → Place × A → A

@@ -8,7 +8,7 @@ use Rattle.py_tree.specs.Programs.{program_of}
 use Rattle.py_grammar.specs.Blocks.{Line, IsProgram, IsRefusedLine}
 use Rattle.py_parser.specs.declared.parsing.ParseStop.{ParseStop}
 use Rattle.py_parser.specs.declared.parsing.ParseStop.TheVariants as stops
-use Rattle.py_parser.specs.Words_of.{words_of}
+use Rattle.py_words.specs.Words_of.{words_of}
 
 -- a logical line of a text: its indent, and the words that its tokens spell
 abbrev pub words_line : List ℕ → Cut_line → Line

@@ -10,10 +10,10 @@ ghost use Rattle.py_parser.specs.Line_forms.{noted_of, head_of, form_of};
 ghost use Rattle.py_parser.specs.Files.{lines_from, around_of, file_form, Gives, Comes};
 
 use crate::line::{Head, LineForm, Noted};
-use crate::take::key_next;
 use amh_host::{NoMemory, Place};
 use py_grammar::{Stop, Word};
 use py_tree::{Block, Branch, Function, Stmt, StmtKind};
+use py_words::take::key_next;
 use std::alloc::{AllocFailed, Global};
 use std::rc::Rc;
 

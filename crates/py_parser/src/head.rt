@@ -9,18 +9,18 @@ ghost use Rattle.py_grammar.specs.Readers.{Reads, made, maybe, key, sign, ◌▹
 ghost use Rattle.py_grammar.specs.Reading.{inner};
 ghost use Rattle.py_grammar.specs.Shapes.{if_seen, elif_seen, else_seen, while_seen, all_params};
 ghost use Rattle.py_grammar.specs.Line_reading.{definition, bases_read, class_head, with_head, for_head, tested, head, head_next};
-ghost use Rattle.py_parser.specs.Phrases.{seen_of, deep_of};
+ghost use Rattle.py_words.specs.Phrases.{seen_of, deep_of};
 ghost use Rattle.py_parser.specs.Line_forms.{behind_of, head_of};
 
 use crate::line::Head;
 use crate::params::read_inside;
-use crate::phrase::{Deep, Phrase};
 use crate::reader::{read_call, read_inner};
 use crate::simple::{expr_behind, read_behind, read_exprs, read_targets};
-use crate::take::{key_next, sign_next, take_key, take_name, take_sign};
 use amh_host::Place;
 use py_grammar::{Kind, Stop, Word};
 use py_tree::{Param, Trailer};
+use py_words::phrase::{Deep, Phrase};
+use py_words::take::{key_next, sign_next, take_key, take_name, take_sign};
 use std::alloc::Global;
 
 /// A keyword, an expression and a colon.

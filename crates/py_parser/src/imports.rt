@@ -7,10 +7,10 @@ ghost use Rattle.py_grammar.specs.Reading.{comma_then};
 ghost use Rattle.py_grammar.specs.Line_reading.{and_then, dotted, name_next, import_name, names, imports, import};
 ghost use Rattle.py_parser.specs.Line_forms.{second, name_behind};
 
-use crate::node::with_first;
-use crate::take::{comma_name, key_next, sign_next, take_comma, take_key, take_name, take_sign};
 use py_grammar::{Stop, Word};
 use py_tree::{Imported, Name, Stmt, StmtKind};
+use py_words::node::with_first;
+use py_words::take::{comma_name, key_next, sign_next, take_comma, take_key, take_name, take_sign};
 use std::alloc::Global;
 
 /// Names with a dot before each.

@@ -2,7 +2,7 @@
 //! place of the first line with which they are no front of a program.
 //!
 //! The grammar is the relation of `py_grammar`, and the readers of that crate are what the code is, function by
-//! function; the laws there tie the two. `words_of` gives each token its value (specs/Words_of.antt), `read_line` reads
+//! function; the laws there tie the two. py_words gives each token its value and makes the nodes, `read_line` reads
 //! all words of a logical line, and block_file.rt reads blocks off lines (specs/Files.antt). No expression is read twice,
 //! the calls nest as deep as brackets and blocks may, and a chain of any length is read in a loop.
 #![tactic(auto)]
@@ -10,31 +10,18 @@
 mod block;
 mod block_file;
 mod block_parts;
-mod format;
 mod head;
 mod imports;
-mod laws;
 mod line;
 mod line_reader;
-mod node;
-mod number;
-mod operator;
 mod params;
 mod parsing;
-mod phrase;
 mod reader;
 mod simple;
-mod strings;
-mod take;
-mod target;
 mod whole;
-mod words;
 
-pub use laws::numbers_are_words;
 pub use line::{Head, LineForm, Noted};
 pub use line_reader::read_line;
 pub use parsing::{ParseStop, parse};
-pub use phrase::{Deep, Listed, Phrase, Rest};
 pub use reader::{read_inner, read_items};
 pub use whole::{read_tuple, read_whole};
-pub use words::words_of;

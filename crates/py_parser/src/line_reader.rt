@@ -11,9 +11,9 @@ ghost use Rattle.py_parser.specs.Line_forms.{noted_of, head_of, form_of};
 use crate::head::{head_next, read_head};
 use crate::line::{Head, LineForm, Noted};
 use crate::simple::read_simple;
-use crate::take::key_is;
 use py_grammar::{Stop, Word};
 use py_tree::Stmt;
+use py_words::take::key_is;
 use std::alloc::Global;
 
 fn some_await(words: &[Word]) -> bool

@@ -9,11 +9,11 @@ ghost use Rattle.py_grammar.specs.Shapes.{is_star, has_name, defaults_last, star
 ghost use Rattle.py_grammar.specs.Line_reading.{and_then, commas, param, param_next, params};
 ghost use Rattle.py_parser.specs.Line_forms.{second};
 
-use crate::node::with_first;
 use crate::simple::{expr_behind, read_behind};
-use crate::take::{comma_param, sign_next, take_comma, take_name, take_sign};
 use py_grammar::{Stop, Word};
 use py_tree::{Name, Param};
+use py_words::node::with_first;
+use py_words::take::{comma_param, sign_next, take_comma, take_name, take_sign};
 use std::alloc::Global;
 
 fn is_star(param: &Param) -> bool
@@ -57,7 +57,7 @@ fn some_name(params: &[Param], this: &Name) -> bool
 }
 
 /// Whether those before the star that have no default stand before those that have one.
-#[tactic(auto, using(crate::proofs::Lists::present_there))]
+#[tactic(auto, using(py_words::proofs::Lists::present_there))]
 fn defaults_last(params: &[Param]) -> bool
     ensures { result ≡ defaults_last false (map parameter_of params.now) }
 {

@@ -10,11 +10,11 @@ use crate::block_file::{FileStop, read_program};
 use crate::block_parts::{LineWords, ReadLine};
 use crate::line::LineForm;
 use crate::line_reader::read_line;
-use crate::words::words_of;
 use amh_host::{NoMemory, Place};
 use py_grammar::{Stop, Word};
 use py_lexer::{Line, Lines};
 use py_tree::Program;
+use py_words::words_of;
 use std::alloc::Global;
 
 /// Why a text has no program.

@@ -3,7 +3,7 @@
 ghost use Rattle.std.specs.Prelude.{◌≡◌, ◌<◌, ◌≤◌, ◌+◌, ◌-◌, [], IfOk, Some, None, IsSome, length, map, option_map, codes};
 ghost use Rattle.py_tree.specs.Seen.{tree, link_tree, pair_tree, each_of, trailer_of, argument_of};
 ghost use Rattle.py_grammar.specs.Seen.{seen, and_one, is_target, index_seen, rest_depth};
-ghost use Rattle.py_parser.specs.Phrases.{seen_of, deep_of, listed_of, rest_of};
+ghost use Rattle.py_words.specs.Phrases.{seen_of, deep_of, listed_of, rest_of};
 ghost use Rattle.py_grammar.specs.Readers.{Reads, many, made, maybe, sign, ◌▹◌};
 ghost use Rattle.py_grammar.specs.Words.{next_sign};
 ghost use Rattle.std.specs.Option.{ForSome};
@@ -11,17 +11,17 @@ ghost use Rattle.py_grammar.specs.declared.word.Kind.TheVariants.{Expr as expr_k
 ghost use Rattle.py_grammar.specs.Seen.{after_comma};
 ghost use Rattle.py_grammar.specs.Reading.{inner, target, unary, power, awaited, negated, either, expr, operand, chain, link, is_operator, primary, trail, trails, atom, number, bracketed, round, square, curly, items, others, more_of, plain_of, comp, if_part, pair, arg, args, index, perhaps_expr, step, call, begins, begins_argument, comma_then};
 
-use crate::node;
-use crate::operator::{operator_next, take_operator};
-use crate::phrase::{Deep, Listed, Phrase, Rest};
-use crate::take::{
+use py_grammar::{Kind, Mark, Stop, Word};
+use py_tree::{Argument, Comprehension, Expr, ExprKind, Link, Pair, Trailer};
+use py_words::node;
+use py_words::operator::{operator_next, take_operator};
+use py_words::phrase::{Deep, Listed, Phrase, Rest};
+use py_words::take::{
     argument_next, begins_next, comma_argument, comma_begins, constant, key_next, named_next,
     sign_next, take_amount, take_comma, take_key, take_name, take_number, take_sign, take_unary,
     trail_next, unary_next,
 };
-use crate::target::is_target;
-use py_grammar::{Kind, Mark, Stop, Word};
-use py_tree::{Argument, Comprehension, Expr, ExprKind, Link, Pair, Trailer};
+use py_words::target::is_target;
 use std::alloc::Global;
 
 /// What one of the rules reads inside a bracket.

@@ -10,20 +10,20 @@ ghost use Rattle.py_grammar.specs.Words.{next_sign};
 ghost use Rattle.py_grammar.specs.Readers.{Reads, many, made, maybe, key, sign, ◌▹◌};
 ghost use Rattle.py_grammar.specs.Reading.{inner};
 ghost use Rattle.py_grammar.specs.Line_reading.{exprs, targets, returned, asserted, raised, is_one_target, assignment, annotation, augmentation, behind_first, by_first, simple};
-ghost use Rattle.py_parser.specs.Phrases.{seen_of, listed_of};
+ghost use Rattle.py_words.specs.Phrases.{seen_of, listed_of};
 ghost use Rattle.py_parser.specs.Line_forms.{behind_of, one_more};
 
 use crate::imports::read_import;
-use crate::node::{lone, none_there, tuple};
-use crate::phrase::{Listed, Phrase};
 use crate::reader::{read_inner, read_items};
-use crate::take::{
-    augmented_next, begins_next, key_next, sign_next, take_augmented, take_key, take_sign,
-};
-use crate::target::{are_targets, is_target};
 use amh_host::{NoMemory, Place};
 use py_grammar::{Kind, Stop, Word};
 use py_tree::{Expr, Stmt, StmtKind};
+use py_words::node::{lone, none_there, tuple};
+use py_words::phrase::{Listed, Phrase};
+use py_words::take::{
+    augmented_next, begins_next, key_next, sign_next, take_augmented, take_key, take_sign,
+};
+use py_words::target::{are_targets, is_target};
 use std::alloc::Global;
 
 /// Expressions with a comma between each two.

@@ -4,13 +4,13 @@ ghost use Rattle.py_grammar.specs.declared.word.Stop.TheVariants.{Unread};
 ghost use Rattle.py_grammar.specs.Laws.{Exprs, exprs};
 ghost use Rattle.py_grammar.specs.Readers.{Reads};
 ghost use Rattle.py_grammar.specs.Seen.{is_empty};
-ghost use Rattle.py_parser.specs.Phrases.{seen_of};
+ghost use Rattle.py_words.specs.Phrases.{seen_of};
 ghost use Rattle.py_parser.specs.Answering.{Answers};
 
-use crate::node;
-use crate::phrase::Phrase;
 use crate::reader::read_items;
 use py_grammar::{Kind, Stop, Word, lists_are_exact};
+use py_words::node;
+use py_words::phrase::Phrase;
 use std::alloc::Global;
 
 /// Expressions with a comma between each two, off the front of some words: one alone is itself, others are a tuple.

@@ -3,8 +3,9 @@
 use crate::forms::say_unread;
 use crate::tree::head_of;
 use py_grammar::Word;
-use py_parser::{Phrase, read_whole};
+use py_parser::read_whole;
 use py_tree::ExprKind;
+use py_words::Phrase;
 use std::alloc::Global;
 use table_text::Line;
 

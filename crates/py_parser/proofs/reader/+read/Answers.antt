@@ -4,7 +4,7 @@ use Rattle.py_tree.specs.Seen.{tree, link_tree, pair_tree, trailer_of, argument_
 use Rattle.py_grammar.specs.Seen.{after_comma}
 use Rattle.py_grammar.specs.Readers.{made, sign, ◌▹◌}
 use Rattle.py_grammar.specs.Reading.{inner, operand, link, is_operator, trail, trails, plain_of, pair, arg, begins, begins_argument, comma_then}
-use Rattle.py_parser.specs.Phrases.{seen_of, deep_of}
+use Rattle.py_words.specs.Phrases.{seen_of, deep_of}
 use Rattle.py_parser.proofs.Loops.{repeat_turn, repeat_turn_as, link_reads, comma_reads, plain_reads}
 use Rattle.py_parser.proofs.reader.+read.Goals as goal
 

@@ -1,8 +1,8 @@
 use Rattle.std.proofs.Common.{rules, map, ◌∙◌}
 use Rattle.py_tree.specs.Seen.{tree}
 use Rattle.py_grammar.specs.Reading.{inner}
-use Rattle.py_parser.specs.Phrases.{seen_of}
-use Rattle.py_parser.proofs.Lists.{is_empty_map}
+use Rattle.py_words.specs.Phrases.{seen_of}
+use Rattle.py_words.proofs.Lists.{is_empty_map}
 use Rattle.py_parser.proofs.Assigned.{assignment_made, assigned_alone, assigned_to, assigned_to_none}
 use Rattle.py_parser.proofs.simple.read_assignment.Goals as goal
 

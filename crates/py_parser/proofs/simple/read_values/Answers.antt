@@ -5,9 +5,9 @@ use Rattle.py_grammar.specs.Words.{next_sign}
 use Rattle.py_grammar.specs.Readers.{sign, ◌▹◌}
 use Rattle.py_grammar.specs.Reading.{inner}
 use Rattle.py_grammar.specs.Line_reading.{exprs}
-use Rattle.py_parser.specs.Phrases.{seen_of}
+use Rattle.py_words.specs.Phrases.{seen_of}
 use Rattle.py_parser.specs.Line_forms.{one_more}
-use Rattle.py_parser.proofs.Lists.{map_pushed}
+use Rattle.py_words.proofs.Lists.{map_pushed}
 use Rattle.py_parser.proofs.Loops.{then_reads}
 use Rattle.py_parser.proofs.Runs.{add_turn}
 use Rattle.py_parser.proofs.Assigned.{pair_same}

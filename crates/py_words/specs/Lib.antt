@@ -1,0 +1,4 @@
+pub mod Phrases
+pub mod Words_of
+pub mod Openings
+pub mod Word_laws
