@@ -7,13 +7,13 @@ ghost use Rattle.py_frames.specs.Frames.{GoesOn};
 use crate::attribute_leaf::{dict_method, first_of_row, is_init, list_method, method_val};
 use crate::attribute_super::func_attribute;
 use amh_host::Place;
-use py_turns::call_leaf::{about_name, ask_under, give, new_func, raise, run_out};
 use py_frames::frame::{CallFrame, Frame, Now};
 use py_frames::functions::Functions;
 use py_frames::going::{Going, MOST};
 use py_frames::request::Act;
 use py_frames::state::Halt;
 use py_tree::Name;
+use py_turns::call_leaf::{about_name, ask_under, give, new_func, raise, run_out};
 use py_values::{Builtin, Code, Frozen, Func, Inherited, ObjId, Val, Vals};
 
 /// A value that was found in a class.

@@ -5,8 +5,8 @@ ghost use Rattle.py_frames.specs.Values.{method_of, is_plain_code, list_method, 
 ghost use Rattle.py_frames.specs.Calling.{bound_func, bound_method, is_super};
 
 use amh_host::NoMemory;
-use py_turns::call_leaf::vals_of;
 use py_frames::going::Going;
+use py_turns::call_leaf::vals_of;
 use py_values::{Builtin, Code, Frozen, Func, FuncId, Heap, ObjId, Val};
 use std::alloc::Global;
 

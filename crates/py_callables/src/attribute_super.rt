@@ -7,12 +7,12 @@ ghost use Rattle.py_frames.specs.Frames.{GoesOn};
 use crate::attribute::{builtin_method, from_class, nowhere, told_attribute};
 use crate::attribute_leaf::{first_of_row, is_init, is_super};
 use amh_host::Place;
-use py_turns::call_leaf::raise;
 use py_frames::frame::Now;
 use py_frames::functions::Functions;
 use py_frames::going::Going;
 use py_frames::state::Halt;
 use py_tree::Name;
+use py_turns::call_leaf::raise;
 use py_values::{Builtin, Frozen, FuncId, Inherited, ObjId, Val};
 
 // `super().name` that reaches a thing.

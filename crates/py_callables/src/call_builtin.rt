@@ -11,14 +11,14 @@ use crate::call_kind::{
     super_of, with_this,
 };
 use amh_host::Place;
-use py_turns::attribute_store::ask_about;
-use py_turns::call_leaf::{about_name, ask_under, give, new_func, raise};
 use py_frames::frame::{CallFrame, Frame, Now};
 use py_frames::functions::Functions;
 use py_frames::going::{Going, ask};
-use py_turns::operators::built;
 use py_frames::request::{Act, NamedVals};
 use py_frames::state::Halt;
+use py_turns::attribute_store::ask_about;
+use py_turns::call_leaf::{about_name, ask_under, give, new_func, raise};
+use py_turns::operators::built;
 use py_values::{Builtin, Frozen, Func, Hw, ObjId, Val, Vals};
 
 /// A thing is called: the store is asked.

@@ -13,14 +13,14 @@ use crate::call_bind::names_bound;
 use crate::call_kind::with_this;
 use crate::call_meet::parameters_met;
 use amh_host::{NoMemory, Place};
-use py_turns::block::run_block;
-use py_turns::call_leaf::{raise, vals_of};
 use py_frames::frame::{CallFrame, Frame, Now};
 use py_frames::functions::{Functions, KnownFunction};
 use py_frames::going::{Going, stopped, told};
 use py_frames::request::{Cause, NamedVals};
 use py_frames::state::{Halt, Here};
 use py_tree::Block;
+use py_turns::block::run_block;
+use py_turns::call_leaf::{raise, vals_of};
 use py_values::{Code, Frozen, Func, FuncId, Val, Vals};
 use std::mem::replace;
 

@@ -6,13 +6,13 @@ ghost use Rattle.py_frames.specs.Frames.{GoesOn};
 
 use crate::call_sum::built_over;
 use amh_host::{NoMemory, Place};
-use py_turns::attribute_store::iterated;
-use py_turns::call_leaf::vals_of;
 use py_frames::frame::{CallFrame, Frame, Now};
 use py_frames::functions::Functions;
 use py_frames::going::Going;
-use py_turns::operators::is_thing;
 use py_frames::state::Halt;
+use py_turns::attribute_store::iterated;
+use py_turns::call_leaf::vals_of;
+use py_turns::operators::is_thing;
 use py_values::{Builtin, Frozen, Val, Vals};
 use std::alloc::Global;
 

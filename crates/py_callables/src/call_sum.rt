@@ -7,13 +7,13 @@ ghost use Rattle.py_frames.specs.Frames.{GoesOn};
 
 use crate::call_enter::first_of;
 use amh_host::{NoMemory, Place};
-use py_turns::binds::refused;
-use py_turns::call_leaf::{give, raise};
 use py_frames::frame::{CallFrame, Frame, Now};
 use py_frames::functions::Functions;
 use py_frames::going::Going;
-use py_turns::operators::{built, has_thing, is_thing, operated};
 use py_frames::state::Halt;
+use py_turns::binds::refused;
+use py_turns::call_leaf::{give, raise};
+use py_turns::operators::{built, has_thing, is_thing, operated};
 use py_values::{Builtin, Frozen, Number, PyOp, Val, Vals, ValueStop};
 
 // What `sum` goes over, where there are things among that or it begins with one.

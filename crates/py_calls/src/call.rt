@@ -14,14 +14,14 @@ use py_callables::attribute_leaf::method_val;
 use py_callables::call_builtin::{builtin_called, give_bare, init_thing, thing_called};
 use py_callables::call_enter::enter;
 use py_callables::call_kind::{Callable, is_async_at};
-use py_turns::attribute_store::ask_about;
-use py_turns::call_leaf::raise;
 use py_frames::frame::{CallFrame, Frame, Now};
 use py_frames::functions::Functions;
 use py_frames::going::{Going, told};
-use py_turns::operators::is_thing;
 use py_frames::request::{Act, NamedVals};
 use py_frames::state::Halt;
+use py_turns::attribute_store::ask_about;
+use py_turns::call_leaf::raise;
+use py_turns::operators::is_thing;
 use py_values::{Code, Frozen, FuncId, Inherited, ObjId, Val, Vals};
 
 // What a call of a function is.

@@ -13,9 +13,6 @@ ghost use Rattle.py_frames.specs.Frames.{GoesOn};
 
 use crate::call_frame::call_for;
 use crate::call_part::{argument_at, argument_expr, named_val};
-use py_turns::at_once::{at_once, wait_or_come};
-use py_turns::attribute_store::as_row;
-use py_turns::call_leaf::raise;
 use py_frames::frame::{CallFrame, Frame, Now, Purpose};
 use py_frames::functions::Functions;
 use py_frames::going::{Going, told};
@@ -25,6 +22,9 @@ use py_frames::request::NamedVals;
 use py_frames::state::Halt;
 use py_frames::trail_leaf::{place_at, share_purpose};
 use py_tree::{Argument, Expr, Name, Trailer};
+use py_turns::at_once::{at_once, wait_or_come};
+use py_turns::attribute_store::as_row;
+use py_turns::call_leaf::raise;
 use py_values::{Frozen, Val, Vals};
 
 // On with the argument of this number, for which a frame waits.

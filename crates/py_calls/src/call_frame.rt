@@ -24,15 +24,15 @@ use py_callables::call_enter::enter;
 use py_callables::call_gone::gone_over;
 use py_callables::call_kind::is_async_at;
 use py_callables::call_sum::summed;
-use py_turns::attribute_store::indexed;
 use py_frames::boxed::Boxed;
-use py_turns::call_leaf::{about, give, raise, vals_of};
 use py_frames::frame::{CallFrame, Frame, Now, Purpose};
 use py_frames::functions::Functions;
 use py_frames::going::Going;
 use py_frames::request::{Act, NamedVals};
 use py_frames::state::{Got, Halt, Here};
 use py_tree::Name;
+use py_turns::attribute_store::indexed;
+use py_turns::call_leaf::{about, give, raise, vals_of};
 use py_values::{Builtin, Code, Frozen, ObjId, Val, Vals};
 
 // What a function's body leaves is its value.

@@ -21,9 +21,6 @@ use crate::trail_slice::slice_begun;
 use crate::trail_store::{reach_along, store_along};
 use amh_host::Place;
 use py_callables::attribute::attribute;
-use py_turns::at_once::at_once;
-use py_turns::attribute_store::indexed;
-use py_turns::call_leaf::give;
 use py_frames::frame::{Along, CallFrame, Frame, Now, Purpose};
 use py_frames::functions::Functions;
 use py_frames::going::{Going, wait_for};
@@ -31,6 +28,9 @@ use py_frames::leaf::following;
 use py_frames::state::Halt;
 use py_frames::trail_leaf::{ends_in_call, place_at, purpose_before, share_purpose, trailer_at};
 use py_tree::{Expr, Trailer};
+use py_turns::at_once::at_once;
+use py_turns::attribute_store::indexed;
+use py_turns::call_leaf::give;
 use py_values::{Frozen, Val};
 
 // An index begins; where it is there at once, no frame waits for it.

@@ -12,7 +12,6 @@ ghost use Rattle.py_frames.specs.Frames.{GoesOn};
 
 use crate::trail::trailed_one;
 use py_callables::attribute::attribute;
-use py_turns::call_leaf::raise;
 use py_frames::frame::{Along, CallFrame, Changed, Frame, Now, Purpose, StmtFrame};
 use py_frames::functions::Functions;
 use py_frames::going::{Going, wait_for};
@@ -20,6 +19,7 @@ use py_frames::leaf::following;
 use py_frames::state::Halt;
 use py_frames::trail_leaf::{place_at, trailer_at};
 use py_tree::{Expr, Name, Operator, Stmt, StmtKind, Trailer};
+use py_turns::call_leaf::raise;
 use py_values::{Frozen, Val};
 
 // An attribute that is changed is read.

@@ -9,14 +9,14 @@ ghost use Rattle.py_calls.specs.Slicing.{first_part, slice_in, slice_done};
 ghost use Rattle.py_frames.specs.Trailing.{first_trailer};
 ghost use Rattle.py_frames.specs.Frames.{GoesOn};
 
-use py_turns::attribute_store::sliced;
-use py_turns::call_leaf::{raise, vals_of};
 use py_frames::frame::{CallFrame, Frame, Now};
 use py_frames::functions::Functions;
 use py_frames::going::{Going, wait_for};
 use py_frames::state::Halt;
 use py_frames::trail_leaf::{place_at, trailer_at};
 use py_tree::{Expr, Trailer};
+use py_turns::attribute_store::sliced;
+use py_turns::call_leaf::{raise, vals_of};
 use py_values::{Frozen, Val, Vals};
 
 // The part of a slice of a number.

@@ -10,17 +10,17 @@ ghost use Rattle.py_frames.specs.Frames.{GoesOn};
 
 use crate::trail::trailed_one;
 use amh_host::Place;
-use py_turns::at_once::at_once;
-use py_turns::attribute_store::{store_attribute, store_index};
-use py_turns::call_leaf::raise;
 use py_frames::frame::{Along, CallFrame, Frame, Now, Purpose, StmtFrame, WalkFrame};
 use py_frames::functions::Functions;
 use py_frames::going::{Going, spend, wait_for};
 use py_frames::leaf::following;
 use py_frames::state::{Got, Halt};
-use py_turns::stmt_plain::comes;
 use py_frames::trail_leaf::{place_at, trailer_at};
 use py_tree::{Expr, Trailer};
+use py_turns::at_once::at_once;
+use py_turns::attribute_store::{store_attribute, store_index};
+use py_turns::call_leaf::raise;
+use py_turns::stmt_plain::comes;
 use py_values::{Frozen, Val};
 
 // A value is stored under an index, which begins; where it is there at once, no frame waits for it.

@@ -13,10 +13,6 @@ ghost use Rattle.py_frames.specs.Frames.{GoesOn};
 use crate::class_arguments::{class_argument, class_arguments_turn};
 use crate::classes::class_given;
 use amh_host::Place;
-use py_turns::attribute_store::as_row;
-use py_turns::binds::refused;
-use py_turns::call_leaf::raise;
-use py_turns::expr_values::named_val;
 use py_frames::frame::{DefFrame, Frame, Now};
 use py_frames::functions::Functions;
 use py_frames::going::Going;
@@ -24,6 +20,10 @@ use py_frames::keyword::is_given;
 use py_frames::request::NamedVals;
 use py_frames::state::Halt;
 use py_tree::{Argument, Name, Stmt, StmtKind};
+use py_turns::attribute_store::as_row;
+use py_turns::binds::refused;
+use py_turns::call_leaf::raise;
+use py_turns::expr_values::named_val;
 use py_values::{Frozen, Val, Vals};
 
 // The place of a class.

@@ -9,8 +9,8 @@ ghost use Rattle.py_frames.specs.Values.{named_vals, named_names};
 ghost use Rattle.py_frames.specs.Statements.{bound_names, with_mark};
 
 use amh_host::{Names, NoMemory, Place, Text};
-use py_turns::expr_values::named_val;
 use py_frames::request::{Act, NamedVals, Request};
+use py_turns::expr_values::named_val;
 use py_values::{Bindings, Frozen, Heap, Scope, ScopeId, Val, Vals};
 use std::alloc::Global;
 

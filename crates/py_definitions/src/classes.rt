@@ -12,7 +12,6 @@ ghost use Rattle.py_definitions.specs.Def_begun.{class_inside};
 ghost use Rattle.py_frames.specs.Frames.{GoesOn};
 
 use amh_host::{Names, NoMemory};
-use py_turns::block::block_under;
 use py_frames::boxed::Boxed;
 use py_frames::frame::{DefFrame, Frame, Now};
 use py_frames::functions::Functions;
@@ -21,8 +20,9 @@ use py_frames::own::own_names;
 use py_frames::request::NamedVals;
 use py_frames::scopes::seen_from;
 use py_frames::state::{ClassBody, Got, Halt, Here};
-use py_turns::stmt_plain::comes;
 use py_tree::{Block, Name, Stmt, StmtKind, Trailer};
+use py_turns::block::block_under;
+use py_turns::stmt_plain::comes;
 use py_values::{Frozen, Heap, Inherited, OwnNames, ScopeId, Val, Vals};
 use std::alloc::Global;
 use std::mem;

@@ -15,14 +15,14 @@ use crate::class_words::{end_request, names_bound};
 use crate::classes::class_given;
 use crate::defs::{default_came, parameter_came, result_came};
 use amh_host::{NoMemory, Place};
-use py_turns::block::{leaves, value_come};
 use py_frames::frame::{DefFrame, Now};
 use py_frames::functions::Functions;
 use py_frames::going::{Going, ask};
 use py_frames::request::NamedVals;
 use py_frames::state::{Got, Halt};
-use py_turns::stmt_plain::comes;
 use py_tree::Stmt;
+use py_turns::block::{leaves, value_come};
+use py_turns::stmt_plain::comes;
 use py_values::{Frozen, ScopeId, Val, Vals};
 
 // Whether a frame of a definition waits for more than a value.

@@ -10,15 +10,15 @@ ghost use Rattle.py_frames.specs.Frames.{GoesOn};
 use crate::def_parts::{
     function_name, function_params, function_place, function_result, next_annotation, next_default,
 };
-use py_turns::binds::name_bound;
 use py_frames::frame::{DefFrame, Frame, Now};
 use py_frames::functions::Functions;
 use py_frames::going::{Going, wait_for};
 use py_frames::leaf::following;
 use py_frames::scopes::seen_from;
 use py_frames::state::{Got, Halt};
-use py_turns::stmt_plain::comes;
 use py_tree::{Function, Stmt, StmtKind};
+use py_turns::binds::name_bound;
+use py_turns::stmt_plain::comes;
 use py_values::{Code, Frozen, Func, Vals};
 use std::rc::Rc;
 

@@ -15,17 +15,17 @@ ghost use Rattle.py_frames.specs.Frames.{GoesOn, within};
 
 use crate::seek::related;
 use amh_host::Place;
-use py_turns::at_once::at_once;
-use py_turns::expr_values::truth_of;
 use py_frames::frame::{ExprFrame, Frame, Now};
 use py_frames::functions::Functions;
 use py_frames::going::{Going, spend, wait_for};
 use py_frames::leaf::{
     PartAt, copied, following, goes_on, link_at, operand_place, operator_of, place_of,
 };
-use py_turns::operators::operated;
 use py_frames::state::{Got, Halt};
 use py_tree::{Expr, Link};
+use py_turns::at_once::at_once;
+use py_turns::expr_values::truth_of;
+use py_turns::operators::operated;
 use py_values::{Frozen, PyOp, Val};
 
 /// The first operand of a chain of operators begins; where it is there at once, no frame waits for it.

@@ -9,7 +9,6 @@ ghost use Rattle.py_frames.specs.Frames.{GoesOn};
 
 use amh_host::{Place, Text};
 use py_frames::expr_names::name_value;
-use py_turns::expr_values::new_text;
 use py_frames::frame::Now;
 use py_frames::functions::Functions;
 use py_frames::going::{Going, spend, stopped};
@@ -17,6 +16,7 @@ use py_frames::leaf::PartAt;
 use py_frames::request::Cause;
 use py_frames::state::Halt;
 use py_tree::{Name, Piece, Pieces};
+use py_turns::expr_values::new_text;
 use py_values::{Frozen, Val};
 
 // The text of a value that a hole shows, where it has one.

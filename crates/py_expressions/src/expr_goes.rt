@@ -11,15 +11,15 @@ use crate::expr_chain::{comparing, decided, next_comparison, next_joined, next_l
 use crate::expr_items::{next_item, next_pair, pair_value};
 use crate::seek::element_compared;
 use amh_host::Place;
-use py_turns::expr_values::truth;
 use py_frames::frame::{ExprFrame, Frame, Now, Purpose};
 use py_frames::functions::Functions;
 use py_frames::going::{Going, stopped, wait_for};
 use py_frames::leaf::{PartAt, choice_of, exponent_of, following, place_of};
-use py_turns::operators::{operated, turned};
 use py_frames::request::Cause;
 use py_frames::state::Halt;
 use py_tree::Expr;
+use py_turns::expr_values::truth;
+use py_turns::operators::{operated, turned};
 use py_values::{Frozen, PyOp, Val, Vals};
 
 // The right operand of a power, whose left one has come.

@@ -6,13 +6,13 @@ ghost use Rattle.py_frames.specs.Expressions.{values_then, pairs_then, dict_made
 ghost use Rattle.py_frames.specs.Expr_frames.{items_of, items_made, pairs_of, value_and_pairs};
 ghost use Rattle.py_frames.specs.Frames.{GoesOn};
 
-use py_turns::expr_values::{new_dict, new_tuple};
 use py_frames::frame::{ExprFrame, Frame, Now};
 use py_frames::functions::Functions;
 use py_frames::going::{Going, new_list, wait_for};
 use py_frames::leaf::{PartAt, following, is_tuple, item_at, pair_at, place_of};
 use py_frames::state::Halt;
 use py_tree::Expr;
+use py_turns::expr_values::{new_dict, new_tuple};
 use py_values::{Frozen, Val, Vals};
 
 // What the items of a tuple or of a list become.

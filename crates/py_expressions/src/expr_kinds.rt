@@ -10,7 +10,6 @@ use crate::expr_format::pieces_shown;
 use crate::expr_items::{next_item, next_pair};
 use crate::times::{decimal_time, divided_time};
 use py_frames::expr_names::read_name;
-use py_turns::expr_values::new_literal;
 use py_frames::frame::{Comprehended, Now};
 use py_frames::functions::Functions;
 use py_frames::going::{Going, stopped};
@@ -18,6 +17,7 @@ use py_frames::leaf::constant_val;
 use py_frames::request::Cause;
 use py_frames::state::{Got, Halt};
 use py_tree::{Amount, Comprehension, Constant, Decimal, Expr, Name, Pair, Pieces};
+use py_turns::expr_values::new_literal;
 use py_values::{Frozen, Number, Val, Vals};
 use py_walks::comprehensions::begun_comprehension;
 

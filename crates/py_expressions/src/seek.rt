@@ -7,13 +7,13 @@ ghost use Rattle.py_values.specs.declared.val.Val.TheVariants as val;
 ghost use Rattle.py_frames.specs.Frames.{GoesOn};
 
 use amh_host::Place;
-use py_turns::binds::refused;
-use py_turns::expr_values::truth_of;
 use py_frames::frame::{ExprFrame, Frame, Now};
 use py_frames::functions::Functions;
 use py_frames::going::{Going, spend};
-use py_turns::operators::{has_thing, is_thing, operated};
 use py_frames::state::{Got, Halt};
+use py_turns::binds::refused;
+use py_turns::expr_values::truth_of;
+use py_turns::operators::{has_thing, is_thing, operated};
 use py_values::{Frozen, PyOp, Val, Vals};
 
 /// An operator that compares two operands.

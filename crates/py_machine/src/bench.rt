@@ -11,12 +11,12 @@ ghost use Rattle.py_machine.specs.Starts.{bench_called, bench_state};
 use amh_host::Place;
 use py_callables::call_enter::enter;
 use py_calls::call_frame::is_async;
-use py_turns::call_leaf::{raise, vals_of};
 use py_frames::frame::Now;
 use py_frames::functions::Functions;
 use py_frames::going::Going;
 use py_frames::request::NamedVals;
 use py_frames::state::{Halt, Here, State};
+use py_turns::call_leaf::{raise, vals_of};
 use py_values::{Code, Frozen, Heap, Hw, ScopeId, Val};
 use std::alloc::Global;
 

@@ -10,13 +10,13 @@ ghost use Rattle.py_frames.specs.Frames.{GoesOn};
 use amh_host::{Place, Text};
 use py_callables::call_enter::enter;
 use py_calls::call_frame::{came, is_async};
-use py_turns::call_leaf::{give, raise};
-use py_turns::expr_values::{new_text, new_tuple};
 use py_frames::frame::{CallFrame, Frame, Now};
 use py_frames::functions::Functions;
 use py_frames::going::Going;
 use py_frames::request::{Act, Answer, Cause, NamedVals, Stop};
 use py_frames::state::{Got, Halt};
+use py_turns::call_leaf::{give, raise};
+use py_turns::expr_values::{new_text, new_tuple};
 use py_values::{Frozen, Val, Vals};
 
 // Which acts take a value.

@@ -6,22 +6,22 @@ ghost use Rattle.py_frames.specs.Stmt_begun.{step_cost, step_place, run_after};
 ghost use Rattle.py_frames.specs.Frames.{GoesOn};
 
 use amh_host::Place;
+use py_definitions::class_arguments::begun_class;
+use py_definitions::defs::begun_def;
 use py_frames::frame::{Frame, Now, StmtFrame};
 use py_frames::functions::Functions;
 use py_frames::going::{Going, MOST, spend, wait_for};
 use py_frames::request::Cause;
 use py_frames::state::{Got, Halt};
-use py_turns::stmt_plain::{begun_assert, begun_return, comes, stops};
 use py_statements::annotate::begun_annotate;
 use py_statements::augment_begin::augment_begun;
-use py_definitions::class_arguments::begun_class;
-use py_definitions::defs::begun_def;
 use py_statements::imports::{begun_import, begun_import_all};
 use py_statements::stmt_assign::begun_assign;
 use py_statements::stmt_if::branch_turn;
 use py_statements::stmt_while::while_turn;
 use py_statements::stmt_with::begun_with;
 use py_tree::{Stmt, StmtKind};
+use py_turns::stmt_plain::{begun_assert, begun_return, comes, stops};
 use py_values::Frozen;
 use py_walks::loops::for_begun;
 

@@ -13,15 +13,15 @@ ghost use Rattle.py_statements.specs.Augmented.{change_seen, FoundChange, instea
 ghost use Rattle.py_frames.specs.Frames.{GoesOn};
 
 use amh_host::{Budget, NoMemory, Place};
-use py_turns::attribute_store::{indexed, store_attribute, store_index};
-use py_turns::binds::name_bound;
 use py_frames::frame::{Changed, Frame, Now, StmtFrame};
 use py_frames::functions::Functions;
 use py_frames::going::{Going, ask, told, wait_for};
 use py_frames::leaf::{PartAt, operator_of, place_of};
-use py_turns::operators::{is_thing, operated, operator_request, two_vals, used_after};
 use py_frames::state::{Got, Halt};
 use py_tree::{Expr, ExprKind, Name, Operator, Stmt, StmtKind};
+use py_turns::attribute_store::{indexed, store_attribute, store_index};
+use py_turns::binds::name_bound;
+use py_turns::operators::{is_thing, operated, operator_request, two_vals, used_after};
 use py_values::{Builtin, Frozen, PyOp, Val, ValueStop};
 
 /// The parts of an augmented assignment.

@@ -10,15 +10,15 @@ ghost use Rattle.py_frames.specs.Stmt_frames.{imports_from, imported_at};
 ghost use Rattle.py_frames.specs.Frames.{GoesOn};
 
 use crate::import_words::{import_at, import_request, imported_as};
-use py_turns::call_leaf::ask_under;
-use py_turns::expr_values::bind;
 use py_frames::frame::{Frame, Now, StmtFrame};
 use py_frames::functions::Functions;
 use py_frames::going::Going;
 use py_frames::request::Cause;
 use py_frames::state::{Got, Halt};
-use py_turns::stmt_plain::{comes, stops};
 use py_tree::{Imported, Name, Stmt, StmtKind};
+use py_turns::call_leaf::ask_under;
+use py_turns::expr_values::bind;
+use py_turns::stmt_plain::{comes, stops};
 use py_values::{Frozen, Scope, Val};
 
 // Whether a scope is the module's.

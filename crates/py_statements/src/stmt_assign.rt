@@ -12,17 +12,17 @@ ghost use Rattle.py_frames.specs.Stmt_begun.{run_after, is_assign};
 ghost use Rattle.py_frames.specs.Stmt_frames.{targets_of_step};
 ghost use Rattle.py_frames.specs.Frames.{GoesOn, KeepsRoom, within};
 
-use py_turns::at_once::at_once;
-use py_turns::binds::name_bound;
-use py_turns::block::leaves;
 use py_frames::frame::{Frame, Now, Purpose, StmtFrame};
 use py_frames::functions::Functions;
 use py_frames::going::Going;
 use py_frames::leaf::copied;
 use py_frames::state::{Got, Halt};
-use py_turns::stmt_plain::comes;
 use py_frames::stmt_purpose::purpose_of;
 use py_tree::{Expr, ExprKind, Name, Stmt, StmtKind};
+use py_turns::at_once::at_once;
+use py_turns::binds::name_bound;
+use py_turns::block::leaves;
+use py_turns::stmt_plain::comes;
 use py_values::{Frozen, Val};
 use py_walks::target_turns::assign_under;
 

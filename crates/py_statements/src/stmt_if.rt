@@ -9,16 +9,16 @@ ghost use Rattle.py_frames.specs.Stmt_begun.{is_if};
 ghost use Rattle.py_frames.specs.Stmt_frames.{branch_came, branches_of, other_of};
 ghost use Rattle.py_frames.specs.Frames.{GoesOn};
 
-use py_turns::at_once::wait_or_come;
-use py_turns::block::run_block;
 use py_frames::frame::{Frame, Now, StmtFrame};
 use py_frames::functions::Functions;
 use py_frames::going::Going;
 use py_frames::leaf::place_of;
 use py_frames::request::Cause;
 use py_frames::state::{Got, Halt};
-use py_turns::stmt_plain::{comes, stops};
 use py_tree::{Block, Branch, Expr, Stmt, StmtKind};
+use py_turns::at_once::wait_or_come;
+use py_turns::block::run_block;
+use py_turns::stmt_plain::{comes, stops};
 use py_values::{Frozen, Val};
 
 // The branch of this number, and none past the last.

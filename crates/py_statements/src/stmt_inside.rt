@@ -8,13 +8,13 @@ ghost use Rattle.py_frames.specs.Doing.{on_next};
 ghost use Rattle.py_frames.specs.Stmt_frames.{with_entered, with_bound};
 ghost use Rattle.py_frames.specs.Frames.{GoesOn};
 
-use py_turns::block::{block_under, leaves};
 use py_frames::frame::{Frame, Now, StmtFrame};
 use py_frames::functions::Functions;
 use py_frames::going::Going;
 use py_frames::state::{Got, Halt};
-use py_turns::stmt_plain::comes;
 use py_tree::{Block, Expr, Stmt, StmtKind};
+use py_turns::block::{block_under, leaves};
+use py_turns::stmt_plain::comes;
 use py_values::{Frozen, Val};
 use py_walks::target_turns::assign_under;
 

@@ -8,16 +8,16 @@ ghost use Rattle.py_frames.specs.Stmt_begun.{while_body, loop_left};
 ghost use Rattle.py_frames.specs.Stmt_frames.{while_tested, while_left};
 ghost use Rattle.py_frames.specs.Frames.{GoesOn};
 
-use py_turns::at_once::wait_or_come;
-use py_turns::block::{block_under, loop_left};
 use py_frames::frame::{Frame, Now, StmtFrame};
 use py_frames::functions::Functions;
 use py_frames::going::{Going, spend};
 use py_frames::leaf::place_of;
 use py_frames::request::Cause;
 use py_frames::state::{Got, Halt};
-use py_turns::stmt_plain::{comes, stops};
 use py_tree::{Block, Expr, Stmt, StmtKind};
+use py_turns::at_once::wait_or_come;
+use py_turns::block::{block_under, loop_left};
+use py_turns::stmt_plain::{comes, stops};
 use py_values::{Frozen, Val};
 
 /// So many turns: the test of the first of them.

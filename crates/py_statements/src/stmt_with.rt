@@ -10,17 +10,17 @@ ghost use Rattle.py_frames.specs.Stmt_frames.{with_came};
 ghost use Rattle.py_frames.specs.Frames.{GoesOn};
 
 use amh_host::Place;
-use py_turns::asks::request_of;
-use py_turns::call_leaf::ask_under;
 use py_frames::frame::{Frame, Now, StmtFrame};
 use py_frames::functions::Functions;
 use py_frames::going::{Going, wait_for};
 use py_frames::leaf::copied;
-use py_turns::operators::is_thing;
 use py_frames::request::{Act, Cause};
 use py_frames::state::{Got, Halt};
-use py_turns::stmt_plain::{comes, stops};
 use py_tree::{Block, Expr, Stmt, StmtKind};
+use py_turns::asks::request_of;
+use py_turns::call_leaf::ask_under;
+use py_turns::operators::is_thing;
+use py_turns::stmt_plain::{comes, stops};
 use py_values::{Frozen, Val};
 
 /// `with`: its context.

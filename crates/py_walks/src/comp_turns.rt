@@ -16,9 +16,7 @@ use crate::comprehensions::{element_at, element_begun, element_bound, enter_scop
 use crate::loops::row_size;
 use crate::target_turns::assign_under;
 use crate::walk_parts::{CompItem, CompParts, behind, comp_of, is_row, may_be_key};
-use py_turns::block::leaves;
 use py_frames::boxed::Boxed;
-use py_turns::expr_values::{new_dict, truth};
 use py_frames::frame::{Comprehended, Frame, Now, Walk, WalkFrame};
 use py_frames::functions::Functions;
 use py_frames::going::{Going, MOST, new_list, spend, stopped, wait_for};
@@ -26,6 +24,8 @@ use py_frames::leaf::{PartAt, place_of};
 use py_frames::request::Cause;
 use py_frames::state::{Got, Halt};
 use py_tree::Expr;
+use py_turns::block::leaves;
+use py_turns::expr_values::{new_dict, truth};
 use py_values::{Frozen, ScopeId, Val, Vals};
 
 /// What a comprehension goes over has come.

@@ -10,7 +10,6 @@ ghost use Rattle.py_walks.specs.Walk_parts.{comp_seen, Entered, row_over, where_
 ghost use Rattle.py_frames.specs.Frames.{GoesOn};
 
 use crate::walk_parts::{CompParts, comp_of, target_names};
-use py_turns::attribute_store::as_row;
 use py_frames::frame::{Comprehended, Frame, Now, Walk, WalkFrame};
 use py_frames::functions::Functions;
 use py_frames::going::{Going, wait_for};
@@ -18,6 +17,7 @@ use py_frames::leaf::PartAt;
 use py_frames::scopes::seen_from;
 use py_frames::state::{Got, Halt};
 use py_tree::Expr;
+use py_turns::attribute_store::as_row;
 use py_values::{Frozen, OwnNames, ScopeId, Val, Vals};
 
 /// Begins a comprehension: its source, which stands outside its scope.

@@ -17,14 +17,14 @@ use crate::comprehensions::element_at;
 use crate::loops::{for_body_under, for_source, row_size};
 use crate::target_turns::assign_under;
 use crate::walk_parts::{behind, is_for, is_row};
-use py_turns::block::{leaves, loop_left};
-use py_turns::expr_values::bind;
 use py_frames::frame::{Frame, Now, StmtFrame, Walk};
 use py_frames::functions::Functions;
 use py_frames::going::{Going, MOST, spend, stopped};
 use py_frames::request::Cause;
 use py_frames::state::{Got, Halt};
 use py_tree::{Block, Expr, ExprKind, Name, Stmt, StmtKind};
+use py_turns::block::{leaves, loop_left};
+use py_turns::expr_values::bind;
 use py_values::{Frozen, Val};
 
 /// The source of a `for` has come: a thing gives its elements first.

@@ -9,13 +9,13 @@ ghost use Rattle.py_frames.specs.Stmt_begun.{run_after};
 ghost use Rattle.py_frames.specs.Stmt_frames.{for_source, for_bound};
 ghost use Rattle.py_frames.specs.Frames.{GoesOn};
 
-use py_turns::attribute_store::as_row;
-use py_turns::block::run_block;
 use py_frames::frame::{Frame, Now, StmtFrame, Walk};
 use py_frames::functions::Functions;
 use py_frames::going::{Going, wait_for};
 use py_frames::state::Halt;
 use py_tree::{Block, Expr, Stmt};
+use py_turns::attribute_store::as_row;
+use py_turns::block::run_block;
 use py_values::{Frozen, Val};
 
 /// Begins a `for`: its source.

@@ -10,7 +10,6 @@ ghost use Rattle.py_frames.specs.Frames.{GoesOn, KeepsRoom, within};
 use crate::targets::{assign_name, assign_trailed, assign_tuple, counts_to, elements_of};
 use crate::walk_parts::{Parted, is_target, split, target_at, target_count};
 use amh_host::Place;
-use py_turns::block::leaves;
 use py_frames::frame::{Frame, Now, WalkFrame};
 use py_frames::functions::Functions;
 use py_frames::going::{Going, spend, stopped};
@@ -18,6 +17,7 @@ use py_frames::leaf::{PartAt, following, place_of};
 use py_frames::request::Cause;
 use py_frames::state::{Got, Halt};
 use py_tree::{Expr, ExprKind};
+use py_turns::block::leaves;
 use py_values::{Frozen, Val, Vals};
 
 /// A value goes to a target.

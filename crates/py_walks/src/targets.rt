@@ -9,9 +9,6 @@ ghost use Rattle.py_walks.specs.Walk_parts.{TellsElements};
 ghost use Rattle.py_frames.specs.Frames.{GoesOn};
 
 use amh_host::Place;
-use py_turns::at_once::wait_or_come;
-use py_turns::attribute_store::as_row;
-use py_turns::expr_values::bind;
 use py_frames::frame::{Along, CallFrame, Frame, Now, WalkFrame};
 use py_frames::functions::Functions;
 use py_frames::going::{Going, spend, stopped, wait_for};
@@ -19,6 +16,9 @@ use py_frames::leaf::{cost_of, is_trailed};
 use py_frames::request::Cause;
 use py_frames::state::{Got, Halt};
 use py_tree::{Expr, ExprKind, Name, Trailer};
+use py_turns::at_once::wait_or_come;
+use py_turns::attribute_store::as_row;
+use py_turns::expr_values::bind;
 use py_values::{Frozen, Val, Vals, ValueStop};
 
 // A name is bound.

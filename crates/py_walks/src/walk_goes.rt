@@ -7,12 +7,12 @@ ghost use Rattle.py_frames.specs.Frames.{GoesOn};
 use crate::comp_turns::{bound_left, made_came, pair_made_came, source_row_came, tested_came};
 use crate::comprehensions::source_came;
 use crate::target_turns::{unpacked, unpacking_left};
-use py_turns::attribute_store::store_index;
-use py_turns::block::value_come;
 use py_frames::frame::{Now, WalkFrame};
 use py_frames::functions::Functions;
 use py_frames::going::Going;
 use py_frames::state::{Got, Halt};
+use py_turns::attribute_store::store_index;
+use py_turns::block::value_come;
 use py_values::{Frozen, Val};
 
 // Whether a frame waits for more than a value.
