@@ -6,7 +6,7 @@ use crate::cell::CellKind;
 use crate::op::Op;
 
 /// The row of an operator: the cell that makes it, or `Many`, and its number of operands, 1 or 2.
-#[derive(Clone, Copy)]
+#[derive(Clone, Copy, Debug, PartialEq, Eq)]
 pub struct OpRow {
     pub op: Op,
     pub cell: CellKind,
@@ -14,7 +14,7 @@ pub struct OpRow {
 }
 
 /// The operators, a row for each.
-#[derive(Clone, Copy)]
+#[derive(Clone, Copy, Debug)]
 pub struct OpTable<const N: usize> {
     pub rows: [OpRow; N],
 }
