@@ -3,7 +3,7 @@
 use amh_host::{NoMemory, Place};
 
 /// Why a module gives no design, and where.
-#[derive(Clone, Copy, Debug, PartialEq, Eq, Drop)]
+#[derive(Clone, Copy, PartialEq, Eq, Drop)]
 pub enum ResolveStop {
     /// A name of a domain is defined again.
     DomainClash(Place),

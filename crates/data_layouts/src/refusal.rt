@@ -3,7 +3,7 @@
 use amh_host::NoMemory;
 
 /// Why a layout or an enumeration is refused. Of several reasons `Repeated` is told before `NotFitting`, and `Width` last.
-#[derive(Clone, Copy, Debug, PartialEq, Eq, Drop)]
+#[derive(Clone, Copy, PartialEq, Eq, Drop)]
 pub enum LayoutStop {
     /// It would be wider than 128 bits.
     Width,

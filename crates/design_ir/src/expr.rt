@@ -7,7 +7,7 @@ use shape_rules::{Op, Shape};
 
 /// What a value is matched with: its bits, with zeros above its width, are to be `bits` under the mask.
 /// The bits are within the mask.
-#[derive(Clone, Copy, Debug, PartialEq, Eq, Drop)]
+#[derive(Clone, Copy, PartialEq, Eq, Drop)]
 pub struct Pattern {
     pub mask: u128,
     pub bits: u128,

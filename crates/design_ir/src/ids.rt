@@ -11,11 +11,11 @@ pub struct SigId(pub u32);
 pub struct ExprId(pub u32);
 
 /// The number of a domain in its design.
-#[derive(Clone, Copy, Debug, PartialEq, Eq, Drop)]
+#[derive(Clone, Copy, PartialEq, Eq, Drop)]
 pub struct DomainId(pub u16);
 
 /// The number of a memory in its design.
-#[derive(Clone, Copy, Debug, PartialEq, Eq, Drop)]
+#[derive(Clone, Copy, PartialEq, Eq, Drop)]
 pub struct MemId(pub u16);
 
 /// A list of expressions by number.

@@ -2,7 +2,7 @@
 
 /// Why a pool refuses a signal or an expression. Of several reasons the first in this order is told, but for
 /// `Width`, which comes after `BadOperand`.
-#[derive(Clone, Copy, Debug, PartialEq, Eq, Drop)]
+#[derive(Clone, Copy, PartialEq, Eq, Drop)]
 pub enum PoolStop {
     /// The shape of the expression, or the work shape of its operator, would be wider than 128 bits.
     Width,

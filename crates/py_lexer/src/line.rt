@@ -15,7 +15,7 @@ pub struct Line {
 }
 
 /// Why a text has no logical lines.
-#[derive(Clone, Copy, Debug, PartialEq, Eq, Drop)]
+#[derive(Clone, Copy, PartialEq, Eq, Drop)]
 pub enum LexStop {
     /// The first fault is here.
     Subset(Place),

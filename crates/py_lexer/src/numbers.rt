@@ -9,7 +9,7 @@ use crate::piece::{Front, Piece};
 use crate::token::TokenForm;
 
 /// A whole number: its base, how many characters stand before its digits, and how many it takes in all.
-#[derive(Clone, Copy, Debug, PartialEq, Eq, Drop)]
+#[derive(Clone, Copy, PartialEq, Eq, Drop)]
 pub struct Numeral {
     pub base: u32,
     pub prefix: usize,
@@ -18,7 +18,7 @@ pub struct Numeral {
 
 /// The parts of a decimal: how many digits stand before the point and behind it, how many characters these and
 /// the point take, how many stand before the exponent's digits, and how many digits the exponent has.
-#[derive(Clone, Copy, Debug, PartialEq, Eq, Drop)]
+#[derive(Clone, Copy, PartialEq, Eq, Drop)]
 pub struct Parts {
     pub whole: usize,
     pub fraction: usize,

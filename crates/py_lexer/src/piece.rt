@@ -4,7 +4,7 @@ use crate::token::TokenForm;
 use amh_host::Place;
 
 /// The three pairs of brackets.
-#[derive(Clone, Copy, Debug, PartialEq, Eq, Drop)]
+#[derive(Clone, Copy, PartialEq, Eq, Drop)]
 pub enum Bracket {
     Round,
     Square,
@@ -12,7 +12,7 @@ pub enum Bracket {
 }
 
 /// What a piece of a text is.
-#[derive(Clone, Copy, Debug, PartialEq, Eq, Drop)]
+#[derive(Clone, Copy, PartialEq, Eq, Drop)]
 pub enum Piece {
     Space,
     Tab,
@@ -33,21 +33,21 @@ pub enum Piece {
 }
 
 /// A piece, and how many characters it takes.
-#[derive(Clone, Copy, Debug, PartialEq, Eq, Drop)]
+#[derive(Clone, Copy, PartialEq, Eq, Drop)]
 pub struct Front {
     pub piece: Piece,
     pub width: usize,
 }
 
 /// How far a walk over a text has come: in bytes, and the place of the next character.
-#[derive(Clone, Copy, Debug, PartialEq, Eq, Drop)]
+#[derive(Clone, Copy, PartialEq, Eq, Drop)]
 pub struct Mark {
     pub byte: u32,
     pub place: Place,
 }
 
 /// A piece between the marks before and behind it.
-#[derive(Clone, Copy, Debug, PartialEq, Eq, Drop)]
+#[derive(Clone, Copy, PartialEq, Eq, Drop)]
 pub struct Placed {
     pub piece: Piece,
     pub from: Mark,
@@ -55,7 +55,7 @@ pub struct Placed {
 }
 
 /// A bracket that stands open.
-#[derive(Clone, Copy, Debug, PartialEq, Eq, Drop)]
+#[derive(Clone, Copy, PartialEq, Eq, Drop)]
 pub struct Opening {
     pub bracket: Bracket,
     pub place: Place,

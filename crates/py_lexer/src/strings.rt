@@ -12,7 +12,7 @@ use amh_host::NoMemory;
 use std::alloc::Global;
 
 /// How a string is written: its quote, whether it stands three times, and whether the string may have holes.
-#[derive(Clone, Copy, Debug, PartialEq, Eq, Drop)]
+#[derive(Clone, Copy, PartialEq, Eq, Drop)]
 pub struct Style {
     pub quote: char,
     pub triple: bool,
@@ -20,7 +20,7 @@ pub struct Style {
 }
 
 /// What stands at the front of the rest of a string.
-#[derive(Clone, Copy, Debug, PartialEq, Eq, Drop)]
+#[derive(Clone, Copy, PartialEq, Eq, Drop)]
 pub enum Part {
     /// So many characters of the string.
     Inner(usize),
@@ -31,7 +31,7 @@ pub enum Part {
 }
 
 /// How a string goes on behind its opening quotes.
-#[derive(Clone, Copy, Debug, PartialEq, Eq, Drop)]
+#[derive(Clone, Copy, PartialEq, Eq, Drop)]
 pub enum Body {
     /// With so many characters, the closing quotes among them.
     Closed(usize),

@@ -3,7 +3,7 @@
 use amh_host::{Items, Place};
 
 /// What a token is, after Python's lexical analysis.
-#[derive(Clone, Copy, Debug, PartialEq, Eq, Drop)]
+#[derive(Clone, Copy, PartialEq, Eq, Drop)]
 pub enum TokenForm {
     /// A name that is no keyword.
     Name,
@@ -23,7 +23,7 @@ pub enum TokenForm {
 
 /// A token, from its first byte in the source up to the byte behind its last one, at the place of its first
 /// character.
-#[derive(Clone, Copy, Debug, PartialEq, Eq, Drop)]
+#[derive(Clone, Copy, PartialEq, Eq, Drop)]
 pub struct Token {
     pub form: TokenForm,
     pub start: u32,

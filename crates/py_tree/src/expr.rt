@@ -9,7 +9,7 @@ use std::alloc::Global;
 use std::rc::Rc;
 
 /// The constants that are keywords.
-#[derive(Clone, Copy, Debug, PartialEq, Eq, Drop)]
+#[derive(Clone, Copy, PartialEq, Eq, Drop)]
 pub enum Constant {
     Nothing,
     True,
@@ -17,7 +17,7 @@ pub enum Constant {
 }
 
 /// The operators that stand between two operands, and before the `=` of an augmented assignment.
-#[derive(Clone, Copy, Debug, PartialEq, Eq, Drop)]
+#[derive(Clone, Copy, PartialEq, Eq, Drop)]
 pub enum Operator {
     Mul,
     FloorDiv,
@@ -44,7 +44,7 @@ pub enum Operator {
 }
 
 /// The signs that stand before one operand.
-#[derive(Clone, Copy, Debug, PartialEq, Eq, Drop)]
+#[derive(Clone, Copy, PartialEq, Eq, Drop)]
 pub enum Sign {
     Minus,
     Plus,

@@ -1,7 +1,7 @@
 // The kinds of cells that RTLIL text may have here.
 
 /// A cell of the Yosys cell library, or that an operator takes several of them.
-#[derive(Clone, Copy, Debug, PartialEq, Eq, Drop)]
+#[derive(Clone, Copy, PartialEq, Eq, Drop)]
 pub enum CellKind {
     Not,
     And,

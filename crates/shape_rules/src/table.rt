@@ -6,7 +6,7 @@ use crate::cell::CellKind;
 use crate::op::Op;
 
 /// The row of an operator: the cell that makes it, or `Many`, and its number of operands, 1 or 2.
-#[derive(Clone, Copy, Debug, PartialEq, Eq)]
+#[derive(Clone, Copy, PartialEq, Eq)]
 pub struct OpRow {
     pub op: Op,
     pub cell: CellKind,
@@ -14,7 +14,7 @@ pub struct OpRow {
 }
 
 /// The operators, a row for each.
-#[derive(Clone, Copy, Debug)]
+#[derive(Clone, Copy)]
 pub struct OpTable<const N: usize> {
     pub rows: [OpRow; N],
 }
