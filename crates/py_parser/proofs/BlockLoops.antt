@@ -1,12 +1,14 @@
 -- A loop that reads lines is the reader `repeat` of blocks, turn by turn; and a block by the room that is left.
 use Rattle.std.proofs.Common.{◌≡◌, ℕ, ◌<◌, ◌≤◌, ◌≢◌, ◌-◌, ◌+◌, suc, zero, refl, ap, ◌∙◌, sym, List, [], ◌∷◌, ◌++◌, map, arith}
-use Rattle.std.specs.Prelude.{Bool, true, codes, Option, if◌then◌else◌}
+use Rattle.std.specs.Prelude.{Bool, true, codes, Option, Some, None, if◌then◌else◌}
 use Rattle.amh_host.specs.declared.place.Place.{Place}
 use Rattle.py_tree.specs.Tree.{Tree}
-use Rattle.py_tree.specs.Steps.{Step, If, Steps, branches, else_of}
-use Rattle.py_grammar.specs.Blocks.{Line, Around}
-use Rattle.py_grammar.specs.Block_reading.{Part, Taken, Stuck, Takes, ◌>>=◌, Form, Inner, many, maybe, repeat, next_at, elif_block, else_block, choice, statements, block}
-use Rattle.py_parser.specs.Files.{file_form, within}
+use Rattle.py_tree.specs.Steps.{Step, If, Steps, branches, else_of as other_of}
+use Rattle.py_grammar.specs.Blocks.{Line, Around, inside}
+use Rattle.py_grammar.specs.Block_reading.{Part, Taken, Stuck, Takes, ◌>>=◌, Form, Inner, made, many, maybe, repeat, next_at, suite, elif_block, else_block, behind_elif, behind_else, compound, choice, statements, block}
+use Rattle.py_grammar.specs.Shapes.{Head, IfHead, ElifHead, ElseHead, WhileHead, ForHead, WithHead, DefHead, ClassHead, Noted, LineForm, Simple, Headed}
+use Rattle.py_parser.specs.Line_forms.{behind_if, elif_of, else_of}
+use Rattle.py_parser.specs.Files.{file_form, within, headed}
 use Rattle.py_parser.proofs.Lists.{map_pushed}
 
 pub repeat_step : {A : Type 0} (goes : List Line → Bool) (rd : Takes A) (most turn : ℕ) (xs : List A) (ls : List Line) → turn < most → repeat goes rd (most - turn) xs ls ≡ (if goes ls then (rd ls >>= λ x r. repeat goes rd (most - (turn + 1)) (xs ++ x ∷ []) r) else Taken xs ls)
@@ -52,9 +54,51 @@ within_none room around indent ls h = ap (λ n. within n around indent ls) h
 pub ruleset depths = (within_step, within_none)
 
 -- an `if`, by what is read of its parts
-pub choice_reads : (form : Form) (inner : Inner) (around : Around) (indent : ℕ) (p : Place) (b : Tree × Steps) (bs : List (Tree × Steps)) (o : Option Steps) (s : Step) (ls r q : List Line) → many (next_at indent (codes "elif")) (elif_block form inner around indent) (b ∷ []) ls ≡ Taken bs r → maybe (next_at indent (codes "else")) (else_block form inner around indent) r ≡ Taken o q → s ≡ If p (branches bs) (else_of o) → choice form inner around indent p b.0 b.1 ls ≡ Taken s q
+pub choice_reads : (form : Form) (inner : Inner) (around : Around) (indent : ℕ) (p : Place) (b : Tree × Steps) (bs : List (Tree × Steps)) (o : Option Steps) (s : Step) (ls r q : List Line) → many (next_at indent (codes "elif")) (elif_block form inner around indent) (b ∷ []) ls ≡ Taken bs r → maybe (next_at indent (codes "else")) (else_block form inner around indent) r ≡ Taken o q → s ≡ If p (branches bs) (other_of o) → choice form inner around indent p b.0 b.1 ls ≡ Taken s q
 unfolding choice
 choice_reads form inner around indent p b bs o s ls r q f g h =
-    ap (λ m. m >>= λ bs r. maybe (next_at indent (codes "else")) (else_block form inner around indent) r >>= λ o q. Taken (If p (branches bs) (else_of o)) q) f
-    ∙ (ap (λ m. m >>= λ o q. Taken (If p (branches bs) (else_of o)) q) g
+    ap (λ m. m >>= λ bs r. maybe (next_at indent (codes "else")) (else_block form inner around indent) r >>= λ o q. Taken (If p (branches bs) (other_of o)) q) f
+    ∙ (ap (λ m. m >>= λ o q. Taken (If p (branches bs) (other_of o)) q) g
     ∙ ap (λ (z : Step). Taken z q) (sym h))
+
+-- a head by the block that it stands before
+pub compound_reads : (form : Form) (inner : Inner) (around : Around) (indent : ℕ) (here : List Line) (h : Head) (behind : Option (Noted Step)) (ls : List Line) → compound form inner around indent here h behind ls ≡ (if behind_if h then Stuck here else (suite inner (inside around h) indent behind ls >>= headed form inner around indent here h))
+compound_reads form inner around indent here (IfHead p e) behind ls = refl
+compound_reads form inner around indent here (ElifHead p e) behind ls = refl
+compound_reads form inner around indent here (ElseHead p) behind ls = refl
+compound_reads form inner around indent here (WhileHead p e) behind ls = refl
+compound_reads form inner around indent here (ForHead p t e) behind ls = refl
+compound_reads form inner around indent here (WithHead p e t) behind ls = refl
+compound_reads form inner around indent here (DefHead p n is_async ps t) behind ls = refl
+compound_reads form inner around indent here (ClassHead p n bs) behind ls = refl
+
+-- what is read of a line that is to be an `elif`, by its parts, and of one that is to be an `else`
+abbrev elif_goes : Inner → Around → ℕ → List Line → Option (Tree × Option (Noted Step)) → List Line → Part (Tree × Steps)
+elif_goes inner around indent here None ls = Stuck here
+elif_goes inner around indent here (Some x) ls = made (λ body. (x.0, body)) (suite inner around indent x.1) ls
+
+abbrev else_goes : Inner → Around → ℕ → List Line → Option (Option (Noted Step)) → List Line → Part Steps
+else_goes inner around indent here None ls = Stuck here
+else_goes inner around indent here (Some behind) ls = suite inner around indent behind ls
+
+pub elif_reads : (inner : Inner) (around : Around) (indent : ℕ) (here : List Line) (f : LineForm) (ls : List Line) → behind_elif inner around indent here f ls ≡ elif_goes inner around indent here (elif_of f) ls
+elif_reads inner around indent here (Simple s) ls = refl
+elif_reads inner around indent here (Headed (IfHead p e, noted) behind) ls = refl
+elif_reads inner around indent here (Headed (ElifHead p e, noted) behind) ls = refl
+elif_reads inner around indent here (Headed (ElseHead p, noted) behind) ls = refl
+elif_reads inner around indent here (Headed (WhileHead p e, noted) behind) ls = refl
+elif_reads inner around indent here (Headed (ForHead p t e, noted) behind) ls = refl
+elif_reads inner around indent here (Headed (WithHead p e t, noted) behind) ls = refl
+elif_reads inner around indent here (Headed (DefHead p n is_async ps t, noted) behind) ls = refl
+elif_reads inner around indent here (Headed (ClassHead p n bs, noted) behind) ls = refl
+
+pub else_reads : (inner : Inner) (around : Around) (indent : ℕ) (here : List Line) (f : LineForm) (ls : List Line) → behind_else inner around indent here f ls ≡ else_goes inner around indent here (else_of f) ls
+else_reads inner around indent here (Simple s) ls = refl
+else_reads inner around indent here (Headed (IfHead p e, noted) behind) ls = refl
+else_reads inner around indent here (Headed (ElifHead p e, noted) behind) ls = refl
+else_reads inner around indent here (Headed (ElseHead p, noted) behind) ls = refl
+else_reads inner around indent here (Headed (WhileHead p e, noted) behind) ls = refl
+else_reads inner around indent here (Headed (ForHead p t e, noted) behind) ls = refl
+else_reads inner around indent here (Headed (WithHead p e t, noted) behind) ls = refl
+else_reads inner around indent here (Headed (DefHead p n is_async ps t, noted) behind) ls = refl
+else_reads inner around indent here (Headed (ClassHead p n bs, noted) behind) ls = refl

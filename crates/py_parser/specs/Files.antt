@@ -6,7 +6,9 @@ use Rattle.py_tree.specs.Programs.{program_of}
 use Rattle.py_tree.specs.declared.stmt.Program.{Program}
 use Rattle.py_grammar.specs.Line_reading.{line_of}
 use Rattle.py_grammar.specs.Blocks.{Line, Around, IsProgram, IsRefusedLine}
-use Rattle.py_grammar.specs.Block_reading.{Part, Taken, Stuck, Form, Inner, block, Verdict, Whole, Refused}
+use Rattle.py_tree.specs.Steps.{Step, Steps, While, For, With, Def, Class, Fun}
+use Rattle.py_grammar.specs.Shapes.{Head, IfHead, ElifHead, ElseHead, WhileHead, ForHead, WithHead, DefHead, ClassHead}
+use Rattle.py_grammar.specs.Block_reading.{Part, Taken, Stuck, Takes, Form, Inner, choice, block, Verdict, Whole, Refused}
 use Rattle.py_parser.specs.declared.block_parts.LineWords.{LineWords}
 use Rattle.py_parser.specs.declared.block_parts.Around.{Around as AroundOf}
 use Rattle.py_parser.specs.declared.block_parts.Halt.{Halt}
@@ -47,6 +49,17 @@ Halted lines halts.NoMemory part = Unit {0}
 abbrev pub Gives : {X A : Type 0} → (X → A) → List LineWords → Result (X × ℕ) Halt → Part A → Type 0
 Gives view lines (Ok x) part = part ≡ Taken (view x.0) (lines_from lines x.1)
 Gives view lines (Err h) part = Halted lines h part
+
+-- a head with its block, in front of the lines behind that
+abbrev pub headed : Form → Inner → Around → ℕ → List Line → Head → Steps → Takes Step
+headed form inner around indent here (IfHead p e) body ls = choice form inner around indent p e body ls
+headed form inner around indent here (ElifHead p e) body ls = Stuck here
+headed form inner around indent here (ElseHead p) body ls = Stuck here
+headed form inner around indent here (WhileHead p e) body ls = Taken (While p e body) ls
+headed form inner around indent here (ForHead p t e) body ls = Taken (For p t e body) ls
+headed form inner around indent here (WithHead p e t) body ls = Taken (With p e t body) ls
+headed form inner around indent here (DefHead p n is_async ps t) body ls = Taken (Def p (Fun p n is_async ps t body)) ls
+headed form inner around indent here (ClassHead p n bs) body ls = Taken (Class p n bs body) ls
 
 -- ---- whole files
 

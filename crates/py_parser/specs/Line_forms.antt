@@ -1,10 +1,10 @@
 -- What contracts see of a line in memory.
 -- Internal: no rule of the language.
-use Rattle.std.specs.Prelude.{ℕ, List, [], ◌∷◌, ◌++◌, map, option_map}
+use Rattle.std.specs.Prelude.{ℕ, Bool, true, false, List, [], ◌∷◌, ◌++◌, Option, Some, None, map, option_map}
 use Rattle.amh_host.specs.declared.place.Place.{Place}
 use Rattle.py_tree.specs.Tree.{Tree, perhaps}
 use Rattle.py_tree.specs.Seen.{tree, trailer_of}
-use Rattle.py_tree.specs.Steps.{bases_of}
+use Rattle.py_tree.specs.Steps.{Step, bases_of}
 use Rattle.py_tree.specs.Programs.{step_of, parameter_of}
 use Rattle.py_parser.specs.declared.phrase.Phrase.{Phrase}
 use Rattle.py_parser.specs.declared.line.Noted.{Noted as NotedOf}
@@ -47,3 +47,18 @@ head_of (heads.Class p n a) = ClassHead p n (bases_of (option_map trailer_of a))
 abbrev pub form_of : FormOf → LineForm
 form_of (forms.Simple s) = Simple (noted_of step_of s)
 form_of (forms.Headed h s) = Headed (noted_of head_of h) (option_map (noted_of step_of) s)
+
+-- whether a head stands behind an `if` only
+abbrev pub behind_if : Head → Bool
+behind_if (ElifHead p e) = true
+behind_if (ElseHead p) = true
+behind_if _ = false
+
+-- the parts of a line that is an `elif`, and of one that is an `else`
+abbrev pub elif_of : LineForm → Option (Tree × Option (Noted Step))
+elif_of (Headed (ElifHead p e, noted) behind) = Some (e, behind)
+elif_of _ = None
+
+abbrev pub else_of : LineForm → Option (Option (Noted Step))
+else_of (Headed (ElseHead p, noted) behind) = Some behind
+else_of _ = None

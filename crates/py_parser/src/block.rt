@@ -4,11 +4,11 @@ ghost use Rattle.std.specs.Prelude.{◌≡◌, ◌∷◌, [], map, option_map, c
 ghost use Rattle.py_tree.specs.Programs.{step_of, steps_of, branch_of};
 ghost use Rattle.py_grammar.specs.Block_reading.{block as block_by, statements, statement, deeper, suite, elif_block, else_block, choice as choice_by, compound, many, maybe, stays as stays_at, next_at as key_at};
 ghost use Rattle.py_parser.specs.Line_forms.{noted_of, head_of};
-ghost use Rattle.py_parser.specs.Files.{lines_from, around_of, file_form, within, Gives};
+ghost use Rattle.py_parser.specs.Files.{lines_from, around_of, file_form, within, headed, Gives};
 
 use crate::block_parts::{
-    Halt, LineWords, ReadLine, Site, block, block_of_one, choice, function, inside, line_at,
-    lines_left, next_at, one_branch, read_form, stays,
+    Halt, LineWords, ReadLine, Site, behind_if, block, block_of_one, choice, elif_parts, else_part,
+    function, inside, line_at, lines_left, next_at, one_branch, read_form, stays,
 };
 use crate::line::{Head, LineForm, Noted};
 use amh_host::Place;
@@ -77,6 +77,7 @@ fn read_statement<R: ReadLine>(
 
 /// A head with what it stands before, behind the line of the head; `elif` and `else` stand behind an `if` only.
 #[cycle(block)]
+#[tactic(auto, using(crate::proofs::BlockLoops::compound_reads))]
 fn read_compound<R: ReadLine>(
     alloc: Global,
     reader: &R,
@@ -89,17 +90,43 @@ fn read_compound<R: ReadLine>(
 ) -> Result<(Stmt, usize), Halt>
     ensures { Gives step_of lines.now result (compound file_form (within site.room) (around_of site.around) site.indent (lines_from lines.now here) (head_of head) (option_map (noted_of step_of) behind) (lines_from lines.now at)) }
 {
+    if behind_if(&head) {
+        drop(head);
+        drop(behind);
+        return Err(Halt::Stuck(here));
+    }
     let around = inside(site.around, &head);
     let deep = Site { around, ..site };
+    match read_suite(alloc, reader, lines, at, deep, behind) {
+        Ok((body, at)) => read_headed(alloc, reader, lines, here, at, site, head, body),
+        Err(halt) => {
+            drop(head);
+            Err(halt)
+        }
+    }
+}
+
+/// A head with its block; behind that of an `if` stand each `elif` and the `else`.
+#[cycle(block)]
+fn read_headed<R: ReadLine>(
+    alloc: Global,
+    reader: &R,
+    lines: &[LineWords],
+    here: usize,
+    at: usize,
+    site: Site,
+    head: Head,
+    body: Block,
+) -> Result<(Stmt, usize), Halt>
+    ensures { Gives step_of lines.now result (headed file_form (within site.room) (around_of site.around) site.indent (lines_from lines.now here) (head_of head) (steps_of body) (lines_from lines.now at)) }
+{
     match head {
         Head::Elif(_place, _test) => Err(Halt::Stuck(here)),
         Head::Else(_place) => Err(Halt::Stuck(here)),
         Head::If(place, test) => {
-            let (body, at) = read_suite(alloc, reader, lines, at, site, behind)?;
             read_choice(alloc, reader, lines, at, site, place, Branch { test, body })
         }
         Head::While(place, test) => {
-            let (body, at) = read_suite(alloc, reader, lines, at, deep, behind)?;
             Ok((Stmt::new(alloc, place, StmtKind::While(test, body))?, at))
         }
         Head::For {
@@ -107,7 +134,6 @@ fn read_compound<R: ReadLine>(
             targets,
             source,
         } => {
-            let (body, at) = read_suite(alloc, reader, lines, at, deep, behind)?;
             let kind = StmtKind::For {
                 targets,
                 source,
@@ -120,7 +146,6 @@ fn read_compound<R: ReadLine>(
             context,
             target,
         } => {
-            let (body, at) = read_suite(alloc, reader, lines, at, site, behind)?;
             let kind = StmtKind::With {
                 context,
                 target,
@@ -135,7 +160,6 @@ fn read_compound<R: ReadLine>(
             params,
             result,
         } => {
-            let (body, at) = read_suite(alloc, reader, lines, at, deep, behind)?;
             let whole = Function {
                 place,
                 name,
@@ -151,7 +175,6 @@ fn read_compound<R: ReadLine>(
             name,
             arguments,
         } => {
-            let (body, at) = read_suite(alloc, reader, lines, at, deep, behind)?;
             let kind = StmtKind::Class {
                 name,
                 arguments,
@@ -209,7 +232,7 @@ fn read_branches<R: ReadLine>(
 
 /// `elif` with what it stands before.
 #[cycle(block)]
-#[tactic(auto, unfolding(py_grammar::specs::Block_reading::elif_block))]
+#[tactic(auto, using(crate::proofs::BlockLoops::elif_reads), unfolding(py_grammar::specs::Block_reading::elif_block))]
 fn read_elif<R: ReadLine>(
     alloc: Global,
     reader: &R,
@@ -220,17 +243,12 @@ fn read_elif<R: ReadLine>(
     ensures { Gives branch_of lines.now result (elif_block file_form (within site.room) (around_of site.around) site.indent (lines_from lines.now at)) }
 {
     let (form, after) = read_form(alloc, reader, lines, at, site)?;
-    match form {
-        LineForm::Headed(head, behind) => {
-            match head.item {
-                Head::Elif(_place, test) => {
-                    let (body, after) = read_suite(alloc, reader, lines, after, site, behind)?;
-                    Ok((Branch { test, body }, after))
-                }
-                _other => Err(Halt::Stuck(at)),
-            }
-        }
-        LineForm::Simple(_stmt) => Err(Halt::Stuck(at)),
+    let Some((test, behind)) = elif_parts(form) else {
+        return Err(Halt::Stuck(at));
+    };
+    match read_suite(alloc, reader, lines, after, site, behind) {
+        Ok((body, after)) => Ok((Branch { test, body }, after)),
+        Err(halt) => Err(halt),
     }
 }
 
@@ -254,7 +272,7 @@ fn read_other<R: ReadLine>(
 
 /// `else` with what it stands before.
 #[cycle(block)]
-#[tactic(auto, unfolding(py_grammar::specs::Block_reading::else_block))]
+#[tactic(auto, using(crate::proofs::BlockLoops::else_reads), unfolding(py_grammar::specs::Block_reading::else_block))]
 fn read_else<R: ReadLine>(
     alloc: Global,
     reader: &R,
@@ -265,12 +283,9 @@ fn read_else<R: ReadLine>(
     ensures { Gives steps_of lines.now result (else_block file_form (within site.room) (around_of site.around) site.indent (lines_from lines.now at)) }
 {
     let (form, after) = read_form(alloc, reader, lines, at, site)?;
-    match form {
-        LineForm::Headed(head, behind) => match head.item {
-            Head::Else(_place) => read_suite(alloc, reader, lines, after, site, behind),
-            _other => Err(Halt::Stuck(at)),
-        },
-        LineForm::Simple(_stmt) => Err(Halt::Stuck(at)),
+    match else_part(form) {
+        Some(behind) => read_suite(alloc, reader, lines, after, site, behind),
+        None => Err(Halt::Stuck(at)),
     }
 }
 

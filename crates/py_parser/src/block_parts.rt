@@ -1,19 +1,20 @@
 // What the reader of blocks is made of: lines, where a statement stands, and the line that comes next.
 ghost use Rattle.std.specs.Prelude.{◌≡◌, ◌∷◌, [], IfOk, length, map, option_map};
+ghost use Rattle.py_tree.specs.Seen.{tree};
 ghost use Rattle.py_tree.specs.Programs.{step_of, steps_of, branch_of, body_of};
-ghost use Rattle.py_tree.specs.Steps.{Def, If, steps, branches as branches_of, else_of};
+ghost use Rattle.py_tree.specs.Steps.{Def, If, steps, branches as branches_of, else_of as other_of};
 ghost use Rattle.py_grammar.specs.Words.{next_key};
 ghost use Rattle.py_grammar.specs.Readers.{Reads};
 ghost use Rattle.py_grammar.specs.Blocks.{step_fits, inside as inside_of, stands as stands_in};
 ghost use Rattle.py_grammar.specs.Block_reading.{stays as stays_at, next_at as key_at, form_fits as fits_form, behind_fits as fits_behind, one_line};
-ghost use Rattle.py_parser.specs.Line_forms.{noted_of, head_of, form_of};
+ghost use Rattle.py_parser.specs.Line_forms.{noted_of, head_of, form_of, behind_if, elif_of, else_of};
 ghost use Rattle.py_parser.specs.Files.{lines_from, around_of, file_form, Gives, Comes};
 
 use crate::line::{Head, LineForm, Noted};
 use crate::take::key_next;
 use amh_host::{NoMemory, Place};
 use py_grammar::{Stop, Word};
-use py_tree::{Block, Branch, Function, Stmt, StmtKind};
+use py_tree::{Block, Branch, Expr, Function, Stmt, StmtKind};
 use std::alloc::{AllocFailed, Global};
 use std::rc::Rc;
 
@@ -124,6 +125,56 @@ pub(crate) fn inside(around: Around, head: &Head) -> Around
     }
 }
 
+/// Whether a head stands behind an `if` only.
+pub(crate) fn behind_if(head: &Head) -> bool
+    ensures { result ≡ behind_if (head_of head.now) }
+{
+    match head {
+        Head::Elif(_, _) | Head::Else(_) => true,
+        _ => false,
+    }
+}
+
+/// The test of an `elif` and the statement behind its colon, of a line that is one.
+pub(crate) fn elif_parts(form: LineForm) -> Option<(Expr, Option<Noted<Stmt>>)>
+    ensures { option_map (λ x. (tree x.0, option_map (noted_of step_of) x.1)) result ≡ elif_of (form_of form) }
+{
+    match form {
+        LineForm::Headed(head, behind) => match head.item {
+            Head::Elif(_place, test) => Some((test, behind)),
+            other => {
+                drop(other);
+                drop(behind);
+                None
+            }
+        },
+        LineForm::Simple(stmt) => {
+            drop(stmt);
+            None
+        }
+    }
+}
+
+/// The statement behind the colon of an `else`, if there is one, of a line that is one.
+pub(crate) fn else_part(form: LineForm) -> Option<Option<Noted<Stmt>>>
+    ensures { option_map (option_map (noted_of step_of)) result ≡ else_of (form_of form) }
+{
+    match form {
+        LineForm::Headed(head, behind) => match head.item {
+            Head::Else(_place) => Some(behind),
+            other => {
+                drop(other);
+                drop(behind);
+                None
+            }
+        },
+        LineForm::Simple(stmt) => {
+            drop(stmt);
+            None
+        }
+    }
+}
+
 /// Whether a line fits its surroundings, with the statement behind its colon.
 fn form_fits(around: Around, form: &LineForm) -> bool
     ensures { result ≡ fits_form (around_of around) (form_of form.now) }
@@ -189,8 +240,15 @@ pub(crate) fn read_form<R: ReadLine>(
         return Err(Halt::Stuck(at));
     }
     match reader.read(alloc, &line.words) {
-        Ok(form) if form_fits(site.around, &form) => Ok((form, at + 1)),
-        Ok(_) | Err(Stop::Unread) => Err(Halt::Stuck(at)),
+        Ok(form) => {
+            if form_fits(site.around, &form) {
+                Ok((form, at + 1))
+            } else {
+                drop(form);
+                Err(Halt::Stuck(at))
+            }
+        }
+        Err(Stop::Unread) => Err(Halt::Stuck(at)),
         Err(Stop::NoMemory) => Err(Halt::NoMemory),
     }
 }
@@ -229,7 +287,10 @@ pub(crate) fn function(alloc: Global, place: Place, function: Function) -> Resul
 {
     match Rc::new(alloc, function) {
         Ok(function) => Stmt::new(alloc, place, StmtKind::Def(function)),
-        Err(_) => Err(NoMemory),
+        Err(left) => {
+            drop(left);
+            Err(NoMemory)
+        }
     }
 }
 
@@ -240,7 +301,7 @@ pub(crate) fn choice(
     branches: Vec<Branch>,
     other: Option<Block>,
 ) -> Result<Stmt, NoMemory>
-    ensures { IfOk result (λ s. step_of s ≡ If place (branches_of (map branch_of branches.items)) (else_of (option_map steps_of other))) }
+    ensures { IfOk result (λ s. step_of s ≡ If place (branches_of (map branch_of branches.items)) (other_of (option_map steps_of other))) }
 {
     Stmt::new(alloc, place, StmtKind::If(branches, other))
 }

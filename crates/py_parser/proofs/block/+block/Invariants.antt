@@ -6,16 +6,19 @@ use Rattle.py_parser.specs.Files.{lines_from, around_of, file_form, within}
 use Rattle.py_parser.proofs.block.+block.Given as goal
 
 abbrev pub decreases-read_block : goal.decreases-read_block
-decreases-read_block g l = 16 * l.site.room + 10
+decreases-read_block g l = 16 * l.site.room + 11
 
 abbrev pub decreases-read_statements : goal.decreases-read_statements
-decreases-read_statements g l = 16 * l.site.room + 9
+decreases-read_statements g l = 16 * l.site.room + 10
 
 abbrev pub decreases-read_statement : goal.decreases-read_statement
-decreases-read_statement g l = 16 * l.site.room + 8
+decreases-read_statement g l = 16 * l.site.room + 9
 
 abbrev pub decreases-read_compound : goal.decreases-read_compound
-decreases-read_compound g l = 16 * l.site.room + 7
+decreases-read_compound g l = 16 * l.site.room + 8
+
+abbrev pub decreases-read_headed : goal.decreases-read_headed
+decreases-read_headed g l = 16 * l.site.room + 7
 
 abbrev pub decreases-read_choice : goal.decreases-read_choice
 decreases-read_choice g l = 16 * l.site.room + 6
