@@ -2,7 +2,7 @@
 ghost use Rattle.std.specs.Prelude.{◌≡◌, ◌∷◌, ◌<◌, ◌≤◌, ◌^◌, IfOk, Some, None, Option, map, max, option_map, is_some, unwrap_or, ◌+◌, if◌then◌else◌};
 ghost use Rattle.py_grammar.specs.Readers.{Reads};
 ghost use Rattle.std.specs.Option.{ForSome};
-ghost use Rattle.py_tree.specs.Tree.{Tree, perhaps, Await, Power, Choice, each as each_tree};
+ghost use Rattle.py_tree.specs.Tree.{Tree, perhaps, arguments, Await, Call, Power, Choice, each as each_tree};
 ghost use Rattle.py_tree.specs.Seen.{tree, kind_tree, link_tree, pair_tree, each_of, trailer_of, argument_of};
 ghost use Rattle.py_grammar.specs.Seen.{seen, is_empty, is_lone, tuple_tree, tuple_seen, round_seen, display_seen, dict_seen, display_tree, dict_tree, rest_depth, each_seen, call_seen, call_tree, is_keyword, keywords_last, args_fit, slice_of, part_tree, part_depth, primary_seen, chain_tree, chain_seen, choice_seen};
 ghost use Rattle.py_parser.specs.Phrases.{seen_of, deep_of, listed_of, rest_of};
@@ -181,6 +181,24 @@ fn keywords_last(seen: bool, arguments: &[Argument]) -> bool
     true
 }
 
+/// A call of arguments one by one, of which those by keyword stand last.
+fn call_of(first: Argument, others: Vec<Argument>, depth: u32) -> Result<Deep<Trailer>, Stop>
+    ensures { Reads (deep_of trailer_of) result (if keywords_last (is_keyword (argument_of first)) (map argument_of others.items) then Some (Call (arguments (map argument_of (first ∷ others.items))), depth) else None) }
+{
+    if !keywords_last(is_keyword(&first), others.as_slice()) {
+        drop(first);
+        drop(others);
+        return Err(Stop::Unread);
+    }
+    match with_first(others, first) {
+        Ok(arguments) => Ok(Deep {
+            item: Trailer::Call(arguments),
+            depth,
+        }),
+        Err(_) => Err(Stop::NoMemory),
+    }
+}
+
 /// A call's arguments: the first may stand before a comprehension if it is positional, and those by keyword stand last.
 pub fn call(first: Deep<Argument>, rest: Rest<Argument>) -> Result<Deep<Trailer>, Stop>
     requires first_fits { first.depth + 1 < 2 ^ 32 }
@@ -188,17 +206,17 @@ pub fn call(first: Deep<Argument>, rest: Rest<Argument>) -> Result<Deep<Trailer>
     ensures { Reads (deep_of trailer_of) result (if args_fit (deep_of argument_of first, rest_of argument_of rest) then Some (call_seen (Some (deep_of argument_of first, rest_of argument_of rest))) else None) }
 {
     let depth = first.depth.max(depth_of_arguments(&rest)) + 1;
-    let item = match (first.item, rest) {
-        (Argument::Positional(e), Rest::Over(each)) => Trailer::CallOf(e, each.item),
-        (first, Rest::More(listed)) => {
-            if !keywords_last(is_keyword(&first), listed.items.as_slice()) {
-                return Err(Stop::Unread);
+    match rest {
+        Rest::More(listed) => call_of(first.item, listed.items, depth),
+        Rest::Over(each) => match first.item {
+            Argument::Positional(e) => {
+                let item = Trailer::CallOf(e, each.item);
+                Ok(Deep { item, depth })
             }
-            Trailer::Call(with_first(listed.items, first)?)
-        }
-        _ => return Err(Stop::Unread),
-    };
-    Ok(Deep { item, depth })
+            Argument::Starred(_e) => Err(Stop::Unread),
+            Argument::Keyword(_name, _e) => Err(Stop::Unread),
+        },
+    }
 }
 
 /// A first part and what trails it.
