@@ -153,7 +153,10 @@ impl Expr {
     {
         match Rc::new(alloc, kind) {
             Ok(kind) => Ok(Expr { place, kind }),
-            Err(_) => Err(NoMemory),
+            Err(left) => {
+                drop(left);
+                Err(NoMemory)
+            }
         }
     }
 

@@ -120,7 +120,10 @@ impl Stmt {
     {
         match Rc::new(alloc, kind) {
             Ok(kind) => Ok(Stmt { place, kind }),
-            Err(_) => Err(NoMemory),
+            Err(left) => {
+                drop(left);
+                Err(NoMemory)
+            }
         }
     }
 
