@@ -536,7 +536,10 @@ impl Frames {
     {
         match self.items.push(f) {
             Ok(()) => Ok(()),
-            Err(_) => Err(NoMemory),
+            Err(left) => {
+                drop(left);
+                Err(NoMemory)
+            }
         }
     }
 }

@@ -109,6 +109,7 @@ pub fn wait_for(
     ensures state { going.new.state ≡ going.old.state }
 {
     let Ok(part) = part.share() else {
+        drop(frame);
         return Err(Halt::NoMemory);
     };
     match going.frames.push(frame) {
@@ -132,6 +133,7 @@ pub fn wait_for_step(
     ensures state { going.new.state ≡ going.old.state }
 {
     let Ok(part) = part.share() else {
+        drop(frame);
         return Err(Halt::NoMemory);
     };
     match going.frames.push(frame) {
