@@ -161,13 +161,21 @@ fn read_class(alloc: Global, words: &[Word], room: u32) -> Result<(Head, &[Word]
     let (place, rest) = take_key(words, "class")?;
     let ((_, name), rest) = take_name(rest)?;
     let (bases, rest) = read_bases(alloc, rest, room)?;
-    let (_, rest) = take_sign(rest, ":")?;
-    let head = Head::Class {
-        place,
-        name,
-        arguments: trailer_alone(bases),
-    };
-    Ok((head, rest))
+    let arguments = trailer_alone(bases);
+    match take_sign(rest, ":") {
+        Ok((_, rest)) => {
+            let head = Head::Class {
+                place,
+                name,
+                arguments,
+            };
+            Ok((head, rest))
+        }
+        Err(stop) => {
+            drop(arguments);
+            Err(stop)
+        }
+    }
 }
 
 /// `async`, which may be left out.
