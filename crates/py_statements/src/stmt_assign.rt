@@ -86,11 +86,16 @@ pub fn wait_as(
     ensures state { going.new.state ≡ going.old.state }
 {
     let Ok(part) = part.share() else {
+        drop(frame);
+        drop(purpose);
         return Err(Halt::NoMemory);
     };
     match going.frames.push(frame) {
         Ok(()) => Ok(Now::Begin(part, purpose)),
-        Err(_) => Err(Halt::NoMemory),
+        Err(_) => {
+            drop(purpose);
+            Err(Halt::NoMemory)
+        }
     }
 }
 
