@@ -41,11 +41,10 @@ mod steps;
 mod tree;
 mod words;
 
-use amh_host::NoMemory;
 use answer::{Aspect, Question, answer};
 use std::alloc::Global;
 use std::io;
-use table_text::bytes_of;
+use table_text::{Stop, answered, bytes_of};
 
 /// How many bytes a text may have.
 const MOST: usize = 1_048_576;
@@ -55,33 +54,31 @@ fn main(rt: HostRuntime) -> io::Result<()> {
     let mut number = 0u64;
     for line in rt.lines(alloc) {
         number = number.saturating_add(1);
-        let Ok(answer) = answer_to(alloc, line?.as_str()) else {
-            return Err(io::ErrorKind::OutOfMemory.into());
-        };
-        println!(rt; "{number} {answer}")?;
+        let said = answered(alloc, said_to(alloc, line?.as_str()))?;
+        println!(rt; "{number} {said}")?;
     }
     Ok(())
 }
 
 // The answer to a line of the table.
-fn answer_to(alloc: Global, line: &str) -> Result<String, NoMemory> {
-    if let Some((word, spelled)) = line.split_once(':')
-        && let Some(question) = question_of(word)
-        && let Some(bytes) = bytes_of(alloc, spelled.as_bytes())?
-        && bytes.len() <= MOST
-    {
-        return answer(alloc, question, bytes.as_slice());
+fn said_to(alloc: Global, line: &str) -> Result<String, Stop> {
+    let Some((word, spelled)) = line.split_once(':') else {
+        return Err(Stop::NoCase);
+    };
+    let question = question_of(word)?;
+    match bytes_of(alloc, spelled.as_bytes())? {
+        Some(bytes) if bytes.len() <= MOST => answer(alloc, question, bytes.as_slice()),
+        _ => Err(Stop::NoCase),
     }
-    Ok(String::from_str(alloc, "no case")?)
 }
 
-fn question_of(word: &str) -> Option<Question> {
+fn question_of(word: &str) -> Result<Question, Stop> {
     match word {
-        "program" => Some(Question::Program),
-        "tree" => Some(Question::Tree),
-        "words" => Some(Question::Lines(Aspect::Words)),
-        "form" => Some(Question::Lines(Aspect::Form)),
-        "expression" => Some(Question::Lines(Aspect::Expression)),
-        _ => None,
+        "program" => Ok(Question::Program),
+        "tree" => Ok(Question::Tree),
+        "words" => Ok(Question::Lines(Aspect::Words)),
+        "form" => Ok(Question::Lines(Aspect::Form)),
+        "expression" => Ok(Question::Lines(Aspect::Expression)),
+        _ => Err(Stop::NoCase),
     }
 }

@@ -1,45 +1,47 @@
 // What all nodes of the notation of trees have: brackets, a head, a place, and words.
 
-use amh_host::{NoMemory, Place};
-use std::alloc::Global;
-use table_text::spelled;
+use amh_host::Place;
+use table_text::Line;
 
 /// The begin of a part without a place.
-pub fn open(said: &mut String, head: &str) -> Result<(), NoMemory> {
-    said.push_str(" (")?;
-    said.push_str(head)?;
-    Ok(())
+pub fn open(said: &mut Line, head: &str) {
+    said.word(" (");
+    said.word(head);
 }
 
 /// The begin of a node at this place.
-pub fn open_at(said: &mut String, head: &str, place: Place) -> Result<(), NoMemory> {
-    open(said, head)?;
-    write!(said, " {}:{}", place.line, place.col)?;
-    Ok(())
+pub fn open_at(said: &mut Line, head: &str, place: Place) {
+    open(said, head);
+    said.word(" ");
+    said.place(place);
 }
 
 /// The end of a part.
-pub fn close(said: &mut String) -> Result<(), NoMemory> {
-    said.push_str(")")?;
-    Ok(())
+pub fn close(said: &mut Line) {
+    said.word(")");
 }
 
 /// A word of the notation.
-pub fn say_word(said: &mut String, word: &str) -> Result<(), NoMemory> {
-    said.push_str(" ")?;
-    said.push_str(word)?;
-    Ok(())
+pub fn say_word(said: &mut Line, word: &str) {
+    said.word(" ");
+    said.word(word);
+}
+
+/// A number.
+pub fn say_number(said: &mut Line, number: u128) {
+    said.word(" ");
+    said.number(number);
 }
 
 /// A name of the text, in escapes.
-pub fn say_name(alloc: Global, said: &mut String, name: &str) -> Result<(), NoMemory> {
-    say_word(said, spelled(alloc, name.as_bytes())?.as_str())
+pub fn say_name(said: &mut Line, name: &str) {
+    said.word(" ");
+    said.spelled(name.as_bytes());
 }
 
 /// A string of the text, in escapes between quotes.
-pub fn say_quoted(alloc: Global, said: &mut String, text: &str) -> Result<(), NoMemory> {
-    said.push_str(" \"")?;
-    said.push_str(spelled(alloc, text.as_bytes())?.as_str())?;
-    said.push_str("\"")?;
-    Ok(())
+pub fn say_quoted(said: &mut Line, text: &str) {
+    said.word(" \"");
+    said.spelled(text.as_bytes());
+    said.word("\"");
 }

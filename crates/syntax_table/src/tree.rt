@@ -1,39 +1,38 @@
 // The tree of an expression, as text.
 
-use crate::nodes::{close, open, open_at, say_name, say_quoted, say_word};
-use amh_host::NoMemory;
+use crate::nodes::{close, open, open_at, say_name, say_number, say_quoted, say_word};
 use py_tree::{
     Amount, Argument, Comprehension, Constant, Decimal, Expr, ExprKind, Link, Operator, Pair,
     Piece, Sign, Trailer,
 };
-use std::alloc::Global;
+use table_text::{Line, Stop};
 
 /// The tree of an expression.
 #[cycle(expr)]
-pub fn say_expr(alloc: Global, said: &mut String, expr: &Expr) -> Result<(), NoMemory> {
-    open_at(said, head_of(&expr.kind), expr.place)?;
-    say_parts(alloc, said, &expr.kind)?;
-    close(said)
+pub fn say_expr(said: &mut Line, expr: &Expr) {
+    open_at(said, head_of(&expr.kind), expr.place);
+    say_parts(said, &expr.kind);
+    close(said);
 }
 
 /// The tree of an expression, where there is one.
-pub fn say_perhaps(alloc: Global, said: &mut String, expr: Option<&Expr>) -> Result<(), NoMemory> {
+pub fn say_perhaps(said: &mut Line, expr: Option<&Expr>) {
     match expr {
-        Some(expr) => say_expr(alloc, said, expr),
-        None => Ok(()),
+        Some(expr) => say_expr(said, expr),
+        None => {}
     }
 }
 
 /// The trees of expressions, one after the other.
 #[cycle(expr)]
-pub fn say_exprs(alloc: Global, said: &mut String, exprs: &[Expr]) -> Result<(), NoMemory> {
+pub fn say_exprs(said: &mut Line, exprs: &[Expr]) {
     for expr in exprs {
-        say_expr(alloc, said, expr)?;
+        say_expr(said, expr);
     }
-    Ok(())
 }
 
-fn head_of(kind: &ExprKind) -> &'static str {
+/// What kind of expression it is, in a word.
+pub fn head_of(kind: &ExprKind) -> &'static str {
     match kind {
         ExprKind::Name(_) => "name",
         ExprKind::Number(_) => "number",
@@ -59,90 +58,86 @@ fn head_of(kind: &ExprKind) -> &'static str {
 
 // What stands in a node behind its place.
 #[cycle(expr)]
-fn say_parts(alloc: Global, said: &mut String, kind: &ExprKind) -> Result<(), NoMemory> {
+fn say_parts(said: &mut Line, kind: &ExprKind) {
     match kind {
-        ExprKind::Tuple(items) | ExprKind::List(items) => say_exprs(alloc, said, items.as_slice()),
-        ExprKind::Dict(pairs) => say_pairs(alloc, said, pairs.as_slice()),
+        ExprKind::Tuple(items) | ExprKind::List(items) => say_exprs(said, items.as_slice()),
+        ExprKind::Dict(pairs) => say_pairs(said, pairs.as_slice()),
         ExprKind::ListOf(item, each) => {
-            say_expr(alloc, said, item)?;
-            say_each(alloc, said, each)
+            say_expr(said, item);
+            say_each(said, each);
         }
         ExprKind::DictOf(pair, each) => {
-            say_pair(alloc, said, pair)?;
-            say_each(alloc, said, each)
+            say_pair(said, pair);
+            say_each(said, each);
         }
         ExprKind::Trailed(first, behind) => {
-            say_expr(alloc, said, first)?;
-            say_trailers(alloc, said, behind.as_slice())
+            say_expr(said, first);
+            say_trailers(said, behind.as_slice());
         }
-        ExprKind::Await(operand) | ExprKind::Not(operand) => say_expr(alloc, said, operand),
+        ExprKind::Await(operand) | ExprKind::Not(operand) => say_expr(said, operand),
         ExprKind::Power(base, exponent) => {
-            say_expr(alloc, said, base)?;
-            say_expr(alloc, said, exponent)
+            say_expr(said, base);
+            say_expr(said, exponent);
         }
         ExprKind::Unary(sign, operand) => {
-            say_word(said, sign_said(*sign))?;
-            say_expr(alloc, said, operand)
+            say_word(said, sign_said(*sign));
+            say_expr(said, operand);
         }
         ExprKind::Binary(first, links)
         | ExprKind::Compare(first, links)
         | ExprKind::Boolean(first, links) => {
-            say_expr(alloc, said, first)?;
-            say_links(alloc, said, links.as_slice())
+            say_expr(said, first);
+            say_links(said, links.as_slice());
         }
         ExprKind::Choice {
             chosen,
             test,
             other,
         } => {
-            say_expr(alloc, said, chosen)?;
-            say_expr(alloc, said, test)?;
-            say_expr(alloc, said, other)
+            say_expr(said, chosen);
+            say_expr(said, test);
+            say_expr(said, other);
         }
-        _ => say_leaf(alloc, said, kind),
+        _ => say_leaf(said, kind),
     }
 }
 
 // What stands in a node without nodes in it.
-fn say_leaf(alloc: Global, said: &mut String, kind: &ExprKind) -> Result<(), NoMemory> {
+fn say_leaf(said: &mut Line, kind: &ExprKind) {
     match kind {
-        ExprKind::Name(name) => say_name(alloc, said, name.as_str()),
+        ExprKind::Name(name) => say_name(said, name.as_str()),
         ExprKind::Number(n) => say_number(said, *n),
         ExprKind::Decimal(d) => say_decimal(said, *d),
         ExprKind::Quotient(n, by) => say_quotient(said, *n, *by),
-        ExprKind::Str(text) => say_quoted(alloc, said, text.as_str()),
-        ExprKind::Format(pieces) => say_pieces(alloc, said, pieces.as_slice()),
+        ExprKind::Str(text) => say_quoted(said, text.as_str()),
+        ExprKind::Format(pieces) => say_pieces(said, pieces.as_slice()),
         ExprKind::Constant(constant) => say_word(said, constant_said(*constant)),
-        _ => Ok(()),
+        _ => {}
     }
 }
 
-fn say_number(said: &mut String, n: u128) -> Result<(), NoMemory> {
-    write!(said, " {n}")?;
-    Ok(())
+/// A decimal number, as its digits and its exponent.
+pub fn say_decimal(said: &mut Line, d: Decimal) {
+    if write!(said.text, " {}e{}", d.digits, d.exponent).is_err() {
+        said.give_up(Stop::NoMemory);
+    }
 }
 
-fn say_decimal(said: &mut String, d: Decimal) -> Result<(), NoMemory> {
-    write!(said, " {}e{}", d.digits, d.exponent)?;
-    Ok(())
-}
-
-fn say_quotient(said: &mut String, n: u128, by: Amount) -> Result<(), NoMemory> {
-    say_number(said, n)?;
+fn say_quotient(said: &mut Line, n: u128, by: Amount) {
+    say_number(said, n);
     match by {
         Amount::Number(n) => say_number(said, n),
         Amount::Decimal(d) => say_decimal(said, d),
     }
 }
 
-fn say_pieces(alloc: Global, said: &mut String, pieces: &[Piece]) -> Result<(), NoMemory> {
+fn say_pieces(said: &mut Line, pieces: &[Piece]) {
     for piece in pieces {
         match piece {
-            Piece::Text(text) => say_quoted(alloc, said, text.as_str())?,
-            Piece::Hole(name) => say_name(alloc, said, name.as_str())?,
+            Piece::Text(text) => say_quoted(said, text.as_str()),
+            Piece::Hole(name) => say_name(said, name.as_str()),
         }
     }
-    Ok(())
 }
 
 fn constant_said(constant: Constant) -> &'static str {
@@ -162,13 +157,12 @@ fn sign_said(sign: Sign) -> &'static str {
 }
 
 #[cycle(expr)]
-fn say_links(alloc: Global, said: &mut String, links: &[Link]) -> Result<(), NoMemory> {
+fn say_links(said: &mut Line, links: &[Link]) {
     for link in links {
-        open(said, operator_said(link.operator))?;
-        say_expr(alloc, said, &link.operand)?;
-        close(said)?;
+        open(said, operator_said(link.operator));
+        say_expr(said, &link.operand);
+        close(said);
     }
-    Ok(())
 }
 
 /// An operator, as one word.
@@ -200,59 +194,57 @@ pub fn operator_said(operator: Operator) -> &'static str {
 }
 
 #[cycle(expr)]
-fn say_pair(alloc: Global, said: &mut String, pair: &Pair) -> Result<(), NoMemory> {
-    open(said, "pair")?;
-    say_expr(alloc, said, &pair.key)?;
-    say_expr(alloc, said, &pair.value)?;
-    close(said)
+fn say_pair(said: &mut Line, pair: &Pair) {
+    open(said, "pair");
+    say_expr(said, &pair.key);
+    say_expr(said, &pair.value);
+    close(said);
 }
 
 #[cycle(expr)]
-fn say_pairs(alloc: Global, said: &mut String, pairs: &[Pair]) -> Result<(), NoMemory> {
+fn say_pairs(said: &mut Line, pairs: &[Pair]) {
     for pair in pairs {
-        say_pair(alloc, said, pair)?;
+        say_pair(said, pair);
     }
-    Ok(())
 }
 
 #[cycle(expr)]
-fn say_each(alloc: Global, said: &mut String, each: &Comprehension) -> Result<(), NoMemory> {
-    open(said, "each")?;
-    say_expr(alloc, said, &each.targets)?;
-    say_expr(alloc, said, &each.source)?;
+fn say_each(said: &mut Line, each: &Comprehension) {
+    open(said, "each");
+    say_expr(said, &each.targets);
+    say_expr(said, &each.source);
     if let Some(condition) = &each.condition {
-        say_expr(alloc, said, condition)?;
+        say_expr(said, condition);
     }
-    close(said)
+    close(said);
 }
 
 #[cycle(expr)]
-fn say_trailers(alloc: Global, said: &mut String, trailers: &[Trailer]) -> Result<(), NoMemory> {
+fn say_trailers(said: &mut Line, trailers: &[Trailer]) {
     for trailer in trailers {
-        say_trailer(alloc, said, trailer)?;
+        say_trailer(said, trailer);
     }
-    Ok(())
 }
 
 /// What trails a primary.
 #[cycle(expr)]
-pub fn say_trailer(alloc: Global, said: &mut String, trailer: &Trailer) -> Result<(), NoMemory> {
-    open(said, trailer_head(trailer))?;
+pub fn say_trailer(said: &mut Line, trailer: &Trailer) {
+    open(said, trailer_head(trailer));
     match trailer {
-        Trailer::Attribute(name) => say_name(alloc, said, name.as_str())?,
-        Trailer::Call(arguments) => say_arguments(alloc, said, arguments.as_slice())?,
+        Trailer::Attribute(name) => say_name(said, name.as_str()),
+        Trailer::Call(arguments) => say_arguments(said, arguments.as_slice()),
         Trailer::CallOf(item, each) => {
-            say_expr(alloc, said, item)?;
-            say_each(alloc, said, each)?;
+            say_expr(said, item);
+            say_each(said, each);
         }
-        Trailer::Index(index) => say_expr(alloc, said, index)?,
+        Trailer::Index(index) => say_expr(said, index),
         Trailer::Slice { start, stop, step } => {
-            say_bound(alloc, said, start)?;
-            say_bound(alloc, said, stop)?;
-            say_bound(alloc, said, step)?;
+            say_bound(said, start);
+            say_bound(said, stop);
+            say_bound(said, step);
         }
     }
-    close(said)
+    close(said);
 }
 
 fn trailer_head(trailer: &Trailer) -> &'static str {
@@ -266,35 +258,34 @@ fn trailer_head(trailer: &Trailer) -> &'static str {
 
 // A part of a slice: `-` where it is absent.
 #[cycle(expr)]
-fn say_bound(alloc: Global, said: &mut String, bound: &Option<Expr>) -> Result<(), NoMemory> {
+fn say_bound(said: &mut Line, bound: &Option<Expr>) {
     match bound {
-        Some(expr) => say_expr(alloc, said, expr),
+        Some(expr) => say_expr(said, expr),
         None => say_word(said, "-"),
     }
 }
 
 #[cycle(expr)]
-fn say_arguments(alloc: Global, said: &mut String, arguments: &[Argument]) -> Result<(), NoMemory> {
+fn say_arguments(said: &mut Line, arguments: &[Argument]) {
     for argument in arguments {
-        say_argument(alloc, said, argument)?;
+        say_argument(said, argument);
     }
-    Ok(())
 }
 
 #[cycle(expr)]
-fn say_argument(alloc: Global, said: &mut String, argument: &Argument) -> Result<(), NoMemory> {
+fn say_argument(said: &mut Line, argument: &Argument) {
     match argument {
-        Argument::Positional(value) => say_expr(alloc, said, value),
+        Argument::Positional(value) => say_expr(said, value),
         Argument::Starred(value) => {
-            open(said, "starred")?;
-            say_expr(alloc, said, value)?;
-            close(said)
+            open(said, "starred");
+            say_expr(said, value);
+            close(said);
         }
         Argument::Keyword(name, value) => {
-            open(said, "keyword")?;
-            say_name(alloc, said, name.as_str())?;
-            say_expr(alloc, said, value)?;
-            close(said)
+            open(said, "keyword");
+            say_name(said, name.as_str());
+            say_expr(said, value);
+            close(said);
         }
     }
 }

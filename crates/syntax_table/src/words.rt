@@ -1,53 +1,74 @@
 // The words of a line, as text.
 
-use amh_host::NoMemory;
+use crate::nodes::say_number;
+use crate::tree::say_decimal;
 use py_grammar::{Mark, Word};
-use py_tree::{Piece, Pieces};
-use std::alloc::Global;
+use py_tree::Piece;
+use table_text::{Line, Stop};
 
 /// The words of a line: the place of each, what it is and what it stands for.
-pub fn words_said(alloc: Global, words: &[Word]) -> Result<String, NoMemory> {
-    let mut said = String::new(alloc);
-    for word in words {
-        if !said.is_empty() {
-            said.push_str(", ")?;
+pub fn say_words(said: &mut Line, words: &[Word]) {
+    for k in 0..words.len() {
+        if k > 0 {
+            said.word(", ");
         }
-        said.push_str(word_said(alloc, word)?.as_str())?;
+        said.place(words[k].place);
+        say_mark(said, &words[k].mark);
     }
-    Ok(said)
 }
 
-fn word_said(alloc: Global, word: &Word) -> Result<String, NoMemory> {
-    let mark = mark_said(alloc, &word.mark)?;
-    Ok(format!(in alloc; "{}:{} {mark}", word.place.line, word.place.col)?)
-}
-
-fn mark_said(alloc: Global, mark: &Mark) -> Result<String, NoMemory> {
-    Ok(match mark {
-        Mark::Name(text) => format!(in alloc; "name {}", text.as_str())?,
-        Mark::Keyword(text) => format!(in alloc; "keyword {}", text.as_str())?,
-        Mark::Sign(text) => format!(in alloc; "sign {}", text.as_str())?,
-        Mark::Number(n) => format!(in alloc; "number {n}")?,
-        Mark::Decimal(d) => format!(in alloc; "decimal {}e{}", d.digits, d.exponent)?,
-        Mark::Str(text) => format!(in alloc; "string {:?}", text.as_str())?,
-        Mark::Format(pieces) => format_said(alloc, pieces)?,
-        Mark::Other => format!(in alloc; "nothing")?,
-    })
-}
-
-fn format_said(alloc: Global, pieces: &Pieces) -> Result<String, NoMemory> {
-    let mut said = String::new(alloc);
-    said.push_str("format")?;
-    for piece in pieces.as_slice() {
-        said.push_str(" ")?;
-        said.push_str(piece_said(alloc, piece)?.as_str())?;
+fn say_mark(said: &mut Line, mark: &Mark) {
+    match mark {
+        Mark::Name(text) => say_text(said, " name ", text.as_str()),
+        Mark::Keyword(text) => say_text(said, " keyword ", text.as_str()),
+        Mark::Sign(text) => say_text(said, " sign ", text.as_str()),
+        Mark::Str(text) => say_string(said, " string ", text.as_str()),
+        _ => say_other(said, mark),
     }
-    Ok(said)
 }
 
-fn piece_said(alloc: Global, piece: &Piece) -> Result<String, NoMemory> {
-    Ok(match piece {
-        Piece::Text(text) => format!(in alloc; "{:?}", text.as_str())?,
-        Piece::Hole(name) => format!(in alloc; "{{{}}}", name.as_str())?,
-    })
+// A word that is no text.
+fn say_other(said: &mut Line, mark: &Mark) {
+    match mark {
+        Mark::Number(n) => {
+            said.word(" number");
+            say_number(said, *n);
+        }
+        Mark::Decimal(d) => {
+            said.word(" decimal");
+            say_decimal(said, *d);
+        }
+        Mark::Format(pieces) => {
+            said.word(" format");
+            say_pieces(said, pieces.as_slice());
+        }
+        _ => said.word(" nothing"),
+    }
+}
+
+fn say_text(said: &mut Line, what: &str, text: &str) {
+    said.word(what);
+    said.word(text);
+}
+
+// A string, between quotes.
+fn say_string(said: &mut Line, what: &str, text: &str) {
+    if write!(said.text, "{what}{text:?}").is_err() {
+        said.give_up(Stop::NoMemory);
+    }
+}
+
+fn say_pieces(said: &mut Line, pieces: &[Piece]) {
+    for piece in pieces {
+        match piece {
+            Piece::Text(text) => say_string(said, " ", text.as_str()),
+            Piece::Hole(name) => say_hole(said, name.as_str()),
+        }
+    }
+}
+
+fn say_hole(said: &mut Line, name: &str) {
+    said.word(" {");
+    said.word(name);
+    said.word("}");
 }
