@@ -1,105 +1,112 @@
 // What is said of a design.
 ghost use Rattle.comb_graph.specs.Rankings.{IsRanking};
 
-use crate::events::played;
-use crate::lines::{split_first, words_of};
+use crate::events::play;
 use crate::numbers::small;
 use crate::reader::{Case, read_case};
-use crate::stop::Stop;
-use amh_host::Place;
 use comb_graph::{GraphStop, RankedBit, Ranks, rank};
-use design_ir::{Design, ExprId, SigId};
+use design_ir::{Design, SigId};
 use std::alloc::Global;
+use table_text::{Line, Stop, split_first, words_of};
 
 /// The name of a design and the answer for it.
 pub fn answer(alloc: Global, lines: &[String]) -> Result<String, Stop> {
     let name = name_of(alloc, lines)?;
+    let mut said = Line::new(alloc);
+    said.word(name);
+    said.word(" ");
     match lines_said(alloc, lines) {
-        Ok(said) => Ok(format!(in alloc; "{name} {said}")?),
-        Err(Stop::NoCase) => Ok(format!(in alloc; "{name} no case")?),
-        Err(Stop::NoMemory) => Err(Stop::NoMemory),
+        Ok(text) => said.word(text.as_str()),
+        Err(Stop::NoCase) => said.word("no case"),
+        Err(Stop::NoMemory) => said.give_up(Stop::NoMemory),
     }
+    said.whole()
 }
 
 fn lines_said(alloc: Global, lines: &[String]) -> Result<String, Stop> {
     let case = read_case(alloc, lines)?;
-    case_said(alloc, &case, lines)
+    let mut said = Line::new(alloc);
+    say_case(alloc, &mut said, &case, lines);
+    said.whole()
 }
 
 /// The name of a design, which stands in its first line.
-pub fn name_of(alloc: Global, lines: &[String]) -> Result<String, Stop> {
+pub fn name_of<'a>(alloc: Global, lines: &'a [String]) -> Result<&'a str, Stop> {
     let [first, ..] = lines else {
         return Err(Stop::NoCase);
     };
     let words = words_of(alloc, first.as_str())?;
     match words.as_slice() {
-        ["design", name] => Ok(String::from_str(alloc, name)?),
+        ["design", name] => Ok(*name),
         _ => Err(Stop::NoCase),
     }
 }
 
-fn case_said(alloc: Global, case: &Case, lines: &[String]) -> Result<String, Stop> {
-    let design = &case.design;
-    match rank(alloc, design) {
-        Ok(ranks) => accepted_said(alloc, design, case.asked.as_slice(), &ranks, lines),
-        Err(GraphStop::Loop { sig, bit, place }) => loop_said(alloc, design, sig, bit, place),
-        Err(GraphStop::NoMemory) => Err(Stop::NoMemory),
+fn say_case(alloc: Global, said: &mut Line, case: &Case, lines: &[String]) {
+    match rank(alloc, &case.design) {
+        Ok(ranks) => say_accepted(alloc, said, case, &ranks, lines),
+        Err(GraphStop::Loop { sig, bit, place }) => {
+            said.word("loop");
+            say_bit(said, &case.design, RankedBit { sig, bit });
+            said.word(" ");
+            said.place(place);
+        }
+        Err(GraphStop::NoMemory) => said.give_up(Stop::NoMemory),
     }
-}
-
-fn loop_said(
-    alloc: Global,
-    design: &Design,
-    sig: SigId,
-    bit: u8,
-    place: Place,
-) -> Result<String, Stop> {
-    if sig.0 >= design.signals() {
-        return Err(Stop::NoCase);
-    }
-    let name = design.sig_at(sig).name.as_str();
-    Ok(format!(in alloc; "loop {name}.{bit} {}:{}", place.line, place.col)?)
 }
 
 // The ranks, the answers to the questions for chains, and the numbers.
-fn accepted_said(
-    alloc: Global,
-    design: &Design,
-    asked: &[Option<ExprId>],
-    ranks: &Ranks,
-    lines: &[String],
-) -> Result<String, Stop>
-    requires { IsRanking design.now ranks.now }
+fn say_accepted(alloc: Global, said: &mut Line, case: &Case, ranks: &Ranks, lines: &[String])
+    requires { IsRanking case.now.design ranks.now }
 {
-    let mut said = format!(in alloc; "accepted {} {}", ranks.longest(), ranks.order().len())?;
+    said.word("accepted ");
+    said.number(ranks.longest() as u128);
+    said.word(" ");
+    said.number(ranks.order().len() as u128);
     for line in lines {
-        let words = words_of(alloc, line.as_str())?;
-        match split_first(words.as_slice()) {
-            Some(("chain", bits)) => said.push_str(chain_said(design, ranks, bits)?)?,
-            Some(("order", _)) => said.push_str(order_said(alloc, design, ranks)?.as_str())?,
-            _ => {}
+        if let Err(stop) = say_ranked(alloc, said, &case.design, ranks, line.as_str()) {
+            said.give_up(stop);
         }
     }
-    said.push_str(played(alloc, design, asked, ranks, lines)?.as_str())?;
-    Ok(said)
+    if let Err(stop) = play(alloc, said, case, ranks, lines) {
+        said.give_up(stop);
+    }
+}
+
+// What a line asks of the ranks.
+fn say_ranked(
+    alloc: Global,
+    said: &mut Line,
+    design: &Design,
+    ranks: &Ranks,
+    line: &str,
+) -> Result<(), Stop> {
+    let words = words_of(alloc, line)?;
+    match split_first(words.as_slice()) {
+        Some(("chain", bits)) => said.word(chain_said(design, ranks, bits)?),
+        Some(("order", _)) => say_order(said, design, ranks),
+        _ => {}
+    }
+    Ok(())
 }
 
 // All bits in their order.
-fn order_said(alloc: Global, design: &Design, ranks: &Ranks) -> Result<String, Stop> {
-    let mut said = String::from_str(alloc, " order")?;
+fn say_order(said: &mut Line, design: &Design, ranks: &Ranks) {
+    said.word(" order");
     for b in ranks.order().as_slice() {
-        said.push_str(bit_said(alloc, design, *b)?.as_str())?;
+        say_bit(said, design, *b);
     }
-    Ok(said)
 }
 
-fn bit_said(alloc: Global, design: &Design, b: RankedBit) -> Result<String, Stop> {
+fn say_bit(said: &mut Line, design: &Design, b: RankedBit) {
     if b.sig.0 >= design.signals() {
-        return Err(Stop::NoCase);
+        said.give_up(Stop::NoCase);
+        return;
     }
-    let name = design.sig_at(b.sig).name.as_str();
-    let bit = b.bit;
-    Ok(format!(in alloc; " {name}.{bit}")?)
+    said.word(" ");
+    said.word(design.sig_at(b.sig).name.as_str());
+    said.word(".");
+    said.number(b.bit as u128);
 }
 
 // Whether these bits stand in the order, each behind the one before it.

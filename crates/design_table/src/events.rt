@@ -5,9 +5,8 @@ ghost use Rattle.comb_graph.specs.Rankings.{IsRanking};
 ghost use Rattle.delta_sim.specs.Standing.{IsSimOf};
 
 use crate::answer::signal_named;
-use crate::lines::words_of;
-use crate::numbers::integer;
-use crate::stop::Stop;
+use crate::reader::Case;
+use amh_bits::Int;
 use amh_host::{Items, NoMemory, Steps};
 use comb_graph::Ranks;
 use delta_sim::Sim;
@@ -15,39 +14,37 @@ use design_ir::{Design, DomainId, Event, ExprId, Exprs, SigId};
 use std::alloc::Global;
 use std::marker::Brand;
 use std::sync::ledger::{Blank, Ledger};
+use table_text::{Line, Stop, integer, words_of};
 
 /// What each line asks for, behind the events of the lines before it.
-pub fn played(
+pub fn play(
     alloc: Global,
-    design: &Design,
-    asked: &[Option<ExprId>],
+    said: &mut Line,
+    case: &Case,
     ranks: &Ranks,
     lines: &[String],
-) -> Result<String, Stop>
-    requires { IsRanking design.now ranks.now }
+) -> Result<(), Stop>
+    requires { IsRanking case.now.design ranks.now }
 {
-    let mut sim = Sim::start(alloc, design, ranks)?;
-    lines_said(alloc, &mut sim, design, asked, lines)
+    let mut sim = Sim::start(alloc, &case.design, ranks)?;
+    play_lines(alloc, said, &mut sim, case, lines)
 }
 
 // The same over a simulator that is lent, so that no end of this has to give back what it has.
-fn lines_said(
+fn play_lines(
     alloc: Global,
+    said: &mut Line,
     sim: &mut Sim,
-    design: &Design,
-    asked: &[Option<ExprId>],
+    case: &Case,
     lines: &[String],
-) -> Result<String, Stop>
-    requires { IsSimOf design.now sim.old }
+) -> Result<(), Stop>
+    requires { IsSimOf case.now.design sim.old }
 {
-    let mut said = String::new(alloc);
     for k in 0..lines.len() {
-        let words = words_of(alloc, lines[k].as_str())?;
-        play_line(alloc, sim, design, words.as_slice())?;
-        let e = asked_at(asked, k);
-        said.push_str(line_said(alloc, sim, design, e, words.as_slice())?.as_str())?;
+        let e = asked_at(case.asked.as_slice(), k);
+        play_line(alloc, said, sim, &case.design, e, lines[k].as_str())?;
     }
-    Ok(said)
+    Ok(())
 }
 
 // The expression that a line asks for.
@@ -58,48 +55,69 @@ fn asked_at(asked: &[Option<ExprId>], k: usize) -> Option<ExprId> {
     }
 }
 
-// What a line asks for: the integer of an expression, the numbers of all signals, or how much the last event took.
-fn line_said(
+// The event of a line, and what it asks for.
+fn play_line(
     alloc: Global,
+    said: &mut Line,
     sim: &mut Sim,
     design: &Design,
     e: Option<ExprId>,
-    words: &[&str],
-) -> Result<String, Stop>
+    line: &str,
+) -> Result<(), Stop>
+    requires { IsSimOf design.now sim.old }
+    ensures { IsSimOf design.now sim.new }
+{
+    let words = words_of(alloc, line)?;
+    play_words(alloc, sim, design, words.as_slice())?;
+    say_asked(said, sim, design, e, words.as_slice());
+    Ok(())
+}
+
+// What a line asks for: the integer of an expression, the numbers of all signals, or how much the last event took.
+fn say_asked(said: &mut Line, sim: &mut Sim, design: &Design, e: Option<ExprId>, words: &[&str])
     requires { IsSimOf design.now sim.old }
     ensures { IsSimOf design.now sim.new }
 {
     if let Some(e) = e {
-        return integer_said(alloc, sim, design, e);
+        say_integer(said, sim, design, e);
+        return;
     }
     match words {
-        ["show", ..] => numbers_said(alloc, design, sim),
-        ["counts"] => counts_said(alloc, sim),
-        _ => Ok(String::new(alloc)),
+        ["show", ..] => say_numbers(said, design, sim),
+        ["counts"] => say_counts(said, sim),
+        _ => {}
     }
 }
 
 // The integer of an expression in the settled numbers.
-fn integer_said(alloc: Global, sim: &mut Sim, design: &Design, e: ExprId) -> Result<String, Stop>
+fn say_integer(said: &mut Line, sim: &mut Sim, design: &Design, e: ExprId)
     requires { IsSimOf design.now sim.old }
     ensures { IsSimOf design.now sim.new }
 {
     if e.0 >= design.count() || e.0 >= 262_144 {
-        return Err(Stop::NoCase);
+        said.give_up(Stop::NoCase);
+    } else {
+        said.word(" | eval=");
+        say_int(said, sim.eval(design, e));
     }
-    let n = sim.eval(design, e);
-    Ok(format!(in alloc; " | eval={n}")?)
+}
+
+fn say_int(said: &mut Line, n: Int) {
+    if write!(said.text, "{n}").is_err() {
+        said.give_up(Stop::NoMemory);
+    }
 }
 
 // In how many deltas of the last event a process ran, and how often processes ran in them.
-fn counts_said(alloc: Global, sim: &Sim) -> Result<String, Stop> {
-    let deltas = sim.deltas();
-    let runs = sim.runs();
-    Ok(format!(in alloc; " | deltas={deltas} runs={runs}")?)
+fn say_counts(said: &mut Line, sim: &Sim) {
+    said.word(" | deltas=");
+    said.number(sim.deltas() as u128);
+    said.word(" runs=");
+    said.number(sim.runs() as u128);
 }
 
 // What the event of a line does, where it has one.
-fn play_line(alloc: Global, sim: &mut Sim, design: &Design, words: &[&str]) -> Result<(), Stop>
+fn play_words(alloc: Global, sim: &mut Sim, design: &Design, words: &[&str]) -> Result<(), Stop>
     requires { IsSimOf design.now sim.old }
     ensures { IsSimOf design.now sim.new }
 {
@@ -110,15 +128,16 @@ fn play_line(alloc: Global, sim: &mut Sim, design: &Design, words: &[&str]) -> R
 }
 
 // The numbers of all signals but the clock.
-fn numbers_said(alloc: Global, design: &Design, sim: &Sim) -> Result<String, Stop> {
-    let mut said = String::from_str(alloc, " |")?;
+fn say_numbers(said: &mut Line, design: &Design, sim: &Sim) {
+    said.word(" |");
     for s in 1..design.signals() {
-        let name = design.sig_at(SigId(s)).name.as_str();
         if let Some(number) = sim.values().get(s as usize) {
-            said.push_str(format!(in alloc; " {name}={number}")?.as_str())?;
+            said.word(" ");
+            said.word(design.sig_at(SigId(s)).name.as_str());
+            said.word("=");
+            say_int(said, *number);
         }
     }
-    Ok(said)
 }
 
 // The event of a line, where it has one, which has to be legal.

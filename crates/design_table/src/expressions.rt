@@ -1,20 +1,16 @@
 // Expressions of the table, each operator before its operands.
 
 use crate::form;
-use crate::numbers::{integer, natural, shape, small};
+use crate::numbers::{shape, small};
 use crate::signals::Signals;
-use crate::stop::Stop;
 use amh_host::Items;
 use design_ir::{ExprId, Ids};
 use std::alloc::Global;
+use table_text::{Stop, integer, natural};
 
-/// The expressions that words stand for, the first of them last: the words are read from the last to the first, so that
-/// the operands of an operator are there when it is read.
-pub fn expressions(
-    alloc: Global,
-    signals: &mut Signals,
-    words: &[&str],
-) -> Result<Vec<ExprId>, Stop> {
+// The expressions that words stand for, the first of them last: the words are read from the last to the first, so that
+// the operands of an operator are there when it is read.
+fn expressions(alloc: Global, signals: &mut Signals, words: &[&str]) -> Result<Vec<ExprId>, Stop> {
     let mut stack = Vec::new(alloc);
     for k in 0..words.len() {
         let e = read_word(alloc, signals, &mut stack, words[words.len() - 1 - k])?;
@@ -28,6 +24,28 @@ pub fn expression(alloc: Global, signals: &mut Signals, words: &[&str]) -> Resul
     let stack = expressions(alloc, signals, words)?;
     match stack.as_slice() {
         [only] => Ok(*only),
+        _ => Err(Stop::NoCase),
+    }
+}
+
+/// The two expressions that words stand for, the first of them last.
+pub fn two(alloc: Global, signals: &mut Signals, words: &[&str]) -> Result<(ExprId, ExprId), Stop> {
+    let stack = expressions(alloc, signals, words)?;
+    match stack.as_slice() {
+        [last, first] => Ok((*last, *first)),
+        _ => Err(Stop::NoCase),
+    }
+}
+
+/// The three expressions that words stand for, the first of them last.
+pub fn three(
+    alloc: Global,
+    signals: &mut Signals,
+    words: &[&str],
+) -> Result<(ExprId, ExprId, ExprId), Stop> {
+    let stack = expressions(alloc, signals, words)?;
+    match stack.as_slice() {
+        [last, second, first] => Ok((*last, *second, *first)),
         _ => Err(Stop::NoCase),
     }
 }

@@ -49,7 +49,6 @@ mod domains;
 mod events;
 mod expressions;
 mod form;
-mod lines;
 mod memories;
 mod memory_rules;
 mod numbers;
@@ -59,7 +58,6 @@ mod reads;
 mod shown;
 mod signals;
 mod sound;
-mod stop;
 mod tables;
 mod texts;
 
@@ -67,7 +65,7 @@ use answer::answer;
 use std::alloc::Global;
 use std::env::Env;
 use std::io;
-use stop::Stop;
+use table_text::{Stop, answered};
 use texts::text;
 
 fn main(rt: HostRuntime) -> io::Result<()> {
@@ -80,9 +78,9 @@ fn main(rt: HostRuntime) -> io::Result<()> {
             lines.push(line)?;
             continue;
         }
-        let said = said_of(alloc, wants_texts, lines.as_slice())?;
+        let said = answered(alloc, said_of(alloc, wants_texts, lines.as_slice()))?;
         println!(rt; "{said}")?;
-        lines = Vec::new(alloc);
+        lines.clear();
     }
     Ok(())
 }
@@ -93,15 +91,10 @@ fn has_word<R: Env + Alloc>(rt: &R) -> io::Result<bool> {
 }
 
 // What is said of a design.
-fn said_of(alloc: Global, wants_texts: bool, lines: &[String]) -> io::Result<String> {
-    let said = if wants_texts {
+fn said_of(alloc: Global, wants_texts: bool, lines: &[String]) -> Result<String, Stop> {
+    if wants_texts {
         text(alloc, lines)
     } else {
         answer(alloc, lines)
-    };
-    match said {
-        Ok(said) => Ok(said),
-        Err(Stop::NoCase) => Ok(String::from_str(alloc, "no case")?),
-        Err(Stop::NoMemory) => Err(io::ErrorKind::OutOfMemory.into()),
     }
 }

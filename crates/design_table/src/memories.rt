@@ -1,18 +1,18 @@
 // The memories of a design of the table.
 
-use crate::expressions::{expression, expressions};
-use crate::numbers::{integer, natural, shape, small};
+use crate::expressions::{expression, three, two};
+use crate::numbers::{shape, small};
 use crate::signals::{Signals, copied};
-use crate::stop::Stop;
 use amh_bits::Int;
 use amh_host::{Items, Numbers, Text};
 use design_ir::{Ints, MemRead, MemWrite, Memories, Memory, SigId};
 use std::alloc::Global;
+use table_text::{Stop, integer, natural};
 
 /// The memories whose lines are read, and the one that the next ports are of.
 #[derive(Drop)]
 pub struct Bank {
-    whole: Memories,
+    pub whole: Memories,
     last: Option<Memory>,
 }
 
@@ -27,9 +27,15 @@ impl Bank {
 
     /// The memory of a line behind the word `memory`.
     pub fn begin(&mut self, alloc: Global, words: &[&str]) -> Result<(), Stop> {
-        let memory = memory(alloc, words)?;
-        match std::mem::replace(&mut self.last, Some(memory)) {
-            Some(before) => Ok(self.whole.push(before)?),
+        self.end()?;
+        self.last = Some(memory(alloc, words)?);
+        Ok(())
+    }
+
+    /// The end of the memory whose ports are read.
+    pub fn end(&mut self) -> Result<(), Stop> {
+        match self.last.take() {
+            Some(memory) => Ok(self.whole.push(memory)?),
             None => Ok(()),
         }
     }
@@ -45,10 +51,11 @@ impl Bank {
             return Err(Stop::NoCase);
         };
         let addr = expression(alloc, signals, addr)?;
+        let word = named(signals, word)?;
         self.add_read(MemRead {
             domain: None,
             addr,
-            word: named(signals, word)?,
+            word,
             enable: None,
             transparent: Items::new(alloc),
         })
@@ -64,11 +71,7 @@ impl Bank {
         let [word, ports, operands @ ..] = words else {
             return Err(Stop::NoCase);
         };
-        let stack = expressions(alloc, signals, operands)?;
-        let [enable, addr] = stack.as_slice() else {
-            return Err(Stop::NoCase);
-        };
-        let (enable, addr) = (*enable, *addr);
+        let (enable, addr) = two(alloc, signals, operands)?;
         let word = named(signals, word)?;
         self.add_read(MemRead {
             domain: Some(domain_of(alloc, signals, word)?),
@@ -89,18 +92,15 @@ impl Bank {
         let [domain, granularity, operands @ ..] = words else {
             return Err(Stop::NoCase);
         };
-        let stack = expressions(alloc, signals, operands)?;
-        let [enable, word, addr] = stack.as_slice() else {
-            return Err(Stop::NoCase);
-        };
-        let (enable, word, addr) = (*enable, *word, *addr);
+        let (enable, word, addr) = three(alloc, signals, operands)?;
+        let granularity = small(granularity)?;
         signals.side(alloc, domain)?;
         self.add_write(MemWrite {
             domain: copied(alloc, domain)?,
             addr,
             word,
             enable,
-            granularity: small(granularity)?,
+            granularity,
         })
     }
 
@@ -117,15 +117,6 @@ impl Bank {
             None => Err(Stop::NoCase),
         }
     }
-
-    /// All memories, once their lines are read.
-    pub fn end(self) -> Result<Memories, Stop> {
-        let Bank { mut whole, last } = self;
-        if let Some(memory) = last {
-            whole.push(memory)?;
-        }
-        Ok(whole)
-    }
 }
 
 // A memory without ports: its name, its shape, and its rows.
@@ -138,11 +129,13 @@ fn memory(alloc: Global, words: &[&str]) -> Result<Memory, Stop> {
         return Err(Stop::NoCase);
     }
     let depth = depth as u32;
+    let shape = shape(width, sign)?;
+    let rows = rows_of(alloc, depth, numbers)?;
     Ok(Memory {
         name: copied(alloc, name)?,
-        shape: shape(width, sign)?,
+        shape,
         depth,
-        rows: rows_of(alloc, depth, numbers)?,
+        rows,
         writes: Items::new(alloc),
         reads: Items::new(alloc),
     })

@@ -5,10 +5,10 @@ ghost use Rattle.design_ir.specs.PoolRules.{IsAskable};
 ghost use Rattle.design_ir.specs.Values.{form, signal_form};
 ghost use Rattle.design_table.specs.Tests.{is_reset, no_resets};
 
-use crate::stop::Stop;
-use design_ir::{Expr, ExprId, Exprs, Pool, Sig, SigId};
+use design_ir::{Expr, ExprId, Exprs, Pool, PoolStop, Sig, SigId};
 use shape_rules::Shape;
 use std::alloc::Global;
+use table_text::Stop;
 
 /// A pool, and how many signals it has at least.
 #[derive(Drop)]
@@ -34,9 +34,13 @@ impl Sheet {
         if s.init.wrap(s.shape.width, s.shape.signed) != s.init {
             return Err(Stop::NoCase);
         }
-        let id = self.pool.sig(s)?;
-        self.signals = id.0 as u64 + 1;
-        Ok(id)
+        match self.pool.sig(s) {
+            Ok(id) => {
+                self.signals = id.0 as u64 + 1;
+                Ok(id)
+            }
+            Err(stop) => Err(stop_of(stop)),
+        }
     }
 
     /// One expression more.
@@ -45,7 +49,10 @@ impl Sheet {
         requires askable { IsAskable self.old.pool e }
         requires no_reset { is_reset e ≡ false }
     {
-        Ok(self.pool.expr(e)?)
+        match self.pool.expr(e) {
+            Ok(id) => Ok(id),
+            Err(stop) => Err(stop_of(stop)),
+        }
     }
 
     /// Whether an expression is there.
@@ -88,5 +95,13 @@ impl Sheet {
             signed: false,
         };
         (s.0 as u64) < self.signals && self.pool.sig_at(s).shape == bit
+    }
+}
+
+// What a pool refuses is no design.
+fn stop_of(stop: PoolStop) -> Stop {
+    match stop {
+        PoolStop::NoMemory => Stop::NoMemory,
+        PoolStop::Width | PoolStop::BadOperand | PoolStop::Limit => Stop::NoCase,
     }
 }

@@ -1,14 +1,13 @@
 // A design of the table from its lines.
 
-use crate::expressions::{expression, expressions};
-use crate::lines::{place_of, split_first, words_of};
+use crate::expressions::{expression, two};
 use crate::memories::Bank;
 use crate::signals::Signals;
 use crate::sound::design_of;
-use crate::stop::Stop;
 use amh_host::{Items, Place};
 use design_ir::{Arm, Arms, Design, DesignProcess, DesignProcesses, DomainId, ExprId, Stmt, Stmts};
 use std::alloc::Global;
+use table_text::{Stop, split_first, words_of};
 
 // A choice that is open: the arms that are whole, and the one that is read.
 #[derive(Drop)]
@@ -38,24 +37,38 @@ pub struct Case {
 
 /// The design that lines stand for, and what they ask for.
 pub fn read_case(alloc: Global, lines: &[String]) -> Result<Case, Stop> {
-    let mut reader = Reader {
-        signals: Signals::new(alloc)?,
-        processes: Items::new(alloc),
-        body: Stmts::new(alloc),
-        open: Vec::new(alloc),
-        bank: Bank::new(alloc),
-        asked: Vec::new(alloc),
-    };
-    for k in 0..lines.len() {
-        let line = lines[k].as_str();
-        let words = words_of(alloc, line)?;
-        let asked = reader.read(alloc, words.as_slice(), place_of(k, line))?;
-        reader.asked.push(asked)?;
-    }
-    reader.end(alloc)
+    let mut reader = Reader::new(alloc, Signals::new(alloc)?);
+    reader.read_all(alloc, lines)?;
+    reader.case(alloc)
 }
 
 impl Reader {
+    // A reader that has read nothing.
+    fn new(alloc: Global, signals: Signals) -> Reader {
+        Reader {
+            signals,
+            processes: Items::new(alloc),
+            body: Stmts::new(alloc),
+            open: Vec::new(alloc),
+            bank: Bank::new(alloc),
+            asked: Vec::new(alloc),
+        }
+    }
+
+    fn read_all(&mut self, alloc: Global, lines: &[String]) -> Result<(), Stop> {
+        for k in 0..lines.len() {
+            self.read_line(alloc, k, lines[k].as_str())?;
+        }
+        self.end(alloc)
+    }
+
+    // The line with this number, from 0.
+    fn read_line(&mut self, alloc: Global, number: usize, line: &str) -> Result<(), Stop> {
+        let words = words_of(alloc, line)?;
+        let asked = self.read(alloc, words.as_slice(), place_of(number, line))?;
+        Ok(self.asked.push(asked)?)
+    }
+
     // What a line says, and the expression that it asks for.
     fn read(
         &mut self,
@@ -94,11 +107,7 @@ impl Reader {
 
     // An assignment more.
     fn assign(&mut self, alloc: Global, words: &[&str], place: Place) -> Result<(), Stop> {
-        let stack = expressions(alloc, &mut self.signals, words)?;
-        let [value, target] = stack.as_slice() else {
-            return Err(Stop::NoCase);
-        };
-        let (target, value) = (*target, *value);
+        let (value, target) = two(alloc, &mut self.signals, words)?;
         Ok(
             self.body.push(Stmt::Assign {
                 target,
@@ -124,33 +133,40 @@ impl Reader {
         Ok(())
     }
 
-    // The innermost choice with the arm that was read.
-    fn innermost(&mut self, alloc: Global) -> Result<Open, Stop> {
-        let Some(mut open) = self.open.pop() else {
-            return Err(Stop::NoCase);
-        };
+    // The end of the arm that is read of the innermost choice.
+    fn end_arm(&mut self, alloc: Global) -> Result<(), Stop> {
         let body = self.taken(alloc);
-        match open.condition {
-            Some(condition) => open.arms.push(Arm { condition, body })?,
-            None if body.len() > 0 => return Err(Stop::NoCase),
-            None => {}
+        match self.open.last_mut() {
+            Some(open) => open.add(body),
+            None => Err(Stop::NoCase),
         }
-        Ok(open)
     }
 
     // An arm of the innermost choice.
     fn arm(&mut self, alloc: Global, words: &[&str]) -> Result<(), Stop> {
-        let mut open = self.innermost(alloc)?;
-        open.condition = Some(expression(alloc, &mut self.signals, words)?);
-        self.open.push(open)?;
+        self.end_arm(alloc)?;
+        let condition = expression(alloc, &mut self.signals, words)?;
+        match self.open.last_mut() {
+            Some(open) => open.condition = Some(condition),
+            None => return Err(Stop::NoCase),
+        }
         Ok(())
     }
 
     // The end of the innermost choice.
     fn close(&mut self, alloc: Global) -> Result<(), Stop> {
-        let open = self.innermost(alloc)?;
-        self.body = open.outer;
-        Ok(self.body.push(Stmt::Choose(open.arms))?)
+        self.end_arm(alloc)?;
+        match self.open.pop() {
+            Some(open) => self.closed(open),
+            None => Err(Stop::NoCase),
+        }
+    }
+
+    // A choice that is whole stands behind what was read outside it.
+    fn closed(&mut self, open: Open) -> Result<(), Stop> {
+        let Open { outer, arms, .. } = open;
+        self.body = outer;
+        Ok(self.body.push(Stmt::Choose(arms))?)
     }
 
     // The end of the statements that are read, and the beginning of those of a domain, which come in order.
@@ -180,14 +196,19 @@ impl Reader {
         Ok(self.processes.push(DesignProcess { domain, body })?)
     }
 
-    // The design, once all lines are read.
-    fn end(mut self, alloc: Global) -> Result<Case, Stop> {
+    // The end of all lines.
+    fn end(&mut self, alloc: Global) -> Result<(), Stop> {
         if self.signals.domains.len() == 0 {
             self.signals.side(alloc, "sync")?;
         }
         let domains = self.signals.domains.len();
         self.fill(alloc, domains)?;
         self.next(alloc)?;
+        self.bank.end()
+    }
+
+    // The design, once all lines are read.
+    fn case(self, alloc: Global) -> Result<Case, Stop> {
         let Reader {
             signals,
             processes,
@@ -195,8 +216,19 @@ impl Reader {
             asked,
             ..
         } = self;
-        let design = design_of(alloc, signals, processes, bank.end()?)?;
+        let design = design_of(alloc, signals, processes, bank.whole)?;
         Ok(Case { design, asked })
+    }
+}
+
+impl Open {
+    // Statements that stand in the arm that is read: none stand before the first one.
+    fn add(&mut self, body: Stmts) -> Result<(), Stop> {
+        match self.condition {
+            Some(condition) => Ok(self.arms.push(Arm { condition, body })?),
+            None if body.len() > 0 => Err(Stop::NoCase),
+            None => Ok(()),
+        }
     }
 }
 
@@ -207,4 +239,17 @@ fn domain_of(side: usize) -> Result<Option<DomainId>, Stop> {
         1..=65536 => Ok(Some(DomainId((side - 1) as u16))),
         _ => Err(Stop::NoCase),
     }
+}
+
+// The place of the first letter of the line with this number, from 0.
+fn place_of(number: usize, line: &str) -> Place {
+    Place {
+        line: short(number),
+        col: short(line.len().saturating_sub(line.trim_start().len())),
+    }
+}
+
+// A count from 1, cut where it is past all lines.
+fn short(n: usize) -> u32 {
+    if n < 1_000_000 { n as u32 + 1 } else { 0 }
 }

@@ -2,14 +2,14 @@
 ghost use Rattle.std.specs.Prelude.{◌≡◌, IfOk};
 
 use crate::form::signal;
-use crate::numbers::{integer, shape};
+use crate::numbers::shape;
 use crate::pool::Sheet;
-use crate::stop::Stop;
 use amh_bits::Int;
 use amh_host::{Items, NoMemory, Text};
 use design_ir::{Domain, Domains, ExprId, Port, Ports, Sig, SigId};
 use shape_rules::Shape;
 use std::alloc::Global;
+use table_text::{Stop, integer};
 
 /// Signals with their expressions so far. Each signal is a port of its name. Its side is 0 where combinational statements
 /// drive it, and behind that come the domains in order.

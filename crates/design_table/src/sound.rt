@@ -1,5 +1,5 @@
 // Whether parts keep the rules of designs.
-ghost use Rattle.std.specs.Prelude.{◌≡◌, ◌+◌, ◌<◌, ◌^◌, length, map, IsTrue, IfOk};
+ghost use Rattle.std.specs.Prelude.{◌≡◌, ◌+◌, ◌<◌, ◌^◌, ◌≤◌, length, map, IsTrue, IfOk};
 ghost use Rattle.std.specs.List.{AllByRecursion};
 ghost use Rattle.design_table.specs.MemoryTests.{AreGiven, AreMemories};
 ghost use Rattle.design_table.specs.Tests.{AreDomains, AreSides, AreSignals, IsAmong, IsSide, circuit_of, column_of};
@@ -10,7 +10,6 @@ use crate::memory_rules::are_memories;
 use crate::reads::{are_distinct, are_no_inputs, given_ports};
 use crate::shown::{are_apart, are_shown};
 use crate::signals::{Signals, copied};
-use crate::stop::Stop;
 use crate::tables::side_targets;
 use amh_host::{Items, NoMemory};
 use design_ir::{
@@ -18,6 +17,7 @@ use design_ir::{
     Port, Ports, Stmts,
 };
 use std::alloc::Global;
+use table_text::Stop;
 
 // Whether the signals keep the rules: ports apart and shown.
 fn are_signals(signals: &Signals) -> bool
@@ -164,6 +164,37 @@ fn made(
     Ok(Design::new(sheet.pool, processes, memories, domains, ports, columns))
 }
 
+// Whether signals and domains keep the rules, and processes are few and of these domains.
+fn are_parts(signals: &Signals, processes: &[DesignProcess]) -> bool
+    ensures signals { IsTrue result → AreSignals signals.now.sheet.pool signals.now.ports }
+    ensures domains { IsTrue result → AreDomains signals.now.sheet.pool signals.now.ports signals.now.domains }
+    ensures there { IsTrue result → AllByRecursion (λ p. IsAmong signals.now.domains p.domain) processes.now }
+    ensures few { IsTrue result → length processes.now ≤ 65536 }
+{
+    let domains = signals.domains.as_slice();
+    are_signals(signals)
+        && processes.len() <= 65536
+        && are_domains(&signals.sheet, signals.ports.as_slice(), domains)
+        && are_among(domains, processes)
+}
+
+// Whether statements drive signals of their sides alone, and memories keep the rules.
+fn are_driven(
+    alloc: Global,
+    signals: &Signals,
+    memories: &Memories,
+    processes: &[DesignProcess],
+) -> Result<bool, NoMemory>
+    requires { length processes.now < 2 ^ 64 }
+    ensures sides { IfOk result (λ b. IsTrue b → AreSides signals.now.sheet.pool signals.now.ports signals.now.sides.items 0 processes.now) }
+    ensures memories { IfOk result (λ b. IsTrue b → AreMemories signals.now.sheet.pool signals.now.ports signals.now.sides.items signals.now.domains processes.now memories.now) }
+{
+    if !are_sides(alloc, signals, &signals.ports, 0, processes)? {
+        return Ok(false);
+    }
+    keep_rules(alloc, signals, memories, processes)
+}
+
 /// The design of these signals, the process of each side, and memories, where they keep its rules.
 pub fn design_of(
     alloc: Global,
@@ -171,21 +202,11 @@ pub fn design_of(
     processes: DesignProcesses,
     memories: Memories,
 ) -> Result<Design, Stop> {
-    let domains = signals.domains.as_slice();
-    if !are_signals(&signals) || processes.len() > 65536 {
-        return Err(Stop::NoCase);
+    if are_parts(&signals, processes.as_slice())
+        && are_driven(alloc, &signals, &memories, processes.as_slice())?
+    {
+        Ok(made(alloc, signals, processes, memories)?)
+    } else {
+        Err(Stop::NoCase)
     }
-    if !are_domains(&signals.sheet, signals.ports.as_slice(), domains) {
-        return Err(Stop::NoCase);
-    }
-    if !are_among(domains, processes.as_slice()) {
-        return Err(Stop::NoCase);
-    }
-    if !are_sides(alloc, &signals, &signals.ports, 0, processes.as_slice())? {
-        return Err(Stop::NoCase);
-    }
-    if !keep_rules(alloc, &signals, &memories, processes.as_slice())? {
-        return Err(Stop::NoCase);
-    }
-    Ok(made(alloc, signals, processes, memories)?)
 }
