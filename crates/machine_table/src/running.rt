@@ -1,5 +1,5 @@
 // A run of a program by its answers.
-ghost use Rattle.std.specs.Prelude.{◌≡◌, ◌<◌, ◌++◌, max, IfOk, codes, string_bytes};
+ghost use Rattle.std.specs.Prelude.{◌≡◌, ◌<◌, ◌++◌, max, IfOk, OnOk, codes, string_bytes};
 ghost use Rattle.py_tree.specs.Programs.{program_of};
 ghost use Rattle.py_machine.specs.Lives.{IsOf, Resumed, again};
 ghost use Rattle.machine_table.specs.Words.{place_said};
@@ -8,17 +8,17 @@ use crate::answers::{Given, given_of};
 use crate::question::Question;
 use crate::requests::Requests;
 use crate::said::{end_said, request_said, stop_said};
-use amh_host::{Budget, Place, Steps};
+use amh_host::{Budget, NoMemory, Place, Steps};
 use private_names::mangled;
-use py_lexer::{LexStop, cut_lines};
-use py_machine::{Answer, Machine, Turn};
+use py_lexer::{LexStop, Lines, cut_lines};
+use py_machine::{Answer, Machine, Request, Turn};
 use py_parser::{ParseStop, parse};
 use py_tree::Program;
 use py_values::{Frozen, Hw, Val};
 use std::alloc::Global;
 use std::marker::Brand;
 use std::sync::ledger::{Blank, Ledger};
-use table_text::Stop;
+use table_text::{Line, Stop};
 
 /// How many bytes a program may have.
 const MOST: usize = 1_048_576;
@@ -29,19 +29,24 @@ pub fn said_of(alloc: Global, question: &Question) -> Result<String, Stop> {
     if text.len() > MOST || question.budget == 0 {
         return Err(Stop::NoCase);
     }
-    let lines = match cut_lines(alloc, text) {
-        Ok(lines) => lines,
-        Err(LexStop::Subset(place)) => return refused(alloc, place),
-        Err(LexStop::NoMemory) => return Err(Stop::NoMemory),
-    };
-    match parse(alloc, text, &lines) {
-        Ok(program) => {
-            let program = mangled(alloc, &program)?;
-            counted_run::<Brand>(alloc, question, &program, Blank::new(1))
-        }
+    match cut_lines(alloc, text) {
+        Ok(lines) => parsed_said(alloc, question, &lines),
+        Err(LexStop::Subset(place)) => refused(alloc, place),
+        Err(LexStop::NoMemory) => Err(Stop::NoMemory),
+    }
+}
+
+fn parsed_said(alloc: Global, question: &Question, lines: &Lines) -> Result<String, Stop> {
+    match parse(alloc, question.program.as_str(), lines) {
+        Ok(program) => program_said(alloc, question, &program),
         Err(ParseStop::Subset(place)) => refused(alloc, place),
         Err(ParseStop::NoMemory) => Err(Stop::NoMemory),
     }
+}
+
+fn program_said(alloc: Global, question: &Question, program: &Program) -> Result<String, Stop> {
+    let program = mangled(alloc, program)?;
+    counted_run::<Brand>(alloc, question, &program, Blank::new(1))
 }
 
 fn refused(alloc: Global, place: Place) -> Result<String, Stop>
@@ -59,11 +64,12 @@ fn counted_run<L: Ledger>(
 ) -> Result<String, Stop>
     requires { (blank.name ≡ L.name) × (blank.parts ≡ L.parts) × (0 < L.parts) }
 {
-    let run = Run {
+    let machine = Machine::start(alloc, program)?;
+    let mut run = Run {
         alloc,
         program,
         frozen: Frozen::empty(alloc),
-        machine: Machine::start(alloc, program)?,
+        machine,
         phase: Phase::Body,
         requests: Requests::new(alloc),
         left: Budget {
@@ -71,7 +77,9 @@ fn counted_run<L: Ledger>(
         },
         steps: Steps::<L>::new(blank),
     };
-    run.said(question)
+    let mut said = Line::new(alloc);
+    run.say(&mut said, question);
+    said.whole()
 }
 
 // What a run evaluates: the body, nothing more since the body has ended, or a testbench over what the body made.
@@ -97,86 +105,97 @@ struct Run<'a, L: Ledger> {
 
 impl<'a, L: Ledger> Run<'a, L> {
     // What comes of all answers, and what it costs.
-    fn said(self, question: &Question) -> Result<String, Stop>
-        requires { IsOf (program_of self.program.now) self.machine }
+    fn say(&mut self, said: &mut Line, question: &Question)
+        requires { IsOf (program_of self.old.program.now) self.old.machine }
     {
-        let mut run = self;
-        let mut said = run.said_after(Answer::Begin)?;
-        if question.answers.is_empty() {
-            return run.with_cost(said.as_str(), question.budget);
+        self.say_after(said, Answer::Begin);
+        if !question.answers.is_empty()
+            && let Err(stop) = self.say_answers(said, question.answers)
+        {
+            said.give_up(stop);
         }
-        for spelled in question.answers.split(';') {
-            said.push_str(" / ")?;
-            let answer = match given_of(run.alloc, &run.requests, spelled)? {
-                Given::Answer(answer) => answer,
-                Given::Bench { callee, ctx } => {
-                    run = run.before_bench(callee, ctx)?;
-                    Answer::Begin
-                }
-            };
-            said.push_str(run.said_after(answer)?.as_str())?;
-        }
-        run.with_cost(said.as_str(), question.budget)
+        said.word(" cost ");
+        said.number(question.budget.saturating_sub(self.left.left) as u128);
     }
 
-    // What came of a question, and the units that were spent.
-    fn with_cost(&self, said: &str, budget: u64) -> Result<String, Stop> {
-        let cost = budget.saturating_sub(self.left.left);
-        Ok(format!(in self.alloc; "{said} cost {cost}")?)
+    // What comes of the answers behind the first one.
+    fn say_answers(&mut self, said: &mut Line, answers: &str) -> Result<(), Stop>
+        requires { IsOf (program_of self.old.program.now) self.old.machine }
+    {
+        for spelled in answers.split(';') {
+            said.word(" / ");
+            self.take(said, spelled)?;
+        }
+        Ok(())
+    }
+
+    // What comes next, and what comes of it.
+    fn take(&mut self, said: &mut Line, spelled: &str) -> Result<(), Stop>
+        requires { IsOf (program_of self.old.program.now) self.old.machine }
+        ensures { OnOk result (IsOf (program_of self.new.program.now) self.new.machine) }
+    {
+        match given_of(self.alloc, &self.requests, spelled)? {
+            Given::Answer(answer) => self.say_after(said, answer),
+            Given::Bench { callee, ctx } => {
+                self.begin_bench(callee, ctx)?;
+                self.say_after(said, Answer::Begin);
+            }
+        }
+        Ok(())
     }
 
     // A testbench is to begin over what the body made, which has ended.
-    fn before_bench(self, callee: Val, ctx: Hw) -> Result<Run<'a, L>, Stop>
-        ensures { IfOk result (λ run. IsOf (program_of run.program.now) run.machine) }
+    fn begin_bench(&mut self, callee: Val, ctx: Hw) -> Result<(), Stop>
+        ensures { OnOk result (IsOf (program_of self.new.program.now) self.new.machine) }
     {
-        let Run {
-            alloc,
-            program,
-            frozen,
-            machine,
-            phase,
-            requests,
-            left,
-            steps,
-        } = self;
-        let frozen = match phase {
+        match self.phase {
             Phase::Body => return Err(Stop::NoCase),
-            Phase::BodyEnded => machine.freeze(),
-            Phase::Bench => frozen,
-        };
-        let machine = Machine::bench(alloc, &frozen, callee, ctx)?;
-        Ok(Run {
-            alloc,
-            program,
-            frozen,
-            machine,
-            phase: Phase::Bench,
-            requests,
-            left,
-            steps,
-        })
+            Phase::BodyEnded => self.freeze()?,
+            Phase::Bench => {}
+        }
+        self.machine = bench_of(self.alloc, self.program, &self.frozen, callee, ctx)?;
+        self.phase = Phase::Bench;
+        Ok(())
+    }
+
+    // What the body made stands before the testbenches. Until one begins a machine of the program stands in their place.
+    fn freeze(&mut self) -> Result<(), NoMemory> {
+        let machine = Machine::start(self.alloc, self.program)?;
+        self.frozen = std::mem::replace(&mut self.machine, machine).freeze();
+        Ok(())
     }
 
     // What comes of an answer.
-    fn said_after(&mut self, answer: Answer) -> Result<String, Stop>
+    fn say_after(&mut self, said: &mut Line, answer: Answer)
         requires { IsOf (program_of self.old.program.now) self.old.machine }
         ensures { IsOf (program_of self.new.program.now) self.new.machine }
     {
         match self.turn_after(answer) {
-            Turn::Asks(request) => {
-                let said = request_said(self.alloc, &self.machine, &self.frozen, &request)?;
-                self.requests.push(request)?;
-                Ok(said)
-            }
-            Turn::Ended(v) => {
-                if self.phase == Phase::Body {
-                    self.phase = Phase::BodyEnded;
-                }
-                end_said(self.alloc, &self.machine, &self.frozen, v)
-            }
-            Turn::Stopped(stop) => stop_said(self.alloc, stop),
-            Turn::NoMemory => Ok(String::from_str(self.alloc, "no memory")?),
+            Turn::Asks(request) => self.say_request(said, request),
+            Turn::Ended(v) => self.say_end(said, v),
+            Turn::Stopped(stop) => said.told(stop_said(self.alloc, stop)),
+            Turn::NoMemory => said.word("no memory"),
         }
+    }
+
+    fn say_request(&mut self, said: &mut Line, request: Request)
+        requires { IsOf (program_of self.old.program.now) self.old.machine }
+        ensures { IsOf (program_of self.new.program.now) self.new.machine }
+    {
+        said.told(request_said(self.alloc, &self.machine, &self.frozen, &request));
+        if self.requests.push(request).is_err() {
+            said.give_up(Stop::NoMemory);
+        }
+    }
+
+    fn say_end(&mut self, said: &mut Line, v: Val)
+        requires { IsOf (program_of self.old.program.now) self.old.machine }
+        ensures { IsOf (program_of self.new.program.now) self.new.machine }
+    {
+        if self.phase == Phase::Body {
+            self.phase = Phase::BodyEnded;
+        }
+        said.told(end_said(self.alloc, &self.machine, &self.frozen, v));
     }
 
     // What an answer brings. Where no unit is left the program has stopped, and a unit is lent that it does not spend.
@@ -201,4 +220,19 @@ impl<'a, L: Ledger> Run<'a, L> {
         }
         turn
     }
+}
+
+// A machine before a testbench, whatever its program.
+fn bench_of(
+    alloc: Global,
+    program: &Program,
+    frozen: &Frozen,
+    callee: Val,
+    ctx: Hw,
+) -> Result<Machine, NoMemory>
+    ensures { IfOk result (IsOf (program_of program.now)) }
+{
+    let _ = program;
+    let machine = Machine::bench(alloc, frozen, callee, ctx)?;
+    Ok(machine)
 }

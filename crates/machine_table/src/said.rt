@@ -16,24 +16,24 @@ pub fn request_said(
     request: &Request,
 ) -> Result<String, Stop> {
     let mut shown = Shown::new(alloc, machine, frozen);
-    shown.word(act_word(request.act))?;
-    shown.word("(")?;
+    shown.word(act_word(request.act));
+    shown.word("(");
     if request.act == Act::BodyEnd {
-        named(&mut shown, request)?;
+        named(&mut shown, request);
     } else {
-        apart(&mut shown, request)?;
+        apart(&mut shown, request);
     }
-    let place = request.place;
-    shown.word(format!(in alloc; ") {}:{}", place.line, place.col)?.as_str())?;
-    Ok(shown.into_text())
+    shown.word(") ");
+    shown.line.place(request.place);
+    shown.whole()
 }
 
 /// The value at the end.
 pub fn end_said(alloc: Global, machine: &Machine, frozen: &Frozen, v: Val) -> Result<String, Stop> {
     let mut shown = Shown::new(alloc, machine, frozen);
-    shown.word("ended ")?;
-    shown.value(v)?;
-    Ok(shown.into_text())
+    shown.word("ended ");
+    shown.value(v);
+    shown.whole()
 }
 
 /// Why and where a program stops.
@@ -45,29 +45,27 @@ pub fn stop_said(alloc: Global, stop: py_machine::Stop) -> Result<String, Stop>
 }
 
 // The values of a request, each behind its name.
-fn named(shown: &mut Shown, request: &Request) -> Result<(), Stop> {
+fn named(shown: &mut Shown, request: &Request) {
     let vals = request.vals.as_slice();
     let mut between = "";
     for (name, v) in request.names.items().iter().zip(vals.iter()) {
-        shown.word(between)?;
-        shown.word(name.as_str())?;
-        shown.word("=")?;
-        shown.value(*v)?;
+        shown.word(between);
+        shown.word(name.as_str());
+        shown.word("=");
+        shown.value(*v);
         between = ", ";
     }
-    Ok(())
 }
 
 // The values of a request, and then its names, where there are any.
-fn apart(shown: &mut Shown, request: &Request) -> Result<(), Stop> {
-    shown.values(request.vals.as_slice())?;
+fn apart(shown: &mut Shown, request: &Request) {
+    shown.values(request.vals.as_slice());
     let mut between = "; ";
     for name in request.names.items() {
-        shown.word(between)?;
-        shown.quoted(name.as_str())?;
+        shown.word(between);
+        shown.quoted(name.as_str());
         between = ", ";
     }
-    Ok(())
 }
 
 fn act_word(act: Act) -> &'static str {

@@ -1,4 +1,4 @@
-use Rattle.machine_table.proofs.running.said_of.Given as goal
+use Rattle.machine_table.proofs.running.program_said.Given as goal
 
 abbrev pub ghosts-counted_run : goal.ghosts-counted_run
 ghosts-counted_run a = record { name = a.blank.name; parts = a.blank.parts }
