@@ -6,26 +6,51 @@ use crate::running::{Finished, ran};
 use amh_host::HostCall;
 use amh_tool::Status;
 use std::alloc::Global;
-use table_text::Stop;
+use table_text::{Line, Stop};
 
 /// The most calls of one kind that are made to fail.
 const MOST: u32 = 100_000;
 
+// What comes of a run in which a call is to fail.
+#[derive(Clone, Copy)]
+enum Failing {
+    // The run makes no such call.
+    Never,
+    Sound,
+    Unsound,
+}
+
 /// How many calls of each kind and name a run has, each of which was made to fail, or that a run was not sound.
 pub fn counted(alloc: Global, question: &Question<'_>) -> Result<String, Stop> {
     let sound = ran(alloc, question, &[])?;
-    let mut said = String::new(alloc);
-    for (word, call, name) in calls_of(question) {
-        if !said.is_empty() {
-            said.push_str(", ")?;
+    let mut said = Line::new(alloc);
+    say_counts(alloc, &mut said, question, &sound);
+    said.whole()
+}
+
+fn say_counts(alloc: Global, said: &mut Line, question: &Question<'_>, sound: &Finished) {
+    let calls = calls_of(question);
+    for k in 0..calls.len() {
+        let (word, call, name) = calls[k];
+        if k > 0 {
+            said.word(", ");
         }
-        let told = match count_of(alloc, question, &sound, call, name)? {
-            Some(count) => format!(in alloc; "{word} {name} {count}")?,
-            None => format!(in alloc; "{word} {name} unsound")?,
-        };
-        said.push_str(told.as_str())?;
+        said.word(word);
+        said.word(" ");
+        said.word(name);
+        say_count(said, count_of(alloc, question, sound, call, name));
     }
-    Ok(said)
+}
+
+fn say_count(said: &mut Line, count: Result<Option<u32>, Stop>) {
+    match count {
+        Ok(Some(count)) => {
+            said.word(" ");
+            said.number(count as u128);
+        }
+        Ok(None) => said.word(" unsound"),
+        Err(stop) => said.give_up(stop),
+    }
 }
 
 // The kinds of calls of a run, each with its word and the name that it is on.
@@ -51,15 +76,29 @@ fn count_of(
     name: &str,
 ) -> Result<Option<u32>, Stop> {
     for nth in 1..=MOST {
-        let run = ran(alloc, question, &[Fault { call, name, nth }])?;
-        if run.status != Status::Fault {
-            return Ok(Some(nth - 1));
-        }
-        if !is_sound(question, sound, &run) {
-            return Ok(None);
+        match failing(alloc, question, sound, Fault { call, name, nth })? {
+            Failing::Never => return Ok(Some(nth - 1)),
+            Failing::Sound => {}
+            Failing::Unsound => return Ok(None),
         }
     }
     Ok(None)
+}
+
+fn failing(
+    alloc: Global,
+    question: &Question<'_>,
+    sound: &Finished,
+    fault: Fault<'_>,
+) -> Result<Failing, Stop> {
+    let run = ran(alloc, question, &[fault])?;
+    if run.status != Status::Fault {
+        Ok(Failing::Never)
+    } else if is_sound(question, sound, &run) {
+        Ok(Failing::Sound)
+    } else {
+        Ok(Failing::Unsound)
+    }
 }
 
 // What a run in which a call failed left is a part of what the whole one left, in the order of the work.

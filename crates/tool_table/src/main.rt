@@ -29,28 +29,20 @@ mod said;
 use question::{Asked, Question};
 use std::alloc::Global;
 use std::io;
-use table_text::Stop;
+use table_text::{Stop, answered};
 
 fn main(rt: HostRuntime) -> io::Result<()> {
     let alloc = rt.alloc();
     let mut number = 0u64;
     for line in rt.lines(alloc) {
         number = number.saturating_add(1);
-        let said = answer_to(alloc, line?.as_str())?;
+        let said = answered(alloc, said_to(alloc, line?.as_str()))?;
         println!(rt; "{number} {said}")?;
     }
     Ok(())
 }
 
 // The answer to a line of the table.
-fn answer_to(alloc: Global, line: &str) -> io::Result<String> {
-    match said_to(alloc, line) {
-        Ok(said) => Ok(said),
-        Err(Stop::NoCase) => Ok(String::from_str(alloc, "no case")?),
-        Err(Stop::NoMemory) => Err(io::ErrorKind::OutOfMemory.into()),
-    }
-}
-
 fn said_to(alloc: Global, line: &str) -> Result<String, Stop> {
     let question = Question::read(alloc, line)?;
     match question.asked {

@@ -23,7 +23,7 @@ pub struct Fault<'a> {
 }
 
 /// What is asked of a run.
-#[derive(Clone, Copy, Debug, PartialEq, Eq, Drop)]
+#[derive(Clone, Copy, Drop)]
 pub enum Asked {
     /// What it answers.
     Once,
@@ -113,13 +113,24 @@ fn file_of<'a>(alloc: Global, field: &'a str) -> Result<GivenFile<'a>, Stop> {
     let Some((head, spelled)) = field.split_once('=') else {
         return Err(Stop::NoCase);
     };
-    let Some(bytes) = bytes_of(alloc, spelled.as_bytes())? else {
-        return Err(Stop::NoCase);
+    let (name, count) = match head.split_once('*') {
+        Some((name, count)) => (name, natural(count)?),
+        None => (head, 1),
     };
-    let Some((name, count)) = head.split_once('*') else {
-        return Ok(GivenFile { name: head, bytes });
-    };
-    let bytes = repeated(alloc, bytes.as_slice(), natural(count)?)?;
+    match bytes_of(alloc, spelled.as_bytes())? {
+        Some(bytes) => given(alloc, name, bytes.as_slice(), count),
+        None => Err(Stop::NoCase),
+    }
+}
+
+// A file of so many times these bytes.
+fn given<'a>(
+    alloc: Global,
+    name: &'a str,
+    bytes: &[u8],
+    count: u128,
+) -> Result<GivenFile<'a>, Stop> {
+    let bytes = repeated(alloc, bytes, count)?;
     Ok(GivenFile { name, bytes })
 }
 

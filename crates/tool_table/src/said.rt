@@ -5,25 +5,32 @@ use crate::question::Question;
 use crate::running::{Finished, ran};
 use amh_tool::Status;
 use std::alloc::Global;
-use table_text::{Stop, spelled};
+use table_text::{Line, Stop};
 
 /// How the run ended, what was said and warned, and what the trace and RTLIL are.
 pub fn once(alloc: Global, question: &Question<'_>) -> Result<String, Stop> {
     let run = ran(alloc, question, question.faults.as_slice())?;
-    let mut said = format!(in alloc; "{} {}", status_word(run.status), run.status.code())?;
-    said.push_str(" | said ")?;
-    said.push_str(spelled(alloc, run.host.said().as_bytes())?.as_str())?;
-    said.push_str(" | warned ")?;
-    said.push_str(spelled(alloc, run.host.warned().as_bytes())?.as_str())?;
-    said.push_str(" | ")?;
-    said.push_str(trace_said(alloc, question, &run)?.as_str())?;
-    said.push_str(" | ")?;
-    said.push_str(rtlil_said(alloc, question, &run)?.as_str())?;
-    Ok(said)
+    let mut said = Line::new(alloc);
+    say_run(&mut said, &run);
+    said.word(" | ");
+    say_trace(&mut said, question.word(2), &run);
+    said.word(" | ");
+    say_rtlil(alloc, &mut said, question, &run);
+    said.whole()
 }
 
-/// The word for a status.
-pub fn status_word(status: Status) -> &'static str {
+fn say_run(said: &mut Line, run: &Finished) {
+    said.word(status_word(run.status));
+    said.word(" ");
+    said.number(run.status.code() as u128);
+    said.word(" | said ");
+    said.spelled(run.host.said().as_bytes());
+    said.word(" | warned ");
+    said.spelled(run.host.warned().as_bytes());
+}
+
+// The word for a status.
+fn status_word(status: Status) -> &'static str {
     match status {
         Status::Done => "done",
         Status::Refused => "refused",
@@ -35,32 +42,43 @@ pub fn status_word(status: Status) -> &'static str {
     }
 }
 
-fn trace_said(alloc: Global, question: &Question<'_>, run: &Finished) -> Result<String, Stop> {
-    let name = question.word(2);
+fn say_trace(said: &mut Line, name: &str, run: &Finished) {
+    said.word(name);
     match run.host.bytes(name) {
-        None => Ok(format!(in alloc; "{name} none")?),
+        None => said.word(" none"),
         Some(bytes) => {
-            let text = spelled(alloc, bytes)?;
-            Ok(format!(in alloc; "{name} {text}")?)
+            said.word(" ");
+            said.spelled(bytes);
         }
     }
 }
 
-fn rtlil_said(alloc: Global, question: &Question<'_>, run: &Finished) -> Result<String, Stop> {
+fn say_rtlil(alloc: Global, said: &mut Line, question: &Question<'_>, run: &Finished) {
     let name = question.word(1);
-    let Some(bytes) = run.host.bytes(name) else {
-        return Ok(format!(in alloc; "{name} none")?);
-    };
-    if question.faults.is_empty() {
-        return Ok(format!(in alloc; "{name} there")?);
+    said.word(name);
+    match run.host.bytes(name) {
+        None => said.word(" none"),
+        Some(_) if question.faults.is_empty() => said.word(" there"),
+        Some(bytes) => say_part(alloc, said, question, bytes),
     }
-    let sound = ran(alloc, question, &[])?;
-    let whole = sound.host.bytes(name);
-    if whole == Some(bytes) {
-        return Ok(format!(in alloc; "{name} whole")?);
+}
+
+// What RTLIL is of that of a run without faults.
+fn say_part(alloc: Global, said: &mut Line, question: &Question<'_>, part: &[u8]) {
+    match ran(alloc, question, &[]) {
+        Ok(sound) => say_front(said, part, sound.host.bytes(question.word(1))),
+        Err(stop) => said.give_up(stop),
     }
-    if !is_front(Some(bytes), whole) {
-        return Ok(format!(in alloc; "{name} other")?);
+}
+
+fn say_front(said: &mut Line, part: &[u8], whole: Option<&[u8]>) {
+    if whole == Some(part) {
+        said.word(" whole");
+    } else if is_front(Some(part), whole) {
+        said.word(" ");
+        said.number(lines_in(part) as u128);
+        said.word(" lines");
+    } else {
+        said.word(" other");
     }
-    Ok(format!(in alloc; "{name} {} lines", lines_in(bytes))?)
 }
