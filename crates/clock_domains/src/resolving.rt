@@ -1,12 +1,15 @@
 // From a module with those below it to a design.
-ghost use Rattle.std.specs.Prelude.{◌≡◌, ◌<◌, ◌^◌, Ok, map, length, IfOk, IfErr};
+ghost use Rattle.std.specs.Prelude.{◌≡◌, ◌<◌, ◌^◌, [], None, Ok, map, length, IfOk, IfErr};
+ghost use Rattle.std.specs.List.{AllByRecursion};
 ghost use Rattle.design_ir.specs.Rising.{AllRisingSync};
+ghost use Rattle.clock_domains.specs.Chosen.{IsSignal};
 ghost use Rattle.clock_domains.specs.Firsts.{AreFirsts};
 ghost use Rattle.clock_domains.specs.Marks.{Flag};
 ghost use Rattle.clock_domains.specs.Reads.{is_driven};
 ghost use Rattle.clock_domains.specs.Ready.{IsReady};
-ghost use Rattle.clock_domains.specs.Resolvable.{IsResolvable};
-ghost use Rattle.clock_domains.specs.Resolved.{IsResolveRefusal, columns_of, named_registers, ports_named, ports_of, process_in, resolved, resolved_in};
+ghost use Rattle.clock_domains.specs.Resolvable.{AreTopPorts, IsResolvable, IsSideOf};
+ghost use Rattle.clock_domains.specs.Resolved.{IsResolveRefusal, columns_of, design_inputs, driver_refusal, named_registers, ports_named, ports_of, process_in, resolved, resolved_in};
+ghost use Rattle.clock_domains.specs.Stops.{IsOwed};
 
 use crate::clashes::no_clash;
 use crate::columns::{columns_of, named_registers, ports_named, register_columns};
@@ -18,7 +21,8 @@ use crate::top::TopPorts;
 use crate::walk::{Walk, walked};
 use amh_host::{Items, NoMemory};
 use design_ir::{
-    Columns, Design, DesignProcesses, Domain, Domains, Exprs, Fragment, Pool, Ports, Process,
+    Columns, Design, DesignProcesses, Domain, Domains, Exprs, Fragment, Pool, Port, Ports, Process,
+    SigId,
 };
 use std::alloc::Global;
 
@@ -28,6 +32,44 @@ struct Parts {
     processes: DesignProcesses,
     ports: Ports,
     columns: Columns,
+}
+
+// The signals that are driven from clocked sides and are no ports.
+fn registers_in(
+    alloc: Global,
+    pool: &Pool,
+    walk: &Walk,
+    clocked: &[Option<usize>],
+    ports: &[Port],
+) -> Result<Vec<SigId>, NoMemory>
+    requires clocked { AreFirsts pool.now walk.now.processes.items clocked.now }
+    requires ports { AllByRecursion (λ p. p.sig.0 < length pool.now.signals) ports.now }
+    ensures { IfOk result (λ v. map (λ s. s.0) v.items ≡ named_registers pool.now walk.now.processes.items ports.now) }
+{
+    let _ = pool.count();
+    let _ = walk;
+    let is_port = mark_ports(alloc, ports)?;
+    named_registers(alloc, pool, clocked, is_port.as_slice())
+}
+
+// The columns of ports, and of the registers that are none.
+fn columns_in(
+    alloc: Global,
+    pool: &Pool,
+    walk: &Walk,
+    clocked: &[Option<usize>],
+    ports: &[Port],
+) -> Result<Columns, NoMemory>
+    requires size { length walk.now.paths ≡ length walk.now.processes.items }
+    requires clocked { AreFirsts pool.now walk.now.processes.items clocked.now }
+    requires ports { AllByRecursion (λ p. p.sig.0 < length pool.now.signals) ports.now }
+    ensures { IfOk result (λ cs. cs ≡ columns_of pool.now walk.now.processes.items walk.now.paths ports.now (named_registers pool.now walk.now.processes.items ports.now)) }
+{
+    let _ = pool.count();
+    let registers = registers_in(alloc, pool, walk, clocked, ports)?;
+    let paths = walk.paths.as_slice();
+    let named = register_columns(alloc, pool, paths, clocked, registers.as_slice())?;
+    columns_of(alloc, ports, named.as_slice())
 }
 
 // The processes, ports and columns of a module by what is driven.
@@ -47,29 +89,36 @@ fn parts_of(
     ensures columns { IfOk result (λ x. let ports = ports_of pool.now domains.now own.now walk.processes.items top.now in x.columns ≡ columns_of pool.now walk.processes.items walk.paths ports (named_registers pool.now walk.processes.items ports)) }
     ensures ports { IfOk result (λ x. x.ports ≡ ports_named (ports_of pool.now domains.now own.now walk.processes.items top.now) x.columns) }
 {
-    let _ = pool.count();
-    let Walk {
-        processes,
-        paths,
-        ..
-    } = walk;
     let Drivers { driven, clocked } = drivers;
-    let ports = ports_of(alloc, pool, domains, own, processes.as_slice(), driven, top)?;
-    let is_port = mark_ports(alloc, ports.as_slice())?;
-    let registers = named_registers(alloc, pool, clocked.as_slice(), is_port.as_slice())?;
-    let named = register_columns(
-        alloc,
-        pool,
-        paths.as_slice(),
-        clocked.as_slice(),
-        registers.as_slice(),
-    )?;
-    let columns = columns_of(alloc, ports.as_slice(), named.as_slice())?;
+    let processes = walk.processes.as_slice();
+    let found = ports_of(alloc, pool, domains, own, processes, driven, top)?;
+    let columns = columns_in(alloc, pool, &walk, clocked.as_slice(), found.as_slice())?;
+    let ports = ports_named(alloc, found.as_slice(), columns.as_slice())?;
     Ok(Parts {
-        processes: processes_made(alloc, domains, processes)?,
-        ports: ports_named(alloc, ports.as_slice(), columns.as_slice())?,
+        processes: processes_made(alloc, domains, walk.processes)?,
+        ports,
         columns,
     })
+}
+
+// What the processes of a module drive, or the refusal of its drivers.
+fn drivers_in(
+    alloc: Global,
+    pool: &Pool,
+    domains: &[Domain],
+    processes: &[Process],
+    top: &TopPorts,
+) -> Result<Drivers, ResolveStop>
+    requires domains { AllByRecursion (IsSignal pool.now) domains.now }
+    requires sides { AllByRecursion (IsSideOf pool.now) processes.now }
+    requires top { AreTopPorts pool.now top.now }
+    ensures accepted { IfOk result (λ _. driver_refusal pool.now (design_inputs domains.now top.now) [] processes.now ≡ None) }
+    ensures driven { IfOk result (λ d. Flag d.driven.items (is_driven pool.now processes.now)) }
+    ensures clocked { IfOk result (λ d. AreFirsts pool.now processes.now d.clocked.items) }
+    ensures refused { IfErr result (IsOwed (driver_refusal pool.now (design_inputs domains.now top.now) [] processes.now)) }
+{
+    let inputs = mark_design_inputs(alloc, pool, domains, top)?;
+    drivers_of(alloc, pool, processes, inputs.as_slice())
 }
 
 // The design of a module whose domains were made, or the refusal of its drivers.
@@ -87,8 +136,8 @@ fn design_in(
     ensures refused { IfErr result (IsResolveRefusal (resolved_in pool domains own.now walk.processes.items walk.paths top.now)) }
 {
     let _ = pool.count();
-    let inputs = mark_design_inputs(alloc, &pool, domains.as_slice(), top)?;
-    let drivers = drivers_of(alloc, &pool, walk.processes.as_slice(), inputs.as_slice())?;
+    let processes = walk.processes.as_slice();
+    let drivers = drivers_in(alloc, &pool, domains.as_slice(), processes, top)?;
     let parts = parts_of(alloc, &pool, domains.as_slice(), own, walk, drivers, top)?;
     let memories = Items::new(alloc);
     Ok(Design::new(
