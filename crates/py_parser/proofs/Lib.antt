@@ -1,7 +1,5 @@
-pub mod Loops
 pub mod Runs
 pub mod Assigned
-pub mod Wholes
 pub mod Word_samples
 pub mod BlockLines
 pub mod BlockLoops

@@ -8,7 +8,7 @@ use Rattle.py_grammar.specs.Line_reading.{and_then, dotted, names, import_name, 
 use Rattle.py_grammar.specs.Reading.{Inner, comma_then, call}
 use Rattle.py_parser.specs.Line_forms.{second, name_behind}
 use Rattle.py_words.proofs.Lists.{map_one_more}
-use Rattle.py_parser.proofs.Loops.{repeat_step}
+use Rattle.py_phrases.proofs.Loops.{repeat_step}
 
 -- what was read, seen through a function
 abbrev pub seen_by : {A B : Type 0} → (A → B) → Option (A × List Word) → Option (B × List Word)

@@ -1,4 +1,3 @@
-pub mod Answering
 pub mod Line_forms
 pub mod Files
 pub mod Parsing

@@ -14,10 +14,10 @@ ghost use Rattle.py_parser.specs.Line_forms.{behind_of, head_of};
 
 use crate::line::Head;
 use crate::params::read_inside;
-use crate::reader::{read_call, read_inner};
 use crate::simple::{expr_behind, read_behind, read_exprs, read_targets};
 use amh_host::Place;
 use py_grammar::{Kind, Stop, Word};
+use py_phrases::reader::{read_call, read_inner};
 use py_tree::{Param, Trailer};
 use py_words::phrase::{Deep, Phrase};
 use py_words::take::{key_next, sign_next, take_key, take_name, take_sign};
@@ -161,13 +161,21 @@ fn read_class(alloc: Global, words: &[Word], room: u32) -> Result<(Head, &[Word]
     let (place, rest) = take_key(words, "class")?;
     let ((_, name), rest) = take_name(rest)?;
     let (bases, rest) = read_bases(alloc, rest, room)?;
-    let (_, rest) = take_sign(rest, ":")?;
-    let head = Head::Class {
-        place,
-        name,
-        arguments: trailer_alone(bases),
-    };
-    Ok((head, rest))
+    let arguments = trailer_alone(bases);
+    match take_sign(rest, ":") {
+        Ok((_, rest)) => {
+            let head = Head::Class {
+                place,
+                name,
+                arguments,
+            };
+            Ok((head, rest))
+        }
+        Err(stop) => {
+            drop(arguments);
+            Err(stop)
+        }
+    }
 }
 
 /// `async`, which may be left out.

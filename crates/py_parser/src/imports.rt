@@ -14,7 +14,7 @@ use py_words::take::{comma_name, key_next, sign_next, take_comma, take_key, take
 use std::alloc::Global;
 
 /// Names with a dot before each.
-#[tactic(auto, using(crate::proofs::Loops::repeats))]
+#[tactic(auto, using(py_phrases::proofs::Loops::repeats))]
 fn read_dots(alloc: Global, words: &[Word]) -> Result<(Vec<Name>, &[Word]), Stop>
     ensures reads { Reads (λ x. (x.0.items, x.1.now)) result (many (next_sign (codes ".")) (made name_behind (sign (codes ".") ▹ one name_of)) and_then [] words.now) }
     ensures shorter { IfOk result (λ x. length x.1.now ≤ length words.now) }
@@ -60,7 +60,7 @@ fn read_import_name(words: &[Word]) -> Result<(Imported, &[Word]), Stop>
     Ok((Imported { place, name, bound }, rest))
 }
 
-#[tactic(auto, using(crate::proofs::Loops::repeats))]
+#[tactic(auto, using(py_phrases::proofs::Loops::repeats))]
 fn read_other_names(alloc: Global, words: &[Word]) -> Result<(Vec<Imported>, &[Word]), Stop>
     ensures reads { Reads (λ x. (map import_of x.0.items, x.1.now)) result (many (comma_then name_next) (made second (sign (codes ",") ▹ import_name)) and_then [] words.now) }
     ensures shorter { IfOk result (λ x. length x.1.now ≤ length words.now) }

@@ -2,9 +2,9 @@
 //! place of the first line with which they are no front of a program.
 //!
 //! The grammar is the relation of `py_grammar`, and the readers of that crate are what the code is, function by
-//! function; the laws there tie the two. py_words gives each token its value and makes the nodes, `read_line` reads
-//! all words of a logical line, and block_file.rt reads blocks off lines (specs/Files.antt). No expression is read twice,
-//! the calls nest as deep as brackets and blocks may, and a chain of any length is read in a loop.
+//! function; the laws there tie the two. py_words gives each token its value and makes the nodes, py_phrases reads expressions,
+//! `read_line` reads all words of a logical line, and block_file.rt reads blocks off lines (specs/Files.antt). The calls nest
+//! as deep as brackets and blocks may.
 #![tactic(auto)]
 
 mod block;
@@ -16,12 +16,8 @@ mod line;
 mod line_reader;
 mod params;
 mod parsing;
-mod reader;
 mod simple;
-mod whole;
 
 pub use line::{Head, LineForm, Noted};
 pub use line_reader::read_line;
 pub use parsing::{ParseStop, parse};
-pub use reader::{read_inner, read_items};
-pub use whole::{read_tuple, read_whole};

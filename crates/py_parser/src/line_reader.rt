@@ -87,8 +87,13 @@ fn read_headed(
     ensures { Reads (λ x. (form_of x.0, x.1.now)) result (headed (inner wide) (inner room) words.now) }
 {
     let (head, rest) = read_noted_head(alloc, words, wide, room)?;
-    let (behind, rest) = read_rest(alloc, rest, wide)?;
-    Ok((LineForm::Headed(head, behind), rest))
+    match read_rest(alloc, rest, wide) {
+        Ok((behind, rest)) => Ok((LineForm::Headed(head, behind), rest)),
+        Err(stop) => {
+            drop(head);
+            Err(stop)
+        }
+    }
 }
 
 #[tactic(auto, unfolding(py_grammar::specs::Line_reading::line))]
@@ -117,6 +122,9 @@ pub fn read_line(alloc: Global, words: &[Word], room: u32) -> Result<LineForm, S
     let (form, rest) = read_form(alloc, words, room + 1, room)?;
     match rest {
         [] => Ok(form),
-        [_, ..] => Err(Stop::Unread),
+        [_, ..] => {
+            drop(form);
+            Err(Stop::Unread)
+        }
     }
 }

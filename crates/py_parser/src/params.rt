@@ -139,7 +139,7 @@ fn read_param(alloc: Global, words: &[Word], room: u32) -> Result<(Param, &[Word
     Ok((param, rest))
 }
 
-#[tactic(auto, using(crate::proofs::Loops::repeats))]
+#[tactic(auto, using(py_phrases::proofs::Loops::repeats))]
 fn read_other_params(
     alloc: Global,
     words: &[Word],

@@ -14,9 +14,9 @@ ghost use Rattle.py_words.specs.Phrases.{seen_of, listed_of};
 ghost use Rattle.py_parser.specs.Line_forms.{behind_of, one_more};
 
 use crate::imports::read_import;
-use crate::reader::{read_inner, read_items};
 use amh_host::{NoMemory, Place};
 use py_grammar::{Kind, Stop, Word};
+use py_phrases::reader::{read_inner, read_items};
 use py_tree::{Expr, Stmt, StmtKind};
 use py_words::node::{lone, none_there, tuple};
 use py_words::phrase::{Listed, Phrase};
@@ -111,7 +111,7 @@ fn read_raise(alloc: Global, words: &[Word], room: u32) -> Result<(Stmt, &[Word]
 }
 
 /// Expressions with `=` before each, behind a first: those before the last, and the last.
-#[tactic(auto, using(crate::proofs::Loops::repeats))]
+#[tactic(auto, using(py_phrases::proofs::Loops::repeats))]
 fn read_values(
     alloc: Global,
     first: Expr,

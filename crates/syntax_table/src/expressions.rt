@@ -3,7 +3,7 @@
 use crate::forms::say_unread;
 use crate::tree::head_of;
 use py_grammar::Word;
-use py_parser::read_whole;
+use py_phrases::read_whole;
 use py_tree::ExprKind;
 use py_words::Phrase;
 use std::alloc::Global;

@@ -3,7 +3,7 @@ use Rattle.std.specs.Prelude.{codes}
 use Rattle.py_grammar.specs.Words.{name_of, next_sign}
 use Rattle.py_grammar.specs.Readers.{made, one, sign, ◌▹◌}
 use Rattle.py_parser.specs.Line_forms.{name_behind}
-use Rattle.py_parser.proofs.Loops.{made_reads, then_reads}
+use Rattle.py_phrases.proofs.Loops.{made_reads, then_reads}
 use Rattle.py_parser.proofs.Runs.{push_turn}
 use Rattle.py_parser.proofs.imports.read_dots.Goals as goal
 

@@ -6,7 +6,7 @@ use Rattle.py_grammar.specs.Reading.{comma_then}
 use Rattle.py_grammar.specs.Line_reading.{import_name, name_next}
 use Rattle.py_parser.specs.Line_forms.{second}
 use Rattle.py_words.proofs.Lists.{map_pushed}
-use Rattle.py_parser.proofs.Loops.{made_reads, then_reads}
+use Rattle.py_phrases.proofs.Loops.{made_reads, then_reads}
 use Rattle.py_parser.proofs.Runs.{push_turn}
 use Rattle.py_parser.proofs.imports.read_other_names.Goals as goal
 

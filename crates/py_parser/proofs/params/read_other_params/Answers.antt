@@ -6,7 +6,7 @@ use Rattle.py_grammar.specs.Reading.{inner, comma_then}
 use Rattle.py_grammar.specs.Line_reading.{param, param_next}
 use Rattle.py_parser.specs.Line_forms.{second}
 use Rattle.py_words.proofs.Lists.{map_pushed}
-use Rattle.py_parser.proofs.Loops.{made_reads, then_reads}
+use Rattle.py_phrases.proofs.Loops.{made_reads, then_reads}
 use Rattle.py_parser.proofs.Runs.{push_turn}
 use Rattle.py_parser.proofs.params.read_other_params.Goals as goal
 

@@ -8,7 +8,7 @@ use Rattle.py_grammar.specs.Line_reading.{exprs}
 use Rattle.py_words.specs.Phrases.{seen_of}
 use Rattle.py_parser.specs.Line_forms.{one_more}
 use Rattle.py_words.proofs.Lists.{map_pushed}
-use Rattle.py_parser.proofs.Loops.{then_reads}
+use Rattle.py_phrases.proofs.Loops.{then_reads}
 use Rattle.py_parser.proofs.Runs.{add_turn}
 use Rattle.py_parser.proofs.Assigned.{pair_same}
 use Rattle.py_parser.proofs.simple.read_values.Goals as goal

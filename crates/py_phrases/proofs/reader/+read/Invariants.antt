@@ -4,7 +4,7 @@ use Rattle.py_tree.specs.Seen.{tree, link_tree, pair_tree, trailer_of, argument_
 use Rattle.py_grammar.specs.Seen.{and_one, after_comma}
 use Rattle.py_grammar.specs.Readers.{repeat, made, sign, ◌▹◌}
 use Rattle.py_grammar.specs.Reading.{inner, operand, link, is_operator, trail, trails, plain_of, pair, arg, begins, begins_argument, comma_then}
-use Rattle.py_parser.proofs.reader.+read.Given as goal
+use Rattle.py_phrases.proofs.reader.+read.Given as goal
 
 abbrev pub decreases-read_inner : goal.decreases-read_inner
 decreases-read_inner l = 64 * length l.words.now + (36)

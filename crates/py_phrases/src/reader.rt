@@ -282,8 +282,13 @@ fn read_trail(alloc: Global, words: &[Word], room: u32) -> Result<(Deep<Trailer>
     }
     let (_, rest) = take_sign(words, "[")?;
     let (index, rest) = read_index(alloc, rest, room)?;
-    let (_, rest) = take_sign(rest, "]")?;
-    Ok((index, rest))
+    match take_sign(rest, "]") {
+        Ok((_, rest)) => Ok((index, rest)),
+        Err(stop) => {
+            drop(index);
+            Err(stop)
+        }
+    }
 }
 
 /// Arguments in round brackets.
@@ -301,10 +306,21 @@ pub fn read_call(alloc: Global, words: &[Word], room: u32) -> Result<(Deep<Trail
         return Ok((Deep { item, depth: 0 }, rest));
     }
     let (first, rest) = read_argument(alloc, rest, room)?;
-    let (others, rest) = read_other_arguments(alloc, rest, room)?;
+    let (others, rest) = match read_other_arguments(alloc, rest, room) {
+        Ok(read) => read,
+        Err(stop) => {
+            drop(first);
+            return Err(stop);
+        }
+    };
     let call = node::call(first, others)?;
-    let (_, rest) = take_sign(rest, ")")?;
-    Ok((call, rest))
+    match take_sign(rest, ")") {
+        Ok((_, rest)) => Ok((call, rest)),
+        Err(stop) => {
+            drop(call);
+            Err(stop)
+        }
+    }
 }
 
 #[cycle(read)]
@@ -688,8 +704,13 @@ fn read_square(alloc: Global, words: &[Word], room: u32) -> Result<(Phrase, &[Wo
     }
     let (first, rest) = read_inner(alloc, rest, Kind::Expr, room)?;
     let (others, rest) = read_other_exprs(alloc, rest, room)?;
-    let (_, rest) = take_sign(rest, "]")?;
-    Ok((node::display(alloc, place, first, others)?, rest))
+    match take_sign(rest, "]") {
+        Ok((_, rest)) => Ok((node::display(alloc, place, first, others)?, rest)),
+        Err(stop) => {
+            drop(others);
+            Err(stop)
+        }
+    }
 }
 
 #[cycle(read)]
@@ -709,8 +730,13 @@ fn read_curly(alloc: Global, words: &[Word], room: u32) -> Result<(Phrase, &[Wor
     }
     let (first, rest) = read_pair(alloc, rest, room)?;
     let (others, rest) = read_other_pairs(alloc, rest, room)?;
-    let (_, rest) = take_sign(rest, "}")?;
-    Ok((node::dict(alloc, place, first, others)?, rest))
+    match take_sign(rest, "}") {
+        Ok((_, rest)) => Ok((node::dict(alloc, place, first, others)?, rest)),
+        Err(stop) => {
+            drop(others);
+            Err(stop)
+        }
+    }
 }
 
 #[tactic(auto, unfolding(py_grammar::specs::Reading::number))]

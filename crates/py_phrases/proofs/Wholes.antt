@@ -10,7 +10,7 @@ use Rattle.py_grammar.specs.Seen.{Seen, is_empty}
 use Rattle.py_grammar.specs.Laws.{Exprs, exprs, ExprsReadIsDerived, ExprsDerivedIsRead}
 use Rattle.py_words.specs.declared.phrase.Phrase.{Phrase}
 use Rattle.py_words.specs.Phrases.{seen_of}
-use Rattle.py_parser.specs.Answering.{NothingStands, Answers}
+use Rattle.py_phrases.specs.Answering.{NothingStands, Answers}
 
 nothing_left : (ws : List Word) → ws ++ [] ≡ ws
 nothing_left [] = refl

@@ -5,8 +5,8 @@ use Rattle.py_grammar.specs.Seen.{after_comma}
 use Rattle.py_grammar.specs.Readers.{made, sign, ◌▹◌}
 use Rattle.py_grammar.specs.Reading.{inner, operand, link, is_operator, trail, trails, plain_of, pair, arg, begins, begins_argument, comma_then}
 use Rattle.py_words.specs.Phrases.{seen_of, deep_of}
-use Rattle.py_parser.proofs.Loops.{repeat_turn, repeat_turn_as, link_reads, comma_reads, plain_reads}
-use Rattle.py_parser.proofs.reader.+read.Goals as goal
+use Rattle.py_phrases.proofs.Loops.{repeat_turn, repeat_turn_as, link_reads, comma_reads, plain_reads}
+use Rattle.py_phrases.proofs.reader.+read.Goals as goal
 
 pub read_links-loop-turn-preserved : goal.read_links-loop-turn-preserved
 read_links-loop-turn-preserved t c = record {

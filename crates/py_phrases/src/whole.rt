@@ -5,7 +5,7 @@ ghost use Rattle.py_grammar.specs.Laws.{Exprs, exprs};
 ghost use Rattle.py_grammar.specs.Readers.{Reads};
 ghost use Rattle.py_grammar.specs.Seen.{is_empty};
 ghost use Rattle.py_words.specs.Phrases.{seen_of};
-ghost use Rattle.py_parser.specs.Answering.{Answers};
+ghost use Rattle.py_phrases.specs.Answering.{Answers};
 
 use crate::reader::read_items;
 use py_grammar::{Kind, Stop, Word, lists_are_exact};
