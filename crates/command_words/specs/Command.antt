@@ -1,6 +1,6 @@
 -- The command line as data of `clap`, whose definitions say which words are of a command and what is found in them.
 -- Source: this project's own rule (docs/RULES.md); the kit's `clap` (specs/Walk, specs/Faults) for words with `=`, behind `--` and given twice.
-use Rattle.std.specs.Prelude.{ℕ, true, List, [], ◌∷◌, Option, Some, codes}
+use Rattle.std.specs.Prelude.{ℕ, true, List, [], ◌∷◌, Some, codes}
 use Rattle.clap.specs.Words.{App, Rule, Text, new_rule}
 use Rattle.clap.specs.Simple.{new_shape}
 use Rattle.clap.specs.declared.builder.action.ArgAction.TheVariants.{Set}

@@ -13,9 +13,7 @@ fn place<'a>(alloc: Global, id: &'a str) -> Arg<'a>
     ensures rule { rule_of result ≡ place id.now }
     ensures local { result.global ≡ false }
 {
-    Arg::new(alloc, id)
-        .required(true)
-        .action(ArgAction::Set)
+    Arg::new(alloc, id).required(true).action(ArgAction::Set)
 }
 
 // An option with one value.
@@ -45,9 +43,7 @@ pub(crate) fn command<'a>(alloc: Global) -> Result<Command<'a>, NoMemory>
         .arg(place(alloc, "DESIGN"))?
         .arg(place(alloc, "IL"))?
         .arg(place(alloc, "TRACE"))?;
-    let texts = places
-        .arg(named(alloc, "play"))?
-        .arg(named(alloc, "top"))?;
+    let texts = places.arg(named(alloc, "play"))?.arg(named(alloc, "top"))?;
     let numbers = texts
         .arg(numbered(alloc, "budget", 1_000_000_000))?
         .arg(numbered(alloc, "make", 1_000))?;

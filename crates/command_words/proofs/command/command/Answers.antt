@@ -1,10 +1,10 @@
-use Rattle.std.proofs.Common.{◌≡◌, ◌∙◌, rules, ap, ap₂, refl, sym, true, false, codes}
+use Rattle.std.proofs.Common.{◌≡◌, ◌∙◌, ap, ap₂, true, false, codes}
 use Rattle.clap.specs.Words.{AddsArg, App, Rule, app_of, new_app, rule_of, with_rule}
 use Rattle.clap.specs.declared.builder.command.Command.TheViews.{out-Command as fields_of}
 use Rattle.clap.specs.Simple.{app_of_fields, on_top}
 use Rattle.clap.specs.declared.builder.arg.Arg.{Arg}
 use Rattle.clap.specs.declared.builder.command.Command.{Command}
-use Rattle.command_words.specs.Command.{command, named, numbered, place}
+use Rattle.command_words.specs.Command.{command}
 use Rattle.command_words.proofs.command.command.Goals as goal
 
 no_program : (old new : Command) → fields_of new ≡ record (fields_of old) { no_binary_name = true } → app_of new ≡ on_top (λ s. record s { no_binary_name = true }) (app_of old)
