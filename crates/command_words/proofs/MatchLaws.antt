@@ -1,6 +1,6 @@
 -- What a parse of the command leaves in its matches.
 use Rattle.std.proofs.Common.{◌≡◌, ◌∙◌, ◌<◌, ◌≤◌, ◌&&◌, ℕ, zero, suc, Bool, true, false, not, List, [], ◌∷◌, map, length, Option, Some, None, is_some, true≢false, refl, sym, ap, subst, arith, inl, inr, codes}
-use Rattle.std.specs.Prelude.{option_and_then, option_map, slice_get, unwrap_or}
+use Rattle.std.specs.Prelude.{IfSome, option_and_then, option_map, slice_get, unwrap_or}
 use Rattle.std.specs.Borrow.{Bor}
 use Rattle.std.specs.List.{All, list_all, slice_index_or}
 use Rattle.std.specs.Str.{bytes_eq}
@@ -27,7 +27,9 @@ use Rattle.clap.proofs.SimpleLemmas.{is_false, is_nil, plain_fields, ready_simpl
 use Rattle.clap.proofs.TakesLemmas.{each_rule}
 use Rattle.clap.proofs.WalkLemmas.{both, first_value-rows, one_text-rows}
 use Rattle.command_words.specs.Command.{command, rules}
-use Rattle.command_words.specs.Request.{HasPlaces, HoldsNumbers}
+use Rattle.std.specs.Str.Parse.{digits_value, without_leading_plus}
+use Rattle.clap.specs.Words.{IsUnsignedIn}
+use Rattle.command_words.specs.Request.{HoldsNumbers, IsGiven, are_apart, names_of, request_of}
 
 -- ---- the element at one place alone
 
@@ -213,6 +215,19 @@ module _ (c : Command) (m : ArgMatches) (e : app_of c ≡ command) (p : IsParsed
 
 -- ---- the words of the command
 
+known : (o : Option Text) → is_some o ≡ true → o ≡ Some (unwrap_or o [])
+known None h = absurd (true≢false (sym h))
+known (Some t) h = refl
+
+in_range : (o : Option Text) (most : ℕ) → ((t : Text) → o ≡ Some t → IsUnsignedIn 1 most t) → IfSome (option_map (λ t. digits_value 10 (without_leading_plus t)) o) (λ n. (1 ≤ n) × (n ≤ most))
+in_range None most inside = tt
+in_range (Some t) most inside = let h = inside t refl in (h.2, h.3)
+
+in_range_or : (o : Option Text) (most other : ℕ) → ((t : Text) → o ≡ Some t → IsUnsignedIn 1 most t) → 1 ≤ other → other ≤ most
+    → (1 ≤ unwrap_or (option_map (λ t. digits_value 10 (without_leading_plus t)) o) other) × (unwrap_or (option_map (λ t. digits_value 10 (without_leading_plus t)) o) other ≤ most)
+in_range_or None most other inside low high = (low, high)
+in_range_or (Some t) most other inside low high = let h = inside t refl in (h.2, h.3)
+
 -- an argument of the command, where it has one
 some_arg : (xs : List Arg) → 0 < length xs → Arg
 some_arg [] lt = absurd (omega arith)
@@ -228,11 +243,16 @@ module _ (c : Command) (m : ArgMatches) (e : app_of c ≡ command) (p : IsParsed
     make = passed c m e p 6 any_arg (codes "make") (omega arith) refl refl (Unsigned 1 1000) refl (omega arith) refl;
   }
 
-  pub has_places : (words : List Text) → rows_of (found_of m) ≡ matches_of command words → HasPlaces words
-  has_places words same =
-      let there = λ (id : Text) (h : is_some (first_of id (rows_of (found_of m))) ≡ true). subst (λ (rows : List Row). is_some (first_of id rows) ≡ true) same h in
+  pub is_given : (words : List Text) → rows_of (found_of m) ≡ matches_of command words → are_apart (names_of (request_of (matches_of command words))) ≡ true → IsGiven words (request_of (matches_of command words))
+  unfolding request_of
+  is_given words same apart =
+      let inside = subst HoldsNumbers same holds_numbers in
+      let there = λ (id : Text) (h : is_some (first_of id (rows_of (found_of m))) ≡ true). known (first_of id (matches_of command words)) (subst (λ (rows : List Row). is_some (first_of id rows) ≡ true) same h) in
       record {
         design = there _ (given c m e p 0 any_arg (codes "DESIGN") (omega arith) refl refl refl refl refl (omega arith));
         il = there _ (given c m e p 1 any_arg (codes "IL") (omega arith) refl refl refl refl refl (omega arith));
         trace = there _ (given c m e p 2 any_arg (codes "TRACE") (omega arith) refl refl refl refl refl (omega arith));
+        apart = apart;
+        budget = in_range_or (one_of (codes "budget") (matches_of command words)) 1000000000 10000000 inside.budget (omega arith) (omega arith);
+        make = in_range (one_of (codes "make") (matches_of command words)) 1000 inside.make;
       }

@@ -36,6 +36,14 @@ made_design : asked (codes "g.py" ∷ codes "g.il" ∷ codes "g.tr" ∷ codes "-
 unfolding asked request_of command clap_on_literals
 made_design = refl
 
+ten_registers : asked (codes "g.py" ∷ codes "g.il" ∷ codes "g.tr" ∷ codes "--make" ∷ codes "10" ∷ []) ≡ Some (record { design = codes "g.py"; il = codes "g.il"; trace = codes "g.tr"; play = None; top = None; budget = 10000000; make = Some 10 })
+unfolding asked request_of command clap_on_literals
+ten_registers = refl
+
+all_options : asked (codes "--make=2" ∷ codes "a" ∷ codes "--top=t" ∷ codes "b" ∷ codes "--budget" ∷ codes "7" ∷ codes "c" ∷ codes "--play=s" ∷ []) ≡ Some (record { design = codes "a"; il = codes "b"; trace = codes "c"; play = Some (codes "s"); top = Some (codes "t"); budget = 7; make = Some 2 })
+unfolding asked request_of command clap_on_literals
+all_options = refl
+
 option_first : asked (codes "--play" ∷ codes "s" ∷ codes "a" ∷ codes "b" ∷ codes "c" ∷ []) ≡ Some (record plain { play = Some (codes "s") })
 unfolding asked request_of command clap_on_literals
 option_first = refl

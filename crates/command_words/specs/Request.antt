@@ -1,6 +1,6 @@
 -- What the words of the command line ask for.
 -- Source: this project's own rule (docs/RULES.md); the kit's `clap` for which words are of the command, and for their matches.
-use Rattle.std.specs.Prelude.{◌≡◌, ℕ, ◌&&◌, Bool, true, not, if◌then◌else◌, List, [], ◌∷◌, Option, Some, None, is_some, codes, unwrap_or, option_to_list}
+use Rattle.std.specs.Prelude.{◌≡◌, ◌≤◌, ℕ, ◌&&◌, Bool, true, not, if◌then◌else◌, List, [], ◌∷◌, Option, Some, None, IfSome, codes, unwrap_or, option_to_list}
 use Rattle.std.specs.Option.{option_map}
 use Rattle.std.specs.List.{list_any}
 use Rattle.std.specs.Str.{bytes_eq}
@@ -67,8 +67,11 @@ with_names_apart r = if are_apart (names_of r) then Some r else None
 unfoldable pub asked : List Text → Option Request
 asked words = if is_of_command words then with_names_apart (request_of (matches_of command words)) else None
 
--- each word that has to be given is there
-pub record HasPlaces (words : List Text) : Type 0 where
-  pub design : is_some (first_of (codes "DESIGN") (matches_of command words)) ≡ true
-  pub il : is_some (first_of (codes "IL") (matches_of command words)) ≡ true
-  pub trace : is_some (first_of (codes "TRACE") (matches_of command words)) ≡ true
+-- what is asked for: each word that has to be given is there, no two names are equal, and each number is in its range
+pub record IsGiven (words : List Text) (r : Request) : Type 0 where
+  pub design : first_of (codes "DESIGN") (matches_of command words) ≡ Some r.design
+  pub il : first_of (codes "IL") (matches_of command words) ≡ Some r.il
+  pub trace : first_of (codes "TRACE") (matches_of command words) ≡ Some r.trace
+  pub apart : are_apart (names_of r) ≡ true
+  pub budget : (1 ≤ r.budget) × (r.budget ≤ 1000000000)
+  pub make : IfSome r.make (λ n. (1 ≤ n) × (n ≤ 1000))

@@ -4,7 +4,7 @@ ghost use Rattle.std.specs.Option.{option_map, option_map_or};
 ghost use Rattle.std.specs.Prelude.{unwrap_or};
 ghost use Rattle.clap.specs.Words.{found_of, first_of, one_of, rows_of, kind_of};
 ghost use Rattle.clap.specs.declared.error.kind.ErrorKind.TheVariants.{OutOfMemory};
-ghost use Rattle.command_words.specs.Request.{are_apart, asked, names_of, number_at, request_of, HasPlaces, HoldsNumbers};
+ghost use Rattle.command_words.specs.Request.{are_apart, asked, names_of, number_at, request_of, HoldsNumbers, IsGiven};
 ghost use Rattle.command_words.specs.Views.{asked_seen};
 
 use crate::command::command;
@@ -63,7 +63,7 @@ fn asked_in<'a>(matches: &ArgMatches<'a>) -> Asked<'a>
 /// What the words, without the program's name, ask for: `None` where they are not of the command, or name one file twice.
 pub fn read_words<'a>(alloc: Global, words: &'a Words) -> Result<Option<Asked<'a>>, NoMemory>
     ensures value { IfOk result (λ a. option_map asked_seen a ≡ asked words.now) }
-    ensures places { IfOk result (λ a. IfSome a (λ _. HasPlaces words.now)) }
+    ensures given { IfOk result (λ a. IfSome a (λ s. IsGiven words.now (asked_seen s))) }
 {
     let command = command(alloc)?;
     match command.try_get_matches_from(words.items()) {

@@ -1,13 +1,13 @@
-use Rattle.std.proofs.Common.{arith, ne_eqb, ◌≡◌, ◌∙◌, true, false, List, [], ◌∷◌, Option, Some, None, length, map, refl, sym, ap, ap₂, subst, inl, inr, string_bytes}
-use Rattle.std.specs.Prelude.{option_map, IfSome}
+use Rattle.std.proofs.Common.{arith, ne_eqb, ◌≡◌, ◌∙◌, true, false, List, [], ◌∷◌, Some, None, length, map, refl, sym, ap, ap₂, subst, inl, inr, string_bytes}
+use Rattle.std.specs.Prelude.{option_map}
 use Rattle.clap.specs.Words.{Text, app_of, fault_of, is_simple, is_simple_and_free, matches_of, rows_of, found_of}
 use Rattle.clap.specs.Walk.{is_empty}
 use Rattle.clap.specs.Kinds.{HasKind, IsAmong, Kinds}
 use Rattle.clap.specs.declared.error.kind.ErrorKind.{ErrorKind}
 use Rattle.command_words.specs.Command.{command}
-use Rattle.command_words.specs.Request.{Request, are_apart, asked, names_of, request_of, with_names_apart, is_of_command}
+use Rattle.command_words.specs.Request.{Request, are_apart, asked, names_of, request_of, with_names_apart, is_of_command, IsGiven}
 use Rattle.command_words.specs.Views.{asked_seen}
-use Rattle.command_words.proofs.MatchLaws.{holds_numbers, has_places}
+use Rattle.command_words.proofs.MatchLaws.{holds_numbers, is_given}
 use Rattle.command_words.proofs.request.read_words.Goals as goal
 use Rattle.command_words.proofs.request.read_words.Goals.{then-are_apart, else-are_apart}
 
@@ -57,16 +57,21 @@ returns-in-Ok-clause-value c =
       | else-are_apart w ↦ ap (option_map asked_seen) w.result-is ∙ (joined (asked_seen c.asked_in-asked.result) (sym c.are_apart.ensures ∙ w.if-are_apart.false) ∙ whole)
     ]
 
-if_some : {X : Type 0} {P : Type 0} (o : Option X) → P → IfSome o (λ _. P)
-if_some None p = tt
-if_some (Some x) p = p
-
-pub returns-in-Ok-clause-places : goal.returns-in-Ok-clause-places
-returns-in-Ok-clause-places c =
+pub returns-in-Ok-clause-given : goal.returns-in-Ok-clause-given
+returns-in-Ok-clause-given c =
     let is : app_of c.in_ok-command.command ≡ command = c.in_ok-command.ensures in
     let words_are : map string_bytes c.items.result.now ≡ c.args.words.now = c.items.ensures in
     let rows : rows_of (found_of c.in-Ok.matches) ≡ matches_of command c.args.words.now = (c.in-Ok.ensures.matches (ap is_simple is ∙ is_simple_command)).0 ∙ ap₂ matches_of is words_are in
-    if_some c.if-are_apart.result (has_places c.in_ok-command.command c.in-Ok.matches is c.in-Ok.ensures.parsed c.args.words.now rows)
+    let seen : asked_seen c.asked_in-asked.result ≡ request_of (matches_of command c.args.words.now) = c.asked_in-asked.ensures ∙ ap request_of rows in
+    elim c.if-are_apart.branch [
+      | then-are_apart w ↦
+          let apart : are_apart (names_of (asked_seen c.asked_in-asked.result)) ≡ true = sym c.are_apart.ensures ∙ w.if-are_apart.true in
+          let same = subst (λ (r : Request). are_apart (names_of r) ≡ true) seen apart in
+          let there = is_given c.in_ok-command.command c.in-Ok.matches is c.in-Ok.ensures.parsed c.args.words.now rows same in
+          let whole : IsGiven c.args.words.now (asked_seen c.asked_in-asked.result) = subst (IsGiven c.args.words.now) (sym seen) there in
+          rw w.result-is whole
+      | else-are_apart w ↦ rw w.result-is tt
+    ]
 
 pub returns : goal.returns
 returns c =
@@ -77,4 +82,4 @@ returns c =
       | inl memory ↦ absurd (c.in_default.not-OutOfMemory (c.kind.ensures ∙ memory))
       | inr among ↦ among_some _ _ among
     ] in
-    record { value = refused c.args.words.now fault; places = tt }
+    record { value = refused c.args.words.now fault; given = tt }
