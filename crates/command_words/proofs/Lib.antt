@@ -1,2 +1,3 @@
 pub mod MatchLaws
+pub mod PlainLaws
 mod Samples

@@ -5,6 +5,8 @@
 #![tactic(auto)]
 
 mod command;
+mod laws;
 mod request;
 
+pub use laws::plain_words_are_read;
 pub use request::{Asked, read_words};
