@@ -1,15 +1,12 @@
 // What the words ask for.
-ghost use Rattle.std.specs.Prelude.{◌≡◌, ℕ, List, Option, Some, is_some, true, not, codes, IfOk, IfSome};
-ghost use Rattle.std.specs.Option.{option_map, option_map_or};
-ghost use Rattle.std.specs.Prelude.{unwrap_or};
-ghost use Rattle.clap.specs.Words.{found_of, first_of, one_of, rows_of, kind_of};
-ghost use Rattle.clap.specs.declared.error.kind.ErrorKind.TheVariants.{OutOfMemory};
-ghost use Rattle.command_words.specs.Request.{are_apart, asked, names_of, number_at, request_of, HoldsNumbers, IsGiven};
+ghost use Rattle.std.specs.Prelude.{◌≡◌, IfOk, IfSome, option_map};
+ghost use Rattle.clap.specs.Words.{found_of, rows_of};
+ghost use Rattle.command_words.specs.Request.{are_apart, asked, names_of, request_of, HoldsNumbers, IsGiven};
 ghost use Rattle.command_words.specs.Views.{asked_seen};
 
 use crate::command::command;
+use clap::ArgMatches;
 use clap::error::ErrorKind;
-use clap::{ArgMatches, Error};
 use lists::{NoMemory, Words};
 use std::alloc::Global;
 
