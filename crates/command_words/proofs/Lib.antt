@@ -1,0 +1,3 @@
+pub mod MatchLaws
+pub mod PlainLaws
+mod Samples
