@@ -1,0 +1,53 @@
+// What is asked of a port before it is made. A memory has 64 ports at most, so they are walked over.
+ghost use Rattle.std.specs.Prelude.{◌≡◌, not, ◌||◌, option_copied, Some};
+ghost use Rattle.std.specs.List.{list_any};
+ghost use Rattle.memory_ports.specs.Memories.{is_divisor};
+ghost use Rattle.memory_ports.specs.Calls.{is_full, is_elsewhere, is_granule, is_transparent};
+
+use design_ir::{MemWrite, Memory};
+
+/// Whether the memory has as many ports as there may be.
+pub fn is_full(memory: &Memory) -> bool
+    ensures { result ≡ is_full memory.now }
+{
+    memory.writes.len() >= 64 || memory.writes.len() + memory.reads.len() >= 64
+}
+
+/// Whether one of these ports has another domain.
+pub fn is_elsewhere(writes: &[MemWrite], domain: &str) -> bool
+    ensures { result ≡ is_elsewhere writes.now domain.now }
+{
+    writes.iter().any(|w| !w.domain.is(domain))
+}
+
+/// Whether a granule of so many bits may be asked for.
+pub fn is_granule(width: u8, granularity: Option<u8>) -> bool
+    ensures { result ≡ is_granule width granularity }
+{
+    match granularity {
+        None => true,
+        Some(g) => g > 0 && width % g == 0,
+    }
+}
+
+/// Whether a read port cannot be transparent for one of these.
+pub fn is_opaque(writes: &[MemWrite], domain: Option<&str>, transparent: &[u32]) -> bool
+    ensures { result ≡ list_any (λ k. not (is_transparent writes.now (option_copied domain.entry) k)) transparent.now }
+{
+    match domain {
+        None => !transparent.is_empty(),
+        Some(domain) => transparent
+            .iter()
+            .any(|k| !is_transparent(writes, domain, *k)),
+    }
+}
+
+// Whether the write port of this number is there, with this domain.
+fn is_transparent(writes: &[MemWrite], domain: &str, number: u32) -> bool
+    ensures { result ≡ is_transparent writes.now (Some domain.now) number }
+{
+    match writes.get(number as usize) {
+        None => false,
+        Some(w) => w.domain.is(domain),
+    }
+}
