@@ -12,6 +12,8 @@ use Rattle.design_ir.specs.declared.memory.MemRead.{MemRead}
 use Rattle.design_ir.specs.declared.memory.Memory.{Memory}
 use Rattle.design_ir.specs.Circuits.{option_test}
 use Rattle.design_ir.specs.Pools.{Pooled}
+use Rattle.design_ir.specs.declared.refusal.PoolStop.{PoolStop}
+use Rattle.design_ir.specs.declared.refusal.PoolStop.TheVariants as pool
 use Rattle.memory_ports.specs.declared.ports.WritePort.{WritePort}
 use Rattle.memory_ports.specs.declared.ports.ReadPort.{ReadPort}
 use Rattle.memory_ports.specs.declared.refusal.MemStop.{MemStop}
@@ -42,6 +44,19 @@ Unless BadTransparent unchanged = unchanged
 Unless TooManyRows unchanged = unchanged
 Unless Limit unchanged = ⊤
 Unless NoMemory unchanged = ⊤
+
+-- of the refusals of a pool these two alone come here: a count was passed, or memory ran out
+abbrev pub IsCount : PoolStop → Type 0
+IsCount pool.Width = ⊥
+IsCount pool.BadOperand = ⊥
+IsCount pool.Limit = ⊤
+IsCount pool.NoMemory = ⊤
+
+abbrev pub told : PoolStop → MemStop
+told pool.Width = NoMemory
+told pool.BadOperand = NoMemory
+told pool.Limit = Limit
+told pool.NoMemory = NoMemory
 
 -- ---- a new memory
 

@@ -6,10 +6,10 @@ ghost use Rattle.memory_ports.specs.Ports.{with_signals, IsGrown};
 ghost use Rattle.memory_ports.specs.Memories.{IsSpec};
 ghost use Rattle.memory_ports.specs.Calls.{IsOwed, Unless, new_refusal, new_memory, write_signals, write_refusal, write_port, and_write, read_signals, read_refusal, read_port, and_read};
 
-use crate::copies::{all_rows, copied, copied_numbers, copied_option, is_text};
+use crate::copies::{all_rows, copied, copied_numbers, copied_option};
 use crate::ports::{ReadPort, WritePort, made_read, made_write};
 use crate::refusal::MemStop;
-use crate::rules::{is_elsewhere, is_full, is_granule, is_opaque};
+use crate::rules::{is_bad_domain, is_bad_granularity, is_bad_transparent, is_full};
 use amh_host::{Numbers, Text};
 use design_ir::{Ints, MemRead, MemReads, MemWrite, MemWrites, Memory, Pool};
 use shape_rules::Shape;
@@ -76,17 +76,20 @@ impl MemorySpec {
         ensures unchanged { IfErr result (λ stop. (self.new ≡ self.old) × Unless stop (pool.new ≡ pool.old)) }
         ensures grown { IfErr result (λ _. IsGrown pool.old pool.new) }
     {
-        if is_text(domain, "comb") || is_elsewhere(self.memory.writes.as_slice(), domain) {
+        if is_bad_domain(&self.memory, domain) {
             return Err(MemStop::BadDomain);
         }
-        if !is_granule(self.memory.shape.width, granularity) {
+        if is_bad_granularity(&self.memory, granularity) {
             return Err(MemStop::BadGranularity);
         }
         if is_full(&self.memory) {
             return Err(MemStop::Limit);
         }
         let domain = copied(self.alloc, domain)?;
-        let made = made_write(self.alloc, pool, &self.memory, granularity)?;
+        let made = match made_write(self.alloc, pool, &self.memory, granularity) {
+            Ok(made) => made,
+            Err(stop) => return Err(stop),
+        };
         let port = MemWrite {
             domain,
             addr: made.addr,
@@ -107,7 +110,7 @@ impl MemorySpec {
         domain: Option<&str>,
         transparent: &Numbers,
     ) -> Result<ReadPort, MemStop>
-        requires { option_copied domain.entry ≢ Some (codes "comb") }
+        requires { option_copied domain ≢ Some (codes "comb") }
         ensures added { IfOk result (λ p. (read_refusal pool.old self.old (option_copied domain.entry) transparent.now ≡ None) × (p ≡ read_port pool.old (option_copied domain.entry))) }
         ensures memory { IfOk result (λ _. self.new ≡ and_read pool.old self.old (option_copied domain.entry) transparent.now) }
         ensures pool { IfOk result (λ _. pool.new ≡ with_signals pool.old (read_signals self.old (option_copied domain.entry))) }
@@ -115,11 +118,7 @@ impl MemorySpec {
         ensures unchanged { IfErr result (λ stop. (self.new ≡ self.old) × Unless stop (pool.new ≡ pool.old)) }
         ensures grown { IfErr result (λ _. IsGrown pool.old pool.new) }
     {
-        if is_opaque(
-            self.memory.writes.as_slice(),
-            domain,
-            transparent.as_slice(),
-        ) {
+        if is_bad_transparent(&self.memory, domain, transparent.as_slice()) {
             return Err(MemStop::BadTransparent);
         }
         if is_full(&self.memory) {
@@ -127,7 +126,10 @@ impl MemorySpec {
         }
         let transparent = copied_numbers(self.alloc, transparent.as_slice())?;
         let own_domain = copied_option(self.alloc, domain)?;
-        let made = made_read(self.alloc, pool, &self.memory, domain)?;
+        let made = match made_read(self.alloc, pool, &self.memory, domain) {
+            Ok(made) => made,
+            Err(stop) => return Err(stop),
+        };
         let port = MemRead {
             domain: own_domain,
             addr: made.addr,

@@ -1,5 +1,5 @@
 // The ports of a memory, and their making in a pool.
-ghost use Rattle.std.specs.Prelude.{◌≡◌, ◌+◌, ◌⊎◌, ◌<◌, ◌≤◌, ◌∷◌, [], List, ℕ, true, false, length, IfOk, IfErr, None, Some, option_copied};
+ghost use Rattle.std.specs.Prelude.{◌≡◌, ◌+◌, ◌⊎◌, ◌<◌, ◌≤◌, ◌∷◌, [], true, false, length, IfOk, IfErr, None, Some, option_copied};
 ghost use Rattle.design_ir.specs.PoolRules.{HasInit};
 ghost use Rattle.memory_ports.specs.Ports.{granule, enable_width, with_signals, is_over, IsGrown};
 ghost use Rattle.memory_ports.specs.Calls.{IsOwed, stop_where, is_granule, write_signals, write_port, read_signals, read_port, where_clocked};
@@ -166,7 +166,7 @@ fn made_clocked(pool: &mut Pool, addr: Sig, word: Sig, enable: Sig) -> Result<Ma
     requires word { HasInit word }
     requires enable { HasInit enable }
     ensures limit { IfOk result (λ _. is_over pool.old (addr ∷ word ∷ enable ∷ []) ≡ false) }
-    ensures made { IfOk result (λ m. (domain : List ℕ) → m ≡ record { addr = record { 0 = length pool.old.exprs }; enable = Some (record { 0 = length pool.old.exprs + 2 }); port = read_port pool.old (Some domain) }) }
+    ensures made { IfOk result (λ m. m ≡ record { addr = record { 0 = length pool.old.exprs }; enable = Some (record { 0 = length pool.old.exprs + 2 }); port = record { addr = record { 0 = length pool.old.signals }; word = record { 0 = length pool.old.signals + 1 }; enable = Some (record { 0 = length pool.old.signals + 2 }) } }) }
     ensures pool { IfOk result (λ _. pool.new ≡ with_signals pool.old (addr ∷ word ∷ enable ∷ [])) }
     ensures refused { IfErr result (λ stop. IsOwed (stop_where MemStop.Limit (is_over pool.old (addr ∷ word ∷ enable ∷ [])) None) stop) }
     ensures grown { IfErr result (λ _. IsGrown pool.old pool.new) }

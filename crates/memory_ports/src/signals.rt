@@ -4,7 +4,7 @@ ghost use Rattle.std.specs.Fmt.{decimal};
 ghost use Rattle.amh_bits.specs.Patterns.{IsOf};
 ghost use Rattle.design_ir.specs.PoolRules.{HasInit};
 ghost use Rattle.memory_ports.specs.Ports.{port_name, port_signal, address_width, with_signal, with_signals, is_over, IsGrown};
-ghost use Rattle.memory_ports.specs.Calls.{IsOwed, stop_where};
+ghost use Rattle.memory_ports.specs.Calls.{IsOwed, IsCount, told, stop_where};
 
 use crate::copies::copied;
 use crate::refusal::MemStop;
@@ -89,30 +89,34 @@ pub fn port_signal(
     })
 }
 
-// A pool that takes a signal or its expression refuses it for want of memory alone, but for its counts.
-fn want_of_memory(_stop: PoolStop) -> MemStop
-    requires { _stop ≡ PoolStop.NoMemory }
-    ensures { result ≡ MemStop.NoMemory }
+// A pool that takes a signal and its expression refuses nothing but for its counts and for want of memory.
+fn told(stop: PoolStop) -> MemStop
+    requires { IsCount stop }
+    ensures { result ≡ told stop }
 {
-    MemStop::NoMemory
+    match stop {
+        PoolStop::Limit => MemStop::Limit,
+        PoolStop::NoMemory => MemStop::NoMemory,
+        PoolStop::Width | PoolStop::BadOperand => unreachable!(),
+    }
 }
 
 // A signal more, and its expression.
 fn make(pool: &mut Pool, x: Sig) -> Result<Made, MemStop>
     requires { HasInit x }
-    ensures made { IfOk result (λ m. (is_over pool.old (x ∷ []) ≡ false) × (m ≡ record { sig = record { 0 = length pool.old.signals }; expr = record { 0 = length pool.old.exprs } }) × (pool.new ≡ with_signal pool.old x)) }
+    ensures limit { IfOk result (λ _. is_over pool.old (x ∷ []) ≡ false) }
+    ensures made { IfOk result (λ m. m ≡ record { sig = record { 0 = length pool.old.signals }; expr = record { 0 = length pool.old.exprs } }) }
+    ensures pool { IfOk result (λ _. pool.new ≡ with_signal pool.old x) }
     ensures refused { IfErr result (λ stop. IsOwed (stop_where MemStop.Limit (is_over pool.old (x ∷ [])) None) stop) }
     ensures grown { IfErr result (λ _. IsGrown pool.old pool.new) }
 {
     let sig = match pool.sig(x) {
         Ok(sig) => sig,
-        Err(PoolStop::Limit) => return Err(MemStop::Limit),
-        Err(stop) => return Err(want_of_memory(stop)),
+        Err(stop) => return Err(told(stop)),
     };
     match pool.expr(Expr::Sig(sig)) {
         Ok(expr) => Ok(Made { sig, expr }),
-        Err(PoolStop::Limit) => Err(MemStop::Limit),
-        Err(stop) => Err(want_of_memory(stop)),
+        Err(stop) => Err(told(stop)),
     }
 }
 
@@ -126,9 +130,14 @@ pub fn make_two(pool: &mut Pool, addr: Sig, word: Sig) -> Result<MadeTwo, MemSto
     ensures refused { IfErr result (λ stop. IsOwed (stop_where MemStop.Limit (is_over pool.old (addr ∷ word ∷ [])) None) stop) }
     ensures grown { IfErr result (λ _. IsGrown pool.old pool.new) }
 {
-    let addr = make(pool, addr)?;
-    let word = make(pool, word)?;
-    Ok(MadeTwo { addr, word })
+    let addr = match make(pool, addr) {
+        Ok(made) => made,
+        Err(stop) => return Err(stop),
+    };
+    match make(pool, word) {
+        Ok(word) => Ok(MadeTwo { addr, word }),
+        Err(stop) => Err(stop),
+    }
 }
 
 /// An address, a word and an enable.
@@ -142,7 +151,12 @@ pub fn make_three(pool: &mut Pool, addr: Sig, word: Sig, enable: Sig) -> Result<
     ensures refused { IfErr result (λ stop. IsOwed (stop_where MemStop.Limit (is_over pool.old (addr ∷ word ∷ enable ∷ [])) None) stop) }
     ensures grown { IfErr result (λ _. IsGrown pool.old pool.new) }
 {
-    let MadeTwo { addr, word } = make_two(pool, addr, word)?;
-    let enable = make(pool, enable)?;
-    Ok(MadeThree { addr, word, enable })
+    let MadeTwo { addr, word } = match make_two(pool, addr, word) {
+        Ok(made) => made,
+        Err(stop) => return Err(stop),
+    };
+    match make(pool, enable) {
+        Ok(enable) => Ok(MadeThree { addr, word, enable }),
+        Err(stop) => Err(stop),
+    }
 }
