@@ -1,3 +1,5 @@
 pub mod Widths
 pub mod Growing
 pub mod SpecLaws
+pub mod PortLaws
+pub mod MemoryLaws
