@@ -1,8 +1,8 @@
 -- A pool that gets the signals of a port.
-use Rattle.std.specs.Prelude.{◌≡◌, refl, ℕ, zero, suc, ◌+◌, ◌≤◌, ◌<◌, nat_le, nat_lt, ◌||◌, Bool, true, false, if◌then◌else◌, List, [], ◌∷◌, ◌++◌, length, Option, Some, None, Result, Ok, Err, IfErr}
+use Rattle.std.specs.Prelude.{◌≡◌, refl, ℕ, zero, suc, ◌+◌, ◌≤◌, nat_le, nat_lt, ◌||◌, Bool, true, false, List, [], ◌∷◌, ◌++◌, length, None, Result, Ok, Err, IfErr}
 use Rattle.std.specs.List.{AllByRecursion}
 use Rattle.std.proofs.Common.{sym, ◌∙◌, ap, arith, append_assoc, append-nil}
-use Rattle.std.proofs.lemmas.Bool.{ltb-true, ltb-false, lt-ltb, le-ltb, leb-true, leb-false}
+use Rattle.std.proofs.lemmas.Bool.{lt-ltb, le-ltb, leb-true, leb-false}
 use Rattle.std.proofs.Math.Dec.{leb}
 use Rattle.shape_rules.specs.Forms.{IsForm}
 use Rattle.design_ir.specs.declared.ids.SigId.{SigId}
@@ -12,7 +12,7 @@ use Rattle.design_ir.specs.declared.expr.Expr.TheVariants as expr
 use Rattle.design_ir.specs.declared.refusal.PoolStop.{PoolStop}
 use Rattle.design_ir.specs.declared.refusal.PoolStop.TheVariants.{Width, BadOperand, Limit, NoMemory}
 use Rattle.design_ir.specs.Pools.{Pooled}
-use Rattle.design_ir.specs.PoolRules.{IsPool, IsRefusal, signal_bits, signal_added, limit_where, first_stop, expr_refusal}
+use Rattle.design_ir.specs.PoolRules.{IsPool, IsRefusal, signal_bits, signal_added, limit_where, expr_refusal}
 use Rattle.design_ir.specs.Values.{signal_form}
 use Rattle.design_ir.proofs.Growth.{length_more, signal_bits_more}
 use Rattle.memory_ports.specs.declared.refusal.MemStop.TheVariants as stop

@@ -3,3 +3,4 @@ pub mod Growing
 pub mod SpecLaws
 pub mod PortLaws
 pub mod MemoryLaws
+pub mod Samples

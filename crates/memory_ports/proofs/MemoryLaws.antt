@@ -1,7 +1,7 @@
 -- What is made is a memory of a design.
-use Rattle.std.specs.Prelude.{◌≡◌, refl, ℕ, ◌+◌, ◌*◌, ◌/◌, ◌%◌, ◌==◌, ◌<◌, ◌≤◌, nat_lt, ◌&&◌, ◌||◌, Bool, true, false, IsSomeAnd, List, [], ◌∷◌, length, slice_get, ℤ, pos, Option, Some, None, option_map, unwrap_or}
+use Rattle.std.specs.Prelude.{◌≡◌, refl, ℕ, ◌/◌, ◌%◌, ◌==◌, ◌<◌, ◌≤◌, nat_lt, ◌&&◌, ◌||◌, Bool, true, false, IsSomeAnd, List, [], ◌∷◌, slice_get, pos, Option, Some, None, option_map, unwrap_or}
 use Rattle.std.specs.List.{AllByRecursion}
-use Rattle.std.proofs.Common.{sym, ◌∙◌, ap, arith, inl, inr}
+use Rattle.std.proofs.Common.{◌∙◌, ap, arith, inl, inr}
 use Rattle.std.proofs.Math.Nat.{div-add-mod, mul_comm}
 use Rattle.std.proofs.lemmas.Bool.{ltb-true, eqb-true, false≢true}
 use Rattle.lists.specs.Names.{IsPath}
@@ -15,9 +15,9 @@ use Rattle.design_ir.specs.declared.memory.MemRead.{MemRead}
 use Rattle.design_ir.specs.declared.memory.Memory.{Memory}
 use Rattle.design_ir.specs.Pools.{Pooled}
 use Rattle.design_ir.specs.PoolRules.{IsPool}
-use Rattle.design_ir.specs.Values.{form, signal_form}
+use Rattle.design_ir.specs.Values.{form}
 use Rattle.design_ir.specs.Circuits.{Circuit}
-use Rattle.design_ir.specs.Designs.{holds_reset, reset_test, IsUsable, IsUsableOf, IsSignalOf, IsAddressWidth, IsAddress, IsGranularity, IsWritePort, IsTransparent, IsClocking, IsReadPort, IsMemory}
+use Rattle.design_ir.specs.Designs.{holds_reset, reset_test, IsUsable, IsUsableOf, IsSignalOf, IsAddress, IsGranularity, IsWritePort, IsTransparent, IsClocking, IsReadPort, IsMemory}
 use Rattle.design_ir.proofs.Equations.{answer_at, form_is, place_below}
 use Rattle.memory_ports.specs.Ports.{address_width}
 use Rattle.memory_ports.specs.Memories.{is_divisor, is_granularity, IsSpec, IsSignal, IsData, HasEnable, HasWrite, HasRead, HasPorts}

@@ -1,5 +1,5 @@
 -- The signals of ports in a pool that grows.
-use Rattle.std.specs.Prelude.{◌≡◌, ◌≢◌, refl, ℕ, zero, suc, ◌+◌, ◌==◌, Bool, true, false, List, [], ◌∷◌, ◌++◌, length, slice_get, ℤ, pos, Option, Some, None, codes}
+use Rattle.std.specs.Prelude.{◌≡◌, ◌≢◌, refl, ℕ, zero, suc, ◌+◌, ◌==◌, false, List, [], ◌∷◌, ◌++◌, length, slice_get, ℤ, pos, Option, Some, None, codes}
 use Rattle.std.specs.List.{AllByRecursion}
 use Rattle.std.proofs.Common.{sym, ◌∙◌, ap, arith, append-nil}
 use Rattle.std.proofs.lemmas.Bool.{false≢true, eq-eqb}
@@ -14,14 +14,14 @@ use Rattle.design_ir.specs.declared.memory.MemRead.{MemRead}
 use Rattle.design_ir.specs.declared.memory.Memory.{Memory}
 use Rattle.design_ir.specs.Circuits.{option_test}
 use Rattle.design_ir.specs.Pools.{Pooled}
-use Rattle.design_ir.specs.PoolRules.{signal_added, expr_added}
+use Rattle.design_ir.specs.PoolRules.{expr_added}
 use Rattle.design_ir.specs.Settling.{is_signal, settled_at, signal_settled}
 use Rattle.design_ir.proofs.Growth.{all_append, length_more}
 use Rattle.memory_ports.specs.Ports.{with_signal, with_signals, address_signal, data_signal, write_enable, read_enable, enable_width, granule, IsGrown}
 use Rattle.memory_ports.specs.Memories.{IsSignal, IsData, HasEnable, HasWrite, HasRead, HasPorts}
 use Rattle.memory_ports.specs.Calls.{write_signals, and_write, read_signals, and_read}
 use Rattle.memory_ports.specs.Laws.{IsOther, IsOtherEnable, IsOtherWrite, IsOtherRead, IsApart, PoolsGrow}
-use Rattle.memory_ports.proofs.Growing.{grown_not, grown_signal, grown_one, grown_more, grown_all}
+use Rattle.memory_ports.proofs.Growing.{grown_not, grown_signal, grown_more, grown_all}
 use Rattle.memory_ports.proofs.SpecLaws.{all_imp}
 
 -- ---- growth

@@ -1,5 +1,5 @@
 -- What a memory that is being made keeps to, call by call.
-use Rattle.std.specs.Prelude.{◌≡◌, ◌≢◌, refl, ℕ, zero, suc, ◌+◌, ◌-◌, ◌*◌, ◌%◌, ◌==◌, ◌≤◌, ◌<◌, ◌^◌, nat_le, nat_lt, ◌&&◌, ◌||◌, Bool, true, false, not, IsSomeAnd, List, [], ◌∷◌, ◌++◌, replicate, length, slice_get, ℤ, pos, Option, Some, None, codes}
+use Rattle.std.specs.Prelude.{◌≡◌, ◌≢◌, refl, ℕ, zero, suc, ◌+◌, ◌-◌, ◌*◌, ◌==◌, ◌≤◌, ◌<◌, ◌||◌, Bool, true, false, not, IsSomeAnd, List, [], ◌∷◌, ◌++◌, replicate, length, slice_get, ℤ, pos, Option, Some, None, codes}
 use Rattle.std.specs.List.{AllByRecursion, list_any}
 use Rattle.std.proofs.Common.{sym, ◌∙◌, ap, arith, length-append}
 use Rattle.std.proofs.lemmas.Bool.{leb-false, eq-eqb, false≢true}
@@ -18,7 +18,7 @@ use Rattle.design_ir.specs.Designs.{IsTransparent}
 use Rattle.design_ir.proofs.Growth.{all_append, length_more}
 use Rattle.memory_ports.specs.Ports.{granule}
 use Rattle.memory_ports.specs.Memories.{IsSpec, is_divisor, is_granularity}
-use Rattle.memory_ports.specs.Calls.{new_memory, all_rows, is_full, is_elsewhere, is_granule, is_transparent, and_write, and_read}
+use Rattle.memory_ports.specs.Calls.{new_memory, is_full, is_elsewhere, is_granule, is_transparent, and_write, and_read}
 
 -- ---- lists
 

@@ -1,6 +1,6 @@
 -- What holds of every memory that is made here.
 -- Internal: no rule of the language.
-use Rattle.std.specs.Prelude.{◌≡◌, ◌≢◌, ℕ, ◌≤◌, ◌+◌, false, ⊤, List, [], ◌∷◌, ℤ, Option, Some, None, IsSome, slice_get}
+use Rattle.std.specs.Prelude.{◌≡◌, ◌≢◌, ℕ, ◌≤◌, false, ⊤, List, ℤ, Option, Some, None, IsSome, slice_get}
 use Rattle.std.specs.List.{AllByRecursion}
 use Rattle.lists.specs.Names.{IsPath}
 use Rattle.shape_rules.specs.Forms.{Form}

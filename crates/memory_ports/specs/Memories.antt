@@ -1,7 +1,7 @@
 -- A memory that is being made: what it keeps to, and what its ports have in a pool. (Amaranth standard library reference, Memory
 -- arrays: granularity divides the row; a read is transparent for write ports of its own domain. One domain for all write ports, and
 -- how many rows, bits and ports there may be: docs/RULES.md.)
-use Rattle.std.specs.Prelude.{◌≡◌, ◌≢◌, ℕ, ◌+◌, ◌*◌, ◌%◌, ◌==◌, ◌≤◌, nat_lt, ◌&&◌, ◌||◌, Bool, true, ⊤, List, [], length, slice_get, ℤ, pos, Option, Some, None, codes}
+use Rattle.std.specs.Prelude.{◌≡◌, ◌≢◌, ℕ, ◌+◌, ◌*◌, ◌%◌, ◌==◌, ◌≤◌, nat_lt, ◌&&◌, ◌||◌, Bool, true, ⊤, List, [], length, slice_get, pos, Option, Some, None, codes}
 use Rattle.std.specs.List.{AllByRecursion}
 use Rattle.amh_bits.specs.Patterns.{IsOf}
 use Rattle.shape_rules.specs.Forms.{Form, unsigned}

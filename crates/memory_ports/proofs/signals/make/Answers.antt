@@ -1,4 +1,4 @@
-use Rattle.std.proofs.Common.{◌≡◌, length}
+use Rattle.std.proofs.Common.{length}
 use Rattle.std.specs.Prelude.{nat_le}
 use Rattle.design_ir.specs.PoolRules.{IsPool, IsRefusal, limit_where}
 use Rattle.memory_ports.proofs.Growing.{grown_not, counted, signal_expr}

@@ -1,4 +1,4 @@
-use Rattle.std.proofs.Common.{◌≡◌, ◌∙◌, sym, ap, rules, true, false, ℕ, List}
+use Rattle.std.proofs.Common.{◌≡◌, ◌∙◌, sym, ap, false}
 use Rattle.std.specs.Prelude.{not, option_copied}
 use Rattle.std.specs.List.{list_any}
 use Rattle.memory_ports.specs.Ports.{IsGrown}

@@ -1,4 +1,4 @@
-use Rattle.std.proofs.Common.{◌≡◌, ◌∙◌, sym, ap, rules, true, false, codes}
+use Rattle.std.proofs.Common.{◌≡◌, ◌∙◌, sym, true, false, codes}
 use Rattle.lists.specs.Texts.{text_eq}
 use Rattle.memory_ports.specs.Ports.{IsGrown}
 use Rattle.memory_ports.specs.Calls.{is_full, is_elsewhere, is_granule, write_signals}
