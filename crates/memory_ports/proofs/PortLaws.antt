@@ -40,7 +40,7 @@ signal_stays q q' f e g h = record {
   shape = h.shape;
 }
 
-data_stays : (q q' : Pooled) (f : Form) (s : SigId) → IsGrown q q' → IsData q f s → IsData q' f s
+pub data_stays : (q q' : Pooled) (f : Form) (s : SigId) → IsGrown q q' → IsData q f s → IsData q' f s
 data_stays q q' f s g h = record {
   signal = h.signal;
   there = rw g.signals (still_there q.signals g.more_signals s.0 h.signal h.there);

@@ -1,6 +1,6 @@
 -- What holds of every memory that is made here.
 -- Internal: no rule of the language.
-use Rattle.std.specs.Prelude.{◌≡◌, ◌≢◌, ℕ, ◌≤◌, false, ⊤, List, ℤ, Option, Some, None, IsSome, slice_get}
+use Rattle.std.specs.Prelude.{◌≡◌, ◌≢◌, ℕ, ◌≤◌, false, ⊤, List, ℤ, Option, Some, None, IsSome, slice_get, map, option_map, codes}
 use Rattle.std.specs.List.{AllByRecursion}
 use Rattle.lists.specs.Names.{IsPath}
 use Rattle.shape_rules.specs.Forms.{Form}
@@ -16,7 +16,7 @@ use Rattle.design_ir.specs.Settling.{is_signal, signal_settled}
 use Rattle.design_ir.specs.Circuits.{Circuit, domain_named, option_test}
 use Rattle.design_ir.specs.Designs.{IsAddressWidth, IsMemory}
 use Rattle.memory_ports.specs.Ports.{address_width, with_signals, IsGrown}
-use Rattle.memory_ports.specs.Memories.{IsSpec, HasPorts}
+use Rattle.memory_ports.specs.Memories.{IsSpec, HasPorts, FitsPool}
 use Rattle.memory_ports.specs.Calls.{new_memory, write_signals, and_write, read_signals, and_read}
 
 -- ---- addresses
@@ -73,6 +73,14 @@ OthersLeavePorts = (q : Pooled) (m : Memory) (t : ℕ) (f : Form) (n : ℤ) → 
 
 -- ---- what a design asks
 
+-- the ports that are made fit
+abbrev pub PortsFit : Type 0
+PortsFit = (q : Pooled) (m : Memory) → IsPool q → HasPorts q m → FitsPool q m
+
+-- and what fits does so still where the pool has grown
+abbrev pub FittingStay : Type 0
+FittingStay = (q q' : Pooled) (m : Memory) → IsPool q → IsGrown q q' → FitsPool q m → FitsPool q' m
+
 -- a port's domain is there, where it has one
 abbrev pub HasDomain : Circuit → Option (List ℕ) → Type 0
 HasDomain c None = ⊤
@@ -84,5 +92,21 @@ pub record HasDomains (c : Circuit) (m : Memory) : Type 0 where
 
 -- With a name, and where its domains are, what is made is a memory of the design.
 abbrev pub SpecsAreMemories : Type 0
-SpecsAreMemories =
-    (c : Circuit) (m : Memory) (name : List ℕ) → IsPool c.pool → IsSpec m → HasPorts c.pool m → HasDomains c m → IsPath name → IsMemory c (record m { name = name })
+SpecsAreMemories = (c : Circuit) (m : Memory) (name : List ℕ) → IsSpec m → FitsPool c.pool m → HasDomains c m → IsPath name → IsMemory c (record m { name = name })
+
+-- ---- other names of domains
+
+abbrev pub renamed : (List ℕ → List ℕ) → Memory → Memory
+renamed f m =
+    record m {
+      writes = map (λ (w : MemWrite). record w { domain = f w.domain }) m.writes;
+      reads = map (λ (r : MemRead). record r { domain = option_map f r.domain }) m.reads;
+    }
+
+-- where no domain is renamed to `comb`, it stays a memory that is being made, and fits
+pub record IsRenamedWell (f : List ℕ → List ℕ) (m : Memory) : Type 0 where
+  pub spec : IsSpec m → IsSpec (renamed f m)
+  pub fits : (q : Pooled) → FitsPool q m → FitsPool q (renamed f m)
+
+abbrev pub RenamesStay : Type 0
+RenamesStay = (f : List ℕ → List ℕ) (m : Memory) → ((domain : List ℕ) → domain ≢ codes "comb" → f domain ≢ codes "comb") → IsRenamedWell f m

@@ -1,7 +1,7 @@
 -- A memory that is being made: what it keeps to, and what its ports have in a pool. (Amaranth standard library reference, Memory
 -- arrays: granularity divides the row; a read is transparent for write ports of its own domain. One domain for all write ports, and
 -- how many rows, bits and ports there may be: docs/RULES.md.)
-use Rattle.std.specs.Prelude.{◌≡◌, ◌≢◌, ℕ, ◌+◌, ◌*◌, ◌%◌, ◌==◌, ◌≤◌, nat_lt, ◌&&◌, ◌||◌, Bool, true, ⊤, List, [], length, slice_get, pos, Option, Some, None, codes}
+use Rattle.std.specs.Prelude.{◌≡◌, ◌≢◌, ℕ, ◌+◌, ◌*◌, ◌%◌, ◌==◌, ◌≤◌, ◌<◌, nat_lt, ◌&&◌, ◌||◌, Bool, true, false, ⊤, List, [], length, slice_get, pos, Option, Some, None, codes}
 use Rattle.std.specs.List.{AllByRecursion}
 use Rattle.amh_bits.specs.Patterns.{IsOf}
 use Rattle.shape_rules.specs.Forms.{Form, unsigned}
@@ -13,7 +13,8 @@ use Rattle.design_ir.specs.declared.memory.MemWrite.{MemWrite}
 use Rattle.design_ir.specs.declared.memory.MemRead.{MemRead}
 use Rattle.design_ir.specs.declared.memory.Memory.{Memory}
 use Rattle.design_ir.specs.Pools.{Pooled}
-use Rattle.design_ir.specs.Designs.{IsTransparent}
+use Rattle.design_ir.specs.Values.{form}
+use Rattle.design_ir.specs.Designs.{IsTransparent, holds_reset}
 use Rattle.memory_ports.specs.Ports.{address_width, enable_width}
 
 -- ---- by itself
@@ -78,3 +79,32 @@ pub record HasRead (q : Pooled) (depth : ℕ) (shape : Form) (r : MemRead) : Typ
 pub record HasPorts (q : Pooled) (m : Memory) : Type 0 where
   pub writes : AllByRecursion (HasWrite q m.depth m.shape) m.writes
   pub reads : AllByRecursion (HasRead q m.depth m.shape) m.reads
+
+-- ---- in a pool, whatever expressions stand for the signals
+
+-- an expression of the pool in which no reset stands, of this shape
+pub record IsFitting (q : Pooled) (f : Form) (e : ExprId) : Type 0 where
+  pub there : e.0 < length q.exprs
+  pub resolved : holds_reset q e.0 ≡ false
+  pub shape : form q e.0 ≡ f
+
+abbrev pub HasFittingEnable : Pooled → Option (List ℕ) → Option ExprId → Type 0
+HasFittingEnable q None None = ⊤
+HasFittingEnable q None (Some e) = ⊥
+HasFittingEnable q (Some d) None = ⊥
+HasFittingEnable q (Some d) (Some e) = IsFitting q (unsigned 1) e
+
+pub record FitsWrite (q : Pooled) (depth : ℕ) (shape : Form) (w : MemWrite) : Type 0 where
+  pub addr : IsFitting q (unsigned (address_width depth)) w.addr
+  pub word : IsFitting q shape w.word
+  pub enable : IsFitting q (unsigned (enable_width shape.width w.granularity)) w.enable
+
+pub record FitsRead (q : Pooled) (depth : ℕ) (shape : Form) (r : MemRead) : Type 0 where
+  pub addr : IsFitting q (unsigned (address_width depth)) r.addr
+  pub word : IsData q shape r.word
+  pub enable : HasFittingEnable q r.domain r.enable
+
+-- the expressions of the memory's ports fit, which is all that a design asks of them
+pub record FitsPool (q : Pooled) (m : Memory) : Type 0 where
+  pub writes : AllByRecursion (FitsWrite q m.depth m.shape) m.writes
+  pub reads : AllByRecursion (FitsRead q m.depth m.shape) m.reads

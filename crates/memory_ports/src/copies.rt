@@ -1,5 +1,5 @@
 // Texts and lists that are kept once more.
-ghost use Rattle.std.specs.Prelude.{◌≡◌, ◌++◌, ◌-◌, ◌↔◌, replicate, length, pos, IfOk, IsTrue, option_copied};
+ghost use Rattle.std.specs.Prelude.{◌≡◌, ◌++◌, ◌-◌, ◌↔◌, replicate, pos, IfOk, IsTrue, option_copied};
 ghost use Rattle.lists.specs.Texts.{text_eq};
 ghost use Rattle.memory_ports.specs.Calls.{all_rows};
 

@@ -13,7 +13,7 @@ mod refusal;
 mod rules;
 mod signals;
 
-pub use laws::{addresses_are_least, ports_have_signals, specs_are_memories};
+pub use laws::{addresses_are_least, ports_have_signals, renamed_are_specs, specs_are_memories};
 pub use memory::MemorySpec;
 pub use ports::{ReadPort, WritePort};
 pub use refusal::MemStop;

@@ -2,7 +2,6 @@
 ghost use Rattle.std.specs.Prelude.{◌≡◌, not, ◌||◌, option_copied, Some, codes};
 ghost use Rattle.lists.specs.Texts.{text_eq};
 ghost use Rattle.std.specs.List.{list_any};
-ghost use Rattle.memory_ports.specs.Memories.{is_divisor};
 ghost use Rattle.memory_ports.specs.Calls.{is_full, is_elsewhere, is_granule, is_transparent};
 
 use crate::copies::is_text;
@@ -50,23 +49,24 @@ fn is_granule(width: u8, granularity: Option<u8>) -> bool
 pub fn is_bad_transparent(memory: &Memory, domain: Option<&str>, transparent: &[u32]) -> bool
     ensures { result ≡ list_any (λ k. not (is_transparent memory.now.writes (option_copied domain.entry) k)) transparent.now }
 {
-    match domain {
-        None => !transparent.is_empty(),
-        Some(domain) => is_opaque(memory.writes.as_slice(), domain, transparent),
-    }
-}
-
-// Whether one of these is no write port of the domain.
-fn is_opaque(writes: &[MemWrite], domain: &str, transparent: &[u32]) -> bool
-    ensures { result ≡ list_any (λ k. not (is_transparent writes.now (Some domain.now) k)) transparent.now }
-{
+    let writes = memory.writes.as_slice();
     transparent
         .iter()
         .any(|k| !is_transparent(writes, domain, *k))
 }
 
+// Whether the write port of this number is there, with this domain, which a comb port has not.
+fn is_transparent(writes: &[MemWrite], domain: Option<&str>, number: u32) -> bool
+    ensures { result ≡ is_transparent writes.now (option_copied domain.entry) number }
+{
+    match domain {
+        None => false,
+        Some(domain) => is_in(writes, domain, number),
+    }
+}
+
 // Whether the write port of this number is there, with this domain.
-fn is_transparent(writes: &[MemWrite], domain: &str, number: u32) -> bool
+fn is_in(writes: &[MemWrite], domain: &str, number: u32) -> bool
     ensures { result ≡ is_transparent writes.now (Some domain.now) number }
 {
     match writes.get(number as usize) {

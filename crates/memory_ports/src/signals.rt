@@ -1,6 +1,5 @@
 // What a port asks of the pool.
-ghost use Rattle.std.specs.Prelude.{◌≡◌, ◌+◌, ◌∷◌, ◌++◌, [], ◌≤◌, false, length, None, IfOk, IfErr};
-ghost use Rattle.std.specs.Fmt.{decimal};
+ghost use Rattle.std.specs.Prelude.{◌≡◌, ◌+◌, ◌∷◌, [], ◌≤◌, false, length, None, IfOk, IfErr};
 ghost use Rattle.amh_bits.specs.Patterns.{IsOf};
 ghost use Rattle.design_ir.specs.PoolRules.{HasInit};
 ghost use Rattle.memory_ports.specs.Ports.{port_name, port_signal, address_width, with_signal, with_signals, is_over, IsGrown};
