@@ -101,9 +101,9 @@ impl MemorySpec {
         Ok(made.port)
     }
 
-    /// A read port more, with its signals; one without a domain is comb. `BadTransparent` comes exactly where it is to be
-    /// transparent for a number that is no write port of its domain, or for any where it is comb; else `Limit` exactly where
-    /// the memory has 64 ports, or the pool has no room for a signal or its expression.
+    /// A read port more, with its signals; a comb one has no domain, and `comb` names none. `BadTransparent` comes exactly
+    /// where it is to be transparent for a number that is no write port of its domain, or for any where it is comb; else
+    /// `Limit` exactly where the memory has 64 ports, or the pool has no room for a signal or its expression.
     pub fn add_read(
         &mut self,
         pool: &mut Pool,
@@ -139,6 +139,20 @@ impl MemorySpec {
         };
         self.memory.reads.push(port)?;
         Ok(made.port)
+    }
+
+    /// The memory as far as it is made.
+    pub fn so_far(&self) -> &Memory
+        ensures { result.now ≡ self.now }
+    {
+        &self.memory
+    }
+
+    /// Opens the memory, so that a caller knows what it keeps to.
+    pub fn known(&self)
+        ensures { IsSpec self.now }
+    {
+        let _ = &self.alloc;
     }
 
     /// The memory, without a name. It refuses nothing.
