@@ -1,0 +1,4 @@
+pub mod Ports
+pub mod Memories
+pub mod Calls
+pub mod Laws
