@@ -1,6 +1,10 @@
 pub mod ClassWalks
 pub mod CountLaws
+pub mod FaceLaws
 pub mod HierarchyLaws
+pub mod LeafLaws
+mod LeafSamples
 pub mod NumberNames
 pub mod Pools
 pub mod Standing
+pub mod WalkLaws

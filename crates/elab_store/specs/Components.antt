@@ -1,10 +1,13 @@
 -- What is kept of classes over `Component`, of signatures, and of objects that have ports.
-use Rattle.std.specs.Prelude.{ℕ, zero, suc, ◌+◌, List, [], ◌∷◌, ◌++◌, Option, Some, None}
+use Rattle.std.specs.Prelude.{ℕ, not, zero, suc, ◌+◌, List, [], ◌∷◌, ◌++◌, map, Option, Some, None, option_map}
 use Rattle.std.specs.Ordering.{nat_cmp}
 use Rattle.std.specs.BTreeMap.{is_at, insert_entry}
 use Rattle.std.specs.Map.{lookup}
 use Rattle.py_values.specs.declared.val.ObjId.{ObjId}
 use Rattle.design_ir.specs.declared.port.Port.{Port}
+use Rattle.elab_store.specs.declared.faces.Face.{Face}
+use Rattle.elab_store.specs.declared.faces.End.{End}
+use Rattle.elab_store.specs.declared.faces.ComponentObject.{ComponentObject}
 use Rattle.elab_store.specs.declared.members.NamedMember.{NamedMember}
 use Rattle.elab_store.specs.declared.members.ComponentClass.{ComponentClass}
 
@@ -13,12 +16,16 @@ pub record Components : Type 0 where
   pub classes : List (ℕ × ComponentClass)
   -- the members of each signature, by number
   pub signatures : List (List NamedMember)
-  -- the ports of each object that has some, with its number, in the order of these
-  pub objects : List (ℕ × List Port)
+  -- the signals that were made for leaves of signatures, in order
+  pub ends : List End
+  -- the interface and the ports of each object of such a class, with its number, in the order of these
+  pub objects : List (ℕ × ComponentObject)
+  -- the signature that each object of a class over `Signature` is, with its number, in the order of these
+  pub signed : List (ℕ × ℕ)
 
 -- before the body of a program
 abbrev pub no_components : Components
-no_components = record { classes = []; signatures = []; objects = [] }
+no_components = record { classes = []; signatures = []; ends = []; objects = []; signed = [] }
 
 -- ---- classes
 
@@ -47,11 +54,39 @@ members_in (suc k) classes n = all_members (members_in k classes) (class_at clas
 abbrev pub class_members : List (ℕ × ComponentClass) → ℕ → List NamedMember
 class_members classes n = members_in (n + 1) classes n
 
--- ---- objects
+-- ---- signatures
 
-abbrev pub ports_at : List (ℕ × List Port) → ℕ → Option (List Port)
-ports_at objects n = lookup (is_at (nat_cmp n)) objects
+abbrev pub with_signature : List NamedMember → Components → Components
+with_signature ms cs = record cs { signatures = cs.signatures ++ ms ∷ [] }
 
--- an object that is given ports again has the new ones
-abbrev pub with_interface : ℕ → List NamedMember → List Port → Components → Components
-with_interface n members ports cs = record cs { signatures = cs.signatures ++ members ∷ []; objects = insert_entry nat_cmp cs.objects n ports }
+-- the same members, each in the other direction
+abbrev pub turned_member : NamedMember → NamedMember
+turned_member m = record m { member = record m.member { is_out = not m.member.is_out } }
+
+abbrev pub turned_members : List NamedMember → List NamedMember
+turned_members ms = map turned_member ms
+
+abbrev pub signed_at : List (ℕ × ℕ) → ℕ → Option ℕ
+signed_at signed n = lookup (is_at (nat_cmp n)) signed
+
+-- an object that is given a signature again is the new one
+abbrev pub with_signed : ℕ → ℕ → Components → Components
+with_signed n signature cs = record cs { signed = insert_entry nat_cmp cs.signed n signature }
+
+-- ---- ends and objects
+
+abbrev pub ending : End → Components → Components
+ending e cs = record cs { ends = cs.ends ++ e ∷ [] }
+
+abbrev pub object_at : List (ℕ × ComponentObject) → ℕ → Option ComponentObject
+object_at objects n = lookup (is_at (nat_cmp n)) objects
+
+abbrev pub ports_at : List (ℕ × ComponentObject) → ℕ → Option (List Port)
+ports_at objects n = option_map (λ (o : ComponentObject). o.ports) (object_at objects n)
+
+abbrev pub face_at : List (ℕ × ComponentObject) → ℕ → Option Face
+face_at objects n = option_map (λ (o : ComponentObject). o.face) (object_at objects n)
+
+-- an object that is given an interface again has the new one
+abbrev pub with_face : ℕ → Face → List Port → Components → Components
+with_face n f ports cs = record cs { objects = insert_entry nat_cmp cs.objects n (record { face = f; ports = ports }) }

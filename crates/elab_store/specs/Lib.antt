@@ -2,9 +2,12 @@ pub mod Calls
 pub mod ClockDomains
 pub mod Components
 pub mod Counts
+pub mod Faces
 pub mod Held
 pub mod Hierarchies
 pub mod Kept
+pub mod LeafWalks
+pub mod Leaves
 pub mod OpenMachines
 pub mod Seen
 pub mod Shapes

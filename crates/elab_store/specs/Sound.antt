@@ -9,7 +9,6 @@ use Rattle.design_ir.specs.declared.ids.SigId.{SigId}
 use Rattle.design_ir.specs.declared.domain.Domain.{Domain}
 use Rattle.shape_rules.specs.Forms.{unsigned}
 use Rattle.design_ir.specs.Values.{signal_form}
-use Rattle.design_ir.specs.declared.port.Port.{Port}
 use Rattle.design_ir.specs.declared.expr.Expr.{Expr}
 use Rattle.design_ir.specs.declared.expr.Expr.TheVariants as expr
 use Rattle.design_ir.specs.Pools.{Pooled}
@@ -31,6 +30,12 @@ use Rattle.fsm_lowering.specs.Machines.{Machine, HasRegister}
 use Rattle.elab_store.specs.declared.own_machine.OwnMachine.{OwnMachine}
 use Rattle.elab_store.specs.declared.hierarchy.Addition.{Addition}
 use Rattle.elab_store.specs.declared.domains.ClockDomain.{ClockDomain}
+use Rattle.elab_store.specs.declared.faces.End.{End}
+use Rattle.elab_store.specs.declared.faces.ComponentObject.{ComponentObject}
+use Rattle.elab_store.specs.declared.members.NamedMember.{NamedMember}
+use Rattle.elab_store.specs.Leaves.{Signatures}
+use Rattle.elab_store.specs.Faces.{IsFace}
+use Rattle.elab_store.specs.Components.{Components}
 use Rattle.elab_store.specs.Stores.{Held}
 
 -- a reset; `ResetSignal` comes with domains that modules define
@@ -70,21 +75,25 @@ IsBegin q (begin.Case n) = ⊤
 IsBegin q begin.Default = ⊤
 IsBegin q begin.Misplaced = ⊤
 
-abbrev pub IsKept : Pooled → Kept → Type 0
-IsKept q (kept.Statement x) = IsEquation q x
-IsKept q (kept.Name n) = ⊤
-IsKept q (kept.Module m) = ⊤
-IsKept q (kept.Domains m) = ⊤
-IsKept q (kept.Domain m d) = ⊤
-IsKept q (kept.Submodules m) = ⊤
-IsKept q (kept.Definitions m) = ⊤
-IsKept q (kept.ClockDomain k) = ⊤
-IsKept q (kept.Member m) = ⊤
-IsKept q (kept.Signature n) = ⊤
-IsKept q (kept.BlockName m n) = ⊤
-IsKept q (kept.Block m b) = IsBegin q b
-IsKept q (kept.OfMachine x) = ⊤
-IsKept q (kept.OfSimulator x) = ⊤
+-- an interface has its ends
+abbrev pub IsKept : Pooled → Signatures → List End → Kept → Type 0
+IsKept q sigs ends (kept.Statement x) = IsEquation q x
+IsKept q sigs ends (kept.Name n) = ⊤
+IsKept q sigs ends (kept.Module m) = ⊤
+IsKept q sigs ends (kept.Domains m) = ⊤
+IsKept q sigs ends (kept.Domain m d) = ⊤
+IsKept q sigs ends (kept.Submodules m) = ⊤
+IsKept q sigs ends (kept.Definitions m) = ⊤
+IsKept q sigs ends (kept.ClockDomain k) = ⊤
+IsKept q sigs ends (kept.Port is_out shape init) = ⊤
+IsKept q sigs ends (kept.Nested is_out n) = ⊤
+IsKept q sigs ends (kept.Signature n) = ⊤
+IsKept q sigs ends (kept.OfSignature n m) = ⊤
+IsKept q sigs ends (kept.Interface f) = IsFace sigs ends f
+IsKept q sigs ends (kept.BlockName m n) = ⊤
+IsKept q sigs ends (kept.Block m b) = IsBegin q b
+IsKept q sigs ends (kept.OfMachine x) = ⊤
+IsKept q sigs ends (kept.OfSimulator x) = ⊤
 
 abbrev pub IsOpening : Pooled → Opening → Type 0
 IsOpening q (opening.If e) = e.0 < length q.exprs
@@ -147,13 +156,31 @@ pub record AreClockDomains (q : Pooled) (xs : List ClockDomain) : Type 0 where
   pub each : AllByRecursion (IsClockDomain q) xs
   pub order : AreInOrder xs
 
+-- ---- interfaces
+
+-- the expression is the signal, which may be written
+pub record IsEnd (q : Pooled) (e : End) : Type 0 where
+  pub there : e.sig.0 < length q.signals
+  pub expr_there : e.expr.0 < length q.exprs
+  pub signal : slice_get q.exprs e.expr.0 ≡ Some (expr.Sig e.sig)
+  pub target : is_target q e.expr.0 ≡ true
+
+pub record IsObject (q : Pooled) (sigs : Signatures) (ends : List End) (o : ComponentObject) : Type 0 where
+  pub ports : ArePorts q o.ports
+  pub face : IsFace sigs ends o.face
+
+pub record AreComponents (q : Pooled) (cs : Components) : Type 0 where
+  pub names : AllByRecursion (λ (ms : List NamedMember). AllByRecursion (λ (m : NamedMember). IsName m.name) ms) cs.signatures
+  pub ends : AllByRecursion (IsEnd q) cs.ends
+  pub objects : AllByRecursion (λ (o : ℕ × ComponentObject). IsObject q cs.signatures cs.ends o.1) cs.objects
+
 pub record IsSound (h : Held) : Type 0 where
   pub names : AllByRecursion (λ (x : Sig). IsName x.name) h.pool.signals
   pub things : AreHeld (length h.pool.exprs) h.store.things
-  pub kept : AllByRecursion (IsKept h.pool) h.store.kept
+  pub kept : AllByRecursion (IsKept h.pool h.store.components.signatures h.store.components.ends) h.store.kept
   pub modules : AllByRecursion (IsBuilt h.pool) h.store.modules
   pub machines : AllByRecursion (IsMachine h.pool) h.store.machines
   pub domains : AllByRecursion IsName h.store.domains
   pub additions : AllByRecursion (λ (a : Addition). IsName a.name) h.store.hierarchy.additions
   pub clock_domains : AreClockDomains h.pool h.store.clock_domains.made
-  pub ports : AllByRecursion (λ (o : ℕ × List Port). ArePorts h.pool o.1) h.store.components.objects
+  pub components : AreComponents h.pool h.store.components

@@ -24,7 +24,8 @@ use Rattle.elab_store.specs.declared.kept.DomainName.{DomainName}
 use Rattle.elab_store.specs.declared.kept.DomainName.TheVariants as domain
 use Rattle.amh_host.specs.declared.place.Place.{Place}
 use Rattle.elab_store.specs.declared.own_machine.OwnMachine.{OwnMachine}
-use Rattle.elab_store.specs.Components.{Components, no_components}
+use Rattle.elab_store.specs.Components.{Components, no_components, signed_at, face_at}
+use Rattle.elab_store.specs.declared.faces.Face.{Face}
 use Rattle.elab_store.specs.Hierarchies.{Hierarchy, no_hierarchy}
 use Rattle.elab_store.specs.ClockDomains.{ClockDomains, no_clock_domains}
 use Rattle.elab_store.specs.Simulations.{Simulation, no_simulation}
@@ -108,6 +109,26 @@ kept_given k h = given (next_thing h) (record h { store = store_keeping k h.stor
 -- what a value is kept for, where it is a thing of this crate
 abbrev pub kept_of : Stored → Val → Option Kept
 kept_of s v = option_and_then (slice_get s.kept) (kept_number (thing_of s.things v))
+
+-- ---- signatures and interfaces
+
+abbrev pub signature_in : Option Kept → Option ℕ
+signature_in (Some (kept.Signature n)) = Some n
+signature_in k = None
+
+-- the number of the signature that a value of the program is
+abbrev pub signature_of : Stored → Val → Option ℕ
+signature_of s (val.Object o) = signed_at s.components.signed o.0
+signature_of s v = signature_in (kept_of s v)
+
+abbrev pub face_in : Option Kept → Option Face
+face_in (Some (kept.Interface f)) = Some f
+face_in k = None
+
+-- the interface that a value of the program is: a component is one too
+abbrev pub face_of : Stored → Val → Option Face
+face_of s (val.Object o) = face_at s.components.objects o.0
+face_of s v = face_in (kept_of s v)
 
 -- ---- domains
 

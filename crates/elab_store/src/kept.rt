@@ -1,6 +1,8 @@
 // The things of a store that this crate knows by itself.
 
-use crate::members::Member;
+use crate::faces::Face;
+use crate::shapes::Shaped;
+use amh_bits::Int;
 use amh_host::Place;
 use design_ir::ExprId;
 use py_values::StrId;
@@ -24,7 +26,14 @@ pub enum HdlName {
     Data,
     In,
     Out,
+    /// `Signature` of `amaranth.lib.wiring`.
+    Signature,
     Component,
+    Connect,
+    Flipped,
+    /// The module `amaranth.lib.stream`, and its `Signature`.
+    Stream,
+    StreamSignature,
     ClockDomain,
     /// `Simulator` of `amaranth.sim`.
     Simulator,
@@ -123,6 +132,13 @@ pub enum SimulatorPart {
     Vcd,
 }
 
+/// The name of a method of a signature.
+#[derive(Clone, Copy, PartialEq, Eq, Drop)]
+pub enum SignatureMethod {
+    Flip,
+    Create,
+}
+
 /// What a kept thing is.
 #[derive(Clone, Copy, PartialEq, Eq, Drop)]
 pub enum Kept {
@@ -133,7 +149,10 @@ pub enum Kept {
     /// `m.d` of a module.
     Domains(u32),
     /// `m.d.comb`, `m.d.sync` or another domain of a module.
-    Domain { of: u32, name: DomainName },
+    Domain {
+        of: u32,
+        name: DomainName,
+    },
     /// `m.submodules` of a module.
     Submodules(u32),
     /// `m.domains` of a module.
@@ -143,13 +162,35 @@ pub enum Kept {
     /// `x.eq(v)`.
     Statement(Equation),
     /// `In(shape)` or `Out(shape)`.
-    Member(Member),
+    Port {
+        is_out: bool,
+        shape: Shaped,
+        init: Int,
+    },
+    /// `In(signature)` or `Out(signature)`, by the number of the signature.
+    Nested {
+        is_out: bool,
+        signature: u32,
+    },
     /// A signature, by its number in order of making.
     Signature(u32),
+    /// `sig.flip` and `sig.create` of a signature.
+    OfSignature {
+        of: u32,
+        method: SignatureMethod,
+    },
+    /// An interface.
+    Interface(Face),
     /// `m.If` and the like.
-    BlockName { of: u32, name: BlockName },
+    BlockName {
+        of: u32,
+        name: BlockName,
+    },
     /// `m.If(c)` and the like.
-    Block { of: u32, begin: Begin },
+    Block {
+        of: u32,
+        begin: Begin,
+    },
     /// What belongs to state machines.
     OfMachine(MachinePart),
     /// What belongs to the simulator.

@@ -10,8 +10,10 @@
 pub mod calls;
 pub mod components;
 pub mod domains;
+pub mod faces;
 pub mod hierarchy;
 pub mod kept;
+pub mod leaves;
 pub mod members;
 pub mod names;
 pub mod objects;

@@ -8,12 +8,18 @@ use lists::NoMemory;
 use py_values::ObjId;
 use std::alloc::Global;
 
-/// What `In(shape, init=n)` and `Out(shape, init=n)` give. The signal of a member has the number wrapped to the shape.
+/// What a member is: a port, whose signal has the number wrapped to the shape, or an interface of a signature, by its number in order of making.
+#[derive(Clone, Copy, PartialEq, Eq, Drop)]
+pub enum MemberForm {
+    Port { shape: Shaped, init: Int },
+    Nested(u32),
+}
+
+/// What `In(shape, init=n)`, `Out(shape, init=n)`, `In(signature)` and `Out(signature)` give.
 #[derive(Clone, Copy, PartialEq, Eq, Drop)]
 pub struct Member {
     pub is_out: bool,
-    pub shape: Shaped,
-    pub init: Int,
+    pub form: MemberForm,
 }
 
 /// A member under its name.

@@ -15,11 +15,12 @@ ghost use Rattle.elab_store.specs.ClockDomains.{no_clock_domains, with_clock_dom
 ghost use Rattle.elab_store.specs.Hierarchies.{no_hierarchy, with_addition, top_entered, node_taken};
 ghost use Rattle.elab_store.specs.Simulations.{no_simulation};
 ghost use Rattle.elab_store.specs.Stores.{nothing_held, no_top, kept_of, store_with, store_keeping, kept_given, given, refused, refused_at};
-ghost use Rattle.elab_store.specs.Stores.{with_root, with_object, module_of};
+ghost use Rattle.elab_store.specs.Stores.{with_root, with_object, module_of, signature_in, signature_of, face_in, face_of};
 ghost use Rattle.elab_store.specs.Held.{held_of, Gives};
 
 use crate::components::Components;
 use crate::domains::{ClockDomain, ClockDomains, Definition};
+use crate::faces::Face;
 use crate::hierarchy::Hierarchy;
 use crate::kept::{DomainName, Kept, Top};
 use crate::names::is_text;
@@ -306,6 +307,32 @@ impl Store {
     {
         match self.kept_of(*v) {
             Some(Kept::Module(m)) => Some(m),
+            _ => None,
+        }
+    }
+
+    /// The number of the signature that a value is.
+    pub fn signature_of(&self, v: Val) -> Option<u32>
+        ensures { result ≡ signature_of self.now v }
+    {
+        if let Val::Object(o) = v {
+            return self.components.signed(o.0);
+        }
+        match self.kept_of(v) {
+            Some(Kept::Signature(n)) => Some(n),
+            _ => None,
+        }
+    }
+
+    /// The interface that a value is: a component is one too.
+    pub fn face_of(&self, v: Val) -> Option<Face>
+        ensures { result ≡ face_of self.now v }
+    {
+        if let Val::Object(o) = v {
+            return self.components.face(o.0);
+        }
+        match self.kept_of(v) {
+            Some(Kept::Interface(face)) => Some(face),
             _ => None,
         }
     }
