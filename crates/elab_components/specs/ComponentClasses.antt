@@ -9,6 +9,7 @@ use Rattle.elab_store.specs.declared.kept.HdlName.TheVariants as hdl
 use Rattle.elab_store.specs.declared.kept.Kept.{Kept}
 use Rattle.elab_store.specs.declared.kept.Kept.TheVariants as kept
 use Rattle.elab_store.specs.declared.members.Member.{Member}
+use Rattle.elab_store.specs.declared.members.MemberForm.TheVariants as form
 use Rattle.elab_store.specs.declared.members.NamedMember.{NamedMember}
 use Rattle.elab_store.specs.declared.members.ComponentClass.{ComponentClass}
 use Rattle.elab_store.specs.Components.{class_at, with_class}
@@ -30,7 +31,8 @@ component_base s v = base_as s (kept_of s v) v
 -- ---- members
 
 abbrev pub member_of : Option Kept → Option Member
-member_of (Some (kept.Member m)) = Some m
+member_of (Some (kept.Port is_out shape init)) = Some (record { is_out = is_out; form = form.Port shape init })
+member_of (Some (kept.Nested is_out n)) = Some (record { is_out = is_out; form = form.Nested n })
 member_of k = None
 
 -- a member before others

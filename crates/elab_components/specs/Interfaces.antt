@@ -1,6 +1,6 @@
 -- Interfaces of components: what `super().__init__()` makes of the members of a class, and `super().__init__(signature)` of those of a dict or a
 -- signature. (Amaranth standard library reference 0.5, "Interfaces and connections", "Components".)
-use Rattle.std.specs.Prelude.{ℕ, ◌&&◌, not, Bool, true, false, if◌then◌else◌, List, [], ◌∷◌, ◌++◌, length, slice_get, Option, Some, None, option_map, codes}
+use Rattle.std.specs.Prelude.{ℕ, ◌&&◌, not, Bool, true, false, if◌then◌else◌, List, [], ◌∷◌, ◌++◌, length, slice_get, Option, Some, None, option_map, option_and_then, codes}
 use Rattle.std.specs.List.{list_any}
 use Rattle.lists.specs.Texts.{text_eq}
 use Rattle.identifiers.specs.Identifiers.{is_identifier}
@@ -9,21 +9,22 @@ use Rattle.py_values.specs.declared.val.Val.TheVariants as val
 use Rattle.py_values.specs.declared.val.ObjId.{ObjId}
 use Rattle.py_values.specs.Heaps.{Seen, text_at, row_at}
 use Rattle.py_values.specs.Objects.{first_in}
-use Rattle.py_frames.specs.declared.request.Answer.{Answer}
 use Rattle.py_frames.specs.declared.request.Answer.TheVariants as answer
-use Rattle.py_frames.specs.declared.request.Cause.TheVariants.{Raised}
-use Rattle.design_ir.specs.declared.signal.Sig.{Sig}
+use Rattle.py_frames.specs.declared.request.Cause.TheVariants.{Raised, Limit}
+use Rattle.py_frames.specs.declared.request.NamedVal.{NamedVal}
 use Rattle.design_ir.specs.declared.port.Port.{Port}
-use Rattle.elab_store.specs.declared.kept.Kept.{Kept}
 use Rattle.elab_store.specs.declared.kept.Kept.TheVariants as kept
 use Rattle.elab_store.specs.declared.members.NamedMember.{NamedMember}
 use Rattle.elab_store.specs.declared.members.Member.{Member}
-use Rattle.elab_components.specs.declared.interfaces.Interface.{Interface}
 use Rattle.elab_store.specs.Calls.{first_or, behind_first}
-use Rattle.elab_store.specs.Components.{class_at, class_members, with_interface}
+use Rattle.elab_store.specs.declared.faces.Face.{Face}
+use Rattle.elab_store.specs.declared.faces.FaceMember.{FaceMember}
+use Rattle.elab_store.specs.Components.{class_at, class_members, with_face}
+use Rattle.elab_store.specs.Leaves.{leaves}
+use Rattle.elab_store.specs.Faces.{face_members}
 use Rattle.elab_components.specs.ComponentClasses.{member_of, member_before}
-use Rattle.elab_components.specs.Signals.{signal_of, signal_given}
-use Rattle.elab_store.specs.Stores.{Stored, Held, Answered, refused, next_thing, kept_of, store_keeping}
+use Rattle.elab_components.specs.Faces.{leaf_ports, signing, face_made, part_val}
+use Rattle.elab_store.specs.Stores.{Stored, Held, Answered, refused, next_thing, kept_of, signature_of, store_keeping}
 use Rattle.elab_components.specs.Classes.{base_called}
 
 -- ---- which members
@@ -42,13 +43,10 @@ members_of_row s store [] = Some []
 members_of_row s store (k ∷ []) = None
 members_of_row s store (k ∷ v ∷ row) = named_before (string_in s k) (member_of (kept_of store v)) (members_of_row s store row)
 
-abbrev pub members_of_kept : Stored → Option Kept → Option (List NamedMember)
-members_of_kept store (Some (kept.Signature n)) = slice_get store.components.signatures n
-members_of_kept store k = None
-
+-- those of a signature, where the value is one
 abbrev pub members_of_val : Seen → Stored → Val → Option (List NamedMember)
 members_of_val s store (val.Dict o) = members_of_row s store (row_at s o.0)
-members_of_val s store v = members_of_kept store (kept_of store v)
+members_of_val s store v = option_and_then (slice_get store.components.signatures) (signature_of store v)
 
 -- those of the class where nothing is given
 abbrev pub members_given : Seen → Stored → ℕ → List Val → Option (List NamedMember)
@@ -70,54 +68,49 @@ are_named before (m ∷ ms) = is_identifier m.name && (not (list_any (text_eq m.
 abbrev pub are_members : List NamedMember → Bool
 are_members ms = are_named (signature_name ∷ []) ms
 
--- ---- their signals
+-- ---- what is bound
 
-abbrev pub member_signal : NamedMember → Sig
-member_signal m = signal_of m.name m.member.shape.form m.member.init false
+-- the names so far, and that of a member with its value
+abbrev pub name_bound : List NamedVal → List ℕ → (List NamedVal → Held → Option (List NamedVal) × Held) → Option Val × Held → Option (List NamedVal) × Held
+name_bound names name rest (Some v, h) = rest (names ++ record { name = name; val = v } ∷ []) h
+name_bound names name rest (None, h) = (None, h)
 
--- a port of an enumeration's shape is a value of it, and one of a layout's shape a view
-abbrev pub member_given : NamedMember → Held → Answered
-member_given m h = signal_given m.member.shape.reading (member_signal m) h
+-- each member's name is bound to its value
+abbrev pub names_bound : List NamedVal → List NamedMember → List (Option FaceMember) → Held → Option (List NamedVal) × Held
+names_bound names [] parts h = (Some names, h)
+names_bound names (m ∷ ms) [] h = (None, h)
+names_bound names (m ∷ ms) (p ∷ parts) h = name_bound names m.name (λ more g. names_bound more ms parts g) (part_val p h)
 
--- nothing is bound yet
-abbrev pub no_interface : Interface
-no_interface = record { names = []; ports = [] }
-
--- a member's name is bound to its value, and its signal is a port
-abbrev pub with_member : NamedMember → ℕ → Val → Interface → Interface
-with_member m number v x = record {
-  names = x.names ++ record { name = m.name; val = v } ∷ [];
-  ports = x.ports ++ record { name = m.name; sig = record { 0 = number }; is_input = not m.member.is_out } ∷ [];
-}
-
-abbrev pub store_with_interface : ObjId → List NamedMember → List Port → Stored → Stored
-store_with_interface o ms ports s =
-    record (store_keeping (kept.Signature (length s.components.signatures)) s) { components = with_interface o.0 ms ports s.components }
+abbrev pub store_with_interface : ObjId → Face → List Port → Stored → Stored
+store_with_interface o f ports s = record (store_keeping (kept.Signature f.signature) s) { components = with_face o.0 f ports s.components }
 
 -- all members and the signature are bound
-abbrev pub interface_bound : ObjId → List NamedMember → Interface → Held → Answered
-interface_bound o all x h = record {
-  answer = answer.Bind (x.names ++ record { name = signature_name; val = next_thing h } ∷ []);
-  held = record h { store = store_with_interface o all x.ports h.store };
+abbrev pub interface_bound : ObjId → Face → List Port → Option (List NamedVal) × Held → Answered
+interface_bound o f ports (Some names, h) = record {
+  answer = answer.Bind (names ++ record { name = signature_name; val = next_thing h } ∷ []);
+  held = record h { store = store_with_interface o f ports h.store };
 }
+interface_bound o f ports (None, h) = refused Raised h
 
--- what stands for a member is bound, and whatever else comes is the answer
-abbrev pub member_bound : (Interface → Held → Answered) → NamedMember → ℕ → Interface → Answer → Held → Answered
-member_bound rest m number x (answer.Give v) h = rest (with_member m number v x) h
-member_bound rest m number x a h = record { answer = a; held = h }
+-- what comes of its signals
+abbrev pub interface_of : ObjId → List NamedMember → List Port → Option Face × Held → Answered
+interface_of o ms ports (Some f, h) = interface_bound o f ports (names_bound [] ms (face_members h.store.components.signatures f) h)
+interface_of o ms ports (None, h) = refused Limit h
 
--- a signal for each member, in order
-abbrev pub interface_made : ObjId → List NamedMember → Interface → List NamedMember → Held → Answered
-interface_made o all x [] h = interface_bound o all x h
-interface_made o all x (m ∷ ms) h =
-    member_bound (λ y g. interface_made o all y ms g) m (length h.pool.signals) x (member_given m h).answer (member_given m h).held
+-- the ports that are the leaves of a new signature of these members
+abbrev pub ports_of : List NamedMember → Held → List Port
+ports_of ms h = leaf_ports (length h.pool.signals) (leaves (signing ms h).store.components.signatures false [] (length h.store.components.signatures))
+
+-- A component has a signature of its own. Its ports are the leaves of it, their names those on the way to them.
+abbrev pub interface_made : ObjId → List NamedMember → Held → Answered
+interface_made o ms h = interface_of o ms (ports_of ms h) (face_made (length h.store.components.signatures) [] (signing ms h))
 
 -- ---- `__init__` of a component
 
 -- what raises is told before a count
 abbrev pub interface_given : ObjId → Option (List NamedMember) → Held → Answered
 interface_given o None h = refused Raised h
-interface_given o (Some ms) h = if are_members ms then interface_made o ms no_interface ms h else refused Raised h
+interface_given o (Some ms) h = if are_members ms then interface_made o ms h else refused Raised h
 
 -- nothing is given by keyword
 abbrev pub component_called : Seen → ObjId → ℕ → List Val → List (List ℕ) → Held → Answered

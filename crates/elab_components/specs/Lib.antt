@@ -1,6 +1,7 @@
 pub mod Classes
 pub mod ComponentClasses
 pub mod Equations
+pub mod Faces
 pub mod Imports
 pub mod Interfaces
 pub mod Libraries
@@ -8,3 +9,4 @@ pub mod Likes
 pub mod Members
 pub mod Puts
 pub mod Signals
+pub mod Signatures

@@ -14,19 +14,30 @@ use Rattle.elab_store.specs.Stores.{Held, Answered, refused, thing_given, kept_g
 abbrev pub wiring_named : List ℕ → Option HdlName
 wiring_named n =
     if text_eq n (codes "In") then Some hdl.In
-    else (if text_eq n (codes "Out") then Some hdl.Out else (if text_eq n (codes "Component") then Some hdl.Component else None))
+    else (if text_eq n (codes "Out") then Some hdl.Out
+    else (if text_eq n (codes "Component") then Some hdl.Component
+    else (if text_eq n (codes "Signature") then Some hdl.Signature
+    else (if text_eq n (codes "connect") then Some hdl.Connect else (if text_eq n (codes "flipped") then Some hdl.Flipped else None)))))
+
+-- `amaranth.lib.stream`
+abbrev pub stream_named : List ℕ → Option HdlName
+stream_named n = if text_eq n (codes "Signature") then Some hdl.StreamSignature else None
 
 -- `amaranth.lib`, whose names are modules
 abbrev pub module_named : List ℕ → Option HdlName
 module_named n =
     if text_eq n (codes "wiring") then Some hdl.Wiring
-    else (if text_eq n (codes "enum") then Some hdl.Enumerations else (if text_eq n (codes "data") then Some hdl.Data else None))
+    else (if text_eq n (codes "enum") then Some hdl.Enumerations
+    else (if text_eq n (codes "data") then Some hdl.Data else (if text_eq n (codes "stream") then Some hdl.Stream else None)))
 
 abbrev pub is_library : List ℕ → Bool
 is_library path = text_eq path (codes "amaranth.lib")
 
 abbrev pub is_wiring : List ℕ → Bool
 is_wiring path = text_eq path (codes "amaranth.lib.wiring")
+
+abbrev pub is_stream : List ℕ → Bool
+is_stream path = text_eq path (codes "amaranth.lib.stream")
 
 abbrev pub is_enum : List ℕ → Bool
 is_enum path = text_eq path (codes "amaranth.lib.enum")
@@ -35,7 +46,8 @@ abbrev pub is_data : List ℕ → Bool
 is_data path = text_eq path (codes "amaranth.lib.data")
 
 abbrev pub library_named : (path name : List ℕ) → Option HdlName
-library_named path name = if is_library path then module_named name else (if is_wiring path then wiring_named name else None)
+library_named path name =
+    if is_library path then module_named name else (if is_wiring path then wiring_named name else (if is_stream path then stream_named name else None))
 
 abbrev pub library_given : Option HdlName → Held → Answered
 library_given (Some n) h = kept_given (kept.Name n) h

@@ -1,6 +1,6 @@
--- Members of interfaces: `In(shape, *, init=None)` and `Out(shape, *, init=None)`. (Amaranth standard library reference 0.5, "Interfaces and
--- connections", "Members". A signature as the shape of a member is not served yet.)
-use Rattle.std.specs.Prelude.{ℕ, if◌then◌else◌, Bool, List, [], ◌∷◌, ℤ, pos, Option, Some, None, Result, Ok, Err, codes}
+-- Members of interfaces: `In(shape, *, init=None)`, `Out(shape, *, init=None)`, `In(signature)` and `Out(signature)`, which have no init but None.
+-- (Amaranth standard library reference 0.5, "Interfaces and connections", "Members".)
+use Rattle.std.specs.Prelude.{ℕ, if◌then◌else◌, Bool, true, false, List, [], ◌∷◌, ℤ, pos, Option, Some, None, Result, Ok, Err, codes}
 use Rattle.lists.specs.Texts.{text_eq}
 use Rattle.py_values.specs.declared.val.Val.{Val}
 use Rattle.py_values.specs.declared.val.Val.TheVariants as val
@@ -13,7 +13,7 @@ use Rattle.elab_store.specs.declared.shapes.Shaped.{Shaped}
 use Rattle.elab_store.specs.declared.kept.Kept.TheVariants as kept
 use Rattle.elab_store.specs.Calls.{Called}
 use Rattle.elab_store.specs.Shapes.{shaped_meant}
-use Rattle.elab_store.specs.Stores.{Held, Answered, refused, kept_given}
+use Rattle.elab_store.specs.Stores.{Held, Answered, refused, kept_given, signature_of}
 
 -- a number, or a member of an enumeration as its number; and 0 for None
 abbrev pub init_given : List Thing → Val → Option ℤ
@@ -28,7 +28,7 @@ member_init things ns vs = None
 
 -- the number as it was given: the signal of the member has it wrapped to the shape
 abbrev pub member_shaped : Bool → ℤ → Result Shaped Cause → Held → Answered
-member_shaped is_out n (Ok x) h = kept_given (kept.Member (record { is_out = is_out; shape = x; init = n })) h
+member_shaped is_out n (Ok x) h = kept_given (kept.Port is_out x n) h
 member_shaped is_out n (Err why) h = refused why h
 
 -- what raises is told before a shape that is too wide
@@ -36,10 +36,24 @@ abbrev pub member_said : Bool → Option ℤ → Result Shaped Cause → Held �
 member_said is_out (Some n) shape h = member_shaped is_out n shape h
 member_said is_out None shape h = refused Raised h
 
--- the shape alone is given by its place
-abbrev pub member_placed : Seen → Bool → List Val → Option ℤ → Held → Answered
-member_placed s is_out (v ∷ []) init h = member_said is_out init (shaped_meant s h.store.things v) h
-member_placed s is_out vs init h = refused Raised h
+-- none is given, or None
+abbrev pub is_without_init : List (List ℕ) → List Val → Bool
+is_without_init [] vs = true
+is_without_init (n ∷ []) (val.None ∷ []) = text_eq n (codes "init")
+is_without_init ns vs = false
+
+abbrev pub nested_said : Bool → ℕ → Bool → Held → Answered
+nested_said is_out n without h = if without then kept_given (kept.Nested is_out n) h else refused Raised h
+
+-- a value that is a signature is no shape
+abbrev pub member_meant : Seen → Bool → Option ℕ → Val → List (List ℕ) → List Val → Held → Answered
+member_meant s is_out (Some n) v names vals h = nested_said is_out n (is_without_init names vals) h
+member_meant s is_out None v names vals h = member_said is_out (member_init h.store.things names vals) (shaped_meant s h.store.things v) h
+
+-- the shape or the signature alone is given by its place
+abbrev pub member_placed : Seen → Bool → List Val → List (List ℕ) → List Val → Held → Answered
+member_placed s is_out (v ∷ []) names vals h = member_meant s is_out (signature_of h.store v) v names vals h
+member_placed s is_out vs names vals h = refused Raised h
 
 abbrev pub member_called : Seen → Bool → Called → Held → Answered
-member_called s is_out c h = member_placed s is_out c.placed (member_init h.store.things c.keywords c.keyword_vals) h
+member_called s is_out c h = member_placed s is_out c.placed c.keywords c.keyword_vals h

@@ -36,7 +36,8 @@ pub fn is_keyword(name: &str) -> bool
     begins_with_equals(name.as_bytes())
 }
 
-fn has_keyword(names: &[String]) -> bool
+/// Whether a class has a keyword.
+pub fn has_keyword(names: &[String]) -> bool
     ensures { result ≡ list_any is_keyword (map string_bytes names.now) }
 {
     for name in names {

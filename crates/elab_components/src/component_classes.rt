@@ -7,7 +7,7 @@ ghost use Rattle.elab_store.specs.Held.{held_of, Gives};
 use crate::classes::{is_keyword, make_class};
 use elab_store::calls::names_behind;
 use elab_store::kept::{HdlName, Kept};
-use elab_store::members::{ComponentClass, Member, Members, NamedMember};
+use elab_store::members::{ComponentClass, Member, MemberForm, Members, NamedMember};
 use elab_store::store::{Elaboration, Store};
 use lists::NoMemory;
 use py_frames::request::{Answer, Cause, Request};
@@ -19,7 +19,20 @@ pub fn member_of(kept: Option<Kept>) -> Option<Member>
     ensures { result ≡ member_of kept }
 {
     match kept {
-        Some(Kept::Member(m)) => Some(m),
+        Some(
+            Kept::Port {
+                is_out,
+                shape,
+                init,
+            },
+        ) => Some(Member {
+            is_out,
+            form: MemberForm::Port { shape, init },
+        }),
+        Some(Kept::Nested { is_out, signature }) => Some(Member {
+            is_out,
+            form: MemberForm::Nested(signature),
+        }),
         _ => None,
     }
 }

@@ -1,22 +1,25 @@
 // Interfaces of components.
-ghost use Rattle.std.specs.Prelude.{◌≡◌, ◌∷◌, ◌++◌, [], length, not, map, string_bytes, IfOk, OnOk, Some, None, option_map};
+ghost use Rattle.std.specs.Prelude.{◌≡◌, ◌∷◌, ◌++◌, [], length, not, map, string_bytes, IfOk, OnOk, Some, None, option_map, option_and_then, slice_get};
 ghost use Rattle.std.specs.Option.{option_copied};
 ghost use Rattle.py_values.specs.declared.val.Val.TheVariants as val;
 ghost use Rattle.py_values.specs.Heaps.{seen};
 ghost use Rattle.design_ir.specs.PoolRules.{HasInit};
-ghost use Rattle.elab_components.specs.Interfaces.{string_in, members_of_row, members_of_val, members_given, are_members, member_signal, with_member, store_with_interface, interface_bound, interface_made, no_interface, members_of_kept, interface_given, component_called, component_class, init_as, init_answered};
+ghost use Rattle.elab_components.specs.Interfaces.{string_in, members_of_row, members_of_val, members_given, are_members, names_bound, store_with_interface, interface_bound, interface_of, interface_made, interface_given, component_called, component_class, init_as, init_answered};
 ghost use Rattle.elab_store.specs.Calls.{behind_first};
+ghost use Rattle.elab_store.specs.Faces.{IsFace};
 ghost use Rattle.elab_components.specs.Puts.{IsPut};
 ghost use Rattle.elab_store.specs.Held.{held_of, Gives};
 
 use crate::classes::init_base;
 use crate::component_classes::member_of;
+use crate::faces::{make_face, part_val};
 use crate::imports::named_val;
 use amh_host::Text;
 use amh_things::thing::Reading;
-use design_ir::{Expr, Exprs, PoolStop, Port, Ports, Sig, SigId};
+use design_ir::{Expr, Exprs, PoolStop, Ports, Sig, SigId};
 use elab_store::calls::{first_val, vals_behind};
 use elab_store::components::copied;
+use elab_store::faces::{Face, FaceMember};
 use elab_store::kept::Kept;
 use elab_store::members::{Members, NamedMember};
 use elab_store::store::{Elaboration, Store};
@@ -26,13 +29,6 @@ use py_frames::request::{Answer, Cause, NamedVal, NamedVals, Request};
 use py_values::{Frozen, Heap, ObjId, Val};
 use std::alloc::Global;
 use std::collections::BTreeSet;
-
-/// What the making of an interface comes to: the names that are bound, and the ports.
-#[derive(Drop)]
-pub struct Interface {
-    pub names: NamedVals,
-    pub ports: Ports,
-}
 
 /// A signal that was made, and the value that stands for it.
 #[derive(Clone, Copy, PartialEq, Eq, Drop)]
@@ -53,7 +49,7 @@ fn string_in<'a>(heap: &'a Heap, frozen: &'a Frozen, v: Val) -> Option<&'a str>
 }
 
 // The members of a dict, by its keys and their values.
-fn members_of_row(
+pub(crate) fn members_of_row(
     store: &Store,
     alloc: Global,
     heap: &Heap,
@@ -80,14 +76,14 @@ fn members_of_row(
 }
 
 // The members of a signature.
-fn members_of_kept(
+fn members_of_signature(
     store: &Store,
     alloc: Global,
-    kept: Option<Kept>,
+    number: Option<u32>,
 ) -> Result<Option<Members>, NoMemory>
-    ensures { IfOk result (λ ms. ms ≡ members_of_kept store.now kept) }
+    ensures { IfOk result (λ ms. ms ≡ option_and_then (slice_get store.now.components.signatures) number) }
 {
-    let Some(Kept::Signature(number)) = kept else {
+    let Some(number) = number else {
         return Ok(None);
     };
     let Some(members) = store.components.signature(number) else {
@@ -107,7 +103,7 @@ fn members_of_val(
 {
     match v {
         Val::Dict(o) => members_of_row(store, alloc, heap, frozen, heap.row(frozen, o)),
-        _ => members_of_kept(store, alloc, store.kept_of(v)),
+        _ => members_of_signature(store, alloc, store.signature_of(v)),
     }
 }
 
@@ -142,28 +138,24 @@ pub fn component_class(store: &Store, v: Val) -> Option<ObjId>
     }
 }
 
-// Keeps the signature of an object and its ports.
+// Keeps the interface of an object and its ports, and gives its signature.
 fn keep_interface(
     store: &mut Store,
     object: ObjId,
-    members: Members,
+    face: Face,
     ports: Ports,
 ) -> Result<Val, NoMemory>
-    ensures { IfOk result (λ v. (v ≡ val.Hw (record { 0 = length store.old.things })) × (store.new ≡ store_with_interface object members ports store.old)) }
+    ensures { IfOk result (λ v. (v ≡ val.Hw (record { 0 = length store.old.things })) × (store.new ≡ store_with_interface object face ports store.old)) }
 {
-    let number = store.components.signature_count();
-    if number >= 4_294_967_295 {
-        return Err(NoMemory);
-    }
-    let v = store.keep(Kept::Signature(number as u32))?;
-    store.components.keep_interface(object.0, members, ports)?;
+    let v = store.keep(Kept::Signature(face.signature))?;
+    store.components.keep_object(object.0, face, ports)?;
     Ok(v)
 }
 
 // ---- their names
 
-// Whether each name is an identifier, stands not before, and is not `signature`.
-fn are_members(alloc: Global, members: &[NamedMember]) -> Result<bool, NoMemory>
+/// Whether each name is an identifier, stands not before, and is not `signature`.
+pub fn are_members(alloc: Global, members: &[NamedMember]) -> Result<bool, NoMemory>
     ensures { IfOk result (λ all. all ≡ are_members members.now) }
 {
     let mut names = BTreeSet::new(alloc);
@@ -178,8 +170,6 @@ fn are_members(alloc: Global, members: &[NamedMember]) -> Result<bool, NoMemory>
     Ok(true)
 }
 
-// ---- their signals
-
 /// A text once more.
 pub fn copied_text(alloc: Global, text: &Text) -> Result<Text, NoMemory>
     ensures { IfOk result (λ copy. copy ≡ text.now) }
@@ -187,37 +177,6 @@ pub fn copied_text(alloc: Global, text: &Text) -> Result<Text, NoMemory>
     let mut copy = Text::new(alloc);
     copy.push(text.as_str())?;
     Ok(copy)
-}
-
-fn member_signal(alloc: Global, m: &NamedMember) -> Result<Sig, NoMemory>
-    ensures value { IfOk result (λ x. x ≡ member_signal m.now) }
-    ensures init { IfOk result HasInit }
-{
-    let form = m.member.shape.form;
-    Ok(Sig {
-        name: copied_text(alloc, &m.name)?,
-        shape: form,
-        init: m.member.init.wrap(form.width, form.signed),
-        reset_less: false,
-    })
-}
-
-impl Interface {
-    // A member's name is bound to its value, and its signal is a port.
-    fn push(&mut self, alloc: Global, m: &NamedMember, made: NewSignal) -> Result<(), NoMemory>
-        ensures { OnOk result (self.new ≡ with_member m.now made.sig.0 made.val self.old) }
-    {
-        self.names.push(NamedVal {
-            name: copied_text(alloc, &m.name)?,
-            val: made.val,
-        })?;
-        self.ports.push(Port {
-            name: copied_text(alloc, &m.name)?,
-            sig: made.sig,
-            is_input: !m.member.is_out,
-        })?;
-        Ok(())
-    }
 }
 
 // A pool that takes an expression refuses it for want of memory alone.
@@ -253,43 +212,84 @@ pub fn new_signal(
     }
 }
 
+// Each member's name is bound to its value.
+fn bind_names(
+    elaboration: &mut Elaboration,
+    members: &[NamedMember],
+    parts: &[Option<FaceMember>],
+) -> Result<Option<NamedVals>, NoMemory>
+    ensures { IfOk result (λ names. (names, held_of elaboration.new) ≡ names_bound [] members.now parts.now (held_of elaboration.old)) }
+{
+    let mut names = NamedVals::new(elaboration.alloc);
+    for i in 0..members.len() {
+        if i >= parts.len() {
+            return Ok(None);
+        }
+        let m = &members[i];
+        let Some(val) = part_val(elaboration, parts[i])? else {
+            return Ok(None);
+        };
+        names.push(named_val(elaboration.alloc, m.name.as_str(), val)?)?;
+    }
+    Ok(Some(names))
+}
+
 // All members and the signature are bound.
 fn bind_interface(
     elaboration: &mut Elaboration,
     object: ObjId,
-    members: Members,
-    made: Interface,
+    face: Face,
+    ports: Ports,
+    names: NamedVals,
 ) -> Result<Answer, NoMemory>
-    ensures { Gives result elaboration.new (interface_bound object members made (held_of elaboration.old)) }
+    ensures { Gives result elaboration.new (interface_bound object face ports (Some names, held_of elaboration.old)) }
 {
-    let Interface { names, ports } = made;
     let mut names = names;
-    let val = keep_interface(&mut elaboration.store, object, members, ports)?;
+    let val = keep_interface(&mut elaboration.store, object, face, ports)?;
     names.push(named_val(elaboration.alloc, "signature", val)?)?;
     Ok(Answer::Bind(names))
 }
 
-// A signal for each member.
+// What comes of the signals of an interface.
+fn bind_face(
+    elaboration: &mut Elaboration,
+    object: ObjId,
+    members: Members,
+    face: Face,
+    ports: Ports,
+) -> Result<Answer, NoMemory>
+    requires { IsFace elaboration.old.store.components.signatures elaboration.old.store.components.ends face }
+    ensures { Gives result elaboration.new (interface_of object members ports (Some face, held_of elaboration.old)) }
+{
+    let parts = elaboration
+        .store
+        .components
+        .face_members(elaboration.alloc, face)?;
+    match bind_names(elaboration, members.as_slice(), parts.as_slice())? {
+        Some(names) => bind_interface(elaboration, object, face, ports, names),
+        None => elaboration.refuse(Cause::Raised),
+    }
+}
+
+// A signal for each leaf of a signature of these members.
 fn make_interface(
     elaboration: &mut Elaboration,
     object: ObjId,
     members: Members,
 ) -> Result<Answer, NoMemory>
-    ensures { Gives result elaboration.new (interface_made object members no_interface members (held_of elaboration.old)) }
+    ensures { Gives result elaboration.new (interface_made object members (held_of elaboration.old)) }
 {
-    let mut made = Interface {
-        names: NamedVals::new(elaboration.alloc),
-        ports: Ports::new(elaboration.alloc),
-    };
-    for i in 0..members.len() {
-        let m = members.get(i);
-        let x = member_signal(elaboration.alloc, m)?;
-        let Some(new) = new_signal(elaboration, m.member.shape.reading, x)? else {
-            return elaboration.refuse(Cause::Limit);
-        };
-        made.push(elaboration.alloc, m, new)?;
+    let number = elaboration.store.components.signature_count();
+    if number > 4_294_967_295 {
+        return Err(NoMemory);
     }
-    bind_interface(elaboration, object, members, made)
+    let own = copied(elaboration.alloc, members.as_slice())?;
+    elaboration.store.components.keep_signature(own)?;
+    let mut ports = Ports::new(elaboration.alloc);
+    let Some(face) = make_face(elaboration, number as u32, "", &mut ports)? else {
+        return elaboration.refuse(Cause::Limit);
+    };
+    bind_face(elaboration, object, members, face, ports)
 }
 
 // The interface of these members.

@@ -1,6 +1,6 @@
 // The modules below `amaranth.lib`.
 ghost use Rattle.std.specs.Prelude.{◌≡◌, is_some, codes};
-ghost use Rattle.elab_components.specs.Libraries.{is_library, is_wiring, is_enum, is_data, thing_name_given, wiring_named, module_named, library_named, library_given};
+ghost use Rattle.elab_components.specs.Libraries.{is_library, is_wiring, is_stream, is_enum, is_data, thing_name_given, wiring_named, stream_named, module_named, library_named, library_given};
 ghost use Rattle.amh_things.specs.Things.{base_called, layout_named};
 ghost use Rattle.elab_store.specs.Held.{held_of, Gives};
 
@@ -20,6 +20,23 @@ pub fn wiring_named(name: &str) -> Option<HdlName>
         Some(HdlName::Out)
     } else if is_text(name, "Component") {
         Some(HdlName::Component)
+    } else if is_text(name, "Signature") {
+        Some(HdlName::Signature)
+    } else if is_text(name, "connect") {
+        Some(HdlName::Connect)
+    } else if is_text(name, "flipped") {
+        Some(HdlName::Flipped)
+    } else {
+        None
+    }
+}
+
+/// The name of `amaranth.lib.stream` that is spelled so.
+pub fn stream_named(name: &str) -> Option<HdlName>
+    ensures { result ≡ stream_named name.now }
+{
+    if is_text(name, "Signature") {
+        Some(HdlName::StreamSignature)
     } else {
         None
     }
@@ -34,6 +51,8 @@ fn module_named(name: &str) -> Option<HdlName>
         Some(HdlName::Enumerations)
     } else if is_text(name, "data") {
         Some(HdlName::Data)
+    } else if is_text(name, "stream") {
+        Some(HdlName::Stream)
     } else {
         None
     }
@@ -49,6 +68,12 @@ fn is_wiring(path: &str) -> bool
     ensures { result ≡ is_wiring path.now }
 {
     is_text(path, "amaranth.lib.wiring")
+}
+
+fn is_stream(path: &str) -> bool
+    ensures { result ≡ is_stream path.now }
+{
+    is_text(path, "amaranth.lib.stream")
 }
 
 pub fn is_enum(path: &str) -> bool
@@ -88,6 +113,8 @@ pub fn library_named(path: &str, name: &str) -> Option<HdlName>
         module_named(name)
     } else if is_wiring(path) {
         wiring_named(name)
+    } else if is_stream(path) {
+        stream_named(name)
     } else {
         None
     }

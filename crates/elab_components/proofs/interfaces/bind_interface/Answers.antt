@@ -8,7 +8,7 @@ use Rattle.elab_components.proofs.interfaces.bind_interface.Goals as goal
 
 pub returns : goal.returns
 returns c =
-    let names = c.args.made.names in
+    let names = c.args.names in
     let signature : c.in_ok-named_val.field-0 ≡ record { name = signature_name; val = next_thing (held_of c.args.elaboration.now) } =
     c.in_ok-named_val.ensures ∙ ap (λ (v : Val). record { name = signature_name; val = v }) c.in_ok-val.ensures.0 in
     let bound = sym (c.in_ok-push.ensures.ok ∙ ap (λ (x : NamedVal). names ++ x ∷ []) signature) in
