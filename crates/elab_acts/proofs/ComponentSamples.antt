@@ -6,7 +6,7 @@
 --         b: In(1)
 --         y: Out(1)
 --     top = Gate()
-use Rattle.std.specs.Prelude.{◌≡◌, refl, ℕ, true, false, List, [], ◌∷◌, pos, codes}
+use Rattle.std.specs.Prelude.{◌≡◌, refl, ℕ, Bool, true, false, List, [], ◌∷◌, map, pos, Some, option_map, codes}
 use Rattle.shape_rules.specs.Forms.{unsigned}
 use Rattle.identifiers.proofs.Computing.{identifiers}
 use Rattle.py_values.specs.declared.val.Val.{Val}
@@ -22,7 +22,9 @@ use Rattle.elab_store.specs.Stores.{Answered, nothing_held}
 use Rattle.elab_components.specs.Imports.{imported}
 use Rattle.elab_components.specs.Libraries.{library_given, wiring_named}
 use Rattle.elab_components.specs.Members.{member_called}
-use Rattle.elab_store.specs.Components.{members_in, class_members}
+use Rattle.design_ir.specs.declared.port.Port.{Port}
+use Rattle.elab_store.specs.Components.{members_in, class_members, ports_at}
+use Rattle.elab_store.specs.Leaves.{leaves_in}
 use Rattle.elab_components.specs.ComponentClasses.{class_answered}
 use Rattle.elab_components.specs.Interfaces.{init_answered}
 
@@ -58,7 +60,7 @@ unfolding thing with_wiring with_in with_out with_component
 names_given = (refl, refl, refl, refl)
 
 -- there are no others yet
-other_names : ((imported (codes "amaranth.lib.wiring") (codes "Signature") nothing_held).answer ≡ answer.Refuse Raised) × ((imported (codes "amaranth.lib.wiring") (codes "*") nothing_held).answer ≡ answer.Refuse Raised)
+other_names : ((imported (codes "amaranth.lib.wiring") (codes "Interface") nothing_held).answer ≡ answer.Refuse Raised) × ((imported (codes "amaranth.lib.wiring") (codes "*") nothing_held).answer ≡ answer.Refuse Raised)
     × ((imported (codes "amaranth.lib") (codes "memory") nothing_held).answer ≡ answer.Refuse Raised)
 other_names = (refl, refl, refl)
 
@@ -140,13 +142,13 @@ bit_signal n = record { name = n; shape = unsigned 1; init = pos 0; reset_less =
 
 top_bound : (with_top.answer ≡ answer.Bind (bound (codes "a") (thing 7) ∷ bound (codes "b") (thing 8) ∷ bound (codes "y") (thing 9) ∷ bound (codes "signature") (thing 10) ∷ []))
     × (with_top.held.pool.signals ≡ bit_signal (codes "a") ∷ bit_signal (codes "b") ∷ bit_signal (codes "y") ∷ [])
-unfolding identifiers thing class object bit with_wiring with_in with_out with_component with_a with_b with_y gate_names gate_vals with_gate rows with_top bound bit_signal members_in
+unfolding identifiers thing class object bit with_wiring with_in with_out with_component with_a with_b with_y gate_names gate_vals with_gate rows with_top bound bit_signal members_in leaves_in
 top_bound = (refl, refl)
 
 -- a name twice raises, and so does `signature`
 twice : ((init_answered rows (object 1 ∷ []) [] (class_answered (class 0 ∷ thing 3 ∷ thing 4 ∷ thing 5 ∷ []) (codes "Gate" ∷ codes ":a" ∷ codes ":a" ∷ []) with_y.held).held).answer ≡ answer.Refuse Raised)
     × ((init_answered rows (object 1 ∷ []) [] (class_answered (class 0 ∷ thing 3 ∷ thing 4 ∷ []) (codes "Gate" ∷ codes ":signature" ∷ []) with_y.held).held).answer ≡ answer.Refuse Raised)
-unfolding identifiers thing class object bit with_wiring with_in with_out with_component with_a with_b with_y rows members_in
+unfolding identifiers thing class object bit with_wiring with_in with_out with_component with_a with_b with_y rows members_in leaves_in
 twice = (refl, refl)
 
 -- ---- members by a dict, row 2: {"x": thing 4}
@@ -155,11 +157,33 @@ dict_rows : Seen
 dict_rows = seen nothing (record nothing { texts = codes "x" ∷ []; rows = (thing 3 ∷ []) ∷ (class 0 ∷ []) ∷ (val.Str (record { 0 = 0 }) ∷ thing 4 ∷ []) ∷ [] })
 
 by_dict : (init_answered dict_rows (object 1 ∷ val.Dict (record { 0 = 2 }) ∷ []) [] with_gate.held).answer ≡ answer.Bind (bound (codes "x") (thing 7) ∷ bound (codes "signature") (thing 8) ∷ [])
-unfolding identifiers thing class object bit with_wiring with_in with_out with_component with_a with_b with_y gate_names gate_vals with_gate dict_rows bound
+unfolding identifiers thing class object bit with_wiring with_in with_out with_component with_a with_b with_y gate_names gate_vals with_gate dict_rows bound leaves_in
 by_dict = refl
 
 -- and by the signature of another component, which stands at thing 10
 by_signature : (init_answered rows (object 1 ∷ thing 10 ∷ []) [] with_top.held).answer
     ≡ answer.Bind (bound (codes "a") (thing 11) ∷ bound (codes "b") (thing 12) ∷ bound (codes "y") (thing 13) ∷ bound (codes "signature") (thing 14) ∷ [])
-unfolding identifiers thing class object bit with_wiring with_in with_out with_component with_a with_b with_y gate_names gate_vals with_gate rows with_top bound members_in
+unfolding identifiers thing class object bit with_wiring with_in with_out with_component with_a with_b with_y gate_names gate_vals with_gate rows with_top bound members_in leaves_in
 by_signature = refl
+
+-- a signature that stands in a component: `In(sig)`, where `sig` is the signature of the gate, at thing 10, has its ports turned
+over_signature : Answered
+over_signature = member_called none_seen false (called (thing 1 ∷ thing 10 ∷ []) (codes "" ∷ [])) with_top.held
+
+nest_class : Answered
+nest_class = class_answered (class 2 ∷ thing 3 ∷ thing 11 ∷ thing 4 ∷ []) (codes "Nest" ∷ codes ":g" ∷ codes ":e" ∷ []) over_signature.held
+
+nest_rows : Seen
+nest_rows = seen nothing (record nothing { rows = (thing 3 ∷ []) ∷ (class 2 ∷ []) ∷ [] })
+
+nest : Answered
+nest = init_answered nest_rows (object 1 ∷ []) [] nest_class.held
+
+shown : Port → List ℕ × Bool
+shown p = (p.name, p.is_input)
+
+-- its attribute is an interface, and its ports have the names on the way to them
+nested : (nest.answer ≡ answer.Bind (bound (codes "g") (thing 16) ∷ bound (codes "e") (thing 15) ∷ bound (codes "signature") (thing 17) ∷ []))
+    × (option_map (map shown) (ports_at nest.held.store.components.objects 1) ≡ Some ((codes "g__a", false) ∷ (codes "g__b", false) ∷ (codes "g__y", true) ∷ (codes "e", true) ∷ []))
+unfolding identifiers thing class object bit none_seen with_wiring with_in with_out with_component with_a with_b with_y gate_names gate_vals with_gate rows with_top bound members_in over_signature nest_class nest_rows nest shown leaves_in
+nested = (refl, refl)

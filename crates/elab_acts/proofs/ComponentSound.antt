@@ -1,6 +1,6 @@
 -- What is held stays sound where components are made.
-use Rattle.std.proofs.Common.{◌≡◌, ℕ, [], refl, Bool, true, false, cond, not, List, ◌∷◌, ◌++◌, length, Option, Some, None, Ok, Err, Result, arith}
-use Rattle.std.specs.List.{list_any, IsDistinct}
+use Rattle.std.proofs.Common.{◌≡◌, ℕ, suc, ◌<◌, nat_le, sym, subst, [], refl, Bool, true, false, cond, not, List, ◌∷◌, ◌++◌, length, Option, Some, None, Ok, Err, Result, arith}
+use Rattle.std.specs.List.{AllByRecursion, list_any, IsDistinct}
 use Rattle.std.proofs.lemmas.List.{length-append}
 use Rattle.lists.specs.Names.{IsName}
 use Rattle.lists.specs.Texts.{text_eq}
@@ -10,11 +10,10 @@ use Rattle.py_values.specs.declared.val.ObjId.{ObjId}
 use Rattle.py_values.specs.Heaps.{Seen, row_at}
 use Rattle.py_values.specs.Objects.{first_in}
 use Rattle.py_frames.specs.declared.request.Cause.{Cause}
-use Rattle.py_frames.specs.declared.request.Cause.TheVariants.{Raised, Limit}
-use Rattle.design_ir.specs.declared.signal.Sig.{Sig}
-use Rattle.design_ir.specs.declared.expr.Expr.{Expr}
-use Rattle.design_ir.specs.declared.expr.Expr.TheVariants as expr
-use Rattle.design_ir.specs.PoolRules.{signal_added}
+use Rattle.py_frames.specs.declared.request.Cause.TheVariants.{Raised}
+use Rattle.py_frames.specs.declared.request.NamedVal.{NamedVal}
+use Rattle.design_ir.specs.declared.port.Port.{Port}
+use Rattle.design_ir.specs.Pools.{Pooled}
 use Rattle.clock_domains.specs.Resolvable.{ArePorts}
 use Rattle.amh_things.specs.declared.thing.Thing.TheVariants as thing
 use Rattle.amh_things.specs.declared.thing.Reading.{Reading}
@@ -23,20 +22,26 @@ use Rattle.elab_store.specs.declared.shapes.Shaped.{Shaped}
 use Rattle.elab_store.specs.declared.kept.HdlName.{HdlName}
 use Rattle.elab_store.specs.declared.kept.Kept.TheVariants as kept
 use Rattle.elab_store.specs.declared.members.NamedMember.{NamedMember}
-use Rattle.elab_components.specs.declared.interfaces.Interface.{Interface}
 use Rattle.identifiers.specs.Identifiers.{is_identifier}
 use Rattle.identifiers.proofs.NameLaws.{identifier_is_name}
 use Rattle.elab_store.specs.Calls.{Called, first_or, behind_first}
-use Rattle.elab_store.specs.Stores.{Held, Answered, refused, next_thing, thing_given}
-use Rattle.elab_components.specs.Signals.{signal_passes, with_signal}
+use Rattle.elab_store.specs.declared.faces.Face.{Face}
+use Rattle.elab_store.specs.declared.leaves.Leaf.{Leaf}
+use Rattle.elab_store.specs.Components.{Components}
+use Rattle.elab_store.specs.Leaves.{leaves, leaf_count}
+use Rattle.elab_store.specs.Faces.{IsFace, face_members}
+use Rattle.elab_store.specs.Stores.{Held, Answered, refused, signature_of}
 use Rattle.elab_components.specs.Libraries.{library_given}
-use Rattle.elab_components.specs.Members.{member_shaped, member_said, member_placed, member_init, member_called}
+use Rattle.elab_components.specs.Members.{member_shaped, member_said, nested_said, member_meant, member_placed, member_called}
 use Rattle.elab_components.specs.ComponentClasses.{component_made, component_base, annotated, class_over, class_answered}
 use Rattle.elab_components.specs.Classes.{class_made, base_called}
-use Rattle.elab_components.specs.Interfaces.{are_named, are_members, member_signal, with_member, member_bound, no_interface, interface_made, interface_given, members_given, component_called, component_class, init_as, init_of, init_answered, signature_name}
-use Rattle.elab_store.specs.Sound.{IsKept, IsSound}
-use Rattle.elab_acts.proofs.GrownLaws.{all_and, pool_grown, things_grown, read_held, keeping_sound}
-use Rattle.elab_acts.proofs.PortLaws.{and_split, all_put, ports_stay, port_more}
+use Rattle.elab_components.specs.Faces.{leaf_ports, signing, leaves_made, face_behind, face_made}
+use Rattle.elab_components.specs.Interfaces.{are_named, are_members, names_bound, interface_bound, interface_of, ports_of, interface_made, interface_given, members_given, component_called, component_class, init_as, init_of, init_answered, signature_name}
+use Rattle.elab_components.proofs.FaceLaws.{face_stands, with_held}
+use Rattle.elab_store.specs.Sound.{IsObject, IsSound}
+use Rattle.elab_acts.proofs.FaceSound.{IsPrefix, leaves_named, leaves_sound, signing_sound, IsBound, names_sound, face_parts_sound}
+use Rattle.elab_acts.proofs.GrownLaws.{IsKeptIn, all_and, keeping_sound}
+use Rattle.elab_acts.proofs.PortLaws.{and_split, all_put}
 
 -- ---- names and members
 
@@ -45,25 +50,33 @@ library_sound (Some n) h s = keeping_sound h (kept.Name n) s tt
 library_sound None h s = s
 
 shaped_sound : (is_out : Bool) (n : _) (f : Result Shaped Cause) (h : Held) → IsSound h → IsSound (member_shaped is_out n f h).held
-shaped_sound is_out n (Ok x) h s = keeping_sound h (kept.Member (record { is_out = is_out; shape = x; init = n })) s tt
+shaped_sound is_out n (Ok x) h s = keeping_sound h (kept.Port is_out x n) s tt
 shaped_sound is_out n (Err why) h s = s
 
 said_sound : (is_out : Bool) (n : _) (f : Result Shaped Cause) (h : Held) → IsSound h → IsSound (member_said is_out n f h).held
 said_sound is_out (Some n) f h s = shaped_sound is_out n f h s
 said_sound is_out None f h s = s
 
-placed_sound : (s : Seen) (is_out : Bool) (vs : List Val) (n : _) (h : Held) → IsSound h → IsSound (member_placed s is_out vs n h).held
-placed_sound s is_out [] n h t = t
-placed_sound s is_out (v ∷ []) n h t = said_sound is_out n _ h t
-placed_sound s is_out (v ∷ w ∷ vs) n h t = t
+nested_sound : (is_out : Bool) (n : ℕ) (b : Bool) (h : Held) → IsSound h → IsSound (nested_said is_out n b h).held
+nested_sound is_out n true h s = keeping_sound h (kept.Nested is_out n) s tt
+nested_sound is_out n false h s = s
+
+meant_sound : (s : Seen) (is_out : Bool) (o : Option ℕ) (v : Val) (names : List (List ℕ)) (vals : List Val) (h : Held) → IsSound h → IsSound (member_meant s is_out o v names vals h).held
+meant_sound s is_out (Some n) v names vals h t = nested_sound is_out n _ h t
+meant_sound s is_out None v names vals h t = said_sound is_out _ _ h t
+
+placed_sound : (s : Seen) (is_out : Bool) (vs : List Val) (names : List (List ℕ)) (vals : List Val) (h : Held) → IsSound h → IsSound (member_placed s is_out vs names vals h).held
+placed_sound s is_out [] names vals h t = t
+placed_sound s is_out (v ∷ []) names vals h t = meant_sound s is_out (signature_of h.store v) v names vals h t
+placed_sound s is_out (v ∷ w ∷ vs) names vals h t = t
 
 pub member_sound : (s : Seen) (is_out : Bool) (c : Called) (h : Held) → IsSound h → IsSound (member_called s is_out c h).held
-member_sound s is_out c h t = placed_sound s is_out c.placed (member_init h.store.things c.keywords c.keyword_vals) h t
+member_sound s is_out c h t = placed_sound s is_out c.placed c.keywords c.keyword_vals h t
 
 -- ---- classes: no act on one changes what is kept of pools, things or modules
 
 made_sound : (class : Val) (base : Option ObjId) (ms : Option (List NamedMember)) (h : Held) → IsSound h → IsSound (component_made class base ms h).held
-made_sound (val.Class c) base (Some ms) h s = record { names = s.names; things = s.things; kept = s.kept; modules = s.modules; ports = s.ports; machines = s.machines; domains = s.domains; additions = s.additions; clock_domains = s.clock_domains }
+made_sound (val.Class c) base (Some ms) h s = record { names = s.names; things = s.things; kept = s.kept; modules = s.modules; components = record { names = s.components.names; ends = s.components.ends; objects = s.components.objects }; machines = s.machines; domains = s.domains; additions = s.additions; clock_domains = s.clock_domains }
 made_sound (val.Class c) base None h s = s
 made_sound val.None base ms h s = s
 made_sound (val.Bool b) base ms h s = s
@@ -90,55 +103,90 @@ class_sound (class ∷ base ∷ vs) names h other s = over_sound (component_base
 
 -- ---- interfaces
 
--- the answer where no count is passed
-abbrev unlimited : Reading → Sig → Held → Answered
-unlimited r x h = thing_given (read_as r (record { 0 = length h.pool.exprs })) (with_signal x h)
+-- each name is one
+members_are_named : (before : List (List ℕ)) (ms : List NamedMember) → are_named before ms ≡ true → AllByRecursion (λ (m : NamedMember). IsName m.name) ms
+members_are_named before [] e = tt
+members_are_named before (m ∷ ms) e =
+    let parts = and_split (is_identifier m.name) _ e in
+    let rest = and_split (not (list_any (text_eq m.name) before)) (are_named (before ++ m.name ∷ []) ms) parts.1 in
+    (identifier_is_name m.name parts.0, members_are_named (before ++ m.name ∷ []) ms rest.1)
 
-pub unlimited_sound : (r : Reading) (x : Sig) (h : Held) → IsName x.name → IsSound h → IsSound (unlimited r x h).held
-unlimited_sound r x h name s =
-    let e : Expr = expr.Sig (record { 0 = length h.pool.signals }) in
-    things_grown (with_signal x h) (read_as r (record { 0 = length h.pool.exprs }) ∷ [])
-    (pool_grown h (with_signal x h).pool (x ∷ []) (e ∷ []) s refl refl (name, tt))
-    (read_held (length (with_signal x h).pool.exprs) r (record { 0 = length h.pool.exprs }) (omega (arith, length-append h.pool.exprs (e ∷ []))), tt)
+pub are_members_named : (ms : List NamedMember) → are_members ms ≡ true → AllByRecursion (λ (m : NamedMember). IsName m.name) ms
+are_members_named ms e = members_are_named (signature_name ∷ []) ms e
 
-pub limited_sound : (b : Bool) (r : Reading) (x : Sig) (h : Held) → IsName x.name → IsSound h → IsSound (cond b (refused Limit h) (unlimited r x h)).held
-limited_sound true r x h name s = s
-limited_sound false r x h name s = unlimited_sound r x h name s
-
-module _ (o : ObjId) (all : List NamedMember) where
-  -- ports so far, and names of which none stands before, keep what is held sound
-  pub interface_sound : (before : List (List ℕ)) (x : Interface) (ms : List NamedMember) (h : Held) → IsSound h → ArePorts h.pool x.ports → are_named before ms ≡ true → IsSound (interface_made o all x ms h).held
-  interface_sound before x [] h s ports named = record {
-    names = s.names;
-    things = all_and _ h.store.things (thing.Kept (length h.store.kept) ∷ []) s.things (tt, tt);
-    kept = all_and (IsKept h.pool) h.store.kept (kept.Signature (length h.store.components.signatures) ∷ []) s.kept (tt, tt);
-    modules = s.modules;
-    machines = s.machines;
-    domains = s.domains;
-    additions = s.additions;
-    clock_domains = s.clock_domains;
-    ports = all_put (ArePorts h.pool) h.store.components.objects o.0 x.ports s.ports ports;
-  }
-  interface_sound before x (m ∷ ms) h s ports named =
-      let parts = and_split (is_identifier m.name) _ named in
-      let rest = and_split (not (list_any (text_eq m.name) before)) (are_named (before ++ m.name ∷ []) ms) parts.1 in
-      let name = identifier_is_name m.name parts.0 in
-      elim (signal_passes h m.member.shape.form.width) as (λ b. let given : Answered = cond b (refused Limit h) (unlimited m.member.shape.reading (member_signal m) h) in
-      IsSound (member_bound (λ y g. interface_made o all y ms g) m (length h.pool.signals) x given.answer given.held).held) [
-        | true ↦ s
-        | false ↦ interface_sound (before ++ m.name ∷ []) (with_member m (length h.pool.signals) (next_thing h) x) ms (unlimited m.member.shape.reading (member_signal m) h).held
-            (unlimited_sound m.member.shape.reading (member_signal m) h name s)
-            (ports_stay (signal_added h.pool (member_signal m)) (unlimited m.member.shape.reading (member_signal m) h).held.pool (with_member m (length h.pool.signals) (next_thing h) x).ports (omega arith)
-            (port_more h.pool x.ports (member_signal m) (record { name = m.name; sig = record { 0 = length h.pool.signals }; is_input = not m.member.is_out }) ports refl name))
-            rest.1
-      ]
-
-no_ports : (h : Held) → ArePorts h.pool no_interface.ports
+no_ports : (h : Held) → ArePorts h.pool []
 unfolding IsDistinct
 no_ports h = record { each = tt; distinct = tt }
 
-tested_sound : (o : ObjId) (ms : List NamedMember) (h : Held) (b : Bool) → are_members ms ≡ b → IsSound h → IsSound (cond b (interface_made o ms no_interface ms h) (refused Raised h)).held
-tested_sound o ms h true e s = interface_sound o ms (signature_name ∷ []) no_interface ms h s (no_ports h) e
+-- an interface is made, and its ports
+pub record IsFaceMade (k : ℕ) (ls : List Leaf) (f : Face) (h : Held) : Type 0 where
+  pub sound : IsSound h
+  pub face : IsFace h.store.components.signatures h.store.components.ends f
+  pub ports : ArePorts h.pool (leaf_ports k ls)
+
+abbrev pub IsMadeOr : ℕ → List Leaf → Option Face × Held → Type 0
+IsMadeOr k ls (None, h) = IsSound h
+IsMadeOr k ls (Some f, h) = IsFaceMade k ls f h
+
+pub face_sound : (n : ℕ) (prefix : List ℕ) (h : Held) → IsSound h → IsPrefix prefix → n < length h.store.components.signatures
+    → IsMadeOr (length h.pool.signals) (leaves h.store.components.signatures false prefix n) (face_made n prefix h)
+face_sound n prefix h s p there = by_face (face_made n prefix h) refl
+  where
+    ls : List Leaf
+    ls = leaves h.store.components.signatures false prefix n
+
+    made : (IsSound (leaves_made ls h).1) × ((leaves_made ls h).0 ≡ true → ArePorts (leaves_made ls h).1.pool ([] ++ leaf_ports (length h.pool.signals) ls))
+    made = leaves_sound ls h [] s (leaves_named (suc n) h.store.components.signatures s.components.names false prefix n p) (no_ports h)
+
+    by_behind : (x : Bool × Held) → IsSound x.1 → (x.0 ≡ true → ArePorts x.1.pool (leaf_ports (length h.pool.signals) ls)) → (y : Option Face × Held) → y ≡ face_behind n h x → ((f : Face) (g : Held) → y ≡ with_held (Some f) g → IsFace g.store.components.signatures g.store.components.ends f)
+        → IsMadeOr (length h.pool.signals) ls y
+    by_behind (true, g) t ports y e stands =
+        subst (IsMadeOr (length h.pool.signals) ls) (sym e) (record { sound = t; face = stands (record { signature = n; turned = false; first = length h.store.components.ends }) g e; ports = ports refl })
+    by_behind (false, g) t ports y e stands = subst (IsMadeOr (length h.pool.signals) ls) (sym e) t
+
+    by_count : (b : Bool) (y : Option Face × Held) → y ≡ cond b (face_behind n h (leaves_made ls h)) (None, h) → ((f : Face) (g : Held) → y ≡ with_held (Some f) g → IsFace g.store.components.signatures g.store.components.ends f)
+        → IsMadeOr (length h.pool.signals) ls y
+    by_count true y e stands = by_behind (leaves_made ls h) made.0 made.1 y e stands
+    by_count false y e stands = subst (IsMadeOr (length h.pool.signals) ls) (sym e) s
+
+    by_face : (y : Option Face × Held) → y ≡ face_made n prefix h → IsMadeOr (length h.pool.signals) ls (face_made n prefix h)
+    by_face y e = by_count (nat_le (leaf_count h.store.components.signatures n) 16384) (face_made n prefix h) refl (λ f g is. face_stands n prefix h g f (sym is) there)
+
+-- the object gets them
+bound_sound : (o : ObjId) (f : Face) (ports : List Port) (names : Option (List NamedVal)) (h : Held) → IsSound h → IsFace h.store.components.signatures h.store.components.ends f → ArePorts h.pool ports → IsSound (interface_bound o f ports (names, h)).held
+bound_sound o f ports None h s face are = s
+bound_sound o f ports (Some names) h s face are = record {
+  names = s.names;
+  things = all_and _ h.store.things (thing.Kept (length h.store.kept) ∷ []) s.things (tt, tt);
+  kept = all_and (IsKeptIn h) h.store.kept (kept.Signature f.signature ∷ []) s.kept (tt, tt);
+  modules = s.modules;
+  machines = s.machines;
+  domains = s.domains;
+  additions = s.additions;
+  clock_domains = s.clock_domains;
+  components = record {
+    names = s.components.names;
+    ends = s.components.ends;
+    objects = all_put (IsObject h.pool h.store.components.signatures h.store.components.ends) h.store.components.objects o.0 (record { face = f; ports = ports }) s.components.objects (record { ports = are; face = face });
+  };
+}
+
+names_bound_sound : (o : ObjId) (f : Face) (ports : List Port) (h : Held) (x : Option (List NamedVal) × Held) → IsBound h x.1 → IsFace h.store.components.signatures h.store.components.ends f → ArePorts h.pool ports → IsSound (interface_bound o f ports x).held
+names_bound_sound o f ports h (names, g) b face are =
+    bound_sound o f ports names g b.sound (subst (λ (cs : Components). IsFace cs.signatures cs.ends f) (sym b.components) face) (subst (λ (q : Pooled). ArePorts q ports) (sym b.pool) are)
+
+interface_sound : (o : ObjId) (ms : List NamedMember) (h : Held) → IsSound h → AllByRecursion (λ (m : NamedMember). IsName m.name) ms → IsSound (interface_made o ms h).held
+interface_sound o ms h s named =
+    let n = length h.store.components.signatures in
+    by_face (face_made n [] (signing ms h)) (face_sound n [] (signing ms h) (signing_sound ms h s named) tt (omega (arith, length-append h.store.components.signatures (ms ∷ []))))
+  where
+    by_face : (x : Option Face × Held) → IsMadeOr (length h.pool.signals) (leaves (signing ms h).store.components.signatures false [] (length h.store.components.signatures)) x → IsSound (interface_of o ms (ports_of ms h) x).held
+    by_face (None, g) t = t
+    by_face (Some f, g) t =
+        names_bound_sound o f (ports_of ms h) g (names_bound [] ms (face_members g.store.components.signatures f) g) (names_sound [] ms (face_members g.store.components.signatures f) g t.sound (face_parts_sound g.store.components.signatures g.store.components.ends f t.face)) t.face t.ports
+
+tested_sound : (o : ObjId) (ms : List NamedMember) (h : Held) (b : Bool) → are_members ms ≡ b → IsSound h → IsSound (cond b (interface_made o ms h) (refused Raised h)).held
+tested_sound o ms h true e s = interface_sound o ms h s (are_members_named ms e)
 tested_sound o ms h false e s = s
 
 given_sound : (o : ObjId) (ms : Option (List NamedMember)) (h : Held) → IsSound h → IsSound (interface_given o ms h).held

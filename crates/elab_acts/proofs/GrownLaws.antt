@@ -27,7 +27,10 @@ use Rattle.elab_store.specs.declared.kept.Kept.{Kept}
 use Rattle.elab_store.specs.declared.kept.Kept.TheVariants as kept_as
 use Rattle.elab_store.specs.declared.kept.Top.{Top}
 use Rattle.elab_store.specs.Stores.{Held, kept_given}
-use Rattle.elab_store.specs.Sound.{IsAssigned, IsBegin, IsKept, IsOpening, IsTold, IsBuilt, IsMachine, IsSound}
+use Rattle.elab_store.specs.declared.faces.End.{End}
+use Rattle.elab_store.specs.Leaves.{Signatures}
+use Rattle.elab_store.specs.Components.{Components}
+use Rattle.elab_store.specs.Sound.{IsEnd, AreComponents, IsAssigned, IsBegin, IsKept, IsOpening, IsTold, IsBuilt, IsMachine, IsSound}
 use Rattle.elab_store.specs.declared.own_machine.OwnMachine.{OwnMachine}
 use Rattle.elab_store.proofs.Pools.{IsGrown, target_stays, there_stays}
 use Rattle.elab_acts.proofs.EachLaws.{all_each}
@@ -58,21 +61,28 @@ begin_stays p q g (begin.Case n) h = tt
 begin_stays p q g begin.Default h = tt
 begin_stays p q g begin.Misplaced h = tt
 
-pub kept_stays : (p q : Pooled) → IsGrown p q → (k : Kept) → IsKept p k → IsKept q k
-kept_stays p q g (kept_as.Statement x) h = assigned_stays p q x.target x.value g h
-kept_stays p q g (kept_as.Name n) h = tt
-kept_stays p q g (kept_as.Module m) h = tt
-kept_stays p q g (kept_as.Domains m) h = tt
-kept_stays p q g (kept_as.Domain m d) h = tt
-kept_stays p q g (kept_as.Submodules m) h = tt
-kept_stays p q g (kept_as.Definitions m) h = tt
-kept_stays p q g (kept_as.ClockDomain k) h = tt
-kept_stays p q g (kept_as.Member m) h = tt
-kept_stays p q g (kept_as.Signature n) h = tt
-kept_stays p q g (kept_as.BlockName m n) h = tt
-kept_stays p q g (kept_as.Block m b) h = begin_stays p q g b h
-kept_stays p q g (kept_as.OfMachine x) h = tt
-kept_stays p q g (kept_as.OfSimulator x) h = tt
+-- what is kept of a held store keeps to it
+abbrev pub IsKeptIn : Held → Kept → Type 0
+IsKeptIn h k = IsKept h.pool h.store.components.signatures h.store.components.ends k
+
+pub kept_stays : (p q : Pooled) (sigs : Signatures) (ends : List End) → IsGrown p q → (k : Kept) → IsKept p sigs ends k → IsKept q sigs ends k
+kept_stays p q sigs ends g (kept_as.Statement x) h = assigned_stays p q x.target x.value g h
+kept_stays p q sigs ends g (kept_as.Name n) h = tt
+kept_stays p q sigs ends g (kept_as.Module m) h = tt
+kept_stays p q sigs ends g (kept_as.Domains m) h = tt
+kept_stays p q sigs ends g (kept_as.Domain m d) h = tt
+kept_stays p q sigs ends g (kept_as.Submodules m) h = tt
+kept_stays p q sigs ends g (kept_as.Definitions m) h = tt
+kept_stays p q sigs ends g (kept_as.ClockDomain k) h = tt
+kept_stays p q sigs ends g (kept_as.Port is_out shape init) h = tt
+kept_stays p q sigs ends g (kept_as.Nested is_out m) h = tt
+kept_stays p q sigs ends g (kept_as.Signature n) h = tt
+kept_stays p q sigs ends g (kept_as.OfSignature n y) h = tt
+kept_stays p q sigs ends g (kept_as.Interface f) h = h
+kept_stays p q sigs ends g (kept_as.BlockName m n) h = tt
+kept_stays p q sigs ends g (kept_as.Block m b) h = begin_stays p q g b h
+kept_stays p q sigs ends g (kept_as.OfMachine x) h = tt
+kept_stays p q sigs ends g (kept_as.OfSimulator x) h = tt
 
 opening_stays : (p q : Pooled) → IsGrown p q → (o : Opening) → IsOpening p o → IsOpening q o
 opening_stays p q g (opening.If e) h = there_stays p q e.0 g h
@@ -128,6 +138,22 @@ machine_stays p q g x h = record {
   front = λ k e lt at. h.front k e lt (get_front p.exprs g.more k e (let there = placed_below p.exprs x.machine.register.0 _ h.register in omega (arith, lt, there)) (subst (λ es. slice_get es k ≡ Some e) g.exprs at));
 }
 
+end_stays : (p q : Pooled) → IsGrown p q → length p.signals ≤ length q.signals → (e : End) → IsEnd p e → IsEnd q e
+end_stays p q g le e h = record {
+  there = omega (arith, le, h.there);
+  expr_there = there_stays p q e.expr.0 g h.expr_there;
+  signal = ap (λ es. slice_get es e.expr.0) g.exprs ∙ get_stays p.exprs g.more e.expr.0 _ h.signal;
+  target = target_stays p q e.expr.0 g h.expr_there ∙ h.target;
+}
+
+-- what is kept of components
+pub components_stay : (p q : Pooled) (cs : Components) → IsGrown p q → length p.signals ≤ length q.signals → AreComponents p cs → AreComponents q cs
+components_stay p q cs g le are = record {
+  names = are.names;
+  ends = all_each (IsEnd p) (IsEnd q) cs.ends (end_stays p q g le) are.ends;
+  objects = objects_stay p q cs.signatures cs.ends cs.objects le are.objects;
+}
+
 -- what was held stands under a pool that grew by such signals and such expressions
 pub pool_grown : (h : Held) (q : Pooled) (xs : List Sig) (es : List Expr) → IsSound h → q.signals ≡ h.pool.signals ++ xs → q.exprs ≡ h.pool.exprs ++ es
     → AllByRecursion (λ (x : Sig). IsName x.name) xs → IsSound (record h { pool = q })
@@ -135,9 +161,9 @@ pool_grown h q xs es s e1 e2 names =
     let g : IsGrown h.pool q = record { more = es; exprs = e2 } in record {
       names = subst (AllByRecursion (λ (x : Sig). IsName x.name)) (sym e1) (all_and (λ (x : Sig). IsName x.name) h.pool.signals xs s.names names);
       things = all_each (IsHeld (length h.pool.exprs)) (IsHeld (length q.exprs)) h.store.things (held_stays (length h.pool.exprs) (length q.exprs) (grown_length h.pool q g)) s.things;
-      kept = all_each (IsKept h.pool) (IsKept q) h.store.kept (kept_stays h.pool q g) s.kept;
+      kept = all_each (IsKeptIn h) (IsKept q h.store.components.signatures h.store.components.ends) h.store.kept (kept_stays h.pool q h.store.components.signatures h.store.components.ends g) s.kept;
       modules = all_each (IsBuilt h.pool) (IsBuilt q) h.store.modules (built_stays h.pool q g) s.modules;
-      ports = objects_stay h.pool q h.store.components.objects (omega (arith, ap length e1, length-append h.pool.signals xs)) s.ports;
+      components = components_stay h.pool q h.store.components g (omega (arith, ap length e1, length-append h.pool.signals xs)) s.components;
       machines = all_each (IsMachine h.pool) (IsMachine q) h.store.machines (machine_stays h.pool q g) s.machines;
       domains = s.domains;
       additions = s.additions;
@@ -150,7 +176,7 @@ things_grown h ts s held = record {
   names = s.names;
   kept = s.kept;
   modules = s.modules;
-  ports = s.ports;
+  components = s.components;
   machines = s.machines;
   domains = s.domains;
   additions = s.additions;
@@ -164,17 +190,17 @@ read_held n reading.Plain e h = h
 read_held n (reading.Numbered o) e h = h
 read_held n (reading.Viewed o) e h = h
 
-pub kept_grown : (h : Held) (k : Kept) → IsSound h → IsKept h.pool k → IsSound (record h { store = record h.store { kept = h.store.kept ++ k ∷ [] } })
+pub kept_grown : (h : Held) (k : Kept) → IsSound h → IsKeptIn h k → IsSound (record h { store = record h.store { kept = h.store.kept ++ k ∷ [] } })
 kept_grown h k s held = record {
   names = s.names;
   things = s.things;
   modules = s.modules;
-  ports = s.ports;
+  components = s.components;
   machines = s.machines;
   domains = s.domains;
   additions = s.additions;
   clock_domains = s.clock_domains;
-  kept = all_and (IsKept h.pool) h.store.kept (k ∷ []) s.kept (held, tt);
+  kept = all_and (IsKeptIn h) h.store.kept (k ∷ []) s.kept (held, tt);
 }
 
 -- ---- statements that a module gets
@@ -191,21 +217,21 @@ module_built q (x ∷ bs) zero b h e = let same : x ≡ b = cc in subst (IsBuilt
 module_built q (x ∷ bs) (suc m) b h e = module_built q bs m b h.1 e
 
 pub with_top_sound : (h : Held) (t : Top) → IsSound h → IsSound (record h { store = record h.store { top = t } })
-with_top_sound h t s = record { names = s.names; things = s.things; kept = s.kept; modules = s.modules; ports = s.ports; machines = s.machines; domains = s.domains; additions = s.additions; clock_domains = s.clock_domains }
+with_top_sound h t s = record { names = s.names; things = s.things; kept = s.kept; modules = s.modules; components = s.components; machines = s.machines; domains = s.domains; additions = s.additions; clock_domains = s.clock_domains }
 
 -- ---- a new thing of this crate
 
-pub keeping_sound : (h : Held) (k : Kept) → IsSound h → IsKept h.pool k → IsSound (kept_given k h).held
+pub keeping_sound : (h : Held) (k : Kept) → IsSound h → IsKeptIn h k → IsSound (kept_given k h).held
 keeping_sound h k s held = record {
   names = s.names;
   modules = s.modules;
-  ports = s.ports;
+  components = s.components;
   machines = s.machines;
   domains = s.domains;
   additions = s.additions;
   clock_domains = s.clock_domains;
   things = all_and (IsHeld (length h.pool.exprs)) h.store.things (thing.Kept (length h.store.kept) ∷ []) s.things (tt, tt);
-  kept = all_and (IsKept h.pool) h.store.kept (k ∷ []) s.kept (held, tt);
+  kept = all_and (IsKeptIn h) h.store.kept (k ∷ []) s.kept (held, tt);
 }
 
 -- ---- names

@@ -7,12 +7,15 @@ pub mod DomainSound
 pub mod EachLaws
 pub mod EnterLaws
 pub mod GivenLaws
+pub mod FaceSound
 pub mod GrownLaws
 pub mod LikeSamples
 pub mod MachineSound
 pub mod PortLaws
 pub mod ShapeSamples
 pub mod SideLaws
+pub mod SignalSound
+pub mod SignatureSound
 pub mod SimulatorLaws
 pub mod SimulatorSamples
 pub mod SimulatorSound

@@ -48,8 +48,8 @@ use Rattle.elab_store.specs.Sound.{IsKept, IsTold, IsBuilt, IsMachine, IsBit, Is
 use Rattle.elab_store.proofs.Pools.{IsGrown, signal_there}
 use Rattle.std.proofs.lemmas.Bool.Decides.{nat_tests}
 use Rattle.elab_acts.proofs.EachLaws.{all_each}
-use Rattle.elab_acts.proofs.GrownLaws.{all_and, pool_grown, things_grown, keeping_sound, built_stays, kept_stays, told_module, module_built, machine_stays, name_more}
-use Rattle.elab_acts.proofs.PortLaws.{objects_stay, and_split}
+use Rattle.elab_acts.proofs.GrownLaws.{IsKeptIn, components_stay, all_and, pool_grown, things_grown, keeping_sound, built_stays, kept_stays, told_module, module_built, machine_stays, name_more}
+use Rattle.elab_acts.proofs.PortLaws.{and_split}
 use Rattle.elab_acts.proofs.DomainLaws.{domains_stay, settled_bit}
 use Rattle.std.proofs.lemmas.Bool.{eqb-true}
 
@@ -60,7 +60,7 @@ if_sound false x y h g = g
 -- ---- refusals
 
 told_sound : (p : Place) (h : Held) → IsSound h → IsSound (record h { store = record h.store { told = Some p } })
-told_sound p h t = record { names = t.names; things = t.things; kept = t.kept; modules = t.modules; machines = t.machines; domains = t.domains; additions = t.additions; clock_domains = t.clock_domains; ports = t.ports }
+told_sound p h t = record { names = t.names; things = t.things; kept = t.kept; modules = t.modules; machines = t.machines; domains = t.domains; additions = t.additions; clock_domains = t.clock_domains; components = t.components }
 
 stop_sound : (p : Place) (why : FsmStop) (h : Held) → IsSound h → IsSound (stop_told p why h).held
 stop_sound p (stop.UndefinedState at) h t = told_sound at h t
@@ -127,7 +127,7 @@ moved_sound h k m x y t own built = record {
   names = t.names;
   things = t.things;
   kept = t.kept;
-  ports = t.ports;
+  components = t.components;
   machines = set_machine y.pool h.store.machines k (record x { machine = y.machine }) t.machines own;
   domains = t.domains;
   additions = t.additions;
@@ -152,7 +152,7 @@ chain_sound q m r None bs there f h = h
 chain_sound q m r (Some b) bs there f h =
     told_module q m (chain_ended r b) bs (told_more q (and_step b (Enter (opening.Switch r))) Leave (told_more q b (Enter (opening.Switch r)) (f b refl) there) tt) h
 
-get_last : (es : List Expr) (e : Expr) → slice_get (es ++ e ∷ []) (length es) ≡ Some e
+pub get_last : (es : List Expr) (e : Expr) → slice_get (es ++ e ∷ []) (length es) ≡ Some e
 get_last [] e = refl
 get_last (x ∷ es) e = get_last es e
 
@@ -162,7 +162,7 @@ last_of [] b (suc k) h = absurd (omega (arith, h))
 last_of (x ∷ xs) b zero h = absurd (omega (arith, h))
 last_of (x ∷ xs) b (suc k) h = last_of xs b k (omega (arith, h))
 
-target_last : (q : Pooled) (s : SigId) → is_target (expr_added q (expr.Sig s)) (length q.exprs) ≡ true
+pub target_last : (q : Pooled) (s : SigId) → is_target (expr_added q (expr.Sig s)) (length q.exprs) ≡ true
 unfolding is_target
 target_last q s =
     let known : List Bool = answers false target_test [] q.exprs in
@@ -201,7 +201,7 @@ begun_sound m domain name init p h rules t side named =
       things = u.things;
       kept = u.kept;
       modules = chain_sound q m (record { 0 = length h.pool.exprs }) (slice_get h.store.modules m) h.store.modules (omega (arith, length-append h.pool.exprs (expr.Sig (record { 0 = length h.pool.signals }) ∷ []))) (λ b e. module_built q h.store.modules m b u.modules e) u.modules;
-      ports = u.ports;
+      components = u.components;
       domains = u.domains;
       additions = u.additions;
       clock_domains = u.clock_domains;
@@ -344,13 +344,13 @@ pool_sound h sigs t names le bits =
     let g : IsGrown h.pool q = record { more = []; exprs = sym (append-nil h.pool.exprs) } in record {
       names = names;
       things = t.things;
-      kept = all_each (IsKept h.pool) (IsKept q) h.store.kept (kept_stays h.pool q g) t.kept;
+      kept = all_each (IsKeptIn h) (IsKept q h.store.components.signatures h.store.components.ends) h.store.kept (kept_stays h.pool q h.store.components.signatures h.store.components.ends g) t.kept;
       modules = all_each (IsBuilt h.pool) (IsBuilt q) h.store.modules (built_stays h.pool q g) t.modules;
       machines = all_each (IsMachine h.pool) (IsMachine q) h.store.machines (machine_stays h.pool q g) t.machines;
       domains = t.domains;
       additions = t.additions;
       clock_domains = domains_stay h.pool q h.store.clock_domains.made bits t.clock_domains;
-      ports = objects_stay h.pool q h.store.components.objects le t.ports;
+      components = components_stay h.pool q h.store.components g le t.components;
     }
 
 end_sound : (h : Held) → IsSound h → SoundMove h machine_ends
@@ -395,7 +395,7 @@ asked_sound k (Some x) name p h t f =
       things = u.things;
       kept = u.kept;
       modules = u.modules;
-      ports = u.ports;
+      components = u.components;
       domains = u.domains;
       additions = u.additions;
       clock_domains = u.clock_domains;

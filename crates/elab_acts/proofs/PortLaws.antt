@@ -18,6 +18,10 @@ use Rattle.design_ir.specs.Pools.{Pooled}
 use Rattle.design_ir.specs.PoolRules.{signal_added}
 use Rattle.design_ir.proofs.Growth.{all_append, length_more}
 use Rattle.clock_domains.specs.Resolvable.{IsPortOf, ArePorts}
+use Rattle.elab_store.specs.declared.faces.End.{End}
+use Rattle.elab_store.specs.declared.faces.ComponentObject.{ComponentObject}
+use Rattle.elab_store.specs.Leaves.{Signatures}
+use Rattle.elab_store.specs.Sound.{IsObject}
 use Rattle.elab_acts.proofs.EachLaws.{all_each}
 
 -- ---- tests
@@ -61,11 +65,13 @@ pub ports_stay : (q r : Pooled) (ps : List Port) → length q.signals ≤ length
 ports_stay q r ps h are = record { each = all_each (IsPortOf q) (IsPortOf r) ps (port_stays q r h) are.each; distinct = are.distinct }
 
 -- what is kept of objects keeps to it
-abbrev pub AreObjects : Pooled → List (ℕ × List Port) → Type 0
-AreObjects q objects = AllByRecursion (λ (o : ℕ × List Port). ArePorts q o.1) objects
+abbrev pub AreObjects : Pooled → Signatures → List End → List (ℕ × ComponentObject) → Type 0
+AreObjects q sigs ends objects = AllByRecursion (λ (o : ℕ × ComponentObject). IsObject q sigs ends o.1) objects
 
-pub objects_stay : (q r : Pooled) (objects : List (ℕ × List Port)) → length q.signals ≤ length r.signals → AreObjects q objects → AreObjects r objects
-objects_stay q r objects h all = all_each (λ (o : ℕ × List Port). ArePorts q o.1) (λ (o : ℕ × List Port). ArePorts r o.1) objects (λ o are. ports_stay q r o.1 h are) all
+pub objects_stay : (q r : Pooled) (sigs : Signatures) (ends : List End) (objects : List (ℕ × ComponentObject)) → length q.signals ≤ length r.signals → AreObjects q sigs ends objects → AreObjects r sigs ends objects
+objects_stay q r sigs ends objects h all =
+    all_each (λ (o : ℕ × ComponentObject). IsObject q sigs ends o.1) (λ (o : ℕ × ComponentObject). IsObject r sigs ends o.1) objects
+    (λ o is. record { ports = ports_stay q r o.1.ports h is.ports; face = is.face }) all
 
 -- ---- one port more, which is that of a new signal
 

@@ -21,12 +21,12 @@ use Rattle.amh_things.specs.declared.thing.Reading.TheVariants as reading
 use Rattle.elab_store.specs.declared.kept.Kept.TheVariants as kept
 use Rattle.elab_store.specs.declared.kept.BlockName.TheVariants as named
 use Rattle.elab_store.specs.declared.kept.Begin.TheVariants as begin
-use Rattle.elab_store.specs.declared.members.NamedMember.{NamedMember}
+use Rattle.elab_store.specs.declared.leaves.Leaf.{Leaf}
 use Rattle.elab_store.specs.Calls.{Called, called}
 use Rattle.elab_components.specs.Signals.{signal_called}
 use Rattle.elab_components.specs.Likes.{like_called}
 use Rattle.elab_components.specs.Members.{member_called}
-use Rattle.elab_components.specs.Interfaces.{member_given}
+use Rattle.elab_components.specs.Faces.{leaf_made}
 use Rattle.elab_acts.specs.Blocks.{case_patterns, condition_called}
 use Rattle.elab_store.specs.Stores.{Held, Answered, nothing_held}
 
@@ -124,21 +124,21 @@ member : Bool → List Val → List (List ℕ) → Answered
 member is_out vals keywords = member_called heap is_out (call [] vals keywords) held
 
 -- `In(Cmd)` and `Out(Op, init=Op.SUB)`
-members_given : ((member false (hw 2 ∷ []) []).held.store.kept ≡ kept.Member (record { is_out = false; shape = record { form = unsigned 6; reading = reading.Viewed (record { 0 = 2 }) }; init = pos 0 }) ∷ [])
-    × ((member true (hw 0 ∷ hw 1 ∷ []) (codes "init" ∷ [])).held.store.kept ≡ kept.Member (record { is_out = true; shape = record { form = unsigned 2; reading = reading.Numbered (record { 0 = 0 }) }; init = pos 2 }) ∷ [])
+members_given : ((member false (hw 2 ∷ []) []).held.store.kept ≡ kept.Port false (record { form = unsigned 6; reading = reading.Viewed (record { 0 = 2 }) }) (pos 0) ∷ [])
+    × ((member true (hw 0 ∷ hw 1 ∷ []) (codes "init" ∷ [])).held.store.kept ≡ kept.Port true (record { form = unsigned 2; reading = reading.Numbered (record { 0 = 0 }) }) (pos 2) ∷ [])
     × ((member true (hw 0 ∷ hw 0 ∷ []) (codes "init" ∷ [])).answer ≡ answer.Refuse Raised)
 unfolding hw heap op sub cmd held call member
 members_given = (refl, refl, refl)
 
--- the ports that they make
-port : List ℕ → ℕ → ℕ → Reading → NamedMember
-port n width init r = record { name = n; member = record { is_out = true; shape = record { form = unsigned width; reading = r }; init = pos init } }
+-- the signals that they make
+leaf : List ℕ → ℕ → ℕ → Reading → Leaf
+leaf n width init r = record { path = n; is_out = true; shape = record { form = unsigned width; reading = r }; init = pos init }
 
-ports_given : (last_thing (member_given (port (codes "c") 6 0 (reading.Viewed (record { 0 = 2 }))) held).held.store.things ≡ thing.View (record { 0 = 2 }) (record { 0 = 0 }) ∷ [])
-    × (last_thing (member_given (port (codes "s") 2 2 (reading.Numbered (record { 0 = 0 }))) held).held.store.things ≡ thing.Numbered (record { 0 = 0 }) (record { 0 = 0 }) ∷ [])
-    × ((member_given (port (codes "s") 2 2 (reading.Numbered (record { 0 = 0 }))) held).held.pool.signals ≡ signal (codes "s") 2 2 ∷ [])
-unfolding hw op sub cmd held signal last_thing port
-ports_given = (refl, refl, refl)
+leaves_given : (last_thing (leaf_made (leaf (codes "c") 6 0 (reading.Viewed (record { 0 = 2 }))) held).1.store.things ≡ thing.View (record { 0 = 2 }) (record { 0 = 0 }) ∷ [])
+    × (last_thing (leaf_made (leaf (codes "s") 2 2 (reading.Numbered (record { 0 = 0 }))) held).1.store.things ≡ thing.Numbered (record { 0 = 0 }) (record { 0 = 0 }) ∷ [])
+    × ((leaf_made (leaf (codes "s") 2 2 (reading.Numbered (record { 0 = 0 }))) held).1.pool.signals ≡ signal (codes "s") 2 2 ∷ [])
+unfolding hw op sub cmd held signal last_thing leaf
+leaves_given = (refl, refl, refl)
 
 -- ---- blocks
 

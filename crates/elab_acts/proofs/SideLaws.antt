@@ -98,23 +98,26 @@ row_done n s store v o row i before into room e1 e2 e3 h e =
 
 -- ---- what is collected keeps to what the kept things keep to
 
-module _ (q : Pooled) (store : Stored) (kept : AllByRecursion (IsKept q) store.kept) where
-  kept_at : (ks : List Kept) (n : ℕ) (k : Kept) → AllByRecursion (IsKept q) ks → slice_get ks n ≡ Some k → IsKept q k
+module _ (q : Pooled) (store : Stored) (kept : AllByRecursion (IsKept q store.components.signatures store.components.ends) store.kept) where
+  abbrev Keeps : Kept → Type 0
+  Keeps k = IsKept q store.components.signatures store.components.ends k
+
+  kept_at : (ks : List Kept) (n : ℕ) (k : Kept) → AllByRecursion Keeps ks → slice_get ks n ≡ Some k → Keeps k
   kept_at [] n k h e = absurd (true≢false (ap is_some (sym e)))
-  kept_at (x ∷ ks) zero k h e = let same : x ≡ k = cc in subst (IsKept q) same h.0
+  kept_at (x ∷ ks) zero k h e = let same : x ≡ k = cc in subst Keeps same h.0
   kept_at (x ∷ ks) (suc n) k h e = kept_at ks n k h.1 e
 
-  pub kept_stands : (v : Val) (k : Kept) → kept_of store v ≡ Some k → IsKept q k
+  pub kept_stands : (v : Val) (k : Kept) → kept_of store v ≡ Some k → IsKept q store.components.signatures store.components.ends k
   kept_stands v k e = by_number (kept_number (thing_of store.things v)) e
     where
-      by_number : (o : Option ℕ) → option_and_then (slice_get store.kept) o ≡ Some k → IsKept q k
+      by_number : (o : Option ℕ) → option_and_then (slice_get store.kept) o ≡ Some k → Keeps k
       by_number None e = absurd (true≢false (ap is_some (sym e)))
       by_number (Some n) e = kept_at store.kept n k kept e
 
   one_stands : (v : Val) (x : Equation) → equation_of (kept_of store v) ≡ Some x → IsEquation q x
   one_stands v x e = by_kept (kept_of store v) (kept_stands v) e
     where
-      by_kept : (o : Option Kept) → ((k : Kept) → o ≡ Some k → IsKept q k) → equation_of o ≡ Some x → IsEquation q x
+      by_kept : (o : Option Kept) → ((k : Kept) → o ≡ Some k → Keeps k) → equation_of o ≡ Some x → IsEquation q x
       by_kept None f e = absurd (true≢false (ap is_some (sym e)))
       by_kept (Some (kept_as.Statement y)) f e = let same : y ≡ x = cc in subst (IsEquation q) same (f (kept_as.Statement y) refl)
       by_kept (Some (kept_as.Name n)) f e = absurd (true≢false (ap is_some (sym e)))
@@ -124,8 +127,11 @@ module _ (q : Pooled) (store : Stored) (kept : AllByRecursion (IsKept q) store.k
       by_kept (Some (kept_as.Submodules n)) f e = absurd (true≢false (ap is_some (sym e)))
       by_kept (Some (kept_as.Definitions n)) f e = absurd (true≢false (ap is_some (sym e)))
       by_kept (Some (kept_as.ClockDomain n)) f e = absurd (true≢false (ap is_some (sym e)))
-      by_kept (Some (kept_as.Member m)) f e = absurd (true≢false (ap is_some (sym e)))
+      by_kept (Some (kept_as.Port is_out shape init)) f e = absurd (true≢false (ap is_some (sym e)))
+      by_kept (Some (kept_as.Nested is_out m)) f e = absurd (true≢false (ap is_some (sym e)))
       by_kept (Some (kept_as.Signature n)) f e = absurd (true≢false (ap is_some (sym e)))
+      by_kept (Some (kept_as.OfSignature n y)) f e = absurd (true≢false (ap is_some (sym e)))
+      by_kept (Some (kept_as.Interface n)) f e = absurd (true≢false (ap is_some (sym e)))
       by_kept (Some (kept_as.BlockName m n)) f e = absurd (true≢false (ap is_some (sym e)))
       by_kept (Some (kept_as.Block m b)) f e = absurd (true≢false (ap is_some (sym e)))
       by_kept (Some (kept_as.OfMachine x)) f e = absurd (true≢false (ap is_some (sym e)))

@@ -66,7 +66,7 @@ use Rattle.elab_store.specs.declared.kept.BlockName.TheVariants as named
 use Rattle.elab_store.specs.declared.kept.Begin.{Begin}
 use Rattle.elab_store.specs.declared.kept.Begin.TheVariants as begin
 use Rattle.elab_components.specs.Classes.{is_base, is_keyword, class_made, base_called}
-use Rattle.elab_acts.specs.Tops.{elaborate_of, with_top, top_taken, walk, body_taken, top_of, body_ended, ended_by, elaborate_ended}
+use Rattle.elab_acts.specs.Tops.{elaborate_of, with_top, top_taken, walk, body_taken, named_top, body_ended, ended_by, elaborate_ended}
 use Rattle.elab_store.specs.Stores.{object_in, first_object, module_of}
 use Rattle.elab_components.specs.Libraries.{is_enum, is_data, library_named, thing_name_given}
 use Rattle.elab_components.specs.Likes.{liked, like_placed, like_init, own_reset_less, liked_shape, liked_signal}
@@ -139,7 +139,7 @@ module_sound c h s =
       names = s.names;
       things = s.things;
       kept = s.kept;
-      ports = s.ports;
+      components = s.components;
       machines = s.machines;
       domains = s.domains;
       additions = s.additions;
@@ -320,7 +320,7 @@ plain_sound m b (v ∷ vs) ns h t i = t
 case_sound : (m : ℕ) (o : Option (List Pattern)) (h : Held) → IsSound h → IsSound (case_given m o h).held
 case_sound m None h t = t
 case_sound m (Some ps) h t =
-    keeping_sound (with_patterns ps h) (kept_as.Block m (begin.Case (length h.store.patterns))) (record { names = t.names; things = t.things; kept = t.kept; modules = t.modules; ports = t.ports; machines = t.machines; domains = t.domains; additions = t.additions; clock_domains = t.clock_domains }) tt
+    keeping_sound (with_patterns ps h) (kept_as.Block m (begin.Case (length h.store.patterns))) (record { names = t.names; things = t.things; kept = t.kept; modules = t.modules; components = t.components; machines = t.machines; domains = t.domains; additions = t.additions; clock_domains = t.clock_domains }) tt
 
 case_in_sound : (s : Seen) (m : ℕ) (vs : List Val) (o : Option ExprId) (h : Held) → IsSound h → IsSound (case_in s m vs o h).held
 case_in_sound s m vs None h t = keeping_sound h (kept_as.Block m begin.Misplaced) t tt
@@ -378,7 +378,7 @@ entered_sound h m b x t k i = by_expr (condition_made (built_blocks b) x) (openi
       names = u.names;
       things = u.things;
       kept = u.kept;
-      ports = u.ports;
+      components = u.components;
       machines = u.machines;
       domains = u.domains;
       additions = u.additions;
@@ -405,7 +405,7 @@ passed_sound : (x : Held × Option Cause) → IsSound x.0 → IsSound (passed x)
 passed_sound (h, None) t = t
 passed_sound (h, Some why) t = t
 
-pub enter_sound : (o : Option Kept) (h : Held) → IsSound h → ((k : Kept) → o ≡ Some k → IsKept h.pool k) → IsSound (block_entered o h).held
+pub enter_sound : (o : Option Kept) (h : Held) → IsSound h → ((k : Kept) → o ≡ Some k → IsKept h.pool h.store.components.signatures h.store.components.ends k) → IsSound (block_entered o h).held
 enter_sound (Some (kept_as.Block m b)) h t f = if_sound (in_machine m h.store.machines) _ _ t (by_block (block_of h.store.patterns b) (λ x e. block_of_named h.pool h.store.patterns b x (f (kept_as.Block m b) refl) e))
   where
     by_block : (o : Option Block) → ((x : Block) → o ≡ Some x → IsNamed h.pool x) → IsSound (entered_at m (slice_get h.store.modules m) o h).held
@@ -423,8 +423,11 @@ enter_sound (Some (kept_as.Submodules m)) h t f = t
 enter_sound (Some (kept_as.Definitions m)) h t f = t
 enter_sound (Some (kept_as.ClockDomain k)) h t f = t
 enter_sound (Some (kept_as.Statement q)) h t f = t
-enter_sound (Some (kept_as.Member m)) h t f = t
+enter_sound (Some (kept_as.Port is_out shape init)) h t f = t
+enter_sound (Some (kept_as.Nested is_out m)) h t f = t
 enter_sound (Some (kept_as.Signature m)) h t f = t
+enter_sound (Some (kept_as.OfSignature m y)) h t f = t
+enter_sound (Some (kept_as.Interface m)) h t f = t
 enter_sound (Some (kept_as.BlockName m n)) h t f = t
 
 left_sound : (h : Held) (m : ℕ) (b : Built) → IsSound h → IsBuilt h.pool b → IsSound (record h { store = store_told m (and_left b) h.store })
@@ -432,7 +435,7 @@ left_sound h m b t k = record {
   names = t.names;
   things = t.things;
   kept = t.kept;
-  ports = t.ports;
+  components = t.components;
   machines = t.machines;
   domains = t.domains;
   additions = t.additions;
@@ -464,8 +467,11 @@ leave_sound (Some (kept_as.Submodules m)) h t = t
 leave_sound (Some (kept_as.Definitions m)) h t = t
 leave_sound (Some (kept_as.ClockDomain k)) h t = t
 leave_sound (Some (kept_as.Statement q)) h t = t
-leave_sound (Some (kept_as.Member m)) h t = t
+leave_sound (Some (kept_as.Port is_out shape init)) h t = t
+leave_sound (Some (kept_as.Nested is_out m)) h t = t
 leave_sound (Some (kept_as.Signature m)) h t = t
+leave_sound (Some (kept_as.OfSignature m y)) h t = t
+leave_sound (Some (kept_as.Interface m)) h t = t
 leave_sound (Some (kept_as.BlockName m n)) h t = t
 
 -- domains
@@ -476,7 +482,7 @@ naming_sound n h t name = record {
   things = t.things;
   kept = t.kept;
   modules = t.modules;
-  ports = t.ports;
+  components = t.components;
   machines = t.machines;
   domains = all_and IsName h.store.domains (n ∷ []) t.domains (name, tt);
   additions = t.additions;
@@ -515,7 +521,7 @@ put_sound_by h None m b d q t k named e = record {
   names = t.names;
   things = t.things;
   kept = t.kept;
-  ports = t.ports;
+  components = t.components;
   machines = t.machines;
   domains = t.domains;
   additions = t.additions;
@@ -565,8 +571,8 @@ taken_sound : (s : Seen) (o : Option Val) (h : Held) → IsSound h → IsSound (
 taken_sound s None h t = t
 taken_sound s (Some v) h t = top_sound s v (module_of (kept_of h.store v)) (elaborate_of s v) h t
 
-pub body_sound : (s : Seen) (o : Option Val) (h : Held) → IsSound h → IsSound (body_ended s o h).held
-body_sound s o h t = taken_sound s (top_of h.store.simulation.subject o) h t
+pub body_sound : (name : Option (List ℕ)) (s : Seen) (vals : List Val) (names : List (List ℕ)) (h : Held) → IsSound h → IsSound (body_ended name s vals names h).held
+body_sound name s vals names h t = taken_sound s (named_top name h.store.simulation.subject vals names) h t
 
 ended_sound : (root : Option ℕ) (s : Seen) (v : Val) (h : Held) → IsSound h → IsSound (ended_by root s v h).held
 ended_sound None s v h t = top_sound s v (module_of (kept_of h.store v)) (elaborate_of s v) h t

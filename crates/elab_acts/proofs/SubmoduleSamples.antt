@@ -1,6 +1,6 @@
 -- Submodules, worked out: modules 0 to 3 are things 0 to 3. To module 0 are added module 1 as `a`, and module 2 without a name; to module 1
 -- module 3 as `x`.
-use Rattle.std.specs.Prelude.{◌≡◌, refl, ℕ, true, [], ◌∷◌, map, Some, None, codes}
+use Rattle.std.specs.Prelude.{◌≡◌, refl, ℕ, true, List, [], ◌∷◌, map, Some, None, codes}
 use Rattle.std.specs.Fmt.{digits}
 use Rattle.identifiers.proofs.Computing.{identifiers}
 use Rattle.py_values.specs.declared.val.Val.{Val}
@@ -13,7 +13,7 @@ use Rattle.elab_store.specs.Calls.{called}
 use Rattle.elab_store.specs.Stores.{Held, Answered, nothing_held}
 use Rattle.elab_components.specs.Signals.{module_called}
 use Rattle.elab_acts.specs.Submodules.{submodule_added, submodule_stored, submodule_given}
-use Rattle.elab_acts.specs.Tops.{body_ended, walked}
+use Rattle.elab_acts.specs.Tops.{named_top, body_ended, walked}
 
 thing : ℕ → Val
 thing n = val.Hw (record { 0 = n })
@@ -64,7 +64,7 @@ refused = (refl, refl, refl, refl)
 -- ---- the walk: top = m0
 
 ended : Answered
-ended = body_ended heap (Some (thing 0)) with_third.held
+ended = body_ended None heap (thing 0 ∷ []) (codes "top" ∷ []) with_third.held
 
 -- module 1 stands by addition 0 and has one below it, which is module 3 by addition 2; then module 2 by addition 1
 tree_walked : (ended.answer ≡ answer.Give val.None)
@@ -81,8 +81,22 @@ refused_later = (refl, refl)
 
 -- a module within itself stands too deep
 looped : Answered
-looped = body_ended heap (Some (thing 0)) (submodule_added heap 0 None (thing 0) (thing 7) modules).held
+looped = body_ended None heap (thing 0 ∷ []) (codes "top" ∷ []) (submodule_added heap 0 None (thing 0) (thing 7) modules).held
 
 too_deep : looped.answer ≡ answer.Refuse Limit
 unfolding identifiers thing heap module_more modules looped walked digits
 too_deep = refl
+
+-- ---- what the top is: `dut = m1`, `top = m2`
+
+globals : List Val
+unfolding thing
+globals = thing 1 ∷ thing 2 ∷ []
+
+-- the name that the words give, whatever is simulated; else what is simulated; else the global `top`
+top_by_name : (named_top (Some (codes "dut")) (Some (thing 3)) globals (codes "dut" ∷ codes "top" ∷ []) ≡ Some (thing 1))
+    × (named_top (Some (codes "low")) (Some (thing 3)) globals (codes "dut" ∷ codes "top" ∷ []) ≡ None)
+    × (named_top None (Some (thing 3)) globals (codes "dut" ∷ codes "top" ∷ []) ≡ Some (thing 3))
+    × (named_top None None globals (codes "dut" ∷ codes "top" ∷ []) ≡ Some (thing 2))
+unfolding thing globals
+top_by_name = (refl, refl, refl, refl)

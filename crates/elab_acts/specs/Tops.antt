@@ -1,6 +1,6 @@
--- What is elaborated: what is simulated, or else the global `top`, whatever its `elaborate` gives, and then its submodules. (Amaranth language
--- guide 0.5, "Elaboration", "Submodules". What the top is, that `elaborate` is asked again of what it gives, and how many submodules there
--- may be, is this project's own rule.)
+-- What is elaborated: the global that the words name, or else what is simulated, or else the global `top`, whatever its `elaborate` gives,
+-- and then its submodules. (Amaranth language guide 0.5, "Elaboration", "Submodules". What the top is, that `elaborate` is asked again of
+-- what it gives, and how many submodules there may be, is this project's own rule.)
 use Rattle.std.specs.Prelude.{ℕ, zero, suc, nat_lt, ◌-◌, length, Bool, true, false, if◌then◌else◌, List, [], ◌∷◌, Option, Some, None, codes}
 use Rattle.lists.specs.Texts.{text_eq}
 use Rattle.py_values.specs.declared.val.Val.{Val}
@@ -55,7 +55,7 @@ abbrev pub elaborate_of : Seen → Val → Option Calling
 elaborate_of s (val.Object o) = object_calling s o (attribute_in s (codes "elaborate") (attributes (row_at s o.0)))
 elaborate_of s v = None
 
--- ---- the global `top`
+-- ---- globals
 
 abbrev pub global : List ℕ → List Val → List (List ℕ) → Option Val
 global name (v ∷ vs) (n ∷ ns) = if text_eq n name then Some v else global name vs ns
@@ -142,8 +142,13 @@ abbrev pub top_of : (subject global : Option Val) → Option Val
 top_of (Some v) o = Some v
 top_of None o = o
 
-abbrev pub body_ended : Seen → Option Val → Held → Answered
-body_ended s o h = body_taken s (top_of h.store.simulation.subject o) h
+-- where the words name a global, nothing else is the top
+abbrev pub named_top : (name : Option (List ℕ)) (subject : Option Val) → List Val → List (List ℕ) → Option Val
+named_top (Some name) subject vals names = global name vals names
+named_top None subject vals names = top_of subject (global (codes "top") vals names)
+
+abbrev pub body_ended : Option (List ℕ) → Seen → List Val → List (List ℕ) → Held → Answered
+body_ended name s vals names h = body_taken s (named_top name h.store.simulation.subject vals names) h
 
 -- where the top is a module already, it is a submodule that was asked
 abbrev pub ended_by : Option ℕ → Seen → Val → Held → Answered

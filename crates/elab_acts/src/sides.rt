@@ -239,7 +239,8 @@ pub fn add_statements(
     put_statements(elaboration, x, of, &side, equations.as_slice())
 }
 
-fn put_statements(
+/// Statements are put on a side of a module, and a value is given.
+pub fn put_statements(
     elaboration: &mut Elaboration,
     x: &Val,
     of: u32,

@@ -1,9 +1,10 @@
 // What is elaborated: the top, and its submodules.
-ghost use Rattle.std.specs.Prelude.{◌≡◌, map, string_bytes, codes, Some, None, IfOk, option_map};
+ghost use Rattle.std.specs.Prelude.{◌≡◌, map, string_bytes, Some, None, IfOk, option_map};
+ghost use Rattle.std.specs.Option.{option_copied};
 ghost use Rattle.py_values.specs.declared.val.Val.TheVariants as val;
 ghost use Rattle.py_values.specs.Heaps.{seen, func_at};
 ghost use Rattle.py_values.specs.Objects.{first_in};
-ghost use Rattle.elab_acts.specs.Tops.{is_unbound, is_method, method_calling, found_calling, class_calling, object_calling, elaborate_of, global, top_called, below_called, node_or_called, walk, elaborated, top_of, body_taken, body_ended, ended_by, elaborate_ended, call_args};
+ghost use Rattle.elab_acts.specs.Tops.{is_unbound, is_method, method_calling, found_calling, class_calling, object_calling, elaborate_of, global, top_called, below_called, node_or_called, walk, elaborated, top_of, named_top, body_taken, body_ended, ended_by, elaborate_ended, call_args};
 ghost use Rattle.elab_store.specs.Stores.{object_in, first_object, kept_of, module_of};
 ghost use Rattle.elab_store.specs.Held.{held_of, Gives};
 
@@ -240,17 +241,28 @@ fn top_of(subject: Option<Val>, global: Option<Val>) -> Option<Val>
     }
 }
 
-/// The body of the program ended.
+// The top: the global of the name that the words give, where they give one.
+fn named_top(name: Option<&str>, subject: Option<Val>, request: &Request) -> Option<Val>
+    ensures { result ≡ named_top (option_copied name.entry) subject request.now.vals request.now.names }
+{
+    let (vals, names) = (request.vals.as_slice(), request.names.items());
+    match name {
+        Some(name) => global(name, vals, names),
+        None => top_of(subject, global("top", vals, names)),
+    }
+}
+
+/// The body of the program ended. The words may name the top.
 pub fn end_body(
     elaboration: &mut Elaboration,
     heap: &Heap,
     frozen: &Frozen,
+    name: Option<&str>,
     request: &Request,
 ) -> Result<Answer, NoMemory>
-    ensures { Gives result elaboration.new (body_ended (seen frozen.now heap.now) (global (codes "top") request.now.vals request.now.names) (held_of elaboration.old)) }
+    ensures { Gives result elaboration.new (body_ended (option_copied name.entry) (seen frozen.now heap.now) request.now.vals request.now.names (held_of elaboration.old)) }
 {
-    let named = global("top", request.vals.as_slice(), request.names.items());
-    match top_of(elaboration.store.simulation().subject(), named) {
+    match named_top(name, elaboration.store.simulation().subject(), request) {
         Some(v) => elaborate(elaboration, heap, frozen, v),
         None => elaboration.refuse(Cause::Raised),
     }
