@@ -1,0 +1,7 @@
+pub mod OverLaws
+pub mod ConnectLaws
+pub mod RootLaws
+pub mod InterfaceSound
+pub mod ConnectSound
+pub mod SignatureClassSound
+mod Samples

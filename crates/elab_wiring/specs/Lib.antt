@@ -1,0 +1,3 @@
+pub mod Interfaces
+pub mod Connections
+pub mod SignatureClasses
