@@ -1,0 +1,23 @@
+use Rattle.std.proofs.Common.{◌≡◌, take}
+use Rattle.std.specs.List.{flat_map}
+use Rattle.design_ir.specs.Statements.{statement_of, block_of, choices_of}
+use Rattle.design_ir.specs.Targets.{target_signals}
+use Rattle.design_ir.specs.Trees.{block_size, choices_size, statement_size}
+use Rattle.clock_domains.specs.Marks.{marked}
+use Rattle.clock_domains.specs.Reads.{block_targets, choices_targets}
+use Rattle.domain_transforms.proofs.driven.+driven.Given as goal
+
+abbrev pub decreases-mark_arms : goal.decreases-mark_arms
+decreases-mark_arms l = choices_size l.arms.now
+
+abbrev pub decreases-mark_block : goal.decreases-mark_block
+decreases-mark_block l = block_size l.body.now
+
+abbrev pub decreases-mark_statement : goal.decreases-mark_statement
+decreases-mark_statement l = statement_size (statement_of l.statement.now)
+
+abbrev pub invariant-mark_arms-loop-arm : goal.invariant-mark_arms-loop-arm
+invariant-mark_arms-loop-arm l = l.marks.items ≡ marked (flat_map (target_signals l.pool) (choices_targets (choices_of (take l.arm-index l.arm-items)))) l.fn.marks.items
+
+abbrev pub invariant-mark_block-loop-statement : goal.invariant-mark_block-loop-statement
+invariant-mark_block-loop-statement l = l.marks.items ≡ marked (flat_map (target_signals l.pool) (block_targets (block_of (take l.statement-index l.statement-items)))) l.fn.marks.items

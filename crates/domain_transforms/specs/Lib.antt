@@ -1,0 +1,10 @@
+pub mod Controlled
+pub mod Making
+pub mod Enabling
+pub mod Resetting
+pub mod Counted
+pub mod Placed
+pub mod Changes
+pub mod Renamed
+pub mod Anew
+pub mod Laws
