@@ -1,5 +1,5 @@
 -- An answer, by the table of shapes and values or by this crate.
-use Rattle.std.proofs.Common.{◌≡◌, refl, ap, ◌∙◌, sym, subst, List, [], ◌++◌, length, Option, Some, None, Result, Ok, Err, append-nil}
+use Rattle.std.proofs.Common.{◌≡◌, ℕ, refl, ap, ◌∙◌, sym, subst, List, [], ◌++◌, length, Option, Some, None, Result, Ok, Err, append-nil}
 use Rattle.std.specs.Prelude.{OnOk}
 use Rattle.lists.specs.declared.items.NoMemory.{NoMemory}
 use Rattle.py_values.specs.Heaps.{Seen}
@@ -26,15 +26,15 @@ abbrev pub held_with : Pooled → Stored → List Thing → Held
 held_with q s ts = record { pool = q; store = record s { things = ts } }
 
 -- what the table of shapes and values answered
-pub planned : (s : Seen) (h : Held) (r : Request) (a : Answer) (q : Pooled) (ts : List Thing)
+pub planned : (top : Option (List ℕ)) (s : Seen) (h : Held) (r : Request) (a : Answer) (q : Pooled) (ts : List Thing)
     → Acts (acted s h.pool h.store.things r) (acted_as.Answer a) h.pool q h.store.things ts
-    → prim s h r ≡ record { answer = a; held = held_with q h.store ts }
-planned s h r a q ts acts = by_plan (acted s h.pool h.store.things r) acts
+    → prim top s h r ≡ record { answer = a; held = held_with q h.store ts }
+planned top s h r a q ts acts = by_plan (acted s h.pool h.store.things r) acts
   where
     same_answer : (x y : Answer) → acted_as.Answer x ≡ acted_as.Answer y → x ≡ y
     same_answer x y e = cc
 
-    by_plan : (o : Option (Result Plan Cause)) → Acts o (acted_as.Answer a) h.pool q h.store.things ts → either_answered o (own_answered s r.act r h) h ≡ record { answer = a; held = held_with q h.store ts }
+    by_plan : (o : Option (Result Plan Cause)) → Acts o (acted_as.Answer a) h.pool q h.store.things ts → either_answered o (own_answered top s r.act r h) h ≡ record { answer = a; held = held_with q h.store ts }
     by_plan None acts = cc
     by_plan (Some (Err why)) acts =
         let told : a ≡ answer.Refuse why = same_answer a (answer.Refuse why) acts.0 in
@@ -49,7 +49,7 @@ pub planned_sound : (s : Seen) (h : Held) (r : Request) (a : Acted) (q : Pooled)
 planned_sound s h r a q ts acts held sound = by_plan (acted s h.pool h.store.things r) acts
   where
     with_things : (k : Held) → IsSound k → AreHeld (length k.pool.exprs) ts → IsSound (record k { store = record k.store { things = ts } })
-    with_things k t g = record { names = t.names; kept = t.kept; modules = t.modules; ports = t.ports; machines = t.machines; domains = t.domains; additions = t.additions; clock_domains = t.clock_domains; things = g }
+    with_things k t g = record { names = t.names; kept = t.kept; modules = t.modules; components = t.components; machines = t.machines; domains = t.domains; additions = t.additions; clock_domains = t.clock_domains; things = g }
 
     same_pool : q ≡ h.pool → IsSound (held_with q h.store ts)
     same_pool e = subst (λ p. IsSound (held_with p h.store ts)) (sym e) (with_things h sound (subst (λ (p : Pooled). AreHeld (length p.exprs) ts) e held))
@@ -61,11 +61,11 @@ planned_sound s h r a q ts acts held sound = by_plan (acted s h.pool h.store.thi
         with_things (record h { pool = q }) (pool_grown h q [] plan.exprs sound (ap (λ (p : Pooled). p.signals) acts.1 ∙ sym (append-nil h.pool.signals)) (ap (λ (p : Pooled). p.exprs) acts.1) tt) held
 
 -- what it left open
-pub left_open : (s : Seen) (h : Held) (r : Request) (q : Pooled) (ts : List Thing)
-    → Acts (acted s h.pool h.store.things r) acted_as.Other h.pool q h.store.things ts → (prim s h r ≡ own_answered s r.act r h) × (q ≡ h.pool) × (ts ≡ h.store.things)
-left_open s h r q ts acts = by_plan (acted s h.pool h.store.things r) acts
+pub left_open : (top : Option (List ℕ)) (s : Seen) (h : Held) (r : Request) (q : Pooled) (ts : List Thing)
+    → Acts (acted s h.pool h.store.things r) acted_as.Other h.pool q h.store.things ts → (prim top s h r ≡ own_answered top s r.act r h) × (q ≡ h.pool) × (ts ≡ h.store.things)
+left_open top s h r q ts acts = by_plan (acted s h.pool h.store.things r) acts
   where
-    by_plan : (o : Option (Result Plan Cause)) → Acts o acted_as.Other h.pool q h.store.things ts → (either_answered o (own_answered s r.act r h) h ≡ own_answered s r.act r h) × (q ≡ h.pool) × (ts ≡ h.store.things)
+    by_plan : (o : Option (Result Plan Cause)) → Acts o acted_as.Other h.pool q h.store.things ts → (either_answered o (own_answered top s r.act r h) h ≡ own_answered top s r.act r h) × (q ≡ h.pool) × (ts ≡ h.store.things)
     by_plan None acts = (refl, acts.1, acts.2)
     by_plan (Some (Err why)) acts = cc
     by_plan (Some (Ok plan)) acts = cc

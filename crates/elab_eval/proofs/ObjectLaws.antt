@@ -1,5 +1,5 @@
 -- The signals that an object holds: each once, and each in the pool.
-use Rattle.std.specs.Prelude.{◌≡◌, refl, ℕ, zero, suc, ◌+◌, ◌<◌, ◌||◌, not, nat_eq, Bool, true, false, cond, List, [], ◌∷◌, ◌++◌, map, length, take, get_or, slice_get, slice_index_or, Option, Some, None, option_and_then}
+use Rattle.std.specs.Prelude.{◌≡◌, refl, ℕ, zero, suc, ◌+◌, ◌<◌, ◌||◌, not, nat_eq, Bool, true, false, cond, List, [], ◌∷◌, ◌++◌, map, length, take, get_or, slice_get, slice_index_or, Option, Some, None, option_and_then, option_map}
 use Rattle.std.specs.List.{AllByRecursion, IsDistinct, filter, list_any}
 use Rattle.std.specs.Ordering.{nat_cmp}
 use Rattle.std.specs.BTreeMap.{is_at}
@@ -30,7 +30,9 @@ use Rattle.clock_domains.specs.Resolved.{port_of}
 use Rattle.clock_domains.specs.Resolvable.{IsPortOf, ArePorts, AreTopPorts}
 use Rattle.amh_things.specs.Things.{thing_of, held_expr}
 use Rattle.elab_store.specs.Stores.{Held}
-use Rattle.elab_store.specs.Components.{ports_at}
+use Rattle.elab_store.specs.declared.faces.ComponentObject.{ComponentObject}
+use Rattle.elab_store.specs.Sound.{IsObject}
+use Rattle.elab_store.specs.Components.{Components, object_at, ports_at}
 use Rattle.elab_eval.specs.ComponentTops.{made_ports, component_ports}
 use Rattle.elab_components.specs.Interfaces.{component_class}
 use Rattle.elab_eval.specs.ObjectTops.{signal_in, held_signal, has_public_name, attribute_signal, attribute_signals, before_others, each_once, signal_ports, held_ports, ports_as}
@@ -229,6 +231,17 @@ ports_resolve q None found h e = absurd (none_some e)
     none_some : None ≡ Some found → ⊥
     none_some e = cc
 
+-- an object has its ports
+object_ports_stand : (q : Pooled) (cs : Components) (o : Option ComponentObject) (ps : List Port) → ((x : ComponentObject) → o ≡ Some x → IsObject q cs.signatures cs.ends x) → option_map (λ (x : ComponentObject). x.ports) o ≡ Some ps → ArePorts q ps
+object_ports_stand q cs None ps f e = absurd (none_some e)
+  where
+    none_some : None ≡ Some ps → ⊥
+    none_some e = cc
+object_ports_stand q cs (Some x) ps f e = subst (ArePorts q) (some_same e) (f x refl).ports
+  where
+    some_same : Some x.ports ≡ Some ps → x.ports ≡ ps
+    some_same e = cc
+
 pub top_stands : (s : Seen) (h : Held) (o : Option ObjId) (found : TopPorts) → IsSound h → IsPool h.pool → ports_of s h o ≡ Some found → AreTopPorts h.pool found
 top_stands s h None found sound rules e = subst (AreTopPorts h.pool) (some_same e) tt
   where
@@ -237,7 +250,7 @@ top_stands s h None found sound rules e = subst (AreTopPorts h.pool) (some_same 
 top_stands s h (Some o) found sound rules e = by_class (component_class h.store (first_in (row_at s o.0))) e
   where
     by_class : (class : Option ℕ) → ports_as class (component_ports h.store o) (held_ports s h o) ≡ Some found → AreTopPorts h.pool found
-    by_class (Some class) e = ports_resolve h.pool (ports_at h.store.components.objects o.0) found (λ ps is. all_found (ArePorts h.pool) _ h.store.components.objects ps sound.ports is) e
+    by_class (Some class) e = ports_resolve h.pool (ports_at h.store.components.objects o.0) found (λ ps is. object_ports_stand h.pool h.store.components (object_at h.store.components.objects o.0) ps (λ x there. all_found (IsObject h.pool h.store.components.signatures h.store.components.ends) _ h.store.components.objects x sound.components.objects there) is) e
     by_class None e =
         let same : ports.Held (held_ports s h o) ≡ found = cc in
         subst (AreTopPorts h.pool) same (ports_stand h _ sound (signals_there s h rules (attributes (row_at s o.0))))

@@ -25,10 +25,9 @@ use Rattle.elab_store.specs.Calls.{Called, called}
 use Rattle.elab_components.specs.Signals.{signal_arguments}
 use Rattle.elab_acts.specs.Sides.{index_name, equations_in, deepest}
 use Rattle.elab_acts.specs.Blocks.{block_named}
-use Rattle.elab_acts.specs.Tops.{global}
-use Rattle.elab_eval.specs.Table.{kept_called, equated_by, called_by, call_answered, attribute_of, attribute_answered, module_stored, attribute_stored, store_answered, index_of, index_answered, index_stored, index_store_answered, added, operator_answered, kept_entered, kept_left, enter_answered, leave_answered, own_answered, only}
+use Rattle.elab_eval.specs.Table.{placed_called, kept_called, equated_by, called_by, call_answered, attribute_of, attribute_by, attribute_answered, module_stored, attribute_stored, store_answered, index_of, index_answered, index_stored, index_store_answered, added, operator_answered, kept_entered, kept_left, enter_answered, leave_answered, own_answered, only}
 use Rattle.elab_eval.specs.Table as table
-use Rattle.elab_components.specs.Libraries.{wiring_named}
+use Rattle.elab_components.specs.Libraries.{wiring_named, stream_named}
 use Rattle.elab_eval.specs.Table.{name_attribute}
 use Rattle.elab_components.specs.Likes.{like_arguments}
 use Rattle.elab_acts.specs.ClockDomains.{domain_arguments}
@@ -41,6 +40,10 @@ use Rattle.elab_acts.proofs.ComponentSound as component
 use Rattle.elab_acts.proofs.SubmoduleSound as submodule
 use Rattle.elab_acts.proofs.DomainSound as clocked
 use Rattle.elab_acts.proofs.SimulatorSound as simulator
+use Rattle.elab_acts.proofs.SignatureSound as signed
+use Rattle.elab_wiring.proofs.InterfaceSound.{interface_attribute_sound, flipped_sound}
+use Rattle.elab_wiring.proofs.ConnectSound.{connect_sound}
+use Rattle.elab_wiring.proofs.SignatureClassSound.{any_class_sound, any_init_sound, object_attribute_sound}
 use Rattle.elab_acts.proofs.SoundLaws.{if_sound, thing_name_sound, import_sound, module_sound, signal_sound, like_sound, thing_at, eq_sound, block_name_sound, block_call_sound, enter_sound, leave_sound, domain_sound, stored_sound, side_named, statements_sound, class_sound, base_sound, body_sound, end_sound}
 
 -- ---- calls
@@ -69,11 +72,37 @@ name_sound s hdl.Wiring c h t = t
 name_sound s hdl.Enumerations c h t = t
 name_sound s hdl.Data c h t = t
 name_sound s hdl.Component c h t = t
+name_sound s hdl.Signature c h t = signed.call_sound s c h t
+name_sound s hdl.Connect c h t = t
+name_sound s hdl.Flipped c h t = flipped_sound c h t
+name_sound s hdl.Stream c h t = t
+name_sound s hdl.StreamSignature c h t = signed.stream_sound s c h t
 name_sound s hdl.Simulator c h t = simulator.called_sound c h t
+
+placed_sound : (s : Seen) (n : HdlName) (c : Called) (p : Place) (h : Held) → IsSound h → IsSound (placed_called s n c p h).held
+placed_sound s hdl.Connect c p h t = connect_sound c p h t
+placed_sound s hdl.Module c p h t = name_sound s hdl.Module c h t
+placed_sound s hdl.Signal c p h t = name_sound s hdl.Signal c h t
+placed_sound s hdl.Like c p h t = name_sound s hdl.Like c h t
+placed_sound s hdl.Elaboratable c p h t = name_sound s hdl.Elaboratable c h t
+placed_sound s hdl.Shape c p h t = name_sound s hdl.Shape c h t
+placed_sound s hdl.Value c p h t = name_sound s hdl.Value c h t
+placed_sound s hdl.Wiring c p h t = name_sound s hdl.Wiring c h t
+placed_sound s hdl.Enumerations c p h t = name_sound s hdl.Enumerations c h t
+placed_sound s hdl.Data c p h t = name_sound s hdl.Data c h t
+placed_sound s hdl.In c p h t = name_sound s hdl.In c h t
+placed_sound s hdl.Out c p h t = name_sound s hdl.Out c h t
+placed_sound s hdl.Component c p h t = name_sound s hdl.Component c h t
+placed_sound s hdl.ClockDomain c p h t = name_sound s hdl.ClockDomain c h t
+placed_sound s hdl.Simulator c p h t = name_sound s hdl.Simulator c h t
+placed_sound s hdl.Signature c p h t = name_sound s hdl.Signature c h t
+placed_sound s hdl.Flipped c p h t = name_sound s hdl.Flipped c h t
+placed_sound s hdl.Stream c p h t = name_sound s hdl.Stream c h t
+placed_sound s hdl.StreamSignature c p h t = name_sound s hdl.StreamSignature c h t
 
 own_call_sound : (s : Seen) (o : Option Kept) (c : Called) (p : Place) (h : Held) → IsSound h → IsSound (kept_called s o c p h).held
 own_call_sound s None c p h t = t
-own_call_sound s (Some (kept_as.Name n)) c p h t = name_sound s n c h t
+own_call_sound s (Some (kept_as.Name n)) c p h t = placed_sound s n c p h t
 own_call_sound s (Some (kept_as.Module n)) c p h t = t
 own_call_sound s (Some (kept_as.Domains n)) c p h t = t
 own_call_sound s (Some (kept_as.Domain n d)) c p h t = t
@@ -81,8 +110,11 @@ own_call_sound s (Some (kept_as.Submodules n)) c p h t = t
 own_call_sound s (Some (kept_as.Definitions n)) c p h t = t
 own_call_sound s (Some (kept_as.ClockDomain n)) c p h t = t
 own_call_sound s (Some (kept_as.Statement n)) c p h t = t
-own_call_sound s (Some (kept_as.Member m)) c p h t = t
+own_call_sound s (Some (kept_as.Port is_out shape init)) c p h t = t
+own_call_sound s (Some (kept_as.Nested is_out m)) c p h t = t
 own_call_sound s (Some (kept_as.Signature m)) c p h t = t
+own_call_sound s (Some (kept_as.OfSignature m y)) c p h t = signed.method_called_sound m y c h t
+own_call_sound s (Some (kept_as.Interface m)) c p h t = t
 own_call_sound s (Some (kept_as.BlockName m n)) c p h t = block_call_sound s m n c h t
 own_call_sound s (Some (kept_as.Block m b)) c p h t = t
 own_call_sound s (Some (kept_as.OfMachine x)) c p h t = machine.part_call_sound s x c p h t
@@ -111,32 +143,44 @@ library_name_sound hdl.Value name h t = t
 library_name_sound hdl.In name h t = t
 library_name_sound hdl.Out name h t = t
 library_name_sound hdl.Component name h t = t
+library_name_sound hdl.Signature name h t = t
+library_name_sound hdl.Connect name h t = t
+library_name_sound hdl.Flipped name h t = t
+library_name_sound hdl.Stream name h t = component.library_sound (stream_named name) h t
+library_name_sound hdl.StreamSignature name h t = t
 library_name_sound hdl.Simulator name h t = t
 
-attribute_sound : (o : Option Kept) (name : List ℕ) (h : Held) → IsSound h → IsSound (attribute_of o name h).held
-attribute_sound None name h t = t
-attribute_sound (Some (kept_as.Module m)) name h t =
+attribute_sound : (o : Option Kept) (name : List ℕ) (h : Held) → IsSound h → ((k : Kept) → o ≡ Some k → IsKept h.pool h.store.components.signatures h.store.components.ends k) → IsSound (attribute_of o name h).held
+attribute_sound None name h t f = t
+attribute_sound (Some (kept_as.Module m)) name h t f =
     if_sound (text_eq name (codes "d")) _ _ (keeping_sound h (kept_as.Domains m) t tt)
     (if_sound (text_eq name (codes "submodules")) _ _ (keeping_sound h (kept_as.Submodules m) t tt)
     (if_sound (text_eq name (codes "domains")) _ _ (keeping_sound h (kept_as.Definitions m) t tt) (machine.part_given_sound (part_named m name) _ h t (block_name_sound m (block_named name) h t))))
-attribute_sound (Some (kept_as.Domains m)) name h t = domain_sound m (Some name) h t
-attribute_sound (Some (kept_as.Submodules m)) name h t = submodule.given_sound m (Some name) h t
-attribute_sound (Some (kept_as.ClockDomain k)) name h t = clocked.attribute_sound k name h t
-attribute_sound (Some (kept_as.Definitions m)) name h t = t
-attribute_sound (Some (kept_as.Name m)) name h t = library_name_sound m name h t
-attribute_sound (Some (kept_as.Domain m d)) name h t = t
-attribute_sound (Some (kept_as.Statement m)) name h t = t
-attribute_sound (Some (kept_as.Member m)) name h t = t
-attribute_sound (Some (kept_as.Signature m)) name h t = t
-attribute_sound (Some (kept_as.BlockName m n)) name h t = t
-attribute_sound (Some (kept_as.Block m b)) name h t = t
-attribute_sound (Some (kept_as.OfMachine x)) name h t = machine.part_attribute_sound x name h t
-attribute_sound (Some (kept_as.OfSimulator x)) name h t = simulator.attribute_sound x name h t
+attribute_sound (Some (kept_as.Domains m)) name h t f = domain_sound m (Some name) h t
+attribute_sound (Some (kept_as.Submodules m)) name h t f = submodule.given_sound m (Some name) h t
+attribute_sound (Some (kept_as.ClockDomain k)) name h t f = clocked.attribute_sound k name h t
+attribute_sound (Some (kept_as.Definitions m)) name h t f = t
+attribute_sound (Some (kept_as.Name m)) name h t f = library_name_sound m name h t
+attribute_sound (Some (kept_as.Domain m d)) name h t f = t
+attribute_sound (Some (kept_as.Statement m)) name h t f = t
+attribute_sound (Some (kept_as.Port is_out shape init)) name h t f = t
+attribute_sound (Some (kept_as.Nested is_out m)) name h t f = t
+attribute_sound (Some (kept_as.Signature m)) name h t f = signed.attribute_sound m name h t
+attribute_sound (Some (kept_as.OfSignature m y)) name h t f = t
+attribute_sound (Some (kept_as.Interface m)) name h t f = interface_attribute_sound m name h t (f (kept_as.Interface m) refl)
+attribute_sound (Some (kept_as.BlockName m n)) name h t f = t
+attribute_sound (Some (kept_as.Block m b)) name h t f = t
+attribute_sound (Some (kept_as.OfMachine x)) name h t f = machine.part_attribute_sound x name h t
+attribute_sound (Some (kept_as.OfSimulator x)) name h t f = simulator.attribute_sound x name h t
+
+by_value_sound : (v : Val) (name : List ℕ) (h : Held) → IsSound h → IsSound (attribute_by v name h).held
+by_value_sound (val.Object o) name h t = object_attribute_sound o name h t
+by_value_sound v name h t = attribute_sound (kept_of h.store v) name h t (λ k e. kept_stands h.pool h.store t.kept v k e)
 
 attributes_sound : (vs : List Val) (o : Option (List ℕ)) (h : Held) → IsSound h → IsSound (attribute_answered vs o h).held
 attributes_sound [] o h t = t
 attributes_sound (x ∷ []) None h t = t
-attributes_sound (x ∷ []) (Some n) h t = attribute_sound (kept_of h.store x) n h t
+attributes_sound (x ∷ []) (Some n) h t = by_value_sound x n h t
 attributes_sound (x ∷ y ∷ vs) o h t = t
 
 module_stored_sound : (s : Seen) (m : ℕ) (name : List ℕ) (v : Val) (p : Place) (h : Held) → IsSound h → IsSound (module_stored s m name v p h).held
@@ -153,8 +197,11 @@ attribute_stored_sound s (Some (kept_as.Module m)) name v p h t = module_stored_
 attribute_stored_sound s (Some (kept_as.Name m)) name v p h t = t
 attribute_stored_sound s (Some (kept_as.Domain m d)) name v p h t = t
 attribute_stored_sound s (Some (kept_as.Statement m)) name v p h t = t
-attribute_stored_sound s (Some (kept_as.Member m)) name v p h t = t
+attribute_stored_sound s (Some (kept_as.Port is_out shape init)) name v p h t = t
+attribute_stored_sound s (Some (kept_as.Nested is_out m)) name v p h t = t
 attribute_stored_sound s (Some (kept_as.Signature m)) name v p h t = t
+attribute_stored_sound s (Some (kept_as.OfSignature m y)) name v p h t = t
+attribute_stored_sound s (Some (kept_as.Interface m)) name v p h t = t
 attribute_stored_sound s (Some (kept_as.BlockName m n)) name v p h t = t
 attribute_stored_sound s (Some (kept_as.Block m b)) name v p h t = t
 attribute_stored_sound s (Some (kept_as.OfMachine x)) name v p h t = t
@@ -177,8 +224,11 @@ index_sound s (Some (kept_as.Module m)) i h t = t
 index_sound s (Some (kept_as.Name m)) i h t = t
 index_sound s (Some (kept_as.Domain m d)) i h t = t
 index_sound s (Some (kept_as.Statement m)) i h t = t
-index_sound s (Some (kept_as.Member m)) i h t = t
+index_sound s (Some (kept_as.Port is_out shape init)) i h t = t
+index_sound s (Some (kept_as.Nested is_out m)) i h t = t
 index_sound s (Some (kept_as.Signature m)) i h t = t
+index_sound s (Some (kept_as.OfSignature m y)) i h t = t
+index_sound s (Some (kept_as.Interface m)) i h t = t
 index_sound s (Some (kept_as.BlockName m n)) i h t = t
 index_sound s (Some (kept_as.Block m b)) i h t = t
 index_sound s (Some (kept_as.OfMachine x)) i h t = t
@@ -200,8 +250,11 @@ index_stored_sound s (Some (kept_as.Module m)) i v h t = t
 index_stored_sound s (Some (kept_as.Name m)) i v h t = t
 index_stored_sound s (Some (kept_as.Domain m d)) i v h t = t
 index_stored_sound s (Some (kept_as.Statement m)) i v h t = t
-index_stored_sound s (Some (kept_as.Member m)) i v h t = t
+index_stored_sound s (Some (kept_as.Port is_out shape init)) i v h t = t
+index_stored_sound s (Some (kept_as.Nested is_out m)) i v h t = t
 index_stored_sound s (Some (kept_as.Signature m)) i v h t = t
+index_stored_sound s (Some (kept_as.OfSignature m y)) i v h t = t
+index_stored_sound s (Some (kept_as.Interface m)) i v h t = t
 index_stored_sound s (Some (kept_as.BlockName m n)) i v h t = t
 index_stored_sound s (Some (kept_as.Block m b)) i v h t = t
 index_stored_sound s (Some (kept_as.OfMachine x)) i v h t = t
@@ -226,8 +279,11 @@ added_sound s (Some (kept_as.Module m)) x v p h t = t
 added_sound s (Some (kept_as.Name m)) x v p h t = t
 added_sound s (Some (kept_as.Domains m)) x v p h t = t
 added_sound s (Some (kept_as.Statement m)) x v p h t = t
-added_sound s (Some (kept_as.Member m)) x v p h t = t
+added_sound s (Some (kept_as.Port is_out shape init)) x v p h t = t
+added_sound s (Some (kept_as.Nested is_out m)) x v p h t = t
 added_sound s (Some (kept_as.Signature m)) x v p h t = t
+added_sound s (Some (kept_as.OfSignature m y)) x v p h t = t
+added_sound s (Some (kept_as.Interface m)) x v p h t = t
 added_sound s (Some (kept_as.BlockName m n)) x v p h t = t
 added_sound s (Some (kept_as.Block m b)) x v p h t = t
 added_sound s (Some (kept_as.OfMachine y)) x v p h t = t
@@ -242,7 +298,7 @@ operator_sound s (x ∷ v ∷ w ∷ vs) o p h t = t
 
 -- ---- `with`
 
-kept_entered_sound : (s : Seen) (o : Option Kept) (h : Held) → IsPool h.pool → IsSound h → ((k : Kept) → o ≡ Some k → IsKept h.pool k) → IsSound (kept_entered s o h).held
+kept_entered_sound : (s : Seen) (o : Option Kept) (h : Held) → IsPool h.pool → IsSound h → ((k : Kept) → o ≡ Some k → IsKept h.pool h.store.components.signatures h.store.components.ends k) → IsSound (kept_entered s o h).held
 kept_entered_sound s (Some (kept_as.OfMachine x)) h rules t f = machine.part_entered_sound s x h rules t
 kept_entered_sound s (Some (kept_as.OfSimulator x)) h rules t f = simulator.passed_sound x h t
 kept_entered_sound s None h rules t f = enter_sound None h t f
@@ -254,8 +310,11 @@ kept_entered_sound s (Some (kept_as.Submodules m)) h rules t f = enter_sound (So
 kept_entered_sound s (Some (kept_as.Definitions m)) h rules t f = enter_sound (Some (kept_as.Definitions m)) h t f
 kept_entered_sound s (Some (kept_as.ClockDomain m)) h rules t f = enter_sound (Some (kept_as.ClockDomain m)) h t f
 kept_entered_sound s (Some (kept_as.Statement q)) h rules t f = enter_sound (Some (kept_as.Statement q)) h t f
-kept_entered_sound s (Some (kept_as.Member m)) h rules t f = enter_sound (Some (kept_as.Member m)) h t f
+kept_entered_sound s (Some (kept_as.Port is_out shape init)) h rules t f = enter_sound (Some (kept_as.Port is_out shape init)) h t f
+kept_entered_sound s (Some (kept_as.Nested is_out m)) h rules t f = enter_sound (Some (kept_as.Nested is_out m)) h t f
 kept_entered_sound s (Some (kept_as.Signature m)) h rules t f = enter_sound (Some (kept_as.Signature m)) h t f
+kept_entered_sound s (Some (kept_as.OfSignature m y)) h rules t f = enter_sound (Some (kept_as.OfSignature m y)) h t f
+kept_entered_sound s (Some (kept_as.Interface m)) h rules t f = enter_sound (Some (kept_as.Interface m)) h t f
 kept_entered_sound s (Some (kept_as.BlockName m n)) h rules t f = enter_sound (Some (kept_as.BlockName m n)) h t f
 kept_entered_sound s (Some (kept_as.Block m b)) h rules t f = enter_sound (Some (kept_as.Block m b)) h t f
 
@@ -276,8 +335,11 @@ kept_left_sound (Some (kept_as.Submodules m)) h t = leave_sound (Some (kept_as.S
 kept_left_sound (Some (kept_as.Definitions m)) h t = leave_sound (Some (kept_as.Definitions m)) h t
 kept_left_sound (Some (kept_as.ClockDomain m)) h t = leave_sound (Some (kept_as.ClockDomain m)) h t
 kept_left_sound (Some (kept_as.Statement q)) h t = leave_sound (Some (kept_as.Statement q)) h t
-kept_left_sound (Some (kept_as.Member m)) h t = leave_sound (Some (kept_as.Member m)) h t
+kept_left_sound (Some (kept_as.Port is_out shape init)) h t = leave_sound (Some (kept_as.Port is_out shape init)) h t
+kept_left_sound (Some (kept_as.Nested is_out m)) h t = leave_sound (Some (kept_as.Nested is_out m)) h t
 kept_left_sound (Some (kept_as.Signature m)) h t = leave_sound (Some (kept_as.Signature m)) h t
+kept_left_sound (Some (kept_as.OfSignature m y)) h t = leave_sound (Some (kept_as.OfSignature m y)) h t
+kept_left_sound (Some (kept_as.Interface m)) h t = leave_sound (Some (kept_as.Interface m)) h t
 kept_left_sound (Some (kept_as.BlockName m n)) h t = leave_sound (Some (kept_as.BlockName m n)) h t
 kept_left_sound (Some (kept_as.Block m b)) h t = leave_sound (Some (kept_as.Block m b)) h t
 
@@ -288,20 +350,20 @@ leaves_sound (x ∷ y ∷ vs) h t = t
 
 -- ---- all acts
 
-pub own_sound : (s : Seen) (a : Act) (r : Request) (h : Held) → IsPool h.pool → IsSound h → IsSound (own_answered s a r h).held
-own_sound s act.Import r h rules t = import_sound r.names h t
-own_sound s act.Attribute r h rules t = attributes_sound r.vals (only r.names) h t
-own_sound s act.SetAttribute r h rules t = stores_sound s r.vals (only r.names) r.place h t
-own_sound s act.CallThing r h rules t = call_sound s r (called r.vals r.names) h t
-own_sound s act.Index r h rules t = indices_sound s r.vals h t
-own_sound s act.SetIndex r h rules t = index_stores_sound s r.vals h t
-own_sound s act.Operator r h rules t = operator_sound s r.vals (only r.names) r.place h t
-own_sound s act.Length r h rules t = t
-own_sound s act.Iterate r h rules t = t
-own_sound s act.Enter r h rules t = enters_sound s r.vals h rules t
-own_sound s act.Leave r h rules t = leaves_sound r.vals h t
-own_sound s act.ClassMade r h rules t = component.class_sound r.vals r.names h (class_sound r.vals r.names h t) t
-own_sound s act.InitBase r h rules t = component.init_sound s r.vals r.names h (base_sound r.vals r.names h t) t
-own_sound s act.BodyEnd r h rules t = body_sound s (global (codes "top") r.vals r.names) h t
-own_sound s act.Returned r h rules t = end_sound s r.vals h t
-own_sound s act.Await r h rules t = t
+pub own_sound : (top : Option (List ℕ)) (s : Seen) (a : Act) (r : Request) (h : Held) → IsPool h.pool → IsSound h → IsSound (own_answered top s a r h).held
+own_sound top s act.Import r h rules t = import_sound r.names h t
+own_sound top s act.Attribute r h rules t = attributes_sound r.vals (only r.names) h t
+own_sound top s act.SetAttribute r h rules t = stores_sound s r.vals (only r.names) r.place h t
+own_sound top s act.CallThing r h rules t = call_sound s r (called r.vals r.names) h t
+own_sound top s act.Index r h rules t = indices_sound s r.vals h t
+own_sound top s act.SetIndex r h rules t = index_stores_sound s r.vals h t
+own_sound top s act.Operator r h rules t = operator_sound s r.vals (only r.names) r.place h t
+own_sound top s act.Length r h rules t = t
+own_sound top s act.Iterate r h rules t = t
+own_sound top s act.Enter r h rules t = enters_sound s r.vals h rules t
+own_sound top s act.Leave r h rules t = leaves_sound r.vals h t
+own_sound top s act.ClassMade r h rules t = any_class_sound r.vals r.names h (component.class_sound r.vals r.names h (class_sound r.vals r.names h t) t) t
+own_sound top s act.InitBase r h rules t = any_init_sound s r.vals r.names h (component.init_sound s r.vals r.names h (base_sound r.vals r.names h t) t) t
+own_sound top s act.BodyEnd r h rules t = body_sound top s r.vals r.names h t
+own_sound top s act.Returned r h rules t = end_sound s r.vals h t
+own_sound top s act.Await r h rules t = t

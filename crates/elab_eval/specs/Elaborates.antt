@@ -1,4 +1,5 @@
--- What a program is elaborated to within a budget: a design, or why there is none; and at what cost.
+-- What a program is elaborated to under the name that the words may give the top, within a budget: a design, or why there is none; and at what
+-- cost.
 use Rattle.std.specs.Prelude.{◌≡◌, ◌⊎◌, ℕ, zero, suc, ◌-◌, ◌||◌, not, Bool, true, if◌then◌else◌, ⊤, List, [], ◌∷◌, slice_get, slice_index_or, Option, Some, None, Result, Ok, Err, codes}
 use Rattle.std.specs.Option.{option_map_or}
 use Rattle.std.specs.List.{list_any}
@@ -35,6 +36,8 @@ use Rattle.elab_eval.specs.ObjectTops.{object_ports}
 use Rattle.elab_eval.specs.Clocks.{clock_refused}
 use Rattle.elab_store.specs.declared.hierarchy.Addition.{Addition}
 use Rattle.elab_store.specs.declared.hierarchy.Node.{Node}
+use Rattle.elab_acts.specs.Simulators.{with_simulation}
+use Rattle.elab_store.specs.Simulations.{no_simulation}
 use Rattle.elab_store.specs.ClockDomains.{ClockDomains, defined_by}
 use Rattle.elab_store.specs.Stores.{Stored, Held}
 use Rattle.elab_store.specs.Sound.{is_reset}
@@ -172,41 +175,46 @@ told_at told x = record x { place = told_place told x.cause x.place }
 
 -- ---- outcomes
 
+-- where the words name the top, what the file's simulator was told is let go: no clock is tested, and no testbench is left
+abbrev pub without_simulation : Option (List ℕ) → Held → Held
+without_simulation None h = h
+without_simulation (Some name) h = with_simulation no_simulation h
+
 -- behind answers that are reached a program ended, and what is then held gives this
-pub record Ends (program : Steps) (budget : ℕ) (found : Result Found ElabStop) (used : ℕ) : Type 0 where
+pub record Ends (program : Steps) (top : Option (List ℕ)) (budget : ℕ) (found : Result Found ElabStop) (used : ℕ) : Type 0 where
   pub given : List Answer
   pub held : Held
-  pub reached : Reaches program budget given held
+  pub reached : Reaches program top budget given held
   pub got : Got
   pub state : State
   pub ends : ask_program program (world budget given) ≡ Done got state
-  pub found_is : found ≡ design_of held state.heap
+  pub found_is : found ≡ design_of (without_simulation top held) state.heap
   pub used_is : used ≡ state.used
 
 -- behind answers that are reached it stopped, at this cost
-pub record Stops (program : Steps) (budget : ℕ) (found : Result Found ElabStop) (used : ℕ) : Type 0 where
+pub record Stops (program : Steps) (top : Option (List ℕ)) (budget : ℕ) (found : Result Found ElabStop) (used : ℕ) : Type 0 where
   pub given : List Answer
   pub held : Held
-  pub reached : Reaches program budget given held
+  pub reached : Reaches program top budget given held
   pub stop : Stop
   pub stops : stops_as (ask_program program (world budget given)) ≡ Some (stop, used)
   pub found_is : found ≡ Err (stop_of (told_at held.store.told stop))
 
 -- what a program is elaborated to, and how many units it used
-abbrev pub Elaborates : Steps → ℕ → Result Found ElabStop → ℕ → Type 0
-Elaborates program budget found used = Ends program budget found used ⊎ Stops program budget found used
+abbrev pub Elaborates : Steps → Option (List ℕ) → ℕ → Result Found ElabStop → ℕ → Type 0
+Elaborates program top budget found used = Ends program top budget found used ⊎ Stops program top budget found used
 
 -- there is one such outcome
 abbrev pub OneOutcome : Type 0
 OneOutcome =
-    (program : Steps) (budget : ℕ) (found other : Result Found ElabStop) (used spent : ℕ)
-    → Elaborates program budget found used → Elaborates program budget other spent → (found ≡ other) × (used ≡ spent)
+    (program : Steps) (top : Option (List ℕ)) (budget : ℕ) (found other : Result Found ElabStop) (used spent : ℕ)
+    → Elaborates program top budget found used → Elaborates program top budget other spent → (found ≡ other) × (used ≡ spent)
 
 -- ---- what comes of a call, with what is left of the budget
 
-pub record Comes (program : Steps) (budget left : ℕ) (found : Result Found ElabStop) : Type 0 where
+pub record Comes (program : Steps) (top : Option (List ℕ)) (budget left : ℕ) (found : Result Found ElabStop) : Type 0 where
   pub used : ℕ
-  pub outcome : Elaborates program budget found used
+  pub outcome : Elaborates program top budget found used
   pub rest : left ≡ budget - used
 
 -- what is elaborated in the code, as the definitions see it
@@ -214,11 +222,11 @@ abbrev pub found_of : Elaborated → Found
 found_of e = record { circuit = e.design; store = e.store; frozen = e.frozen }
 
 -- a design and a refusal are exactly what the program is elaborated to; want of memory may come at any time
-abbrev pub IsElaborated : Steps → ℕ → ℕ → Result Elaborated ElabStop → Type 0
-IsElaborated program budget left (Ok e) = Comes program budget left (Ok (found_of e))
-IsElaborated program budget left (Err (Refused k p)) = Comes program budget left (Err (Refused k p))
-IsElaborated program budget left (Err (Spent p)) = Comes program budget left (Err (Spent p))
-IsElaborated program budget left (Err NoMemory) = ⊤
+abbrev pub IsElaborated : Steps → Option (List ℕ) → ℕ → ℕ → Result Elaborated ElabStop → Type 0
+IsElaborated program top budget left (Ok e) = Comes program top budget left (Ok (found_of e))
+IsElaborated program top budget left (Err (Refused k p)) = Comes program top budget left (Err (Refused k p))
+IsElaborated program top budget left (Err (Spent p)) = Comes program top budget left (Err (Spent p))
+IsElaborated program top budget left (Err NoMemory) = ⊤
 
 -- what the end of a program gives is what is owed
 abbrev pub IsFound : Result Elaborated ElabStop → Result Found ElabStop → Type 0

@@ -2,6 +2,7 @@
 use Rattle.std.specs.Prelude.{ℕ, true, false, if◌then◌else◌, List, [], ◌∷◌, ◌++◌, Option, Some, None, Result, Ok, Err, codes}
 use Rattle.lists.specs.Texts.{text_eq}
 use Rattle.py_values.specs.declared.val.Val.{Val}
+use Rattle.py_values.specs.declared.val.Val.TheVariants as val
 use Rattle.py_values.specs.Heaps.{Seen}
 use Rattle.py_frames.specs.declared.request.Act.{Act}
 use Rattle.py_frames.specs.declared.request.Act.TheVariants as act
@@ -32,11 +33,13 @@ use Rattle.elab_machines.specs.StateMachines.{part_attribute, next_stored, part_
 use Rattle.elab_acts.specs.Sides.{module_attribute, domain_given, index_name, domain_stored, deepest, equations_in, statements_added}
 use Rattle.elab_acts.specs.ClockDomains.{clock_domain_called, clock_domain_attribute, definition_added, definition_stored, definitions_stored}
 use Rattle.elab_acts.specs.Submodules.{submodule_added, submodule_stored, submodule_given, submodules_stored}
-use Rattle.elab_components.specs.Libraries.{wiring_named, library_given, thing_name_given}
+use Rattle.elab_components.specs.Libraries.{wiring_named, stream_named, library_given, thing_name_given}
+use Rattle.elab_components.specs.Signatures.{signature_called, signature_attribute, signature_method_called, stream_signature_called}
+use Rattle.elab_wiring.specs.Interfaces.{interface_attribute, flipped_called}
+use Rattle.elab_wiring.specs.Connections.{connect_called}
+use Rattle.elab_wiring.specs.SignatureClasses.{any_class_answered, any_init_answered, object_attribute}
 use Rattle.elab_components.specs.Members.{member_called}
-use Rattle.elab_components.specs.ComponentClasses.{class_answered}
-use Rattle.elab_components.specs.Interfaces.{init_answered}
-use Rattle.elab_acts.specs.Tops.{global, body_ended, elaborate_ended}
+use Rattle.elab_acts.specs.Tops.{body_ended, elaborate_ended}
 use Rattle.elab_acts.specs.Simulators.{simulator_called, simulator_attribute, simulator_part_called, vcd_passed}
 
 -- ---- calls
@@ -50,10 +53,19 @@ name_called s hdl.ClockDomain c h = clock_domain_called s c h
 name_called s hdl.In c h = member_called s false c h
 name_called s hdl.Out c h = member_called s true c h
 name_called s hdl.Simulator c h = simulator_called c h
+name_called s hdl.Signature c h = signature_called s c h
+name_called s hdl.StreamSignature c h = stream_signature_called s c h
+name_called s hdl.Flipped c h = flipped_called c h
 name_called s n c h = refused Raised h
 
+-- `connect` puts statements where it is called
+abbrev pub placed_called : Seen → HdlName → Called → Place → Held → Answered
+placed_called s hdl.Connect c p h = connect_called c p h
+placed_called s n c p h = name_called s n c h
+
 abbrev pub kept_called : Seen → Option Kept → Called → Place → Held → Answered
-kept_called s (Some (kept.Name n)) c p h = name_called s n c h
+kept_called s (Some (kept.Name n)) c p h = placed_called s n c p h
+kept_called s (Some (kept.OfSignature n m)) c p h = signature_method_called n m c h
 kept_called s (Some (kept.BlockName m n)) c p h = block_called s m n c h
 kept_called s (Some (kept.OfMachine x)) c p h = part_called s x c p h
 kept_called s (Some (kept.OfSimulator x)) c p h = simulator_part_called s x c p h
@@ -83,6 +95,7 @@ only (x ∷ y ∷ xs) = None
 -- a module of the library, and `Signal.like`
 abbrev pub name_attribute : HdlName → List ℕ → Held → Answered
 name_attribute hdl.Wiring name h = library_given (wiring_named name) h
+name_attribute hdl.Stream name h = library_given (stream_named name) h
 name_attribute hdl.Enumerations name h = thing_name_given (base_called name) h
 name_attribute hdl.Data name h = thing_name_given (layout_named name) h
 name_attribute hdl.Signal name h = like_given name h
@@ -96,10 +109,17 @@ attribute_of (Some (kept.Submodules m)) name h = submodule_given m (Some name) h
 attribute_of (Some (kept.ClockDomain k)) name h = clock_domain_attribute k name h
 attribute_of (Some (kept.OfMachine x)) name h = part_attribute x name h
 attribute_of (Some (kept.OfSimulator x)) name h = simulator_attribute x name h
+attribute_of (Some (kept.Signature n)) name h = signature_attribute n name h
+attribute_of (Some (kept.Interface f)) name h = interface_attribute f name h
 attribute_of k name h = refused Raised h
 
+-- of an object it is what its class stands over that has the attribute
+abbrev pub attribute_by : Val → List ℕ → Held → Answered
+attribute_by (val.Object o) name h = object_attribute o name h
+attribute_by v name h = attribute_of (kept_of h.store v) name h
+
 abbrev pub attribute_answered : List Val → Option (List ℕ) → Held → Answered
-attribute_answered (x ∷ []) (Some name) h = attribute_of (kept_of h.store x) name h
+attribute_answered (x ∷ []) (Some name) h = attribute_by x name h
 attribute_answered vals name h = refused Raised h
 
 -- `m.submodules` and `m.domains` again, and `m.next`
@@ -172,26 +192,26 @@ abbrev pub leave_answered : List Val → Held → Answered
 leave_answered (x ∷ []) h = kept_left (kept_of h.store x) h
 leave_answered vals h = refused Raised h
 
--- ---- all acts
+-- ---- all acts, where the words may name the top
 
 -- what stands for no other act raises: modules, domains and statements have no length and no elements
-abbrev pub own_answered : Seen → Act → Request → Held → Answered
-own_answered s act.Import r h = import_answered r.names h
-own_answered s act.Attribute r h = attribute_answered r.vals (only r.names) h
-own_answered s act.SetAttribute r h = store_answered s r.vals (only r.names) r.place h
-own_answered s act.CallThing r h = call_answered s r (called r.vals r.names) h
-own_answered s act.Index r h = index_answered s r.vals h
-own_answered s act.SetIndex r h = index_store_answered s r.vals h
-own_answered s act.Operator r h = operator_answered s r.vals (only r.names) r.place h
-own_answered s act.Length r h = refused Raised h
-own_answered s act.Iterate r h = refused Raised h
-own_answered s act.Enter r h = enter_answered s r.vals h
-own_answered s act.Leave r h = leave_answered r.vals h
-own_answered s act.ClassMade r h = class_answered r.vals r.names h
-own_answered s act.InitBase r h = init_answered s r.vals r.names h
-own_answered s act.BodyEnd r h = body_ended s (global (codes "top") r.vals r.names) h
-own_answered s act.Returned r h = elaborate_ended s r.vals h
-own_answered s act.Await r h = refused Raised h
+abbrev pub own_answered : Option (List ℕ) → Seen → Act → Request → Held → Answered
+own_answered top s act.Import r h = import_answered r.names h
+own_answered top s act.Attribute r h = attribute_answered r.vals (only r.names) h
+own_answered top s act.SetAttribute r h = store_answered s r.vals (only r.names) r.place h
+own_answered top s act.CallThing r h = call_answered s r (called r.vals r.names) h
+own_answered top s act.Index r h = index_answered s r.vals h
+own_answered top s act.SetIndex r h = index_store_answered s r.vals h
+own_answered top s act.Operator r h = operator_answered s r.vals (only r.names) r.place h
+own_answered top s act.Length r h = refused Raised h
+own_answered top s act.Iterate r h = refused Raised h
+own_answered top s act.Enter r h = enter_answered s r.vals h
+own_answered top s act.Leave r h = leave_answered r.vals h
+own_answered top s act.ClassMade r h = any_class_answered r.vals r.names h
+own_answered top s act.InitBase r h = any_init_answered s r.vals r.names h
+own_answered top s act.BodyEnd r h = body_ended top s r.vals r.names h
+own_answered top s act.Returned r h = elaborate_ended s r.vals h
+own_answered top s act.Await r h = refused Raised h
 
 -- ---- the table
 
@@ -207,5 +227,5 @@ abbrev pub either_answered : Option (Result Plan Cause) → Answered → Held �
 either_answered (Some plan) own h = plan_answered plan h
 either_answered None own h = own
 
-abbrev pub prim : Seen → Held → Request → Answered
-prim s h r = either_answered (acted s h.pool h.store.things r) (own_answered s r.act r h) h
+abbrev pub prim : Option (List ℕ) → Seen → Held → Request → Answered
+prim top s h r = either_answered (acted s h.pool h.store.things r) (own_answered top s r.act r h) h

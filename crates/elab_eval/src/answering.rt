@@ -4,7 +4,7 @@ ghost use Rattle.std.specs.Option.{option_copied};
 ghost use Rattle.py_values.specs.Heaps.{seen};
 ghost use Rattle.elab_store.specs.Calls.{called};
 ghost use Rattle.amh_things.specs.Things.{thing_of};
-ghost use Rattle.elab_eval.specs.Table.{equated_by, call_answered, attribute_answered, store_answered, index_answered, index_store_answered, operator_answered, kept_entered, kept_left, enter_answered, leave_answered, own_answered, name_called, kept_called, only, name_attribute, attribute_of, attribute_stored, module_stored, added, signed};
+ghost use Rattle.elab_eval.specs.Table.{equated_by, call_answered, attribute_answered, store_answered, index_answered, index_store_answered, operator_answered, kept_entered, kept_left, enter_answered, leave_answered, own_answered, name_called, placed_called, kept_called, only, name_attribute, attribute_of, attribute_by, attribute_stored, module_stored, added, signed};
 ghost use Rattle.elab_store.specs.Seen.{called_of};
 ghost use Rattle.elab_store.specs.Sound.{IsSound};
 ghost use Rattle.elab_store.specs.Stores.{kept_of};
@@ -21,14 +21,17 @@ use elab_acts::sides::{add_statements, give_domain, index_name, module_attribute
 use elab_acts::simulators::{call_simulator_part, make_simulator, pass_vcd, simulator_attribute};
 use elab_acts::submodules::{add_submodule, give_submodule, store_submodule, store_submodules};
 use elab_acts::tops::{end_body, end_elaborate};
-use elab_components::component_classes::answer_class;
 use elab_components::equations::equate;
 use elab_components::imports::import;
-use elab_components::interfaces::answer_init;
-use elab_components::libraries::{give_base, give_layout, give_library, wiring_named};
+use elab_components::libraries::{
+    give_base, give_layout, give_library, stream_named, wiring_named,
+};
 use elab_components::likes::{give_like, make_like};
 use elab_components::member_calls::call_member;
 use elab_components::signals::{make_module, make_signal};
+use elab_components::signatures::{
+    call_signature, call_signature_method, call_stream_signature, signature_attribute,
+};
 use elab_machines::state_machines::{
     call_part, enter_part, leave_part, part_attribute, store_next,
 };
@@ -36,6 +39,9 @@ use elab_store::calls::Called;
 use elab_store::kept::{HdlName, Kept};
 use elab_store::names::is_text;
 use elab_store::store::{Elaboration, Store};
+use elab_wiring::connecting::connect_interfaces;
+use elab_wiring::faces::{flip, interface_attribute};
+use elab_wiring::signature_classes::{answer_class, init_object, object_attribute};
 use lists::NoMemory;
 use py_frames::request::{Act, Answer, Cause, Request};
 use py_values::{Frozen, Heap, Val};
@@ -59,7 +65,28 @@ fn call_name(
         HdlName::In => call_member(elaboration, heap, frozen, false, call),
         HdlName::Out => call_member(elaboration, heap, frozen, true, call),
         HdlName::Simulator => make_simulator(elaboration, call),
+        HdlName::Signature => call_signature(elaboration, heap, frozen, call),
+        HdlName::StreamSignature => call_stream_signature(elaboration, heap, frozen, call),
+        HdlName::Flipped => flip(elaboration, call),
         _ => elaboration.refuse(Cause::Raised),
+    }
+}
+
+// The call of a name, at its place.
+fn call_placed(
+    elaboration: &mut Elaboration,
+    heap: &Heap,
+    frozen: &Frozen,
+    name: HdlName,
+    call: &Called,
+    place: Place,
+) -> Result<Answer, NoMemory>
+    requires { IsSound (held_of elaboration.old) }
+    ensures { Gives result elaboration.new (placed_called (seen frozen.now heap.now) name (called_of call.now) place (held_of elaboration.old)) }
+{
+    match name {
+        HdlName::Connect => connect_interfaces(elaboration, call, place),
+        _ => call_name(elaboration, heap, frozen, name, call),
     }
 }
 
@@ -75,7 +102,10 @@ fn call_kept(
     ensures { Gives result elaboration.new (kept_called (seen frozen.now heap.now) (kept_of elaboration.old.store (called_of call.now).callee) (called_of call.now) place (held_of elaboration.old)) }
 {
     match elaboration.store.kept_of(call.callee) {
-        Some(Kept::Name(name)) => call_name(elaboration, heap, frozen, name, call),
+        Some(Kept::Name(name)) => call_placed(elaboration, heap, frozen, name, call, place),
+        Some(Kept::OfSignature { of, method }) => {
+            call_signature_method(elaboration, of, method, call)
+        }
         Some(Kept::BlockName { of, name }) => call_block(elaboration, heap, frozen, of, name, call),
         Some(Kept::OfMachine(part)) => call_part(elaboration, heap, frozen, part, call, place),
         Some(Kept::OfSimulator(part)) => {
@@ -102,20 +132,34 @@ fn call(
     }
 }
 
-// An attribute: `m.d` and its domains, `m.submodules` and what was added there, and those of a clock domain.
+// An attribute: `m.d` and its domains, `m.submodules` and what was added there, and those of a clock domain, a signature and an
+// interface.
 fn attribute(elaboration: &mut Elaboration, request: &Request) -> Result<Answer, NoMemory>
+    requires { IsSound (held_of elaboration.old) }
     ensures { Gives result elaboration.new (attribute_answered request.now.vals (only request.now.names) (held_of elaboration.old)) }
 {
     match request.vals.as_slice() {
         [x] => match only_name(request) {
-            Some(name) => attribute_of(elaboration, x, name),
+            Some(name) => attribute_by(elaboration, x, name),
             None => elaboration.refuse(Cause::Raised),
         },
         _ => elaboration.refuse(Cause::Raised),
     }
 }
 
+// Of an object it is what its class stands over that has the attribute.
+fn attribute_by(elaboration: &mut Elaboration, x: &Val, name: &str) -> Result<Answer, NoMemory>
+    requires { IsSound (held_of elaboration.old) }
+    ensures { Gives result elaboration.new (attribute_by x.now name.now (held_of elaboration.old)) }
+{
+    match x {
+        Val::Object(object) => object_attribute(elaboration, *object, name),
+        _ => attribute_of(elaboration, x, name),
+    }
+}
+
 fn attribute_of(elaboration: &mut Elaboration, x: &Val, name: &str) -> Result<Answer, NoMemory>
+    requires { IsSound (held_of elaboration.old) }
     ensures { Gives result elaboration.new (attribute_of (kept_of elaboration.old.store x.now) name.now (held_of elaboration.old)) }
 {
     match elaboration.store.kept_of(*x) {
@@ -126,6 +170,8 @@ fn attribute_of(elaboration: &mut Elaboration, x: &Val, name: &str) -> Result<An
         Some(Kept::ClockDomain(number)) => clock_domain_attribute(elaboration, number, name),
         Some(Kept::OfMachine(part)) => part_attribute(elaboration, part, name),
         Some(Kept::OfSimulator(part)) => simulator_attribute(elaboration, part, name),
+        Some(Kept::Signature(number)) => signature_attribute(elaboration, number, name),
+        Some(Kept::Interface(face)) => interface_attribute(elaboration, face, name),
         _ => elaboration.refuse(Cause::Raised),
     }
 }
@@ -140,6 +186,7 @@ fn name_attribute(
 {
     match library {
         HdlName::Wiring => give_library(elaboration, wiring_named(name)),
+        HdlName::Stream => give_library(elaboration, stream_named(name)),
         HdlName::Enumerations => give_base(elaboration, name),
         HdlName::Data => give_layout(elaboration, name),
         HdlName::Signal => give_like(elaboration, name),
@@ -378,15 +425,16 @@ fn leave(elaboration: &mut Elaboration, request: &Request) -> Result<Answer, NoM
     }
 }
 
-/// What this crate answers.
+/// What this crate answers. The words may name the top.
 pub(crate) fn answer_own(
     elaboration: &mut Elaboration,
     heap: &Heap,
     frozen: &Frozen,
+    top: Option<&str>,
     request: &Request,
 ) -> Result<Answer, NoMemory>
     requires { IsSound (held_of elaboration.old) }
-    ensures { Gives result elaboration.new (own_answered (seen frozen.now heap.now) request.now.act request.now (held_of elaboration.old)) }
+    ensures { Gives result elaboration.new (own_answered (option_copied top.entry) (seen frozen.now heap.now) request.now.act request.now (held_of elaboration.old)) }
 {
     match request.act {
         Act::Import => import(elaboration, request),
@@ -397,8 +445,8 @@ pub(crate) fn answer_own(
         Act::SetIndex => store_index(elaboration, heap, frozen, request),
         Act::Operator => operate(elaboration, heap, frozen, request),
         Act::ClassMade => answer_class(elaboration, request),
-        Act::InitBase => answer_init(elaboration, heap, frozen, request),
-        Act::BodyEnd => end_body(elaboration, heap, frozen, request),
+        Act::InitBase => init_object(elaboration, heap, frozen, request),
+        Act::BodyEnd => end_body(elaboration, heap, frozen, top, request),
         Act::Returned => end_elaborate(elaboration, heap, frozen, request),
         Act::Enter => enter(elaboration, heap, frozen, request),
         Act::Leave => leave(elaboration, request),

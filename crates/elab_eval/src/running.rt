@@ -1,5 +1,6 @@
 // Elaboration: a program is run, and each of its requests is answered.
 ghost use Rattle.std.specs.Prelude.{◌≡◌, ◌<◌, ◌≤◌, ◌^◌, IfOk, OnOk, length, Ok, Err};
+ghost use Rattle.std.specs.Option.{option_copied};
 ghost use Rattle.py_tree.specs.Programs.{program_of};
 ghost use Rattle.py_values.specs.Heaps.{nothing, seen};
 ghost use Rattle.py_frames.specs.declared.request.Answer.TheVariants.{Begin};
@@ -7,7 +8,7 @@ ghost use Rattle.py_machine.specs.Lives.{IsOf};
 ghost use Rattle.amh_values.specs.Acts.{acted, Acts};
 ghost use Rattle.amh_things.specs.Held.{AreHeld};
 ghost use Rattle.design_ir.specs.Rising.{AllRisingSync};
-ghost use Rattle.elab_eval.specs.Elaborates.{IsElaborated, stop_of, told_at};
+ghost use Rattle.elab_eval.specs.Elaborates.{IsElaborated, stop_of, told_at, without_simulation};
 ghost use Rattle.elab_eval.specs.Running.{IsRunning, Steps_to, Runs_to};
 ghost use Rattle.elab_eval.specs.Table.{prim};
 ghost use Rattle.elab_store.specs.Sound.{IsSound};
@@ -19,6 +20,7 @@ use crate::refusal::ElabStop;
 use amh_host::{Budget, Kind, Place, Steps};
 use amh_values::{Acted, act};
 use design_ir::{Design, Pool};
+use elab_store::simulation::Simulation;
 use elab_store::store::{Elaboration, Store};
 use lists::NoMemory;
 use py_frames::request::{Answer, Cause, Request, Stop, Turn};
@@ -65,10 +67,11 @@ fn answer_request(
     elaboration: &mut Elaboration,
     machine: &Machine,
     frozen: &Frozen,
+    top: Option<&str>,
     request: &Request,
 ) -> Result<Answer, NoMemory>
     requires { IsSound (held_of elaboration.old) }
-    ensures gives { Gives result elaboration.new (prim (seen frozen.now machine.now.going.state.heap) (held_of elaboration.old) request.now) }
+    ensures gives { Gives result elaboration.new (prim (option_copied top.entry) (seen frozen.now machine.now.going.state.heap) (held_of elaboration.old) request.now) }
     ensures sound { OnOk result (IsSound (held_of elaboration.new)) }
 {
     match serve(
@@ -82,7 +85,7 @@ fn answer_request(
         Acted::Answer(answer) => Ok(answer),
         Acted::Other => {
             elaboration.pool.known();
-            answer_own(elaboration, &machine.going.state.heap, frozen, request)
+            answer_own(elaboration, &machine.going.state.heap, frozen, top, request)
         }
     }
 }
@@ -93,6 +96,7 @@ fn take_answer<L: Ledger>(
     machine: &mut Machine,
     program: &Program,
     frozen: &Frozen,
+    top: Option<&str>,
     answer: Answer,
     left: &mut Budget,
     steps: &mut Steps<L>,
@@ -100,13 +104,13 @@ fn take_answer<L: Ledger>(
 ) -> Result<Step, ElabStop>
     requires of { IsOf (program_of program.now) machine.old }
     requires frozen { frozen.now ≡ nothing }
-    requires running { IsRunning (program_of program.now) _budget machine.old (held_of elaboration.old) answer left.old.left }
+    requires running { IsRunning (program_of program.now) (option_copied top) _budget machine.old (held_of elaboration.old) answer left.old.left }
     ensures of { IsOf (program_of program.now) machine.new }
-    ensures comes { Steps_to (program_of program.now) _budget result machine.old machine.new (held_of elaboration.new) left.new.left }
+    ensures comes { Steps_to (program_of program.now) (option_copied top.entry) _budget result machine.old machine.new (held_of elaboration.new) left.new.left }
     ensures ticks { steps.old ≤ steps.new }
 {
     match machine.resume(program, frozen, answer, left, steps) {
-        Turn::Asks(request) => match answer_request(elaboration, machine, frozen, &request) {
+        Turn::Asks(request) => match answer_request(elaboration, machine, frozen, top, &request) {
             Ok(next) => {
                 note_taken(machine);
                 Ok(Step::Next(next))
@@ -125,14 +129,15 @@ fn run<L: Ledger>(
     machine: &mut Machine,
     program: &Program,
     frozen: &Frozen,
+    top: Option<&str>,
     left: &mut Budget,
     steps: &mut Steps<L>,
 ) -> Result<(), ElabStop>
     requires of { IsOf (program_of program.now) machine.old }
     requires frozen { frozen.now ≡ nothing }
-    requires running { IsRunning (program_of program.now) left.old.left machine.old (held_of elaboration.old) Begin left.old.left }
+    requires running { IsRunning (program_of program.now) (option_copied top) left.old.left machine.old (held_of elaboration.old) Begin left.old.left }
     ensures of { IsOf (program_of program.now) machine.new }
-    ensures comes { Runs_to (program_of program.now) left.old.left result machine.new (held_of elaboration.new) left.new.left }
+    ensures comes { Runs_to (program_of program.now) (option_copied top.entry) left.old.left result machine.new (held_of elaboration.new) left.new.left }
     ensures ticks { steps.old ≤ steps.new }
 {
     let budget = left.left;
@@ -143,6 +148,7 @@ fn run<L: Ledger>(
             machine,
             program,
             frozen,
+            top,
             answer,
             left,
             steps,
@@ -187,16 +193,28 @@ fn stop_of(stop: Stop) -> ElabStop
     }
 }
 
+// Where the words name the top, what the file's simulator was told is let go.
+fn leave_simulation(elaboration: &mut Elaboration, top: Option<&str>)
+    requires { IsSound (held_of elaboration.old) }
+    ensures held { held_of elaboration.new ≡ without_simulation (option_copied top.entry) (held_of elaboration.old) }
+    ensures sound { IsSound (held_of elaboration.new) }
+{
+    if let Some(_) = top {
+        elaboration.store.simulation = Simulation::new(elaboration.alloc);
+    }
+}
+
 /// Elaborates a program: the design that it makes, or why it makes none, exactly as `Elaborates` says within what is left, of which what
-/// it used is taken. Want of memory may come at any time.
+/// it used is taken. The words may name the top. Want of memory may come at any time.
 pub fn elaborate<L: Ledger>(
     alloc: Global,
     program: &Program,
+    top: Option<&str>,
     left: &mut Budget,
     steps: &mut Steps<L>,
 ) -> Result<Elaborated, ElabStop>
     requires { 0 < left.old.left }
-    ensures comes { IsElaborated (program_of program.now) left.old.left left.new.left result }
+    ensures comes { IsElaborated (program_of program.now) (option_copied top.entry) left.old.left left.new.left result }
     ensures rising { IfOk result (λ e. AllRisingSync e.design) }
     ensures ticks { steps.old ≤ steps.new }
 {
@@ -206,8 +224,11 @@ pub fn elaborate<L: Ledger>(
     };
     let mut machine = machine;
     let mut held = Elaboration::new(alloc);
-    match run(&mut held, &mut machine, program, &frozen, left, steps) {
-        Ok(()) => finish(held, machine, &frozen),
+    match run(&mut held, &mut machine, program, &frozen, top, left, steps) {
+        Ok(()) => {
+            leave_simulation(&mut held, top);
+            finish(held, machine, &frozen)
+        }
         Err(stop) => Err(stop),
     }
 }

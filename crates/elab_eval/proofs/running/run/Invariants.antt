@@ -1,4 +1,5 @@
 use Rattle.std.proofs.Common.{◌≤◌, ◌-◌, ◌^◌}
+use Rattle.std.specs.Option.{option_copied}
 use Rattle.py_tree.specs.Programs.{program_of}
 use Rattle.py_machine.specs.Lives.{IsOf}
 use Rattle.elab_eval.specs.Running.{IsRunning}
@@ -11,6 +12,6 @@ decreases-loop-next g l = 2 ^ 64 - l.machine.going.state.taken
 abbrev pub invariant-loop-next : goal.invariant-loop-next
 invariant-loop-next g l = record {
   of : IsOf (program_of l.program) l.machine;
-  running : IsRunning (program_of l.program) l.budget l.machine (held_of l.elaboration) l.answer l.left.left;
+  running : IsRunning (program_of l.program) (option_copied l.top) l.budget l.machine (held_of l.elaboration) l.answer l.left.left;
   ticks : l.fn.steps ≤ l.steps;
 }
