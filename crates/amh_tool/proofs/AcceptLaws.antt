@@ -1,5 +1,5 @@
 -- From what was read to the outcome of a plan.
-use Rattle.std.proofs.Common.{◌≡◌, ◌∙◌, ◌<◌, ℕ, List, length, length-append, refl, ap, sym, subst, arith}
+use Rattle.std.proofs.Common.{◌≡◌, ◌∙◌, ◌<◌, ℕ, List, [], length, length-append, refl, ap, sym, subst, arith}
 use Rattle.std.specs.Prelude.{Option, None, Some, IfSome, MatchOption, Vec}
 use Rattle.std.specs.declared.alloc.Global.{Global}
 use Rattle.amh_host.specs.Seen.{Files}
@@ -12,11 +12,12 @@ use Rattle.amh_tool.specs.declared.refusal.Refusal.{Refusal}
 use Rattle.amh_tool.specs.Plan.{Plan}
 use Rattle.amh_tool.specs.Designs.{Designed, gives, refuses, spends, IsDesigned, refusal, line_start}
 use Rattle.play_text.specs.Boards.{board_of}
+use Rattle.play_text.specs.Trace.{Done as EndDone}
 use Rattle.play_text.specs.Script.{script_events}
 use Rattle.play_text.specs.ScriptGives.{SaysAs, ReadsScript}
 use Rattle.amh_tool.proofs.ScriptFronts.{script_events-front}
 use Rattle.amh_tool.proofs.DesignLaws.{IsDesigned-long}
-use Rattle.amh_tool.specs.Outcome.{Outcome, Unread, Refuses, Spends, FromDesign, IsJudged, IsPlanned, played}
+use Rattle.amh_tool.specs.Outcome.{Outcome, Unread, Refuses, Spends, Accepts, FromDesign, IsPlayed, IsJudged, IsPlanned, played}
 
 -- a front that is too long is of a file that is
 past_limit : (file : List ℕ) (limit : ℕ) (v : Vec ℕ Global) → IsWhole file limit (TooLong v) → limit < length file
@@ -26,20 +27,20 @@ long_at : (p : Plan) (files : Files) (v : Vec ℕ Global) (o : Option (List ℕ)
     → MatchOption o (Refuses (refusal Limit (line_start 1)) ≡ Unread) (λ file. FromDesign p files file (Refuses (refusal Limit (line_start 1))))
 long_at p files v None h = absurd h
 long_at p files v (Some file) h =
-    record { found = refuses (refusal Limit (line_start 1)); designed = IsDesigned-long file (past_limit file 1_048_576 v h); judged = refl }
+    record { found = refuses (refusal Limit (line_start 1)); designed = IsDesigned-long p file (past_limit file 1_048_576 v h); judged = refl }
 
 -- a design file that is too long is refused
 pub too_long : (p : Plan) (told : Option Files) (v : Vec ℕ Global) → ReadsWhole told p.design 1_048_576 (TooLong v) → IfSome told (λ files. IsPlanned p files (Refuses (refusal Limit (line_start 1))))
 too_long p None v h = tt
 too_long p (Some files) v h = long_at p files v (files p.design) h
 
-short_at : (p : Plan) (files : Files) (v : Vec ℕ Global) (found : Designed) (x : Outcome) (o : Option (List ℕ)) → MatchOption o ⊥ (λ file. IsWhole file 1_048_576 (Bytes v)) → IsDesigned v.items found → IsJudged p files found x
+short_at : (p : Plan) (files : Files) (v : Vec ℕ Global) (found : Designed) (x : Outcome) (o : Option (List ℕ)) → MatchOption o ⊥ (λ file. IsWhole file 1_048_576 (Bytes v)) → IsDesigned p v.items found → IsJudged p files found x
     → MatchOption o (x ≡ Unread) (λ file. FromDesign p files file x)
 short_at p files v found x None h d j = absurd h
-short_at p files v found x (Some file) h d j = record { found = found; designed = subst (λ (bytes : List ℕ). IsDesigned bytes found) h.0 d; judged = j }
+short_at p files v found x (Some file) h d j = record { found = found; designed = subst (λ (bytes : List ℕ). IsDesigned p bytes found) h.0 d; judged = j }
 
 -- what the design leads to is what the plan leads to
-pub read_design_of : (p : Plan) (told : Option Files) (v : Vec ℕ Global) (found : Designed) (x : Outcome) → ReadsWhole told p.design 1_048_576 (Bytes v) → IsDesigned v.items found → IfSome told (λ files. IsJudged p files found x)
+pub read_design_of : (p : Plan) (told : Option Files) (v : Vec ℕ Global) (found : Designed) (x : Outcome) → ReadsWhole told p.design 1_048_576 (Bytes v) → IsDesigned p v.items found → IfSome told (λ files. IsJudged p files found x)
     → IfSome told (λ files. IsPlanned p files x)
 read_design_of p None v found x h d j = tt
 read_design_of p (Some files) v found x h d j = short_at p files v found x (files p.design) h d j
@@ -55,13 +56,23 @@ spent_at_once p None place = tt
 spent_at_once p (Some files) place = refl
 
 -- what the script leads to is what the design leads to
-pub read_script_of : (p : Plan) (told : Option Files) (c : Circuit) (bytes : List ℕ) (x : Outcome) → ReadsScript told p.script bytes → x ≡ played c (script_events (board_of c) bytes) → IfSome told (λ files. IsJudged p files (gives c) x)
-read_script_of p None c bytes x h e = tt
-read_script_of p (Some files) c bytes x h e = held (files p.script) h
+pub read_script_of : (name : List ℕ) (told : Option Files) (c : Circuit) (bytes : List ℕ) (x : Outcome) → ReadsScript told name bytes → x ≡ played c (script_events (board_of c) bytes) → IfSome told (λ files. IsPlayed (Some name) files c x)
+read_script_of name None c bytes x h e = tt
+read_script_of name (Some files) c bytes x h e = held (files name) h
   where
     held : (o : Option (List ℕ)) → MatchOption o ⊥ (λ file. SaysAs file bytes) → MatchOption o (x ≡ Unread) (λ script. x ≡ played c (script_events (board_of c) script))
     held None h = absurd h
     held (Some file) h = e ∙ ap (played c) (sym (h (board_of c)))
+
+-- without a script there are no events
+pub unplayed_of : (p : Plan) (told : Option Files) (c : Circuit) (x : Outcome) → p.script ≡ None → x ≡ Accepts c [] EndDone → IfSome told (λ files. IsJudged p files (gives c) x)
+unplayed_of p None c x e h = tt
+unplayed_of p (Some files) c x e h = subst (λ s. IsPlayed s files c x) (sym e) h
+
+-- the script of the plan
+pub played_of : (p : Plan) (told : Option Files) (name : List ℕ) (c : Circuit) (x : Outcome) → p.script ≡ Some name → IfSome told (λ files. IsPlayed (Some name) files c x) → IfSome told (λ files. IsJudged p files (gives c) x)
+played_of p None name c x e h = tt
+played_of p (Some files) name c x e h = subst (λ s. IsPlayed s files c x) (sym e) h
 
 -- a whole script says what it says
 pub whole_script : (told : Option Files) (name : List ℕ) (limit : ℕ) (v : Vec ℕ Global) → ReadsWhole told name limit (Bytes v) → ReadsScript told name v.items

@@ -1,5 +1,5 @@
 -- From what the parts of a design file gave to what the file stands for.
-use Rattle.std.specs.Prelude.{◌≡◌, refl, ℕ, ◌+◌, ◌≤◌, ◌<◌, ◌⊎◌, ◌==◌, false, List, length, take, count_by, Option, None, Some, Result, Ok, Err, IsUtf8}
+use Rattle.std.specs.Prelude.{◌≡◌, refl, ℕ, ◌+◌, ◌≤◌, ◌<◌, ◌⊎◌, ◌==◌, false, List, length, take, count_by, Result, Ok, Err, IsUtf8}
 use Rattle.std.specs.Str.{chars, IsValidUpTo}
 use Rattle.std.specs.Str.Lossy.{utf8_valid_len}
 use Rattle.std.proofs.Common.{sym, subst, arith, inl, inr}
@@ -23,7 +23,8 @@ use Rattle.elab_eval.specs.declared.refusal.ElabStop.TheVariants as elab
 use Rattle.elab_eval.specs.Elaborates.{Found as Elab_found, Comes, IsElaborated as Comes_to}
 use Rattle.amh_tool.specs.declared.refusal.DesignStop.{DesignStop}
 use Rattle.amh_tool.specs.declared.refusal.DesignStop.TheVariants.{Refused, Spent, NoMemory}
-use Rattle.amh_tool.specs.Designs.{Designed, gives, refuses, spends, refusal, line_start, budget, ComesTo, IsCut, IsDesigned, IsElaborated, IsUnparsed, IsRanked}
+use Rattle.amh_tool.specs.Plan.{Plan}
+use Rattle.amh_tool.specs.Designs.{Designed, gives, refuses, spends, refusal, line_start, ComesTo, IsCut, IsDesigned, IsElaborated, IsUnparsed, IsRanked}
 use Rattle.amh_tool.specs.DesignGives.{Found, DesignGives, CutGives, LinesGive, ProgramGives, RankGives, stop_seen}
 use Rattle.amh_tool.specs.declared.design_text.Ranked.{Ranked}
 
@@ -36,21 +37,21 @@ found_weaker P Q (Err NoMemory) f h = tt
 -- ---- bytes
 
 -- a file that is longer than it may be
-pub IsDesigned-long : (bytes : List ℕ) → 1_048_576 < length bytes → IsDesigned bytes (refuses (refusal Limit (line_start 1)))
-IsDesigned-long bytes long = rw (lt-ltb 1_048_576 (length bytes) long) refl
+pub IsDesigned-long : (p : Plan) (bytes : List ℕ) → 1_048_576 < length bytes → IsDesigned p bytes (refuses (refusal Limit (line_start 1)))
+IsDesigned-long p bytes long = rw (lt-ltb 1_048_576 (length bytes) long) refl
 
-text_designed : (bytes : List ℕ) (found : Designed) → length bytes ≤ 1_048_576 → IsUtf8 bytes → IsCut bytes (logical_lines (chars bytes)) found → IsDesigned bytes found
-text_designed bytes found few text h =
+text_designed : (p : Plan) (bytes : List ℕ) (found : Designed) → length bytes ≤ 1_048_576 → IsUtf8 bytes → IsCut p bytes (logical_lines (chars bytes)) found → IsDesigned p bytes found
+text_designed p bytes found few text h =
     rw (le-ltb 1_048_576 (length bytes) few, eq-eqb (utf8_valid_len bytes) (length bytes) (utf8_valid_len-IsUtf8 bytes text)) h
 
-pub DesignGives-text : (bytes : List ℕ) (given : Result Ranked DesignStop) → length bytes ≤ 1_048_576 → IsUtf8 bytes → CutGives bytes (logical_lines (chars bytes)) given → DesignGives bytes given
-DesignGives-text bytes given few text h =
-    found_weaker (IsCut bytes (logical_lines (chars bytes))) (IsDesigned bytes) given (λ found. text_designed bytes found few text) h
+pub DesignGives-text : (p : Plan) (bytes : List ℕ) (given : Result Ranked DesignStop) → length bytes ≤ 1_048_576 → IsUtf8 bytes → CutGives p bytes (logical_lines (chars bytes)) given → DesignGives p bytes given
+DesignGives-text p bytes given few text h =
+    found_weaker (IsCut p bytes (logical_lines (chars bytes))) (IsDesigned p bytes) given (λ found. text_designed p bytes found few text) h
 
 -- bytes that are no text
-pub IsDesigned-bytes : (bytes : List ℕ) (n : ℕ) → length bytes ≤ 1_048_576 → IsValidUpTo bytes n
-    → IsDesigned bytes (refuses (refusal Text (line_start (count_by (λ b. b == 10) (take n bytes) + 1))))
-IsDesigned-bytes bytes n few upto =
+pub IsDesigned-bytes : (p : Plan) (bytes : List ℕ) (n : ℕ) → length bytes ≤ 1_048_576 → IsValidUpTo bytes n
+    → IsDesigned p bytes (refuses (refusal Text (line_start (count_by (λ b. b == 10) (take n bytes) + 1))))
+IsDesigned-bytes p bytes n few upto =
     let front : utf8_valid_len bytes ≡ n = utf8_valid_len-IsValidUpTo bytes n upto in
     let short : n < length bytes = upto.short in
     let apart : (utf8_valid_len bytes == length bytes) ≡ false =
@@ -59,35 +60,35 @@ IsDesigned-bytes bytes n few upto =
 
 -- ---- lines
 
-pub CutGives-lines : (text : List ℕ) (cut : Result (List Line) Place) (lines : List Line) (given : Result Ranked DesignStop) → cut ≡ Ok lines → LinesGive text lines given → CutGives text cut given
-CutGives-lines text cut lines given is h = subst (λ (x : Result (List Line) Place). CutGives text x given) (sym is) h
+pub CutGives-lines : (p : Plan) (text : List ℕ) (cut : Result (List Line) Place) (lines : List Line) (given : Result Ranked DesignStop) → cut ≡ Ok lines → LinesGive p text lines given → CutGives p text cut given
+CutGives-lines p text cut lines given is h = subst (λ (x : Result (List Line) Place). CutGives p text x given) (sym is) h
 
-pub CutGives-fault : (text : List ℕ) (cut : Result (List Line) Place) (place : Place) → cut ≡ Err place → CutGives text cut (Err (Refused (refusal Subset place)))
-CutGives-fault text cut place is = subst (λ (x : Result (List Line) Place). CutGives text x (Err (Refused (refusal Subset place)))) (sym is) refl
+pub CutGives-fault : (p : Plan) (text : List ℕ) (cut : Result (List Line) Place) (place : Place) → cut ≡ Err place → CutGives p text cut (Err (Refused (refusal Subset place)))
+CutGives-fault p text cut place is = subst (λ (x : Result (List Line) Place). CutGives p text x (Err (Refused (refusal Subset place)))) (sym is) refl
 
-pub LinesGive-unparsed : (text : List ℕ) (lines : List Line) (place : Place) → IsRefusedAt text lines place → LinesGive text lines (Err (Refused (refusal Subset place)))
-LinesGive-unparsed text lines place h = inr (record { place = place; refused = h; is = refl })
+pub LinesGive-unparsed : (p : Plan) (text : List ℕ) (lines : List Line) (place : Place) → IsRefusedAt text lines place → LinesGive p text lines (Err (Refused (refusal Subset place)))
+LinesGive-unparsed p text lines place h = inr (record { place = place; refused = h; is = refl })
 
 -- ---- programs
 
-LinesGive-parsed : (text : List ℕ) (lines : List Line) (body : Steps) → IsProgram (file_lines text lines) body → (found : Designed) → ComesTo (mangled_program body) found → IsElaborated text lines found ⊎ IsUnparsed text lines found
-LinesGive-parsed text lines body program found h = inl (record { body = body; program = program; comes = h })
+LinesGive-parsed : (p : Plan) (text : List ℕ) (lines : List Line) (body : Steps) → IsProgram (file_lines text lines) body → (found : Designed) → ComesTo p (mangled_program body) found → IsElaborated p text lines found ⊎ IsUnparsed text lines found
+LinesGive-parsed p text lines body program found h = inl (record { body = body; program = program; comes = h })
 
 -- a program gives what it comes to
-pub LinesGive-program : (text : List ℕ) (lines : List Line) (body : Steps) (given : Result Ranked DesignStop) → IsProgram (file_lines text lines) body → ProgramGives (mangled_program body) given → LinesGive text lines given
-LinesGive-program text lines body given program h =
-    found_weaker (ComesTo (mangled_program body)) (λ found. IsElaborated text lines found ⊎ IsUnparsed text lines found) given (LinesGive-parsed text lines body program) h
+pub LinesGive-program : (p : Plan) (text : List ℕ) (lines : List Line) (body : Steps) (given : Result Ranked DesignStop) → IsProgram (file_lines text lines) body → ProgramGives p (mangled_program body) given → LinesGive p text lines given
+LinesGive-program p text lines body given program h =
+    found_weaker (ComesTo p (mangled_program body)) (λ found. IsElaborated p text lines found ⊎ IsUnparsed text lines found) given (LinesGive-parsed p text lines body program) h
 
 -- a program with a design, which is ranked
-pub ProgramGives-design : (body : Steps) (left : ℕ) (f : Elab_found) (given : Result Ranked DesignStop) → Comes body budget left (Ok f) → RankGives f.circuit given → ProgramGives body given
-ProgramGives-design body left f given h ranks =
-    found_weaker (IsRanked f.circuit) (ComesTo body) given (λ found ranked. record { came = Ok f; used = h.used; elaborates = h.outcome; checked = ranked }) ranks
+pub ProgramGives-design : (p : Plan) (body : Steps) (left : ℕ) (f : Elab_found) (given : Result Ranked DesignStop) → Comes body p.top p.budget left (Ok f) → RankGives f.circuit given → ProgramGives p body given
+ProgramGives-design p body left f given h ranks =
+    found_weaker (IsRanked f.circuit) (ComesTo p body) given (λ found ranked. record { came = Ok f; used = h.used; elaborates = h.outcome; checked = ranked }) ranks
 
 -- a program that is refused, or whose budget is spent
-pub ProgramGives-stop : (body : Steps) (left : ℕ) (stop : ElabStop) → Comes_to body budget left (Err stop) → ProgramGives body (Err (stop_seen stop))
-ProgramGives-stop body left (elab.Refused kind place) h = record { came = Err (elab.Refused kind place); used = h.used; elaborates = h.outcome; checked = refl }
-ProgramGives-stop body left (elab.Spent place) h = record { came = Err (elab.Spent place); used = h.used; elaborates = h.outcome; checked = refl }
-ProgramGives-stop body left elab.NoMemory h = tt
+pub ProgramGives-stop : (p : Plan) (body : Steps) (left : ℕ) (stop : ElabStop) → Comes_to body p.top p.budget left (Err stop) → ProgramGives p body (Err (stop_seen stop))
+ProgramGives-stop p body left (elab.Refused kind place) h = record { came = Err (elab.Refused kind place); used = h.used; elaborates = h.outcome; checked = refl }
+ProgramGives-stop p body left (elab.Spent place) h = record { came = Err (elab.Spent place); used = h.used; elaborates = h.outcome; checked = refl }
+ProgramGives-stop p body left elab.NoMemory h = tt
 
 -- ---- the order of bits
 

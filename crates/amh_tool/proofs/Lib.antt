@@ -1,3 +1,4 @@
+mod PlanSamples
 mod TraceSamples
 pub mod TraceLaws
 pub mod LaneLaws

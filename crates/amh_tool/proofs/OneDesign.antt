@@ -1,5 +1,5 @@
 -- The bytes of a design file stand for one design, for one refusal, or for one spent budget.
-use Rattle.std.specs.Prelude.{◌≡◌, refl, ℕ, ◌==◌, nat_lt, Bool, true, false, List, length, Option, None, Some, Result, Ok, Err}
+use Rattle.std.specs.Prelude.{◌≡◌, refl, ℕ, ◌==◌, nat_lt, Bool, true, false, List, length, Result, Ok, Err}
 use Rattle.std.specs.Bool.{MatchBool}
 use Rattle.std.specs.Str.{chars}
 use Rattle.std.specs.Str.Lossy.{utf8_valid_len}
@@ -18,7 +18,8 @@ use Rattle.comb_graph.specs.Refusals.{IsUpTo, IsLeastLoop, loop_place}
 use Rattle.elab_eval.specs.declared.refusal.ElabStop.{ElabStop}
 use Rattle.elab_eval.specs.declared.refusal.ElabStop.TheVariants as elab
 use Rattle.elab_eval.specs.Elaborates.{Found, OneOutcome as One_elaboration}
-use Rattle.amh_tool.specs.Designs.{Designed, gives, refuses, spends, refusal, line_start, budget, bad_line, IsLoopTold, IsRanked, IsChecked, ComesTo, IsElaborated, IsUnparsed, IsCut, IsText, IsDesigned}
+use Rattle.amh_tool.specs.Plan.{Plan}
+use Rattle.amh_tool.specs.Designs.{Designed, gives, refuses, spends, refusal, line_start, bad_line, IsLoopTold, IsRanked, IsChecked, ComesTo, IsElaborated, IsUnparsed, IsCut, IsText, IsDesigned}
 use Rattle.amh_tool.proofs.LinePlaces.{place_by_words}
 use Rattle.amh_tool.proofs.RefusedLines.{refused_once, program_stands}
 
@@ -66,18 +67,18 @@ checked_once (Err (elab.Refused kind place)) = once_equal (refuses (refusal kind
 checked_once (Err (elab.Spent place)) = once_equal (spends place)
 checked_once (Err elab.NoMemory) = λ x y h k. absurd h
 
-comes_once : One_elaboration → (body : Steps) → Once (ComesTo body)
-comes_once one body x y h k =
-    let same = (one body budget h.came k.came h.used k.used h.elaborates k.elaborates).0 in
+comes_once : One_elaboration → (p : Plan) (body : Steps) → Once (ComesTo p body)
+comes_once one p body x y h k =
+    let same = (one body p.top p.budget h.came k.came h.used k.used h.elaborates k.elaborates).0 in
     checked_once k.came x y (subst (λ (r : Result Found ElabStop). IsChecked r x) same h.checked) k.checked
 
 -- ---- lines
 
 module _ (one_elaboration : One_elaboration) (one_program : OneProgram) (front_of_front : FrontOfFront) where
-  elaborated_once : (text : List ℕ) (lines : List Line) → Once (IsElaborated text lines)
-  elaborated_once text lines x y h k =
+  elaborated_once : (p : Plan) (text : List ℕ) (lines : List Line) → Once (IsElaborated p text lines)
+  elaborated_once p text lines x y h k =
       let body : h.body ≡ k.body = one_program (file_lines text lines) h.body k.body h.program k.program in
-      comes_once one_elaboration (mangled_program k.body) x y (subst (λ (b : Steps). ComesTo (mangled_program b) x) body h.comes) k.comes
+      comes_once one_elaboration p (mangled_program k.body) x y (subst (λ (b : Steps). ComesTo p (mangled_program b) x) body h.comes) k.comes
 
   refused_at_once : (text cs : List ℕ) (lines : List Line) → logical_lines cs ≡ Ok lines → Once (IsRefusedAt text lines)
   refused_at_once text cs lines cut x y h k =
@@ -88,15 +89,15 @@ module _ (one_elaboration : One_elaboration) (one_program : OneProgram) (front_o
   unparsed_once text cs lines cut x y h k =
       h.is ∙ ap (λ (p : Place). refuses (refusal Subset p)) (refused_at_once text cs lines cut h.place k.place h.refused k.refused) ∙ sym k.is
 
-  not_both : (text : List ℕ) (lines : List Line) (x y : Designed) → IsElaborated text lines x → IsUnparsed text lines y → ⊥
-  not_both text lines x y h k = program_stands front_of_front (file_lines text lines) h.body (words_line text k.refused.line) h.program k.refused.refused
+  not_both : (p : Plan) (text : List ℕ) (lines : List Line) (x y : Designed) → IsElaborated p text lines x → IsUnparsed text lines y → ⊥
+  not_both p text lines x y h k = program_stands front_of_front (file_lines text lines) h.body (words_line text k.refused.line) h.program k.refused.refused
 
-  cut_once : (text cs : List ℕ) (cut : Result (List Line) Place) → logical_lines cs ≡ cut → Once (IsCut text cut)
-  cut_once text cs (Ok lines) is x y (inl h) (inl k) = elaborated_once text lines x y h k
-  cut_once text cs (Ok lines) is x y (inl h) (inr k) = absurd (not_both text lines x y h k)
-  cut_once text cs (Ok lines) is x y (inr h) (inl k) = absurd (not_both text lines y x k h)
-  cut_once text cs (Ok lines) is x y (inr h) (inr k) = unparsed_once text cs lines is x y h k
-  cut_once text cs (Err place) is x y h k = once_equal (refuses (refusal Subset place)) x y h k
+  cut_once : (p : Plan) (text cs : List ℕ) (cut : Result (List Line) Place) → logical_lines cs ≡ cut → Once (IsCut p text cut)
+  cut_once p text cs (Ok lines) is x y (inl h) (inl k) = elaborated_once p text lines x y h k
+  cut_once p text cs (Ok lines) is x y (inl h) (inr k) = absurd (not_both p text lines x y h k)
+  cut_once p text cs (Ok lines) is x y (inr h) (inl k) = absurd (not_both p text lines y x k h)
+  cut_once p text cs (Ok lines) is x y (inr h) (inr k) = unparsed_once text cs lines is x y h k
+  cut_once p text cs (Err place) is x y h k = once_equal (refuses (refusal Subset place)) x y h k
 
   -- ---- bytes
 
@@ -104,12 +105,12 @@ module _ (one_elaboration : One_elaboration) (one_program : OneProgram) (front_o
   either_once true P Q h k = h
   either_once false P Q h k = k
 
-  text_once : (bytes : List ℕ) → Once (IsText bytes)
-  text_once bytes =
-      either_once (utf8_valid_len bytes == length bytes) (IsCut bytes (logical_lines (chars bytes))) (λ found. found ≡ refuses (refusal Text (line_start (bad_line bytes))))
-      (cut_once bytes (chars bytes) (logical_lines (chars bytes)) refl) (once_equal (refuses (refusal Text (line_start (bad_line bytes)))))
+  text_once : (p : Plan) (bytes : List ℕ) → Once (IsText p bytes)
+  text_once p bytes =
+      either_once (utf8_valid_len bytes == length bytes) (IsCut p bytes (logical_lines (chars bytes))) (λ found. found ≡ refuses (refusal Text (line_start (bad_line bytes))))
+      (cut_once p bytes (chars bytes) (logical_lines (chars bytes)) refl) (once_equal (refuses (refusal Text (line_start (bad_line bytes)))))
 
-  pub designed_once : (bytes : List ℕ) → Once (IsDesigned bytes)
-  designed_once bytes =
-      either_once (nat_lt 1_048_576 (length bytes)) (λ found. found ≡ refuses (refusal Limit (line_start 1))) (IsText bytes)
-      (once_equal (refuses (refusal Limit (line_start 1)))) (text_once bytes)
+  pub designed_once : (p : Plan) (bytes : List ℕ) → Once (IsDesigned p bytes)
+  designed_once p bytes =
+      either_once (nat_lt 1_048_576 (length bytes)) (λ found. found ≡ refuses (refusal Limit (line_start 1))) (IsText p bytes)
+      (once_equal (refuses (refusal Limit (line_start 1)))) (text_once p bytes)

@@ -1,5 +1,5 @@
 -- From what the parts of a run did to the clauses of the whole.
-use Rattle.std.proofs.Common.{◌≡◌, ◌≢◌, ◌∙◌, ◌⊎◌, ℕ, suc, length, Bool, true, false, cond, not, ◌&&◌, List, [], ◌∷◌, refl, ap, sym, subst, inl, inr}
+use Rattle.std.proofs.Common.{◌≡◌, ◌≢◌, ◌∙◌, ◌⊎◌, ℕ, suc, length, Bool, true, false, cond, not, ◌&&◌, ◌||◌, List, [], ◌∷◌, refl, ap, sym, subst, inl, inr}
 use Rattle.std.specs.Prelude.{Option, None, Some, MatchOption, Result, Ok, Err, OnErr, OnOk}
 use Rattle.std.specs.Option.{option_map, option_map_or}
 use Rattle.std.specs.Str.{bytes_eq}
@@ -11,8 +11,11 @@ use Rattle.amh_host.proofs.SeenLaws.{file_of-with_file_here, file_of-with_file_a
 use Rattle.amh_host.specs.Written.{WritesFront, Writes}
 use Rattle.design_ir.specs.declared.event.Event.{Event}
 use Rattle.design_ir.specs.Circuits.{Circuit}
+use Rattle.clap.specs.Words.{matches_of}
+use Rattle.command_words.specs.Command.{command}
+use Rattle.command_words.specs.Request.{Request, are_apart, asked, is_of_command, names_of, request_of, with_names_apart}
 use Rattle.play_text.specs.Trace.{Row, End, Done as EndDone, timed}
-use Rattle.amh_tool.specs.Plan.{Plan, plan_of, differ, are_distinct}
+use Rattle.amh_tool.specs.Plan.{Plan, plan_in, is_planned, planned, plan_of}
 use Rattle.amh_tool.specs.Outcome.{Outcome, Unread, BadWords, Refuses, Spends, BadLine, Accepts, IsOutcome, IsPlanned, status_of, said_of, warned_of, names, no_plan, usage_text}
 use Rattle.amh_tool.specs.Headline.{Tells, IfAccepted, IsAccepted, HoldsRtlil, HoldsTrace, IsWritten, grown}
 use Rattle.amh_tool.specs.Work.{Owed, Works, WorksFor, WorksUsage, Fails, FailsFor, Carries, CarriesPart, IsFor, with_files}
@@ -123,22 +126,31 @@ turned_not : (b : Bool) → not b ≡ true → b ≡ false
 turned_not true e = absurd ((cc))
 turned_not false e = refl
 
-differ_apart : (m n : List ℕ) → differ m n ≡ true → m ≢ n
-differ_apart m n d e = let f = turned_not (bytes_eq m n) d in let t = (bytes_eq-Decides m n).1 e in absurd (cc)
+neither_first : (a b : Bool) → not (a || b) ≡ true → a ≡ false
+neither_first true b e = absurd ((cc))
+neither_first false b e = refl
 
-second_apart : (a b c d : List ℕ) → are_distinct a b c d ≡ true → b ≢ c
-second_apart a b c d h = differ_apart b c (right _ _ (left _ _ (left _ _ h)))
+-- of the names that a request has, the second is not the third
+outputs_apart : (r : Request) → are_apart (names_of r) ≡ true → r.il ≢ r.trace
+outputs_apart r h e =
+    let f : bytes_eq r.il r.trace ≡ false = neither_first (bytes_eq r.il r.trace) _ (left _ _ (right _ _ h)) in
+    let t : bytes_eq r.il r.trace ≡ true = (bytes_eq-Decides r.il r.trace).1 e in
+    absurd (cc)
+
+with_names_is : (b : Bool) (q r : Request) → cond b (with_names_apart q) None ≡ Some r → are_apart (names_of r) ≡ true
+with_names_is true q r e = let k = chosen (are_apart (names_of q)) q r e in subst (λ (x : Request). are_apart (names_of x) ≡ true) k.1 k.0
+with_names_is false q r e = absurd ((cc))
+
+asked_apart : (words : List (List ℕ)) (r : Request) → asked words ≡ Some r → r.il ≢ r.trace
+unfolding asked
+asked_apart words r e = outputs_apart r (with_names_is (is_of_command words) (request_of (matches_of command words)) r e)
+
+planned_apart : (o : Option Request) (p : Plan) → ((r : Request) → o ≡ Some r → r.il ≢ r.trace) → planned o ≡ Some p → p.il ≢ p.trace
+planned_apart None p h e = absurd ((cc))
+planned_apart (Some r) p h e = let k = chosen (is_planned r) (plan_in r) p e in subst (λ (q : Plan). q.il ≢ q.trace) k.1 (h r refl)
 
 plan-apart : (words : List (List ℕ)) (p : Plan) → plan_of words ≡ Some p → p.il ≢ p.trace
-plan-apart [] p e = absurd ((cc))
-plan-apart (a ∷ []) p e = absurd ((cc))
-plan-apart (a ∷ b ∷ []) p e = absurd ((cc))
-plan-apart (a ∷ b ∷ c ∷ []) p e = absurd ((cc))
-plan-apart (a ∷ b ∷ c ∷ d ∷ []) p e = absurd ((cc))
-plan-apart (a ∷ b ∷ c ∷ d ∷ f ∷ []) p e =
-    let k = chosen _ _ p e in
-    subst (λ (q : Plan). q.il ≢ q.trace) k.1 (second_apart a b c f (right _ _ (left _ _ k.0)))
-plan-apart (a ∷ b ∷ c ∷ d ∷ f ∷ g ∷ rest) p e = absurd ((cc))
+plan-apart words p e = planned_apart (asked words) p (asked_apart words) e
 
 -- what the words ask for, by their plan
 abbrev IsOutcome_at : Option Plan → Files → Outcome → Type 0

@@ -9,6 +9,7 @@ use Rattle.elab_eval.specs.declared.refusal.ElabStop.{ElabStop}
 use Rattle.elab_eval.specs.declared.refusal.ElabStop.TheVariants as elab
 use Rattle.amh_tool.specs.declared.refusal.DesignStop.{DesignStop}
 use Rattle.amh_tool.specs.declared.refusal.DesignStop.TheVariants.{Refused, Spent, NoMemory}
+use Rattle.amh_tool.specs.Plan.{Plan}
 use Rattle.amh_tool.specs.Designs.{Designed, refusal, gives, refuses, spends, IsDesigned, IsCut, IsElaborated, IsUnparsed, ComesTo, IsRanked}
 use Rattle.amh_tool.specs.declared.design_text.Ranked.{Ranked}
 
@@ -19,17 +20,17 @@ Found P (Err (Refused why)) = P (refuses why)
 Found P (Err (Spent place)) = P (spends place)
 Found P (Err NoMemory) = Unit {0}
 
-abbrev pub DesignGives : List ℕ → Result Ranked DesignStop → Type 0
-DesignGives bytes given = Found (IsDesigned bytes) given
+abbrev pub DesignGives : Plan → List ℕ → Result Ranked DesignStop → Type 0
+DesignGives p bytes given = Found (IsDesigned p bytes) given
 
-abbrev pub CutGives : List ℕ → Result (List Line) Place → Result Ranked DesignStop → Type 0
-CutGives text cut given = Found (IsCut text cut) given
+abbrev pub CutGives : Plan → List ℕ → Result (List Line) Place → Result Ranked DesignStop → Type 0
+CutGives p text cut given = Found (IsCut p text cut) given
 
-abbrev pub LinesGive : List ℕ → List Line → Result Ranked DesignStop → Type 0
-LinesGive text lines given = Found (λ found. IsElaborated text lines found ⊎ IsUnparsed text lines found) given
+abbrev pub LinesGive : Plan → List ℕ → List Line → Result Ranked DesignStop → Type 0
+LinesGive p text lines given = Found (λ found. IsElaborated p text lines found ⊎ IsUnparsed text lines found) given
 
-abbrev pub ProgramGives : Steps → Result Ranked DesignStop → Type 0
-ProgramGives body given = Found (ComesTo body) given
+abbrev pub ProgramGives : Plan → Steps → Result Ranked DesignStop → Type 0
+ProgramGives p body given = Found (ComesTo p body) given
 
 abbrev pub RankGives : Circuit → Result Ranked DesignStop → Type 0
 RankGives c given = Found (IsRanked c) given

@@ -1,4 +1,4 @@
--- What the bytes of a design file stand for: a design, or why there is none.
+-- What the bytes of a design file stand for under a plan, which says how much they may cost and may name the top: a design, or why there is none.
 -- Source: this project's own rule (docs/RULES.md).
 use Rattle.std.specs.Prelude.{◌≡◌, ◌+◌, ◌==◌, ◌⊎◌, nat_lt, ℕ, List, length, take, count_by, Result, Ok, Err}
 use Rattle.std.specs.Bool.{MatchBool}
@@ -20,6 +20,7 @@ use Rattle.comb_graph.specs.Refusals.{IsTold}
 use Rattle.elab_eval.specs.declared.refusal.ElabStop.{ElabStop}
 use Rattle.elab_eval.specs.declared.refusal.ElabStop.TheVariants as elab
 use Rattle.elab_eval.specs.Elaborates.{Found, Elaborates}
+use Rattle.amh_tool.specs.Plan.{Plan}
 use Rattle.amh_tool.specs.declared.refusal.Refusal.{Refusal}
 
 -- a design, a refusal, or a budget that is spent before there is a design
@@ -54,10 +55,6 @@ IsRanked c (spends place) = ⊥
 
 -- ---- the program
 
--- how many units of cost a program has
-abbrev pub budget : ℕ
-budget = 10_000_000
-
 -- what elaboration comes to leads to this; want of memory is no answer of a file
 abbrev pub IsChecked : Result Found ElabStop → Designed → Type 0
 IsChecked (Ok f) found = IsRanked f.circuit found
@@ -65,18 +62,18 @@ IsChecked (Err (elab.Refused kind place)) found = found ≡ refuses (refusal kin
 IsChecked (Err (elab.Spent place)) found = found ≡ spends place
 IsChecked (Err elab.NoMemory) found = ⊥
 
--- a program, elaborated within the budget, comes to this
-pub record ComesTo (body : Steps) (found : Designed) : Type 0 where
+-- a program, elaborated within the plan's budget, comes to this
+pub record ComesTo (p : Plan) (body : Steps) (found : Designed) : Type 0 where
   pub came : Result Found ElabStop
   pub used : ℕ
-  pub elaborates : Elaborates body budget came used
+  pub elaborates : Elaborates body p.top p.budget came used
   pub checked : IsChecked came found
 
 -- the lines stand for a program, which is elaborated once its private names are written out
-pub record IsElaborated (text : List ℕ) (lines : List Line) (found : Designed) : Type 0 where
+pub record IsElaborated (p : Plan) (text : List ℕ) (lines : List Line) (found : Designed) : Type 0 where
   pub body : Steps
   pub program : IsProgram (file_lines text lines) body
-  pub comes : ComesTo (mangled_program body) found
+  pub comes : ComesTo p (mangled_program body) found
 
 -- the lines stand for no program
 pub record IsUnparsed (text : List ℕ) (lines : List Line) (found : Designed) : Type 0 where
@@ -86,19 +83,19 @@ pub record IsUnparsed (text : List ℕ) (lines : List Line) (found : Designed) :
 
 -- ---- the text
 
-abbrev pub IsCut : List ℕ → Result (List Line) Place → Designed → Type 0
-IsCut text (Ok lines) found = IsElaborated text lines found ⊎ IsUnparsed text lines found
-IsCut text (Err place) found = found ≡ refuses (refusal Subset place)
+abbrev pub IsCut : Plan → List ℕ → Result (List Line) Place → Designed → Type 0
+IsCut p text (Ok lines) found = IsElaborated p text lines found ⊎ IsUnparsed text lines found
+IsCut p text (Err place) found = found ≡ refuses (refusal Subset place)
 
 -- the number of the line in which the first bad byte stands
 abbrev pub bad_line : List ℕ → ℕ
 bad_line bytes = count_by (λ b. b == 10) (take (utf8_valid_len bytes) bytes) + 1
 
 -- bytes that are no text are refused at the line of the first bad one
-abbrev pub IsText : List ℕ → Designed → Type 0
-IsText bytes found =
+abbrev pub IsText : Plan → List ℕ → Designed → Type 0
+IsText p bytes found =
     MatchBool (utf8_valid_len bytes == length bytes)
-    (IsCut bytes (logical_lines (chars bytes)) found)
+    (IsCut p bytes (logical_lines (chars bytes)) found)
     (found ≡ refuses (refusal Text (line_start (bad_line bytes))))
 
 -- how many bytes a design file may have
@@ -106,5 +103,5 @@ abbrev pub most_design : ℕ
 most_design = 1_048_576
 
 -- what a design file stands for
-abbrev pub IsDesigned : List ℕ → Designed → Type 0
-IsDesigned bytes found = MatchBool (nat_lt most_design (length bytes)) (found ≡ refuses (refusal Limit (line_start 1))) (IsText bytes found)
+abbrev pub IsDesigned : Plan → List ℕ → Designed → Type 0
+IsDesigned p bytes found = MatchBool (nat_lt most_design (length bytes)) (found ≡ refuses (refusal Limit (line_start 1))) (IsText p bytes found)

@@ -1,6 +1,6 @@
 -- What the words and the files ask for.
 -- Source: this project's own rule (docs/RULES.md).
-use Rattle.std.specs.Prelude.{◌≡◌, ℕ, List, [], length, Option, None, Some, MatchOption, codes, Result, Ok, Err}
+use Rattle.std.specs.Prelude.{◌≡◌, ℕ, List, [], length, Option, None, Some, MatchOption, codes, Result, Ok, Err, unwrap_or}
 use Rattle.std.specs.Option.{option_map_or}
 use Rattle.std.specs.Fmt.{decimal}
 use Rattle.amh_host.specs.Seen.{Files}
@@ -14,7 +14,7 @@ use Rattle.amh_tool.specs.declared.running.Status.{Status}
 use Rattle.amh_tool.specs.declared.running.Status.TheVariants.{Done, Refused, AssertFailed, Usage, Spent, Fault, NoMemory}
 use Rattle.play_text.specs.Trace.{Row, End, Done as EndDone, timed, ◌▸◌, line_feed}
 use Rattle.amh_tool.specs.Plan.{Plan, plan_of}
-use Rattle.amh_tool.specs.Designs.{Designed, gives, refuses, spends, IsDesigned, budget}
+use Rattle.amh_tool.specs.Designs.{Designed, gives, refuses, spends, IsDesigned}
 use Rattle.play_text.specs.Boards.{board_of}
 use Rattle.play_text.specs.Script.{script_events}
 
@@ -37,16 +37,21 @@ played c (Err line) = BadLine line
 abbrev pub Follows : Files → List ℕ → (List ℕ → Outcome → Type 0) → Outcome → Type 0
 Follows files name from o = MatchOption (files name) (o ≡ Unread) (λ bytes. from bytes o)
 
+-- the script is read, and without one there are no events
+abbrev pub IsPlayed : Option (List ℕ) → Files → Circuit → Outcome → Type 0
+IsPlayed None files c o = o ≡ Accepts c [] EndDone
+IsPlayed (Some name) files c o = Follows files name (λ script x. x ≡ played c (script_events (board_of c) script)) o
+
 -- the design is refused, or its budget is spent, or its script is read
 abbrev pub IsJudged : Plan → Files → Designed → Outcome → Type 0
 IsJudged p files (refuses r) o = o ≡ Refuses r
 IsJudged p files (spends place) o = o ≡ Spends place
-IsJudged p files (gives c) o = Follows files p.script (λ script x. x ≡ played c (script_events (board_of c) script)) o
+IsJudged p files (gives c) o = IsPlayed p.script files c o
 
 -- what a design file leads to
 pub record FromDesign (p : Plan) (files : Files) (bytes : List ℕ) (o : Outcome) : Type 0 where
   pub found : Designed
-  pub designed : IsDesigned bytes found
+  pub designed : IsDesigned p bytes found
   pub judged : IsJudged p files found o
 
 abbrev pub IsPlanned : Plan → Files → Outcome → Type 0
@@ -108,7 +113,7 @@ unfoldable pub bad_line_text : List ℕ → ℕ → List ℕ
 bad_line_text name line = name ▸ codes ":" ▸ decimal line ▸ codes ": script" ▸ line_feed
 
 abbrev pub no_plan : Plan
-no_plan = record { design = []; il = []; trace = []; script = [] }
+no_plan = record { design = []; il = []; trace = []; script = None; top = None; budget = 0 }
 
 -- the names, which are empty where the words are bad
 abbrev pub names : List (List ℕ) → Plan
@@ -118,8 +123,8 @@ abbrev pub warned_of : Plan → Outcome → List ℕ
 warned_of p Unread = []
 warned_of p BadWords = usage_text
 warned_of p (Refuses r) = refusal_text p.design r
-warned_of p (Spends place) = spent_text budget
-warned_of p (BadLine line) = bad_line_text p.script line
+warned_of p (Spends place) = spent_text p.budget
+warned_of p (BadLine line) = bad_line_text (unwrap_or p.script []) line
 warned_of p (Accepts c rows end) = []
 
 -- the exit code of an answer

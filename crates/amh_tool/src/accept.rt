@@ -1,16 +1,17 @@
 // What the files ask for: the design is read and judged, then its script.
-ghost use Rattle.std.specs.Prelude.{◌≡◌, ◌≤◌, length, IfOk, IfSome};
+ghost use Rattle.std.specs.Prelude.{◌≡◌, ◌≤◌, ◌<◌, length, [], Some, IfOk, IfSome};
 ghost use Rattle.amh_host.specs.Causes.{HasCause};
-ghost use Rattle.amh_tool.specs.Outcome.{IsPlanned, IsJudged};
+ghost use Rattle.amh_tool.specs.Outcome.{IsPlanned, IsPlayed, IsJudged, Accepts};
 ghost use Rattle.amh_tool.specs.Designs.{gives, refusal, line_start};
 ghost use Rattle.amh_tool.specs.Verdicts.{verdict_seen, IsFit, IsReady};
+ghost use Rattle.play_text.specs.Trace.{Done};
 ghost use Rattle.play_text.specs.ScriptGives.{ReadsScript};
 ghost use Rattle.amh_tool.specs.Views.{plan_seen};
 
 use crate::design_text::{Ranked, read_design};
 use crate::plan::Plan;
 use crate::refusal::{DesignStop, Refusal};
-use amh_host::{Host, HostStop, Items, Kind, Place, Steps, Whole, read_whole};
+use amh_host::{Host, HostStop, Items, Kind, NoMemory, Place, Steps, Whole, read_whole};
 use design_ir::Event;
 use play_text::board::{Board, board_of};
 use play_text::script::{ScriptStop, read_script};
@@ -23,7 +24,7 @@ const MOST_DESIGN: usize = 1_048_576;
 /// How many bytes a script may have.
 const MOST_SCRIPT: usize = 16_777_216;
 
-/// A design with its columns, and the events of its script.
+/// A design with its columns, and the events of its script, if one is played.
 #[derive(Drop)]
 pub struct Accepted {
     pub ranked: Ranked,
@@ -47,6 +48,7 @@ pub fn accept<H: Host, L: Ledger>(
     plan: &Plan<'_>,
     steps: &mut Steps<L>,
 ) -> Result<Verdict, HostStop>
+    requires { 0 < plan.now.budget }
     ensures given { IfOk result (λ v. IfSome (H.seen host.old).files (λ files. IsPlanned (plan_seen plan.now) files (verdict_seen v))) }
     ensures fit { IfOk result IsFit }
     ensures same { H.seen host.new ≡ H.seen host.old }
@@ -57,7 +59,7 @@ pub fn accept<H: Host, L: Ledger>(
         Whole::Bytes(text) => text,
         Whole::TooLong(_) => return Ok(Verdict::Refused(too_long())),
     };
-    match read_design(alloc, &text, steps) {
+    match read_design(alloc, &text, plan, steps) {
         Ok(ranked) => accept_script(alloc, host, plan, ranked),
         Err(DesignStop::Refused(why)) => Ok(Verdict::Refused(why)),
         Err(DesignStop::Spent(place)) => Ok(Verdict::Spent(place)),
@@ -75,7 +77,7 @@ fn too_long() -> Refusal
     }
 }
 
-// The script of a design that is one.
+// The script of a design that is one, where one is played.
 fn accept_script<H: Host>(
     alloc: Global,
     host: &mut H,
@@ -88,10 +90,43 @@ fn accept_script<H: Host>(
     ensures same { H.seen host.new ≡ H.seen host.old }
     ensures cause { HasCause (H.faults host.old) (H.faults host.new) result }
 {
+    match plan.script {
+        Some(name) => accept_played(alloc, host, name, ranked),
+        None => Ok(accept_unplayed(alloc, ranked)?),
+    }
+}
+
+// A design without events.
+fn accept_unplayed(alloc: Global, ranked: Ranked) -> Result<Verdict, NoMemory>
+    requires { IsReady ranked }
+    ensures given { IfOk result (λ v. verdict_seen v ≡ Accepts ranked.design [] Done) }
+    ensures fit { IfOk result IsFit }
+{
+    let board = board_of(alloc, &ranked.design)?;
+    Ok(Verdict::Accepted(Accepted {
+        ranked,
+        board,
+        events: Items::new(alloc),
+    }))
+}
+
+// A design with the events of this script.
+fn accept_played<H: Host>(
+    alloc: Global,
+    host: &mut H,
+    name: &str,
+    ranked: Ranked,
+) -> Result<Verdict, HostStop>
+    requires { IsReady ranked }
+    ensures given { IfOk result (λ v. IfSome (H.seen host.old).files (λ files. IsPlayed (Some name.now) files ranked.design (verdict_seen v))) }
+    ensures fit { IfOk result IsFit }
+    ensures same { H.seen host.new ≡ H.seen host.old }
+    ensures cause { HasCause (H.faults host.old) (H.faults host.new) result }
+{
     // A design numbers its domains, so there are few of them.
     let _ = ranked.design.domains();
     let board = board_of(alloc, &ranked.design)?;
-    let text = script_text(alloc, host, plan.script)?;
+    let text = script_text(alloc, host, name)?;
     match read_script(alloc, &board, &text) {
         Ok(events) => Ok(Verdict::Accepted(Accepted {
             ranked,

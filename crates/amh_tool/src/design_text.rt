@@ -1,13 +1,15 @@
 // From the bytes of a design file to its design, with the order of its bits.
-ghost use Rattle.std.specs.Prelude.{◌≡◌, ◌≤◌, ◌+◌, ◌==◌, length, count_by, IfOk};
+ghost use Rattle.std.specs.Prelude.{◌≡◌, ◌≤◌, ◌<◌, ◌+◌, ◌==◌, length, count_by, IfOk};
 ghost use Rattle.std.specs.Str.{chars};
 ghost use Rattle.py_lexer.specs.Lines.{logical_lines};
 ghost use Rattle.py_tree.specs.Programs.{program_of};
 ghost use Rattle.private_names.specs.Statements.{mangled_program};
-ghost use Rattle.amh_tool.specs.Designs.{line_start, refusal, budget};
+ghost use Rattle.amh_tool.specs.Designs.{line_start, refusal};
 ghost use Rattle.amh_tool.specs.DesignGives.{DesignGives, CutGives, LinesGive, ProgramGives, RankGives, stop_seen};
 ghost use Rattle.amh_tool.specs.Verdicts.{IsReady};
+ghost use Rattle.amh_tool.specs.Views.{plan_seen};
 
+use crate::plan::Plan;
 use crate::refusal::{DesignStop, Refusal};
 use amh_host::{Budget, Kind, Place, Steps};
 use comb_graph::{GraphStop, Ranks, ordered_have_no_loop, rank};
@@ -21,9 +23,6 @@ use std::alloc::Global;
 use std::str;
 use std::sync::ledger::Ledger;
 
-/// How many units of cost a program has.
-pub const BUDGET: u64 = 10_000_000;
-
 /// A design, with the order of its bits.
 #[derive(Drop)]
 pub struct Ranked {
@@ -31,7 +30,7 @@ pub struct Ranked {
     pub ranks: Ranks,
 }
 
-/// Reads a design file.
+/// Reads a design file, as the plan has it: its budget, and the name of the top where the words give one.
 ///
 /// Refused are bytes that are no UTF-8, as `Text` at the line of the first of them, then what has no logical lines and
 /// the first line that the grammar does not allow, as `Subset`, then what elaboration refuses, and then a bit that needs
@@ -39,15 +38,17 @@ pub struct Ranked {
 pub fn read_design<L: Ledger>(
     alloc: Global,
     bytes: &[u8],
+    plan: &Plan<'_>,
     steps: &mut Steps<L>,
 ) -> Result<Ranked, DesignStop>
-    requires { length bytes.now ≤ 1_048_576 }
-    ensures given { DesignGives bytes.now result }
+    requires few { length bytes.now ≤ 1_048_576 }
+    requires budget { 0 < plan.now.budget }
+    ensures given { DesignGives (plan_seen plan.now) bytes.now result }
     ensures ready { IfOk result IsReady }
     ensures counted { steps.old ≤ steps.new }
 {
     match str::from_utf8(bytes) {
-        Ok(text) => read_text(alloc, text, steps),
+        Ok(text) => read_text(alloc, text, plan, steps),
         Err(fault) => Err(bad_bytes(&bytes[..fault.valid_up_to()])),
     }
 }
@@ -84,15 +85,17 @@ fn refused(kind: Kind, place: Place) -> DesignStop
 fn read_text<L: Ledger>(
     alloc: Global,
     text: &str,
+    plan: &Plan<'_>,
     steps: &mut Steps<L>,
 ) -> Result<Ranked, DesignStop>
-    requires { length text.now ≤ 1_048_576 }
-    ensures given { CutGives text.now (logical_lines (chars text.now)) result }
+    requires few { length text.now ≤ 1_048_576 }
+    requires budget { 0 < plan.now.budget }
+    ensures given { CutGives (plan_seen plan.now) text.now (logical_lines (chars text.now)) result }
     ensures ready { IfOk result IsReady }
     ensures counted { steps.old ≤ steps.new }
 {
     match cut_lines(alloc, text) {
-        Ok(lines) => read_lines(alloc, text, &lines, steps),
+        Ok(lines) => read_lines(alloc, text, &lines, plan, steps),
         Err(LexStop::Subset(place)) => Err(refused(Kind::Subset, place)),
         Err(LexStop::NoMemory) => Err(DesignStop::NoMemory),
     }
@@ -103,14 +106,16 @@ fn read_lines<L: Ledger>(
     alloc: Global,
     text: &str,
     lines: &Lines,
+    plan: &Plan<'_>,
     steps: &mut Steps<L>,
 ) -> Result<Ranked, DesignStop>
-    ensures given { LinesGive text.now lines.now result }
+    requires { 0 < plan.now.budget }
+    ensures given { LinesGive (plan_seen plan.now) text.now lines.now result }
     ensures ready { IfOk result IsReady }
     ensures counted { steps.old ≤ steps.new }
 {
     match parse(alloc, text, lines) {
-        Ok(program) => read_parsed(alloc, &program, steps),
+        Ok(program) => read_parsed(alloc, &program, plan, steps),
         Err(ParseStop::Subset(place)) => Err(refused(Kind::Subset, place)),
         Err(ParseStop::NoMemory) => Err(DesignStop::NoMemory),
     }
@@ -120,14 +125,16 @@ fn read_lines<L: Ledger>(
 fn read_parsed<L: Ledger>(
     alloc: Global,
     program: &Program,
+    plan: &Plan<'_>,
     steps: &mut Steps<L>,
 ) -> Result<Ranked, DesignStop>
-    ensures given { ProgramGives (mangled_program (program_of program.now)) result }
+    requires { 0 < plan.now.budget }
+    ensures given { ProgramGives (plan_seen plan.now) (mangled_program (program_of program.now)) result }
     ensures ready { IfOk result IsReady }
     ensures counted { steps.old ≤ steps.new }
 {
     match mangled(alloc, program) {
-        Ok(program) => read_program(alloc, &program, steps),
+        Ok(program) => read_program(alloc, &program, plan, steps),
         Err(_) => Err(DesignStop::NoMemory),
     }
 }
@@ -136,14 +143,16 @@ fn read_parsed<L: Ledger>(
 fn read_program<L: Ledger>(
     alloc: Global,
     program: &Program,
+    plan: &Plan<'_>,
     steps: &mut Steps<L>,
 ) -> Result<Ranked, DesignStop>
-    ensures given { ProgramGives (program_of program.now) result }
+    requires { 0 < plan.now.budget }
+    ensures given { ProgramGives (plan_seen plan.now) (program_of program.now) result }
     ensures ready { IfOk result IsReady }
     ensures counted { steps.old ≤ steps.new }
 {
-    let mut left = Budget { left: BUDGET };
-    match elaborate(alloc, program, &mut left, steps) {
+    let mut left = Budget { left: plan.budget };
+    match elaborate(alloc, program, plan.top, &mut left, steps) {
         Ok(elaborated) => rank_design(alloc, elaborated.design),
         Err(stop) => Err(design_stop(stop)),
     }

@@ -7,7 +7,6 @@ ghost use Rattle.amh_tool.specs.Promises.{Promises};
 ghost use Rattle.amh_tool.specs.Work.{Works, Fails};
 
 use crate::accept::{Verdict, accept};
-use crate::design_text::BUDGET;
 use crate::laws::outcomes_are_one;
 use crate::perform::perform;
 use crate::plan::plan_of;
@@ -88,7 +87,8 @@ fn work<H: Host, L: Ledger>(
     ensures cause { HasCause (H.faults host.old) (H.faults host.new) result }
     ensures counted { steps.old ≤ steps.new }
 {
-    let Some(plan) = plan_of(words.items()) else {
+    let found = plan_of(alloc, words)?;
+    let Some(plan) = found else {
         host.warn(usage_text())?;
         return Ok(Status::Usage);
     };
@@ -99,12 +99,12 @@ fn work<H: Host, L: Ledger>(
             Ok(Status::Refused)
         }
         Verdict::Spent(_) => {
-            let text = spent(alloc, BUDGET)?;
+            let text = spent(alloc, plan.budget)?;
             host.warn(text.as_str())?;
             Ok(Status::Spent)
         }
         Verdict::BadLine(line) => {
-            let text = bad_line(alloc, plan.script, line)?;
+            let text = bad_line(alloc, plan.script_name(), line)?;
             host.warn(text.as_str())?;
             Ok(Status::Refused)
         }

@@ -27,7 +27,7 @@ returns-in-Ok-clause-given g c =
     let p = plan_seen c.args.plan.now in
     let told = (g.H.Host.seen c.args.host.now).files in
     let v = c.in-Bytes.text in
-    let d : IsDesigned v.items (gives c.in-Ok.ranked.design) = subst (λ (bytes : List ℕ). IsDesigned bytes (gives c.in-Ok.ranked.design)) c.deref.ensures.value c.in-Ok.ensures.given in
+    let d : IsDesigned p v.items (gives c.in-Ok.ranked.design) = subst (λ (bytes : List ℕ). IsDesigned p bytes (gives c.in-Ok.ranked.design)) c.deref.ensures.value c.in-Ok.ensures.given in
     let w : ReadsWhole told p.design 1_048_576 (Bytes v) = subst (λ (w : Whole). ReadsWhole told p.design 1_048_576 w) c.in-Bytes.is c.in_ok-text.ensures.bytes in
     IfOk-weaker c.accept_script.result _ _
     (λ x h. read_design_of p told v (gives c.in-Ok.ranked.design) (verdict_seen x) w d h)
@@ -39,9 +39,9 @@ returns-in-Err-Refused-clause-given g c =
     let told = (g.H.Host.seen c.args.host.now).files in
     let v = c.in-Bytes.text in
     let why = c.in-Err-Refused.why in
-    let given : DesignGives c.deref.result.now (Err c.in-Err-Refused.field-0) = c.in-Err-Refused.ensures.given in
-    let said : IsDesigned c.deref.result.now (refuses why) = subst (λ (x : DesignStop). DesignGives c.deref.result.now (Err x)) c.in-Err-Refused.field-0-is given in
-    let d : IsDesigned v.items (refuses why) = subst (λ (bytes : List ℕ). IsDesigned bytes (refuses why)) c.deref.ensures.value said in
+    let given : DesignGives p c.deref.result.now (Err c.in-Err-Refused.field-0) = c.in-Err-Refused.ensures.given in
+    let said : IsDesigned p c.deref.result.now (refuses why) = subst (λ (x : DesignStop). DesignGives p c.deref.result.now (Err x)) c.in-Err-Refused.field-0-is given in
+    let d : IsDesigned p v.items (refuses why) = subst (λ (bytes : List ℕ). IsDesigned p bytes (refuses why)) c.deref.ensures.value said in
     let w : ReadsWhole told p.design 1_048_576 (Bytes v) = subst (λ (w : Whole). ReadsWhole told p.design 1_048_576 w) c.in-Bytes.is c.in_ok-text.ensures.bytes in
     rw c.in-Err-Refused.field-0-is (read_design_of p told v (refuses why) (Refuses why) w d (refused_at_once p told why))
 
@@ -51,8 +51,8 @@ returns-in-Err-Spent-clause-given g c =
     let told = (g.H.Host.seen c.args.host.now).files in
     let v = c.in-Bytes.text in
     let place = c.in-Err-Spent.place in
-    let given : DesignGives c.deref.result.now (Err c.in-Err-Spent.field-0) = c.in-Err-Spent.ensures.given in
-    let said : IsDesigned c.deref.result.now (spends place) = subst (λ (x : DesignStop). DesignGives c.deref.result.now (Err x)) c.in-Err-Spent.field-0-is given in
-    let d : IsDesigned v.items (spends place) = subst (λ (bytes : List ℕ). IsDesigned bytes (spends place)) c.deref.ensures.value said in
+    let given : DesignGives p c.deref.result.now (Err c.in-Err-Spent.field-0) = c.in-Err-Spent.ensures.given in
+    let said : IsDesigned p c.deref.result.now (spends place) = subst (λ (x : DesignStop). DesignGives p c.deref.result.now (Err x)) c.in-Err-Spent.field-0-is given in
+    let d : IsDesigned p v.items (spends place) = subst (λ (bytes : List ℕ). IsDesigned p bytes (spends place)) c.deref.ensures.value said in
     let w : ReadsWhole told p.design 1_048_576 (Bytes v) = subst (λ (w : Whole). ReadsWhole told p.design 1_048_576 w) c.in-Bytes.is c.in_ok-text.ensures.bytes in
     rw c.in-Err-Spent.field-0-is (read_design_of p told v (spends place) (Spends place) w d (spent_at_once p told place))
