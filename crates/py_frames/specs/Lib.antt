@@ -24,3 +24,4 @@ pub mod Calling
 pub mod Trailing
 pub mod Stmt_begun
 pub mod Turns
+pub mod Weights

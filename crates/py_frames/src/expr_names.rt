@@ -6,6 +6,7 @@ ghost use Rattle.py_values.specs.Names.{look_up};
 ghost use Rattle.py_frames.specs.Values.{builtin_value, builtin_from, builtin_names, read};
 ghost use Rattle.py_frames.specs.Expr_parts.{name_value, func_val, later_names};
 ghost use Rattle.py_frames.specs.Frames.{GoesOn};
+ghost use Rattle.py_frames.specs.Weights.{Weighs};
 
 use crate::frame::Now;
 use crate::functions::Functions;
@@ -126,6 +127,7 @@ pub fn read_name(
     _budget: u64,
 ) -> Result<Now, Halt>
     ensures moves { GoesOn _functions.now frozen.now result going.old going.new _budget (λ k. read k name.now place) }
+    ensures weighs { Weighs 2 result going.old going.new }
     ensures used { going.new.state.used ≡ going.old.state.used }
 {
     match name_value(going, frozen, name) {

@@ -9,6 +9,7 @@ ghost use Rattle.py_frames.specs.declared.frame.Purpose.TheVariants.{Plain};
 ghost use Rattle.py_frames.specs.Asking.{ask};
 ghost use Rattle.py_frames.specs.Statements.{run};
 ghost use Rattle.py_frames.specs.Frames.{GoesOn, KeepsRoom, within, told};
+ghost use Rattle.py_frames.specs.Weights.{Weighs, act_weight, frame_weight};
 
 use crate::boxed::Boxed;
 use crate::frame::{Frame, Frames, Now, Purpose};
@@ -89,6 +90,7 @@ pub fn new_list(
 ) -> Result<Now, Halt>
     ensures moves { GoesOn functions.now frozen.now result going.old going.new budget (λ k. list_made k place vals) }
     ensures used { going.new.state.used ≡ going.old.state.used }
+    ensures weighs { Weighs 2 result going.old going.new }
 {
     let given = going.state.heap.list(frozen, vals);
     told(given, place)
@@ -107,6 +109,7 @@ pub fn wait_for(
     requires { KeepsRoom frame going.old.state.here.room }
     ensures moves { GoesOn functions.now frozen.now result going.old going.new budget (within frame (λ k. value_of k Plain (tree part.now))) }
     ensures state { going.new.state ≡ going.old.state }
+    ensures weighs { Weighs (frame_weight frame) result going.old going.new }
 {
     let Ok(part) = part.share() else {
         drop(frame);
@@ -131,6 +134,7 @@ pub fn wait_for_step(
     requires { KeepsRoom frame going.old.state.here.room }
     ensures moves { GoesOn functions.now frozen.now result going.old going.new budget (within frame (λ k. run k (step_of part.now))) }
     ensures state { going.new.state ≡ going.old.state }
+    ensures weighs { Weighs (frame_weight frame) result going.old going.new }
 {
     let Ok(part) = part.share() else {
         drop(frame);
@@ -163,6 +167,7 @@ pub fn ask(
 ) -> Result<Now, Halt>
     ensures moves { GoesOn _functions.now _frozen.now result going.old going.new _budget (λ k. ask k request) }
     ensures state { going.new ≡ going.old }
+    ensures weighs { Weighs (act_weight request.act) result going.old going.new }
 {
     let act = request.act;
     match Boxed::new(going.alloc, request) {

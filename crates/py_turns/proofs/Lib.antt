@@ -7,3 +7,4 @@ pub mod IfLaws
 pub mod AssertLaws
 pub mod AskLaws
 pub mod BindLaws
+pub mod WeighLaws

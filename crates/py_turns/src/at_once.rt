@@ -7,6 +7,7 @@ ghost use Rattle.py_frames.specs.declared.frame.Purpose.TheVariants.{Plain};
 ghost use Rattle.py_frames.specs.Expressions.{value_of};
 ghost use Rattle.py_frames.specs.Frames.{GoesOn, KeepsRoom, within};
 ghost use Rattle.py_frames.specs.Leaves.{at_cost, of_both, joined, item_of, own_attribute, attribute_of, at_once, link_at_once, trailers_at_once};
+ghost use Rattle.py_frames.specs.Weights.{Weighs, frame_weight};
 
 use py_frames::frame::{Frame, Now};
 use py_frames::functions::Functions;
@@ -24,6 +25,7 @@ const DEPTH: u64 = 4;
 pub fn at_once(going: &Going, frozen: &Frozen, e: &Expr, budget: u64) -> Option<Priced>
     ensures value { IfSome result (λ x. Some x ≡ at_once (seen frozen.now going.now.state.heap) going.now.state.here.scope.0 (tree e.now)) }
     ensures room { IfSome result (λ x. going.now.state.used + x.cost < budget) }
+    ensures costs { IfSome result (λ x. 1 ≤ x.cost) }
 {
     let Some(found) = part_at_once(going, frozen, e, DEPTH) else {
         return None;
@@ -35,7 +37,7 @@ pub fn at_once(going: &Going, frozen: &Frozen, e: &Expr, budget: u64) -> Option<
 }
 
 /// Begins a part of a node; a frame waits for its value, which has come where the part is there at once.
-#[tactic(auto, using(py_frames::proofs::BeginLaws::no_memory))]
+#[tactic(auto, using(crate::proofs::WeighLaws::weigh_rules, py_frames::proofs::BeginLaws::no_memory))]
 pub fn wait_or_come(
     going: &mut Going,
     functions: &Functions,
@@ -47,6 +49,7 @@ pub fn wait_or_come(
     requires lives { going.old.state.used < budget }
     requires room { KeepsRoom frame going.old.state.here.room }
     ensures moves { GoesOn functions.now frozen.now result going.old going.new budget (within frame (λ k. value_of k Plain (tree part.now))) }
+    ensures weighs { Weighs (frame_weight frame) result going.old going.new }
     ensures left { OnOk result (going.new.state.used < budget) }
     ensures grows { going.old.state.used ≤ going.new.state.used }
 {
@@ -65,7 +68,8 @@ pub fn wait_or_come(
 // The value of a part in which parts stand no deeper than this.
 #[cycle(part)]
 fn part_at_once(going: &Going, frozen: &Frozen, e: &Expr, depth: u64) -> Option<Priced>
-    ensures { IfSome result (λ x. Some x ≡ at_once (seen frozen.now going.now.state.heap) going.now.state.here.scope.0 (tree e.now)) }
+    ensures value { IfSome result (λ x. Some x ≡ at_once (seen frozen.now going.now.state.heap) going.now.state.here.scope.0 (tree e.now)) }
+    ensures costs { IfSome result (λ x. 1 ≤ x.cost) }
 {
     if depth == 0 {
         return leaf_at_once(going, frozen, e);
@@ -93,7 +97,8 @@ fn link_at_once(
     behind: &[Link],
     depth: u64,
 ) -> Option<Priced>
-    ensures { IfSome result (λ x. Some x ≡ link_at_once (seen frozen.now going.now.state.heap) going.now.state.here.scope.0 (links (map link_tree behind.now)) (at_once (seen frozen.now going.now.state.heap) going.now.state.here.scope.0 (tree first.now))) }
+    ensures value { IfSome result (λ x. Some x ≡ link_at_once (seen frozen.now going.now.state.heap) going.now.state.here.scope.0 (links (map link_tree behind.now)) (at_once (seen frozen.now going.now.state.heap) going.now.state.here.scope.0 (tree first.now))) }
+    ensures costs { IfSome result (λ x. 1 ≤ x.cost) }
 {
     let [link] = behind else {
         return None;
@@ -116,7 +121,8 @@ fn trailer_at_once(
     behind: &[Trailer],
     depth: u64,
 ) -> Option<Priced>
-    ensures { IfSome result (λ x. Some x ≡ trailers_at_once (seen frozen.now going.now.state.heap) going.now.state.here.scope.0 (trailers (map trailer_of behind.now)) (at_once (seen frozen.now going.now.state.heap) going.now.state.here.scope.0 (tree first.now))) }
+    ensures value { IfSome result (λ x. Some x ≡ trailers_at_once (seen frozen.now going.now.state.heap) going.now.state.here.scope.0 (trailers (map trailer_of behind.now)) (at_once (seen frozen.now going.now.state.heap) going.now.state.here.scope.0 (tree first.now))) }
+    ensures costs { IfSome result (λ x. 1 ≤ x.cost) }
 {
     let [trailer] = behind else {
         return None;
@@ -140,7 +146,8 @@ fn item_at_once(
     part: &Expr,
     depth: u64,
 ) -> Option<Priced>
-    ensures { IfSome result (λ x. Some x ≡ of_both (item_of (seen frozen.now going.now.state.heap)) (at_once (seen frozen.now going.now.state.heap) going.now.state.here.scope.0 (tree first.now)) (at_once (seen frozen.now going.now.state.heap) going.now.state.here.scope.0 (tree part.now))) }
+    ensures value { IfSome result (λ x. Some x ≡ of_both (item_of (seen frozen.now going.now.state.heap)) (at_once (seen frozen.now going.now.state.heap) going.now.state.here.scope.0 (tree first.now)) (at_once (seen frozen.now going.now.state.heap) going.now.state.here.scope.0 (tree part.now))) }
+    ensures costs { IfSome result (λ x. 1 ≤ x.cost) }
 {
     let Some(a) = part_at_once(going, frozen, first, depth) else {
         return None;
@@ -153,7 +160,8 @@ fn item_at_once(
 
 // A value, where there is one, and so many units.
 fn at_cost(cost: u64, v: Option<Val>) -> Option<Priced>
-    ensures { result ≡ at_cost cost v }
+    ensures value { result ≡ at_cost cost v }
+    ensures costs { IfSome result (λ x. x.cost ≡ cost) }
 {
     match v {
         Some(val) => Some(Priced { val, cost }),
@@ -173,13 +181,15 @@ fn cost_of_both(a: u64, b: u64) -> Option<u64>
 
 #[tactic(auto, using(crate::proofs::AtOnceLaws::leaf_at_once))]
 fn leaf_at_once(going: &Going, frozen: &Frozen, e: &Expr) -> Option<Priced>
-    ensures { IfSome result (λ x. Some x ≡ at_once (seen frozen.now going.now.state.heap) going.now.state.here.scope.0 (tree e.now)) }
+    ensures value { IfSome result (λ x. Some x ≡ at_once (seen frozen.now going.now.state.heap) going.now.state.here.scope.0 (tree e.now)) }
+    ensures costs { IfSome result (λ x. 1 ≤ x.cost) }
 {
     at_cost(1, leaf_value(going, frozen, e))
 }
 
 fn joined(sign: Operator, a: Priced, b: Priced) -> Option<Priced>
-    ensures { IfSome result (λ x. Some x ≡ joined sign a b) }
+    ensures value { IfSome result (λ x. Some x ≡ joined sign a b) }
+    ensures costs { IfSome result (λ x. 1 ≤ x.cost) }
 {
     match cost_of_both(a.cost, b.cost) {
         Some(cost) => at_cost(cost, integers_operated(operator_of(sign), a.val, b.val)),
@@ -188,7 +198,8 @@ fn joined(sign: Operator, a: Priced, b: Priced) -> Option<Priced>
 }
 
 fn item_of(going: &Going, frozen: &Frozen, a: Priced, i: Priced) -> Option<Priced>
-    ensures { IfSome result (λ x. Some x ≡ item_of (seen frozen.now going.now.state.heap) a i) }
+    ensures value { IfSome result (λ x. Some x ≡ item_of (seen frozen.now going.now.state.heap) a i) }
+    ensures costs { IfSome result (λ x. 1 ≤ x.cost) }
 {
     match cost_of_both(a.cost, i.cost) {
         Some(cost) => at_cost(cost, going.state.heap.item_at(frozen, a.val, i.val)),
@@ -207,7 +218,8 @@ fn own_attribute(going: &Going, frozen: &Frozen, name: &Name, v: Val) -> Option<
 }
 
 fn attribute_of(going: &Going, frozen: &Frozen, name: &Name, a: Priced) -> Option<Priced>
-    ensures { IfSome result (λ x. Some x ≡ attribute_of (seen frozen.now going.now.state.heap) name.now a) }
+    ensures value { IfSome result (λ x. Some x ≡ attribute_of (seen frozen.now going.now.state.heap) name.now a) }
+    ensures costs { IfSome result (λ x. 1 ≤ x.cost) }
 {
     match a.cost.checked_add(1) {
         Some(cost) => at_cost(cost, own_attribute(going, frozen, name, a.val)),

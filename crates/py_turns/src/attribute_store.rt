@@ -7,6 +7,7 @@ ghost use Rattle.py_frames.specs.Asking.{request, ask};
 ghost use Rattle.py_frames.specs.Values.{built, store_attribute, indexed, sliced, store_index, iterated, as_row};
 ghost use Rattle.py_frames.specs.Calling.{index_set};
 ghost use Rattle.py_frames.specs.Frames.{GoesOn};
+ghost use Rattle.py_frames.specs.Weights.{Weighs, act_weight};
 
 use crate::call_leaf::{about, about_name, ask_under, give, raise, told_done, vals_of};
 use crate::operators::{built, is_thing};
@@ -19,7 +20,7 @@ use py_frames::state::Halt;
 use py_values::{Builtin, Frozen, Hw, ObjId, Val};
 
 // The store is told an attribute.
-#[tactic(auto, using(py_frames::proofs::StoreLaws::store_asked, py_frames::proofs::BeginLaws::turn_rules))]
+#[tactic(auto, using(crate::proofs::WeighLaws::weigh_rules, py_frames::proofs::StoreLaws::store_asked, py_frames::proofs::BeginLaws::turn_rules))]
 fn store_thing(
     going: &mut Going,
     functions: &Functions,
@@ -31,6 +32,7 @@ fn store_thing(
     budget: u64,
 ) -> Result<Now, Halt>
     ensures moves { GoesOn functions.now frozen.now result going.old going.new budget (λ k. store_attribute k (Val.Hw h) name.now v place) }
+    ensures weighs { Weighs 1 result going.old going.new }
     ensures used { going.new.state.used ≡ going.old.state.used }
 {
     let Ok(request) = about_name(
@@ -53,7 +55,7 @@ fn store_thing(
 }
 
 // Of an object or a class.
-#[tactic(auto, using(py_frames::proofs::StoreLaws::attribute_stored))]
+#[tactic(auto, using(crate::proofs::WeighLaws::weigh_rules, py_frames::proofs::StoreLaws::attribute_stored))]
 fn set_attribute(
     going: &mut Going,
     functions: &Functions,
@@ -65,6 +67,7 @@ fn set_attribute(
     budget: u64,
 ) -> Result<Now, Halt>
     ensures moves { GoesOn functions.now frozen.now result going.old going.new budget (λ k. making (λ s. attribute_set (heap_seen k s) o.0 name.now v) place (λ _. came Next)) }
+    ensures weighs { Weighs 1 result going.old going.new }
     ensures used { going.new.state.used ≡ going.old.state.used }
 {
     let given = going.state.heap.set_attribute(frozen, o, name, v);
@@ -72,6 +75,7 @@ fn set_attribute(
 }
 
 /// `x.name = v`.
+#[tactic(auto, using(crate::proofs::WeighLaws::weigh_rules))]
 pub fn store_attribute(
     going: &mut Going,
     functions: &Functions,
@@ -83,6 +87,7 @@ pub fn store_attribute(
     budget: u64,
 ) -> Result<Now, Halt>
     ensures moves { GoesOn functions.now frozen.now result going.old going.new budget (λ k. store_attribute k x name.now v place) }
+    ensures weighs { Weighs 1 result going.old going.new }
     ensures used { going.new.state.used ≡ going.old.state.used }
 {
     match x {
@@ -94,7 +99,7 @@ pub fn store_attribute(
 }
 
 /// Asks about values alone.
-#[tactic(auto, using(py_frames::proofs::CallLaws::asked_same, py_frames::proofs::BeginLaws::turn_rules))]
+#[tactic(auto, using(crate::proofs::WeighLaws::weigh_rules, py_frames::proofs::CallLaws::asked_same, py_frames::proofs::BeginLaws::turn_rules))]
 pub fn ask_about(
     going: &mut Going,
     functions: &Functions,
@@ -105,6 +110,7 @@ pub fn ask_about(
     budget: u64,
 ) -> Result<Now, Halt>
     ensures moves { GoesOn functions.now frozen.now result going.old going.new budget (λ k. ask k (request act items.now [] place)) }
+    ensures weighs { Weighs (act_weight act) result going.old going.new }
     ensures used { going.new.state.used ≡ going.old.state.used }
 {
     let Ok(request) = about(going.alloc, act, items, place) else {
@@ -114,7 +120,7 @@ pub fn ask_about(
 }
 
 /// A builtin over values.
-#[tactic(auto, using(py_frames::proofs::StoreLaws::built_same, py_frames::proofs::BeginLaws::turn_rules))]
+#[tactic(auto, using(crate::proofs::WeighLaws::weigh_rules, py_frames::proofs::StoreLaws::built_same, py_frames::proofs::BeginLaws::turn_rules))]
 pub fn built_of(
     going: &mut Going,
     functions: &Functions,
@@ -126,6 +132,7 @@ pub fn built_of(
 ) -> Result<Now, Halt>
     requires { going.old.state.used < budget }
     ensures moves { GoesOn functions.now frozen.now result going.old going.new budget (λ k. built k builtin items.now place) }
+    ensures weighs { Weighs 2 result going.old going.new }
     ensures left { OnOk result (going.new.state.used < budget) }
     ensures grows { going.old.state.used ≤ going.new.state.used }
 {
@@ -136,7 +143,7 @@ pub fn built_of(
 }
 
 /// `x[i]`.
-#[tactic(auto, using(py_frames::proofs::CallLaws::choose_rules))]
+#[tactic(auto, using(crate::proofs::WeighLaws::weigh_rules, py_frames::proofs::CallLaws::choose_rules))]
 pub fn indexed(
     going: &mut Going,
     functions: &Functions,
@@ -148,6 +155,7 @@ pub fn indexed(
 ) -> Result<Now, Halt>
     requires { going.old.state.used < budget }
     ensures moves { GoesOn functions.now frozen.now result going.old going.new budget (λ k. indexed k x i place) }
+    ensures weighs { Weighs 2 result going.old going.new }
     ensures left { OnOk result (going.new.state.used < budget) }
     ensures grows { going.old.state.used ≤ going.new.state.used }
 {
@@ -167,7 +175,7 @@ pub fn indexed(
 }
 
 /// `x[i:j:step]`.
-#[tactic(auto, using(py_frames::proofs::CallLaws::choose_rules))]
+#[tactic(auto, using(crate::proofs::WeighLaws::weigh_rules, py_frames::proofs::CallLaws::choose_rules))]
 pub fn sliced(
     going: &mut Going,
     functions: &Functions,
@@ -181,6 +189,7 @@ pub fn sliced(
 ) -> Result<Now, Halt>
     requires { going.old.state.used < budget }
     ensures moves { GoesOn functions.now frozen.now result going.old going.new budget (λ k. sliced k x i j step place) }
+    ensures weighs { Weighs 2 result going.old going.new }
     ensures left { OnOk result (going.new.state.used < budget) }
     ensures grows { going.old.state.used ≤ going.new.state.used }
 {
@@ -208,7 +217,7 @@ pub fn sliced(
 }
 
 // `x[i] = v`, before what follows.
-#[tactic(auto, using(py_frames::proofs::CallLaws::choose_rules))]
+#[tactic(auto, using(crate::proofs::WeighLaws::weigh_rules, py_frames::proofs::CallLaws::choose_rules))]
 fn index_set(
     going: &mut Going,
     functions: &Functions,
@@ -221,6 +230,7 @@ fn index_set(
 ) -> Result<Now, Halt>
     requires { going.old.state.used < budget }
     ensures moves { GoesOn functions.now frozen.now result going.old going.new budget (λ k. index_set k x i v place) }
+    ensures weighs { Weighs 2 result going.old going.new }
     ensures left { OnOk result (going.new.state.used < budget) }
     ensures grows { going.old.state.used ≤ going.new.state.used }
 {
@@ -248,7 +258,7 @@ fn index_set(
 }
 
 /// `x[i] = v`.
-#[tactic(auto, using(py_frames::proofs::StoreLaws::index_stored, py_frames::proofs::BeginLaws::turn_rules))]
+#[tactic(auto, using(crate::proofs::WeighLaws::weigh_rules, py_frames::proofs::StoreLaws::index_stored, py_frames::proofs::BeginLaws::turn_rules))]
 pub fn store_index(
     going: &mut Going,
     functions: &Functions,
@@ -261,6 +271,7 @@ pub fn store_index(
 ) -> Result<Now, Halt>
     requires { going.old.state.used < budget }
     ensures moves { GoesOn functions.now frozen.now result going.old going.new budget (λ k. store_index k x i v place) }
+    ensures weighs { Weighs 3 result going.old going.new }
     ensures left { OnOk result (going.new.state.used < budget) }
     ensures grows { going.old.state.used ≤ going.new.state.used }
 {
@@ -271,6 +282,7 @@ pub fn store_index(
 }
 
 /// The elements of a thing, as a tuple.
+#[tactic(auto, using(crate::proofs::WeighLaws::weigh_rules))]
 pub fn iterated(
     going: &mut Going,
     functions: &Functions,
@@ -280,13 +292,14 @@ pub fn iterated(
     budget: u64,
 ) -> Result<Now, Halt>
     ensures moves { GoesOn functions.now frozen.now result going.old going.new budget (λ k. iterated k v place) }
+    ensures weighs { Weighs 0 result going.old going.new }
     ensures used { going.new.state.used ≡ going.old.state.used }
 {
     ask_about(going, functions, frozen, Act::Iterate, &[v], place, budget)
 }
 
 /// What is gone over, with its elements: a thing gives a tuple first.
-#[tactic(auto, using(py_frames::proofs::CallLaws::choose_rules))]
+#[tactic(auto, using(crate::proofs::WeighLaws::weigh_rules, py_frames::proofs::CallLaws::choose_rules))]
 pub fn as_row(
     going: &mut Going,
     functions: &Functions,
@@ -296,6 +309,7 @@ pub fn as_row(
     budget: u64,
 ) -> Result<Now, Halt>
     ensures moves { GoesOn functions.now frozen.now result going.old going.new budget (λ k. as_row k v place) }
+    ensures weighs { Weighs 2 result going.old going.new }
     ensures used { going.new.state.used ≡ going.old.state.used }
 {
     if is_thing(&v) {

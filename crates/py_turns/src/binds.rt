@@ -5,6 +5,7 @@ ghost use Rattle.py_turns.specs.Binding.{refused};
 ghost use Rattle.py_frames.specs.declared.state.Got.TheVariants.{Next};
 ghost use Rattle.py_frames.specs.Values.{bind, bind_all, on_names};
 ghost use Rattle.py_frames.specs.Frames.{GoesOn};
+ghost use Rattle.py_frames.specs.Weights.{Weighs, got_weight};
 
 use crate::expr_values::bind;
 use crate::stmt_plain::comes;
@@ -30,7 +31,7 @@ pub fn refused(stop: ValueStop, place: Place) -> Halt
 }
 
 /// Binds a name, and no more.
-#[tactic(auto)]
+#[tactic(auto, using(crate::proofs::WeighLaws::weigh_rules))]
 pub fn name_bound(
     going: &mut Going,
     functions: &Functions,
@@ -41,6 +42,7 @@ pub fn name_bound(
     budget: u64,
 ) -> Result<Now, Halt>
     ensures moves { GoesOn functions.now frozen.now result going.old going.new budget (λ k. bind k name.now v place (came Next)) }
+    ensures weighs { Weighs 1 result going.old going.new }
     ensures used { going.new.state.used ≡ going.old.state.used }
 {
     match bind(going, frozen, name, v, place) {
@@ -50,7 +52,7 @@ pub fn name_bound(
 }
 
 /// Binds all of these names, in order.
-#[tactic(auto)]
+#[tactic(auto, using(crate::proofs::WeighLaws::weigh_rules))]
 fn all_bound(
     going: &mut Going,
     functions: &Functions,
@@ -60,6 +62,7 @@ fn all_bound(
     budget: u64,
 ) -> Result<Now, Halt>
     ensures moves { GoesOn functions.now frozen.now result going.old going.new budget (λ k. bind_all k names.now place (came Next)) }
+    ensures weighs { Weighs 1 result going.old going.new }
     ensures used { going.new.state.used ≡ going.old.state.used }
 {
     for named in names.as_slice() {
@@ -72,7 +75,7 @@ fn all_bound(
 }
 
 /// The names of an answer have come: all of them are bound.
-#[tactic(auto)]
+#[tactic(auto, using(crate::proofs::WeighLaws::weigh_rules))]
 pub fn names_came(
     going: &mut Going,
     functions: &Functions,
@@ -82,6 +85,7 @@ pub fn names_came(
     budget: u64,
 ) -> Result<Now, Halt>
     ensures moves { GoesOn functions.now frozen.now result going.old going.new budget (λ k. on_names got (λ names. bind_all k names place (came Next))) }
+    ensures weighs { Weighs (got_weight got) result going.old going.new }
     ensures used { going.new.state.used ≡ going.old.state.used }
 {
     match got {

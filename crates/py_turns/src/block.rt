@@ -7,6 +7,7 @@ ghost use Rattle.py_frames.specs.Doing.{on_next};
 ghost use Rattle.py_frames.specs.Statements.{run_all};
 ghost use Rattle.py_frames.specs.Stmt_begun.{leaves, value_come, loop_left};
 ghost use Rattle.py_frames.specs.Frames.{GoesOn, KeepsRoom, within};
+ghost use Rattle.py_frames.specs.Weights.{Weighs, frame_weight};
 
 use crate::stmt_plain::comes;
 use amh_host::NoMemory;
@@ -72,7 +73,7 @@ pub fn loop_left(got: &Got) -> Option<Got>
 }
 
 /// The statements of a block from this number on.
-#[tactic(auto, using(crate::proofs::BlockLaws::block_rules))]
+#[tactic(auto, using(crate::proofs::WeighLaws::weigh_rules, crate::proofs::BlockLaws::block_rules))]
 pub fn block_from(
     going: &mut Going,
     functions: &Functions,
@@ -82,6 +83,7 @@ pub fn block_from(
     budget: u64,
 ) -> Result<Now, Halt>
     ensures moves { GoesOn functions.now frozen.now result going.old going.new budget (λ k. run_all k (steps_from n (steps_of block))) }
+    ensures weighs { Weighs 1 result going.old going.new }
     ensures state { going.new.state ≡ going.old.state }
 {
     match step_at(&block, n) {
@@ -102,7 +104,7 @@ pub fn block_from(
 }
 
 /// A whole block.
-#[tactic(auto, using(crate::proofs::BlockLaws::block_rules))]
+#[tactic(auto, using(crate::proofs::WeighLaws::weigh_rules, crate::proofs::BlockLaws::block_rules))]
 pub fn run_block(
     going: &mut Going,
     functions: &Functions,
@@ -111,6 +113,7 @@ pub fn run_block(
     budget: u64,
 ) -> Result<Now, Halt>
     ensures moves { GoesOn functions.now frozen.now result going.old going.new budget (λ k. run_all k (steps_of block.now)) }
+    ensures weighs { Weighs 1 result going.old going.new }
     ensures state { going.new.state ≡ going.old.state }
 {
     match block.share() {
@@ -120,7 +123,7 @@ pub fn run_block(
 }
 
 /// A whole block; a frame waits for what it comes to.
-#[tactic(auto, using(crate::proofs::BlockLaws::block_rules))]
+#[tactic(auto, using(crate::proofs::WeighLaws::weigh_rules, crate::proofs::BlockLaws::block_rules))]
 pub fn block_under(
     going: &mut Going,
     functions: &Functions,
@@ -131,6 +134,7 @@ pub fn block_under(
 ) -> Result<Now, Halt>
     requires { KeepsRoom frame going.old.state.here.room }
     ensures moves { GoesOn functions.now frozen.now result going.old going.new budget (within frame (λ k. run_all k (steps_of block.now))) }
+    ensures weighs { Weighs (frame_weight frame + 1) result going.old going.new }
     ensures state { going.new.state ≡ going.old.state }
 {
     match going.frames.push(frame) {
@@ -140,7 +144,7 @@ pub fn block_under(
 }
 
 /// A statement of a block left this, and then come those from this number on.
-#[tactic(auto, using(py_frames::proofs::StmtGoes::left_rules))]
+#[tactic(auto, using(crate::proofs::WeighLaws::weigh_rules, py_frames::proofs::StmtGoes::left_rules))]
 pub fn block_came(
     going: &mut Going,
     functions: &Functions,
@@ -151,6 +155,7 @@ pub fn block_came(
     budget: u64,
 ) -> Result<Now, Halt>
     ensures moves { GoesOn functions.now frozen.now result going.old going.new budget (λ k. on_next got (run_all k (steps_from n (steps_of block)))) }
+    ensures weighs { Weighs 1 result going.old going.new }
     ensures state { going.new.state ≡ going.old.state }
 {
     if leaves(&got) {

@@ -1,11 +1,12 @@
 // What calls and attributes have in common: requests, and the plain ends of a turn.
-ghost use Rattle.std.specs.Prelude.{◌≡◌, [], ◌∷◌, IfOk};
+ghost use Rattle.std.specs.Prelude.{◌≡◌, ◌+◌, [], ◌∷◌, IfOk};
 ghost use Rattle.py_frames.specs.declared.request.Cause.TheVariants.{Raised, Spent};
 ghost use Rattle.py_frames.specs.Doing.{give, stop, making, heap_seen};
 ghost use Rattle.py_frames.specs.Asking.{request, ask};
 ghost use Rattle.py_frames.specs.Calling.{told_done};
 ghost use Rattle.py_frames.specs.Frames.{GoesOn, KeepsRoom, within};
 ghost use Rattle.py_values.specs.Names.{new_func};
+ghost use Rattle.py_frames.specs.Weights.{Weighs, act_weight, frame_weight};
 
 use amh_host::{Names, NoMemory, Place};
 use py_frames::frame::{Frame, Now};
@@ -86,7 +87,8 @@ pub fn give(
     v: Val,
     _budget: u64,
 ) -> Result<Now, Halt>
-    ensures { GoesOn _functions.now _frozen.now result going.now going.now _budget (λ k. give v) }
+    ensures moves { GoesOn _functions.now _frozen.now result going.now going.now _budget (λ k. give v) }
+    ensures weighs { Weighs 2 result going.now going.now }
 {
     Ok(Now::Came(Got::Value(v)))
 }
@@ -100,7 +102,8 @@ pub fn raise(
     place: Place,
     _budget: u64,
 ) -> Result<Now, Halt>
-    ensures { GoesOn _functions.now _frozen.now result going.now going.now _budget (λ k. stop Raised place) }
+    ensures moves { GoesOn _functions.now _frozen.now result going.now going.now _budget (λ k. stop Raised place) }
+    ensures weighs { Weighs 0 result going.now going.now }
 {
     Err(Halt::Stopped(Stop {
         cause: Cause::Raised,
@@ -117,7 +120,8 @@ pub fn run_out(
     place: Place,
     _budget: u64,
 ) -> Result<Now, Halt>
-    ensures { GoesOn _functions.now _frozen.now result going.now going.now _budget (λ k. stop Spent place) }
+    ensures moves { GoesOn _functions.now _frozen.now result going.now going.now _budget (λ k. stop Spent place) }
+    ensures weighs { Weighs 0 result going.now going.now }
 {
     Err(Halt::Stopped(Stop {
         cause: Cause::Spent,
@@ -126,7 +130,7 @@ pub fn run_out(
 }
 
 /// Asks; a frame waits for the answer.
-#[tactic(auto, using(py_frames::proofs::BeginLaws::turn_rules))]
+#[tactic(auto, using(crate::proofs::WeighLaws::weigh_rules, py_frames::proofs::BeginLaws::turn_rules))]
 pub fn ask_under(
     going: &mut Going,
     functions: &Functions,
@@ -137,6 +141,7 @@ pub fn ask_under(
 ) -> Result<Now, Halt>
     requires { KeepsRoom frame going.old.state.here.room }
     ensures moves { GoesOn functions.now frozen.now result going.old going.new budget (within frame (λ k. ask k request)) }
+    ensures weighs { Weighs (frame_weight frame + act_weight request.act) result going.old going.new }
     ensures state { going.new.state ≡ going.old.state }
 {
     match going.frames.push(frame) {
@@ -146,7 +151,7 @@ pub fn ask_under(
 }
 
 /// A new function.
-#[tactic(auto, using(py_frames::proofs::CallLaws::func_told))]
+#[tactic(auto, using(crate::proofs::WeighLaws::weigh_rules, py_frames::proofs::CallLaws::func_told))]
 pub fn new_func(
     going: &mut Going,
     functions: &Functions,
@@ -156,6 +161,7 @@ pub fn new_func(
     budget: u64,
 ) -> Result<Now, Halt>
     ensures moves { GoesOn functions.now frozen.now result going.old going.new budget (λ k. making (λ s. new_func (heap_seen k s) f) place give) }
+    ensures weighs { Weighs 2 result going.old going.new }
     ensures used { going.new.state.used ≡ going.old.state.used }
 {
     let given = going.state.heap.function(frozen, f);

@@ -1,5 +1,5 @@
 // What a turn does with values, beside operators: names, truth, literals, tuples and dicts.
-ghost use Rattle.std.specs.Prelude.{◌≡◌, [], ◌∷◌, ◌++◌, IfOk, IfErr, OnOk, option_map};
+ghost use Rattle.std.specs.Prelude.{◌≡◌, ◌≤◌, ◌+◌, [], ◌∷◌, ◌++◌, IfOk, IfErr, OnOk, option_map};
 ghost use Rattle.py_values.specs.Heaps.{seen};
 ghost use Rattle.py_values.specs.Truths.{truth};
 ghost use Rattle.py_values.specs.Names.{scope_bound};
@@ -12,6 +12,7 @@ ghost use Rattle.py_frames.specs.Functions.{named_val};
 ghost use Rattle.py_frames.specs.Values.{kept_in, with_binding};
 ghost use Rattle.py_frames.specs.Told.{TellsTruth, Binds};
 ghost use Rattle.py_frames.specs.Frames.{GoesOn};
+ghost use Rattle.py_frames.specs.Weights.{Weighs, work};
 
 use amh_host::{NoMemory, Place, Text};
 use py_frames::frame::Now;
@@ -100,6 +101,9 @@ fn keep_binding(going: &mut Going, bound: u64, name: &str, v: Val) -> Result<(),
     ensures keeps { OnOk result (going.new ≡ record going.old { state = record going.old.state { bound = bound; here = with_binding (named_val name.now v) going.old.state.here } }) }
     ensures lacks { IfErr result (λ h. h ≡ halt.NoMemory) }
     ensures used { going.new.state.used ≡ going.old.state.used }
+    ensures taken { going.new.state.taken ≡ going.old.state.taken }
+    ensures bound { going.new.state.bound ≡ bound }
+    ensures frames { going.new.frames ≡ going.old.frames }
 {
     going.state.bound = bound;
     let body = mem::replace(&mut going.state.here.body, None);
@@ -120,6 +124,9 @@ pub fn bind(
 ) -> Result<(), Halt>
     ensures binds { Binds result (scope_bound (seen frozen.now going.old.state.heap) going.old.state.here.scope.0 name.now v) (named_val name.now v) place going.old going.new }
     ensures used { going.new.state.used ≡ going.old.state.used }
+    ensures works { OnOk result (work going.new.state ≡ work going.old.state + 1) }
+    ensures more { work going.old.state ≤ work going.new.state }
+    ensures frames { going.new.frames ≡ going.old.frames }
 {
     let Some(bound) = going.state.bound.checked_add(1) else {
         return Err(Halt::NoMemory);
@@ -139,7 +146,7 @@ pub fn bind(
 }
 
 /// A new tuple.
-#[tactic(auto, using(py_frames::proofs::ExprLaws::tuple_told))]
+#[tactic(auto, using(crate::proofs::WeighLaws::weigh_rules, py_frames::proofs::ExprLaws::tuple_told))]
 pub fn new_tuple(
     going: &mut Going,
     functions: &Functions,
@@ -149,6 +156,7 @@ pub fn new_tuple(
     budget: u64,
 ) -> Result<Now, Halt>
     ensures moves { GoesOn functions.now frozen.now result going.old going.new budget (λ k. tuple_made k place vals) }
+    ensures weighs { Weighs 2 result going.old going.new }
     ensures used { going.new.state.used ≡ going.old.state.used }
 {
     let given = going.state.heap.tuple(frozen, vals);
@@ -156,7 +164,7 @@ pub fn new_tuple(
 }
 
 /// A new dict of keys and values in turn.
-#[tactic(auto, using(py_frames::proofs::ExprLaws::dict_told))]
+#[tactic(auto, using(crate::proofs::WeighLaws::weigh_rules, py_frames::proofs::ExprLaws::dict_told))]
 pub fn new_dict(
     going: &mut Going,
     functions: &Functions,
@@ -166,6 +174,7 @@ pub fn new_dict(
     budget: u64,
 ) -> Result<Now, Halt>
     ensures moves { GoesOn functions.now frozen.now result going.old going.new budget (λ k. dict_made k place row) }
+    ensures weighs { Weighs 2 result going.old going.new }
     ensures used { going.new.state.used ≡ going.old.state.used }
 {
     let given = going.state.heap.dict(frozen, row);
@@ -173,7 +182,7 @@ pub fn new_dict(
 }
 
 /// A string of the program's text.
-#[tactic(auto, using(py_frames::proofs::ExprLaws::literal_told))]
+#[tactic(auto, using(crate::proofs::WeighLaws::weigh_rules, py_frames::proofs::ExprLaws::literal_told))]
 pub fn new_literal(
     going: &mut Going,
     functions: &Functions,
@@ -183,6 +192,7 @@ pub fn new_literal(
     budget: u64,
 ) -> Result<Now, Halt>
     ensures moves { GoesOn functions.now frozen.now result going.old going.new budget (λ k. text_literal k text.now place) }
+    ensures weighs { Weighs 2 result going.old going.new }
     ensures used { going.new.state.used ≡ going.old.state.used }
 {
     let given = going.state.heap.literal(frozen, text.as_str());
@@ -190,7 +200,7 @@ pub fn new_literal(
 }
 
 /// A new string.
-#[tactic(auto, using(py_frames::proofs::ExprLaws::text_told))]
+#[tactic(auto, using(crate::proofs::WeighLaws::weigh_rules, py_frames::proofs::ExprLaws::text_told))]
 pub fn new_text(
     going: &mut Going,
     functions: &Functions,
@@ -200,6 +210,7 @@ pub fn new_text(
     budget: u64,
 ) -> Result<Now, Halt>
     ensures moves { GoesOn functions.now frozen.now result going.old going.new budget (λ k. making (λ s. new_text (heap_seen k s) text.now) place give) }
+    ensures weighs { Weighs 2 result going.old going.new }
     ensures used { going.new.state.used ≡ going.old.state.used }
 {
     let given = going.state.heap.new_text(frozen, text.as_str());

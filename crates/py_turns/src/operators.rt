@@ -7,6 +7,7 @@ ghost use Rattle.py_frames.specs.Doing.{charging, give};
 ghost use Rattle.py_frames.specs.Values.{is_thing, asks_operator, sign_of, operated, turned, built};
 ghost use Rattle.py_values.specs.Operators.{operate};
 ghost use Rattle.py_frames.specs.Frames.{GoesOn};
+ghost use Rattle.py_frames.specs.Weights.{Weighs};
 
 use amh_host::{Budget, Names, NoMemory, Place};
 use py_frames::frame::Now;
@@ -144,7 +145,7 @@ pub fn two_vals(alloc: Global, a: Val, b: Val) -> Result<Vals, NoMemory>
 }
 
 // An operator on values of which none is asked about.
-#[tactic(auto, using(crate::proofs::ExprCharged::operator_told, crate::proofs::ExprCharged::charged_left, py_frames::proofs::BeginLaws::no_memory))]
+#[tactic(auto, using(crate::proofs::WeighLaws::weigh_rules, crate::proofs::ExprCharged::operator_told, crate::proofs::ExprCharged::charged_left, py_frames::proofs::BeginLaws::no_memory))]
 fn operator_made(
     going: &mut Going,
     functions: &Functions,
@@ -157,6 +158,7 @@ fn operator_made(
 ) -> Result<Now, Halt>
     requires { going.old.state.used < budget }
     ensures moves { GoesOn functions.now frozen.now result going.old going.new budget (λ k. charging (λ s. operate k.frozen s.heap op a b) place give) }
+    ensures weighs { Weighs 2 result going.old going.new }
     ensures left { OnOk result (going.new.state.used < budget) }
     ensures grows { going.old.state.used ≤ going.new.state.used }
 {
@@ -169,7 +171,7 @@ fn operator_made(
 }
 
 /// An operator of two operands.
-#[tactic(auto, using(crate::proofs::ExprCharged::operated_asks, crate::proofs::ExprCharged::operated_made, py_frames::proofs::BeginLaws::no_memory))]
+#[tactic(auto, using(crate::proofs::WeighLaws::weigh_rules, crate::proofs::ExprCharged::operated_asks, crate::proofs::ExprCharged::operated_made, py_frames::proofs::BeginLaws::no_memory))]
 pub fn operated(
     going: &mut Going,
     functions: &Functions,
@@ -182,6 +184,7 @@ pub fn operated(
 ) -> Result<Now, Halt>
     requires { going.old.state.used < budget }
     ensures moves { GoesOn functions.now frozen.now result going.old going.new budget (λ k. operated k op a.now b.now place) }
+    ensures weighs { Weighs 2 result going.old going.new }
     ensures left { OnOk result (going.new.state.used < budget) }
     ensures grows { going.old.state.used ≤ going.new.state.used }
 {
@@ -198,7 +201,7 @@ pub fn operated(
 }
 
 /// An operator of one operand.
-#[tactic(auto, using(crate::proofs::ExprCharged::turned_asks, crate::proofs::ExprCharged::turned_made, py_frames::proofs::BeginLaws::no_memory))]
+#[tactic(auto, using(crate::proofs::WeighLaws::weigh_rules, crate::proofs::ExprCharged::turned_asks, crate::proofs::ExprCharged::turned_made, py_frames::proofs::BeginLaws::no_memory))]
 pub fn turned(
     going: &mut Going,
     functions: &Functions,
@@ -210,6 +213,7 @@ pub fn turned(
 ) -> Result<Now, Halt>
     requires { going.old.state.used < budget }
     ensures moves { GoesOn functions.now frozen.now result going.old going.new budget (λ k. turned k op a.now place) }
+    ensures weighs { Weighs 2 result going.old going.new }
     ensures left { OnOk result (going.new.state.used < budget) }
     ensures grows { going.old.state.used ≤ going.new.state.used }
 {
@@ -226,7 +230,7 @@ pub fn turned(
 }
 
 /// A builtin over values of which none is gone over as a thing.
-#[tactic(auto, using(crate::proofs::ExprCharged::built_told, crate::proofs::ExprCharged::charged_left, py_frames::proofs::BeginLaws::no_memory))]
+#[tactic(auto, using(crate::proofs::WeighLaws::weigh_rules, crate::proofs::ExprCharged::built_told, crate::proofs::ExprCharged::charged_left, py_frames::proofs::BeginLaws::no_memory))]
 pub fn built(
     going: &mut Going,
     functions: &Functions,
@@ -238,6 +242,7 @@ pub fn built(
 ) -> Result<Now, Halt>
     requires { going.old.state.used < budget }
     ensures moves { GoesOn functions.now frozen.now result going.old going.new budget (λ k. built k builtin vals place) }
+    ensures weighs { Weighs 2 result going.old going.new }
     ensures left { OnOk result (going.new.state.used < budget) }
     ensures grows { going.old.state.used ≤ going.new.state.used }
 {

@@ -14,6 +14,7 @@ ghost use Rattle.py_frames.specs.declared.frame.Frame.TheVariants as frame;
 ghost use Rattle.py_frames.specs.declared.frame.StmtFrame.TheVariants as stmt;
 ghost use Rattle.py_frames.specs.declared.frame.Purpose.TheVariants.{Plain};
 ghost use Rattle.py_frames.specs.Expressions.{value_of};
+ghost use Rattle.py_frames.specs.Weights.{Weighs, got_weight};
 
 use crate::at_once::at_once;
 use amh_host::Place;
@@ -35,7 +36,8 @@ pub fn comes(
     got: Got,
     _budget: u64,
 ) -> Result<Now, Halt>
-    ensures { GoesOn _functions.now _frozen.now result going.now going.now _budget (λ k. came got) }
+    ensures moves { GoesOn _functions.now _frozen.now result going.now going.now _budget (λ k. came got) }
+    ensures weighs { Weighs (got_weight got) result going.now going.now }
 {
     Ok(Now::Came(got))
 }
@@ -50,13 +52,14 @@ pub fn stops(
     place: Place,
     _budget: u64,
 ) -> Result<Now, Halt>
-    ensures { GoesOn _functions.now _frozen.now result going.now going.now _budget (λ k. stop cause place) }
+    ensures moves { GoesOn _functions.now _frozen.now result going.now going.now _budget (λ k. stop cause place) }
+    ensures weighs { Weighs 0 result going.now going.now }
 {
     Err(stopped(cause, place))
 }
 
 // `return`, with a value or without one.
-#[tactic(auto, using(crate::proofs::StmtBegins::return_rules))]
+#[tactic(auto, using(crate::proofs::WeighLaws::weigh_rules, crate::proofs::StmtBegins::return_rules))]
 pub fn begun_return(
     going: &mut Going,
     functions: &Functions,
@@ -66,6 +69,7 @@ pub fn begun_return(
 ) -> Result<Now, Halt>
     requires { going.old.state.used < budget }
     ensures moves { GoesOn functions.now frozen.now result going.old going.new budget (λ k. return_value k (perhaps (option_map tree value.now))) }
+    ensures weighs { Weighs 1 result going.old going.new }
     ensures left { OnOk result (going.new.state.used < budget) }
     ensures grows { going.old.state.used ≤ going.new.state.used }
 {
@@ -76,6 +80,7 @@ pub fn begun_return(
 }
 
 // The value of a `return` begins; where it is there at once, no frame waits for it.
+#[tactic(auto, using(crate::proofs::WeighLaws::weigh_rules))]
 fn returned(
     going: &mut Going,
     functions: &Functions,
@@ -85,6 +90,7 @@ fn returned(
 ) -> Result<Now, Halt>
     requires { going.old.state.used < budget }
     ensures moves { GoesOn functions.now frozen.now result going.old going.new budget (within (frame.Stmt stmt.Return) (λ k. value_of k Plain (tree e.now))) }
+    ensures weighs { Weighs 1 result going.old going.new }
     ensures left { OnOk result (going.new.state.used < budget) }
     ensures grows { going.old.state.used ≤ going.new.state.used }
 {
@@ -97,7 +103,7 @@ fn returned(
 }
 
 // `assert`: its test.
-#[tactic(auto, using(crate::proofs::StmtBegins::plain_rules, py_frames::proofs::StmtLaws::stmt_rules))]
+#[tactic(auto, using(crate::proofs::WeighLaws::weigh_rules, crate::proofs::StmtBegins::plain_rules, py_frames::proofs::StmtLaws::stmt_rules))]
 pub fn begun_assert(
     going: &mut Going,
     functions: &Functions,
@@ -109,6 +115,7 @@ pub fn begun_assert(
 ) -> Result<Now, Halt>
     requires { step_of s.now ≡ Assert s.now.place (tree test.now) (perhaps (option_map tree _message.now)) }
     ensures moves { GoesOn functions.now frozen.now result going.old going.new budget (λ k. run_after k (step_of s.now)) }
+    ensures weighs { Weighs 1 result going.old going.new }
     ensures state { going.new.state ≡ going.old.state }
 {
     let Ok(stmt) = s.share() else {
@@ -125,7 +132,7 @@ pub fn begun_assert(
 }
 
 /// The test of an assertion has come.
-#[tactic(auto)]
+#[tactic(auto, using(crate::proofs::WeighLaws::weigh_rules))]
 pub fn assert_came(
     going: &mut Going,
     functions: &Functions,
@@ -135,6 +142,7 @@ pub fn assert_came(
     budget: u64,
 ) -> Result<Now, Halt>
     ensures moves { GoesOn functions.now frozen.now result going.old going.new budget (λ k. asserts k (step_of s.now) x) }
+    ensures weighs { Weighs 1 result going.old going.new }
     ensures state { going.new.state ≡ going.old.state }
 {
     match &*s.kind {
@@ -145,7 +153,7 @@ pub fn assert_came(
     }
 }
 
-#[tactic(auto, using(crate::proofs::AssertLaws::assert_rules))]
+#[tactic(auto, using(crate::proofs::WeighLaws::weigh_rules, crate::proofs::AssertLaws::assert_rules))]
 fn assert_tested(
     going: &mut Going,
     functions: &Functions,
@@ -158,6 +166,7 @@ fn assert_tested(
 ) -> Result<Now, Halt>
     requires { step_of s.now ≡ Assert s.now.place (tree test.now) (perhaps (option_map tree message.now)) }
     ensures moves { GoesOn functions.now frozen.now result going.old going.new budget (λ k. asserts k (step_of s.now) x) }
+    ensures weighs { Weighs 1 result going.old going.new }
     ensures state { going.new.state ≡ going.old.state }
 {
     match going.state.heap.truth(frozen, x) {
@@ -179,7 +188,7 @@ fn assert_tested(
 }
 
 // An assertion that does not hold evaluates its message.
-#[tactic(auto, using(crate::proofs::AssertLaws::fails_rules))]
+#[tactic(auto, using(crate::proofs::WeighLaws::weigh_rules, crate::proofs::AssertLaws::fails_rules))]
 fn assert_fails(
     going: &mut Going,
     functions: &Functions,
@@ -189,6 +198,7 @@ fn assert_fails(
     budget: u64,
 ) -> Result<Now, Halt>
     ensures moves { GoesOn functions.now frozen.now result going.old going.new budget (λ k. asserted k place (perhaps (option_map tree message.now))) }
+    ensures weighs { Weighs 1 result going.old going.new }
     ensures state { going.new.state ≡ going.old.state }
 {
     match message {

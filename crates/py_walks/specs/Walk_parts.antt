@@ -12,6 +12,8 @@ use Rattle.py_values.specs.Heaps.{Made, seen}
 use Rattle.py_values.specs.Names.{new_scope}
 use Rattle.py_frames.specs.declared.state.Halt.{Halt}
 use Rattle.py_frames.specs.declared.state.Halt.TheVariants as halt
+use Rattle.py_frames.specs.declared.state.Got.{Got}
+use Rattle.py_frames.specs.declared.state.Got.TheVariants as got
 use Rattle.py_frames.specs.declared.going.Going.{Going}
 use Rattle.py_frames.specs.declared.frame.Walk.{Walk}
 use Rattle.py_frames.specs.declared.frame.WalkFrame.{WalkFrame}
@@ -129,3 +131,8 @@ abbrev pub takes_any : WalkFrame → Bool
 takes_any (walk.Bound c w done outer) = true
 takes_any (walk.Unpacking node n vs) = true
 takes_any f = false
+
+-- whether a frame goes on with what came, and does not hand it on
+abbrev pub goes_with : WalkFrame → Got → Bool
+goes_with f (got.Value v) = true
+goes_with f g = takes_any f

@@ -11,6 +11,7 @@ ghost use Rattle.py_frames.specs.Expressions.{back_in, is_row, value_of};
 ghost use Rattle.py_frames.specs.Walk_frames.{comp_of, with_comp, comp_over, walks_on, all_made, tested_by, made_came, pair_came, condition_of};
 ghost use Rattle.py_walks.specs.Walk_parts.{comp_seen, element_turn, where_made};
 ghost use Rattle.py_frames.specs.Frames.{GoesOn, within};
+ghost use Rattle.py_frames.specs.Weights.{Weighs};
 
 use crate::comprehensions::{element_at, element_begun, element_bound, enter_scope};
 use crate::loops::row_size;
@@ -29,7 +30,7 @@ use py_turns::expr_values::{new_dict, truth};
 use py_values::{Frozen, ScopeId, Val, Vals};
 
 /// What a comprehension goes over has come.
-#[tactic(auto, using(crate::proofs::CompLaws::row_rules))]
+#[tactic(auto, using(py_turns::proofs::WeighLaws::weigh_rules, crate::proofs::CompLaws::row_rules))]
 pub fn source_row_came(
     going: &mut Going,
     functions: &Functions,
@@ -40,6 +41,7 @@ pub fn source_row_came(
 ) -> Result<Now, Halt>
     requires { going.old.state.used < budget }
     ensures moves { GoesOn functions.now frozen.now result going.old going.new budget (λ k. with_comp (comp_of comp) (λ x. comp_over k x row)) }
+    ensures weighs { Weighs 2 result going.old going.new }
     ensures left { OnOk result (going.new.state.used < budget) }
     ensures grows { going.old.state.used ≤ going.new.state.used }
 {
@@ -51,7 +53,7 @@ pub fn source_row_came(
 }
 
 // Over a value, where one may go over it.
-#[tactic(auto, using(crate::proofs::CompLaws::fit_rules))]
+#[tactic(auto, using(py_turns::proofs::WeighLaws::weigh_rules, crate::proofs::CompLaws::fit_rules))]
 pub fn comp_row(
     going: &mut Going,
     functions: &Functions,
@@ -64,6 +66,7 @@ pub fn comp_row(
     requires lives { going.old.state.used < budget }
     requires kind { comp_of comp ≡ Some (comp_seen parts.now) }
     ensures moves { GoesOn functions.now frozen.now result going.old going.new budget (λ k. comp_over k (comp_seen parts.now) row) }
+    ensures weighs { Weighs 2 result going.old going.new }
     ensures left { OnOk result (going.new.state.used < budget) }
     ensures grows { going.old.state.used ≤ going.new.state.used }
 {
@@ -75,7 +78,7 @@ pub fn comp_row(
 }
 
 // Over a value in a scope of its own.
-#[tactic(auto, using(crate::proofs::CompLaws::over_rules))]
+#[tactic(auto, using(py_turns::proofs::WeighLaws::weigh_rules, crate::proofs::CompLaws::over_rules))]
 pub fn comp_over(
     going: &mut Going,
     functions: &Functions,
@@ -89,6 +92,7 @@ pub fn comp_over(
     requires kind { comp_of comp ≡ Some (comp_seen parts.now) }
     requires row { is_row row ≡ true }
     ensures moves { GoesOn functions.now frozen.now result going.old going.new budget (λ k. comp_over k (comp_seen parts.now) row) }
+    ensures weighs { Weighs 2 result going.old going.new }
     ensures left { OnOk result (going.new.state.used < budget) }
     ensures grows { going.old.state.used ≤ going.new.state.used }
 {
@@ -112,7 +116,7 @@ pub fn comp_over(
 }
 
 // The elements behind those of a walk, where the dict that is gone over has kept its size.
-#[tactic(auto, using(crate::proofs::CompLaws::walk_rules))]
+#[tactic(auto, using(py_turns::proofs::WeighLaws::weigh_rules, crate::proofs::CompLaws::walk_rules))]
 pub fn walks_on(
     going: &mut Going,
     functions: &Functions,
@@ -127,6 +131,7 @@ pub fn walks_on(
     requires lives { going.old.state.used < budget }
     requires kind { comp_of comp ≡ Some (comp_seen parts.now) }
     ensures moves { GoesOn functions.now frozen.now result going.old going.new budget (λ k. walks_on k (comp_seen parts.now) walk.now outer done) }
+    ensures weighs { Weighs 2 result going.old going.new }
     ensures left { OnOk result (going.new.state.used < budget) }
     ensures grows { going.old.state.used ≤ going.new.state.used }
 {
@@ -145,7 +150,7 @@ pub fn walks_on(
 }
 
 // What the elements become, back in the scope of before.
-#[tactic(auto, using(crate::proofs::CompLaws::end_rules))]
+#[tactic(auto, using(py_turns::proofs::WeighLaws::weigh_rules, crate::proofs::CompLaws::end_rules))]
 pub fn walk_ends(
     going: &mut Going,
     functions: &Functions,
@@ -157,6 +162,7 @@ pub fn walk_ends(
 ) -> Result<Now, Halt>
     requires { going.old.state.used < budget }
     ensures moves { GoesOn functions.now frozen.now result going.old going.new budget (λ k. back_in outer (all_made k (comp_seen parts.now).element parts.now.place done)) }
+    ensures weighs { Weighs 2 result going.old going.new }
     ensures left { OnOk result (going.new.state.used < budget) }
     ensures grows { going.old.state.used ≤ going.new.state.used }
 {
@@ -168,7 +174,7 @@ pub fn walk_ends(
 }
 
 // A turn spends its unit, and its element goes to the targets.
-#[tactic(auto, using(crate::proofs::CompLaws::turn_rules))]
+#[tactic(auto, using(py_turns::proofs::WeighLaws::weigh_rules, crate::proofs::CompLaws::turn_rules))]
 pub fn element_turn(
     going: &mut Going,
     functions: &Functions,
@@ -185,6 +191,7 @@ pub fn element_turn(
     requires kind { comp_of comp ≡ Some (comp_seen parts.now) }
     requires turns { 0 < walk.now.turns }
     ensures moves { GoesOn functions.now frozen.now result going.old going.new budget (λ k. element_turn k (comp_seen parts.now) walk.now outer done v) }
+    ensures weighs { Weighs 1 result going.old going.new }
     ensures left { OnOk result (going.new.state.used < budget) }
     ensures grows { going.old.state.used ≤ going.new.state.used }
 {
@@ -206,7 +213,7 @@ pub fn element_turn(
 }
 
 /// An element went to the targets: it is made, where the condition holds.
-#[tactic(auto, using(crate::proofs::WalkLaws::left_rules))]
+#[tactic(auto, using(py_turns::proofs::WeighLaws::weigh_rules, crate::proofs::WalkLaws::left_rules))]
 pub fn bound_left(
     going: &mut Going,
     functions: &Functions,
@@ -220,6 +227,7 @@ pub fn bound_left(
 ) -> Result<Now, Halt>
     requires { going.old.state.used < budget }
     ensures moves { GoesOn functions.now frozen.now result going.old going.new budget (λ k. on_next got (with_comp (comp_of comp) (λ x. where_made k x walk outer done))) }
+    ensures weighs { Weighs 2 result going.old going.new }
     ensures left { OnOk result (going.new.state.used < budget) }
     ensures grows { going.old.state.used ≤ going.new.state.used }
 {
@@ -231,7 +239,7 @@ pub fn bound_left(
 }
 
 /// The condition has come.
-#[tactic(auto, using(crate::proofs::CompLaws::tested_rules))]
+#[tactic(auto, using(py_turns::proofs::WeighLaws::weigh_rules, crate::proofs::CompLaws::tested_rules))]
 pub fn tested_came(
     going: &mut Going,
     functions: &Functions,
@@ -245,6 +253,7 @@ pub fn tested_came(
 ) -> Result<Now, Halt>
     requires { going.old.state.used < budget }
     ensures moves { GoesOn functions.now frozen.now result going.old going.new budget (λ k. with_comp (comp_of comp) (λ x. tested_by k x walk outer done (condition_of x.source) v)) }
+    ensures weighs { Weighs 2 result going.old going.new }
     ensures left { OnOk result (going.new.state.used < budget) }
     ensures grows { going.old.state.used ≤ going.new.state.used }
 {
@@ -257,7 +266,7 @@ pub fn tested_came(
     }
 }
 
-#[tactic(auto, using(crate::proofs::CompLaws::truth_rules))]
+#[tactic(auto, using(py_turns::proofs::WeighLaws::weigh_rules, crate::proofs::CompLaws::truth_rules))]
 pub fn tested(
     going: &mut Going,
     functions: &Functions,
@@ -273,6 +282,7 @@ pub fn tested(
     requires lives { going.old.state.used < budget }
     requires kind { comp_of comp ≡ Some (comp_seen parts.now) }
     ensures moves { GoesOn functions.now frozen.now result going.old going.new budget (λ k. tested_by k (comp_seen parts.now) walk outer done (condition_of (comp_seen parts.now).source) v) }
+    ensures weighs { Weighs 2 result going.old going.new }
     ensures left { OnOk result (going.new.state.used < budget) }
     ensures grows { going.old.state.used ≤ going.new.state.used }
 {
@@ -287,7 +297,7 @@ pub fn tested(
 }
 
 // The element, where this condition is true.
-#[tactic(auto, using(crate::proofs::CompLaws::truth_rules))]
+#[tactic(auto, using(py_turns::proofs::WeighLaws::weigh_rules, crate::proofs::CompLaws::truth_rules))]
 pub fn tested_truth(
     going: &mut Going,
     functions: &Functions,
@@ -305,6 +315,7 @@ pub fn tested_truth(
     requires kind { comp_of comp ≡ Some (comp_seen parts.now) }
     requires test { condition_of (comp_seen parts.now).source ≡ present (tree test.now) }
     ensures moves { GoesOn functions.now frozen.now result going.old going.new budget (λ k. tested_by k (comp_seen parts.now) walk outer done (condition_of (comp_seen parts.now).source) v) }
+    ensures weighs { Weighs 2 result going.old going.new }
     ensures left { OnOk result (going.new.state.used < budget) }
     ensures grows { going.old.state.used ≤ going.new.state.used }
 {
@@ -324,7 +335,7 @@ pub fn tested_truth(
 }
 
 /// The element has come, or its key.
-#[tactic(auto, using(crate::proofs::CompLaws::came_rules))]
+#[tactic(auto, using(py_turns::proofs::WeighLaws::weigh_rules, crate::proofs::CompLaws::came_rules))]
 pub fn made_came(
     going: &mut Going,
     functions: &Functions,
@@ -338,6 +349,7 @@ pub fn made_came(
 ) -> Result<Now, Halt>
     requires { going.old.state.used < budget }
     ensures moves { GoesOn functions.now frozen.now result going.old going.new budget (λ k. with_comp (comp_of comp) (λ x. made_came k x x.element walk outer done v)) }
+    ensures weighs { Weighs 2 result going.old going.new }
     ensures left { OnOk result (going.new.state.used < budget) }
     ensures grows { going.old.state.used ≤ going.new.state.used }
 {
@@ -356,7 +368,7 @@ pub fn made_came(
 }
 
 // The value of a key begins.
-#[tactic(auto, using(py_frames::proofs::BeginLaws::no_memory))]
+#[tactic(auto, using(py_turns::proofs::WeighLaws::weigh_rules, py_frames::proofs::BeginLaws::no_memory))]
 fn value_begun(
     going: &mut Going,
     functions: &Functions,
@@ -370,6 +382,7 @@ fn value_begun(
     budget: u64,
 ) -> Result<Now, Halt>
     ensures moves { GoesOn functions.now frozen.now result going.old going.new budget (within (frame.Walk (frame_of.PairMade comp walk done outer key)) (λ k. value_of k Plain (tree value.now))) }
+    ensures weighs { Weighs 1 result going.old going.new }
     ensures state { going.new.state ≡ going.old.state }
 {
     let Ok(walk) = Boxed::new(going.alloc, walk) else {
@@ -386,7 +399,7 @@ fn value_begun(
 }
 
 // One element more, and on with the walk.
-#[tactic(auto, using(crate::proofs::CompLaws::more_rules))]
+#[tactic(auto, using(py_turns::proofs::WeighLaws::weigh_rules, crate::proofs::CompLaws::more_rules))]
 pub fn one_more(
     going: &mut Going,
     functions: &Functions,
@@ -402,6 +415,7 @@ pub fn one_more(
     requires lives { going.old.state.used < budget }
     requires kind { comp_of comp ≡ Some (comp_seen parts.now) }
     ensures moves { GoesOn functions.now frozen.now result going.old going.new budget (λ k. walks_on k (comp_seen parts.now) walk outer (done ++ v ∷ [])) }
+    ensures weighs { Weighs 2 result going.old going.new }
     ensures left { OnOk result (going.new.state.used < budget) }
     ensures grows { going.old.state.used ≤ going.new.state.used }
 {
@@ -414,7 +428,7 @@ pub fn one_more(
 }
 
 /// The value of a key has come.
-#[tactic(auto, using(crate::proofs::CompLaws::pair_rules))]
+#[tactic(auto, using(py_turns::proofs::WeighLaws::weigh_rules, crate::proofs::CompLaws::pair_rules))]
 pub fn pair_made_came(
     going: &mut Going,
     functions: &Functions,
@@ -429,6 +443,7 @@ pub fn pair_made_came(
 ) -> Result<Now, Halt>
     requires { going.old.state.used < budget }
     ensures moves { GoesOn functions.now frozen.now result going.old going.new budget (λ k. with_comp (comp_of comp) (λ x. pair_came k x walk outer done key v)) }
+    ensures weighs { Weighs 2 result going.old going.new }
     ensures left { OnOk result (going.new.state.used < budget) }
     ensures grows { going.old.state.used ≤ going.new.state.used }
 {
@@ -442,7 +457,7 @@ pub fn pair_made_came(
 }
 
 // One key more with its value, where it may be a key, and on with the walk.
-#[tactic(auto, using(crate::proofs::CompLaws::key_rules))]
+#[tactic(auto, using(py_turns::proofs::WeighLaws::weigh_rules, crate::proofs::CompLaws::key_rules))]
 pub fn one_pair_more(
     going: &mut Going,
     functions: &Functions,
@@ -459,6 +474,7 @@ pub fn one_pair_more(
     requires lives { going.old.state.used < budget }
     requires kind { comp_of comp ≡ Some (comp_seen parts.now) }
     ensures moves { GoesOn functions.now frozen.now result going.old going.new budget (λ k. pair_came k (comp_seen parts.now) walk outer done key v) }
+    ensures weighs { Weighs 2 result going.old going.new }
     ensures left { OnOk result (going.new.state.used < budget) }
     ensures grows { going.old.state.used ≤ going.new.state.used }
 {
@@ -471,7 +487,7 @@ pub fn one_pair_more(
     Err(stopped(Cause::Raised, parts.place))
 }
 
-#[tactic(auto, using(crate::proofs::CompLaws::more_rules))]
+#[tactic(auto, using(py_turns::proofs::WeighLaws::weigh_rules, crate::proofs::CompLaws::more_rules))]
 pub fn pair_pushed(
     going: &mut Going,
     functions: &Functions,
@@ -488,6 +504,7 @@ pub fn pair_pushed(
     requires lives { going.old.state.used < budget }
     requires kind { comp_of comp ≡ Some (comp_seen parts.now) }
     ensures moves { GoesOn functions.now frozen.now result going.old going.new budget (λ k. walks_on k (comp_seen parts.now) walk outer (done ++ key ∷ v ∷ [])) }
+    ensures weighs { Weighs 2 result going.old going.new }
     ensures left { OnOk result (going.new.state.used < budget) }
     ensures grows { going.old.state.used ≤ going.new.state.used }
 {

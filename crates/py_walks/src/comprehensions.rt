@@ -8,6 +8,7 @@ ghost use Rattle.py_frames.specs.Expr_parts.{comp_begun};
 ghost use Rattle.py_frames.specs.Walk_frames.{comp_of, with_comp, walks_on, element_made};
 ghost use Rattle.py_walks.specs.Walk_parts.{comp_seen, Entered, row_over, where_made};
 ghost use Rattle.py_frames.specs.Frames.{GoesOn};
+ghost use Rattle.py_frames.specs.Weights.{Weighs};
 
 use crate::walk_parts::{CompParts, comp_of, target_names};
 use py_frames::frame::{Comprehended, Frame, Now, Walk, WalkFrame};
@@ -21,7 +22,7 @@ use py_turns::attribute_store::as_row;
 use py_values::{Frozen, OwnNames, ScopeId, Val, Vals};
 
 /// Begins a comprehension: its source, which stands outside its scope.
-#[tactic(auto, using(crate::proofs::CompLaws::begin_rules))]
+#[tactic(auto, using(py_turns::proofs::WeighLaws::weigh_rules, crate::proofs::CompLaws::begin_rules))]
 pub fn begun_comprehension(
     going: &mut Going,
     functions: &Functions,
@@ -31,6 +32,7 @@ pub fn begun_comprehension(
 ) -> Result<Now, Halt>
     requires { going.old.state.used < budget }
     ensures moves { GoesOn functions.now frozen.now result going.old going.new budget (λ k. comp_begun k comp) }
+    ensures weighs { Weighs 2 result going.old going.new }
     ensures left { OnOk result (going.new.state.used < budget) }
     ensures grows { going.old.state.used ≤ going.new.state.used }
 {
@@ -45,7 +47,7 @@ pub fn begun_comprehension(
 }
 
 /// The source of a comprehension has come: a thing gives its elements first.
-#[tactic(auto, using(crate::proofs::CompLaws::source_rules))]
+#[tactic(auto, using(py_turns::proofs::WeighLaws::weigh_rules, crate::proofs::CompLaws::source_rules))]
 pub fn source_came(
     going: &mut Going,
     functions: &Functions,
@@ -56,6 +58,7 @@ pub fn source_came(
 ) -> Result<Now, Halt>
     requires { going.old.state.used < budget }
     ensures moves { GoesOn functions.now frozen.now result going.old going.new budget (λ k. with_comp (comp_of comp) (row_over k v)) }
+    ensures weighs { Weighs 3 result going.old going.new }
     ensures left { OnOk result (going.new.state.used < budget) }
     ensures grows { going.old.state.used ≤ going.new.state.used }
 {
@@ -106,7 +109,7 @@ pub fn element_at(going: &Going, frozen: &Frozen, walk: &Walk) -> Option<Val>
 }
 
 // An element's targets have it.
-#[tactic(auto, using(crate::proofs::CompLaws::bound_rules))]
+#[tactic(auto, using(py_turns::proofs::WeighLaws::weigh_rules, crate::proofs::CompLaws::bound_rules))]
 pub fn element_bound(
     going: &mut Going,
     functions: &Functions,
@@ -119,6 +122,7 @@ pub fn element_bound(
 ) -> Result<Now, Halt>
     requires { going.old.state.used < budget }
     ensures moves { GoesOn functions.now frozen.now result going.old going.new budget (λ k. with_comp (comp_of comp) (λ x. where_made k x walk outer done)) }
+    ensures weighs { Weighs 2 result going.old going.new }
     ensures left { OnOk result (going.new.state.used < budget) }
     ensures grows { going.old.state.used ≤ going.new.state.used }
 {
@@ -143,7 +147,7 @@ pub fn element_bound(
 }
 
 // The element that is made, or its key.
-#[tactic(auto, using(crate::proofs::CompLaws::made_rules))]
+#[tactic(auto, using(py_turns::proofs::WeighLaws::weigh_rules, crate::proofs::CompLaws::made_rules))]
 pub fn element_begun(
     going: &mut Going,
     functions: &Functions,
@@ -157,6 +161,7 @@ pub fn element_begun(
 ) -> Result<Now, Halt>
     requires { comp_of comp ≡ Some (comp_seen parts.now) }
     ensures moves { GoesOn functions.now frozen.now result going.old going.new budget (λ k. element_made k (comp_seen parts.now).place (comp_seen parts.now).element done (walks_on k (comp_seen parts.now) walk outer)) }
+    ensures weighs { Weighs 2 result going.old going.new }
     ensures state { going.new.state ≡ going.old.state }
 {
     let frame = Frame::Walk(WalkFrame::Made {

@@ -12,6 +12,7 @@ ghost use Rattle.py_frames.specs.Statements.{run_all, for_turns, for_loop, turn_
 ghost use Rattle.py_frames.specs.Stmt_frames.{for_source, for_row, for_walks, for_bound};
 ghost use Rattle.py_walks.specs.Walk_parts.{for_turn};
 ghost use Rattle.py_frames.specs.Frames.{GoesOn, within};
+ghost use Rattle.py_frames.specs.Weights.{Weighs};
 
 use crate::comprehensions::element_at;
 use crate::loops::{for_body_under, for_source, row_size};
@@ -28,7 +29,7 @@ use py_turns::expr_values::bind;
 use py_values::{Frozen, Val};
 
 /// The source of a `for` has come: a thing gives its elements first.
-#[tactic(auto, using(crate::proofs::ForLaws::other_rules))]
+#[tactic(auto, using(py_turns::proofs::WeighLaws::weigh_rules, crate::proofs::ForLaws::other_rules))]
 pub fn for_source_came(
     going: &mut Going,
     functions: &Functions,
@@ -39,6 +40,7 @@ pub fn for_source_came(
 ) -> Result<Now, Halt>
     requires { going.old.state.used < budget }
     ensures moves { GoesOn functions.now frozen.now result going.old going.new budget (λ k. for_source k (step_of stmt.now) v) }
+    ensures weighs { Weighs 3 result going.old going.new }
     ensures left { OnOk result (going.new.state.used < budget) }
     ensures grows { going.old.state.used ≤ going.new.state.used }
 {
@@ -59,7 +61,7 @@ pub fn for_source_came(
 }
 
 /// What a `for` goes over has come.
-#[tactic(auto, using(crate::proofs::ForLaws::other_rules))]
+#[tactic(auto, using(py_turns::proofs::WeighLaws::weigh_rules, crate::proofs::ForLaws::other_rules))]
 pub fn for_row_came(
     going: &mut Going,
     functions: &Functions,
@@ -70,6 +72,7 @@ pub fn for_row_came(
 ) -> Result<Now, Halt>
     requires { going.old.state.used < budget }
     ensures moves { GoesOn functions.now frozen.now result going.old going.new budget (λ k. for_row k (step_of stmt.now) row) }
+    ensures weighs { Weighs 1 result going.old going.new }
     ensures left { OnOk result (going.new.state.used < budget) }
     ensures grows { going.old.state.used ≤ going.new.state.used }
 {
@@ -89,7 +92,7 @@ pub fn for_row_came(
     Ok(Now::Came(Got::Next))
 }
 
-#[tactic(auto, using(crate::proofs::ForLaws::loop_rules))]
+#[tactic(auto, using(py_turns::proofs::WeighLaws::weigh_rules, crate::proofs::ForLaws::loop_rules))]
 pub fn for_loop(
     going: &mut Going,
     functions: &Functions,
@@ -104,6 +107,7 @@ pub fn for_loop(
     requires lives { going.old.state.used < budget }
     requires kind { step_of stmt.now ≡ For stmt.now.place (tree targets.now) (tree source.now) (steps_of body.now) }
     ensures moves { GoesOn functions.now frozen.now result going.old going.new budget (λ k. for_loop k row (tree targets.now) (run_all k (steps_of body.now)) stmt.now.place) }
+    ensures weighs { Weighs 1 result going.old going.new }
     ensures left { OnOk result (going.new.state.used < budget) }
     ensures grows { going.old.state.used ≤ going.new.state.used }
 {
@@ -124,7 +128,7 @@ pub fn for_loop(
 }
 
 // The turns behind those of a walk: the next element, where the dict that is gone over has kept its size.
-#[tactic(auto, using(crate::proofs::ForLaws::walk_rules))]
+#[tactic(auto, using(py_turns::proofs::WeighLaws::weigh_rules, crate::proofs::ForLaws::walk_rules))]
 pub fn for_turns(
     going: &mut Going,
     functions: &Functions,
@@ -139,6 +143,7 @@ pub fn for_turns(
     requires lives { going.old.state.used < budget }
     requires kind { step_of stmt.now ≡ For stmt.now.place (tree targets.now) (tree source.now) (steps_of body.now) }
     ensures moves { GoesOn functions.now frozen.now result going.old going.new budget (λ k. for_turns walk.now.turns k walk.now.over walk.now.next walk.now.size (tree targets.now) (run_all k (steps_of body.now)) stmt.now.place) }
+    ensures weighs { Weighs 1 result going.old going.new }
     ensures left { OnOk result (going.new.state.used < budget) }
     ensures grows { going.old.state.used ≤ going.new.state.used }
 {
@@ -157,7 +162,7 @@ pub fn for_turns(
 }
 
 // A turn spends its unit, and its element goes to the targets.
-#[tactic(auto, using(crate::proofs::ForLaws::turn_rules))]
+#[tactic(auto, using(py_turns::proofs::WeighLaws::weigh_rules, crate::proofs::ForLaws::turn_rules))]
 pub fn for_turn(
     going: &mut Going,
     functions: &Functions,
@@ -174,6 +179,7 @@ pub fn for_turn(
     requires kind { step_of s.now ≡ For s.now.place (tree targets.now) (tree _source.now) (steps_of _body.now) }
     requires turns { 0 < walk.now.turns }
     ensures moves { GoesOn functions.now frozen.now result going.old going.new budget (λ k. for_turn k walk.now (tree targets.now) (run_all k (steps_of _body.now)) s.now.place v) }
+    ensures weighs { Weighs 1 result going.old going.new }
     ensures left { OnOk result (going.new.state.used < budget) }
     ensures grows { going.old.state.used ≤ going.new.state.used }
 {
@@ -190,6 +196,7 @@ pub fn for_turn(
 }
 
 // The element goes to the targets, and then the body runs; where the target is a name alone, no frame waits for that.
+#[tactic(auto, using(py_turns::proofs::WeighLaws::weigh_rules))]
 fn element_given(
     going: &mut Going,
     functions: &Functions,
@@ -202,6 +209,7 @@ fn element_given(
 ) -> Result<Now, Halt>
     requires { going.old.state.used < budget }
     ensures moves { GoesOn functions.now frozen.now result going.old going.new budget (within (frame.Stmt (waits.ForBound stmt walk)) (λ k. assign k (tree targets.now) v)) }
+    ensures weighs { Weighs 4 result going.old going.new }
     ensures left { OnOk result (going.new.state.used < budget) }
     ensures grows { going.old.state.used ≤ going.new.state.used }
 {
@@ -217,7 +225,7 @@ fn element_given(
 }
 
 // The element is bound to a name, and then the body runs.
-#[tactic(auto, using(crate::proofs::ForLaws::named_bound, crate::proofs::ForLaws::named_refused))]
+#[tactic(auto, using(py_turns::proofs::WeighLaws::weigh_rules, crate::proofs::ForLaws::named_bound, crate::proofs::ForLaws::named_refused))]
 fn name_given(
     going: &mut Going,
     functions: &Functions,
@@ -232,6 +240,7 @@ fn name_given(
     requires lives { going.old.state.used < budget }
     requires kind { tree target.now ≡ Named target.now.place name.now }
     ensures moves { GoesOn functions.now frozen.now result going.old going.new budget (within (frame.Stmt (waits.ForBound stmt walk)) (λ k. assign k (tree target.now) v)) }
+    ensures weighs { Weighs 4 result going.old going.new }
     ensures left { OnOk result (going.new.state.used < budget) }
     ensures grows { going.old.state.used ≤ going.new.state.used }
 {
@@ -242,7 +251,7 @@ fn name_given(
 }
 
 /// An element went to the targets: the body, where nothing else came.
-#[tactic(auto, using(crate::proofs::WalkLaws::left_rules))]
+#[tactic(auto, using(py_turns::proofs::WeighLaws::weigh_rules, crate::proofs::WalkLaws::left_rules))]
 pub fn for_bound_left(
     going: &mut Going,
     functions: &Functions,
@@ -254,6 +263,7 @@ pub fn for_bound_left(
 ) -> Result<Now, Halt>
     requires { going.old.state.used < budget }
     ensures moves { GoesOn functions.now frozen.now result going.old going.new budget (λ k. on_next got (for_bound k walk (step_of stmt))) }
+    ensures weighs { Weighs 2 result going.old going.new }
     ensures left { OnOk result (going.new.state.used < budget) }
     ensures grows { going.old.state.used ≤ going.new.state.used }
 {
@@ -265,7 +275,7 @@ pub fn for_bound_left(
 }
 
 // The body of a turn.
-#[tactic(auto, using(crate::proofs::ForLaws::other_rules))]
+#[tactic(auto, using(py_turns::proofs::WeighLaws::weigh_rules, crate::proofs::ForLaws::other_rules))]
 pub fn for_body(
     going: &mut Going,
     functions: &Functions,
@@ -276,6 +286,7 @@ pub fn for_body(
 ) -> Result<Now, Halt>
     requires { going.old.state.used < budget }
     ensures moves { GoesOn functions.now frozen.now result going.old going.new budget (λ k. for_bound k walk (step_of s.now)) }
+    ensures weighs { Weighs 2 result going.old going.new }
     ensures left { OnOk result (going.new.state.used < budget) }
     ensures grows { going.old.state.used ≤ going.new.state.used }
 {
@@ -296,7 +307,7 @@ pub fn for_body(
 }
 
 /// What the body of a turn left: the next turn, or the end.
-#[tactic(auto, using(crate::proofs::ForLaws::left_rules))]
+#[tactic(auto, using(py_turns::proofs::WeighLaws::weigh_rules, crate::proofs::ForLaws::left_rules))]
 pub fn for_left(
     going: &mut Going,
     functions: &Functions,
@@ -308,6 +319,7 @@ pub fn for_left(
 ) -> Result<Now, Halt>
     requires { going.old.state.used < budget }
     ensures moves { GoesOn functions.now frozen.now result going.old going.new budget (λ k. turn_on got (for_walks k walk (step_of stmt.now))) }
+    ensures weighs { Weighs 1 result going.old going.new }
     ensures left { OnOk result (going.new.state.used < budget) }
     ensures grows { going.old.state.used ≤ going.new.state.used }
 {
@@ -317,7 +329,7 @@ pub fn for_left(
     }
 }
 
-#[tactic(auto, using(crate::proofs::ForLaws::other_rules))]
+#[tactic(auto, using(py_turns::proofs::WeighLaws::weigh_rules, crate::proofs::ForLaws::other_rules))]
 pub fn for_again(
     going: &mut Going,
     functions: &Functions,
@@ -328,6 +340,7 @@ pub fn for_again(
 ) -> Result<Now, Halt>
     requires { going.old.state.used < budget }
     ensures moves { GoesOn functions.now frozen.now result going.old going.new budget (λ k. for_walks k walk (step_of stmt.now)) }
+    ensures weighs { Weighs 1 result going.old going.new }
     ensures left { OnOk result (going.new.state.used < budget) }
     ensures grows { going.old.state.used ≤ going.new.state.used }
 {

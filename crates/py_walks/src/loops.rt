@@ -8,6 +8,7 @@ ghost use Rattle.py_frames.specs.Expressions.{row_size};
 ghost use Rattle.py_frames.specs.Stmt_begun.{run_after};
 ghost use Rattle.py_frames.specs.Stmt_frames.{for_source, for_bound};
 ghost use Rattle.py_frames.specs.Frames.{GoesOn};
+ghost use Rattle.py_frames.specs.Weights.{Weighs};
 
 use py_frames::frame::{Frame, Now, StmtFrame, Walk};
 use py_frames::functions::Functions;
@@ -19,7 +20,7 @@ use py_turns::block::run_block;
 use py_values::{Frozen, Val};
 
 /// Begins a `for`: its source.
-#[tactic(auto, using(crate::proofs::ForLaws::begin_rules))]
+#[tactic(auto, using(py_turns::proofs::WeighLaws::weigh_rules, crate::proofs::ForLaws::begin_rules))]
 pub fn for_begun(
     going: &mut Going,
     functions: &Functions,
@@ -32,6 +33,7 @@ pub fn for_begun(
 ) -> Result<Now, Halt>
     requires { step_of s.now ≡ For s.now.place (tree _targets.now) (tree source.now) (steps_of _body.now) }
     ensures moves { GoesOn functions.now frozen.now result going.old going.new budget (λ k. run_after k (step_of s.now)) }
+    ensures weighs { Weighs 2 result going.old going.new }
     ensures state { going.new.state ≡ going.old.state }
 {
     let Ok(stmt) = s.share() else {
@@ -47,7 +49,7 @@ pub fn for_begun(
     )
 }
 
-#[tactic(auto, using(crate::proofs::ForLaws::source_rules))]
+#[tactic(auto, using(py_turns::proofs::WeighLaws::weigh_rules, crate::proofs::ForLaws::source_rules))]
 pub fn for_source(
     going: &mut Going,
     functions: &Functions,
@@ -62,6 +64,7 @@ pub fn for_source(
     requires lives { going.old.state.used < budget }
     requires kind { step_of s.now ≡ For s.now.place (tree _targets.now) (tree _source.now) (steps_of _body.now) }
     ensures moves { GoesOn functions.now frozen.now result going.old going.new budget (λ k. for_source k (step_of s.now) v) }
+    ensures weighs { Weighs 3 result going.old going.new }
     ensures left { OnOk result (going.new.state.used < budget) }
     ensures grows { going.old.state.used ≤ going.new.state.used }
 {
@@ -84,7 +87,7 @@ pub fn row_size(going: &Going, frozen: &Frozen, v: &Val) -> u64
     }
 }
 
-#[tactic(auto, using(crate::proofs::ForLaws::under_rules))]
+#[tactic(auto, using(py_turns::proofs::WeighLaws::weigh_rules, crate::proofs::ForLaws::under_rules))]
 pub fn for_body_under(
     going: &mut Going,
     functions: &Functions,
@@ -99,6 +102,7 @@ pub fn for_body_under(
     requires lives { going.old.state.used < budget }
     requires kind { step_of s.now ≡ For s.now.place (tree _targets.now) (tree _source.now) (steps_of body.now) }
     ensures moves { GoesOn functions.now frozen.now result going.old going.new budget (λ k. for_bound k walk (step_of s.now)) }
+    ensures weighs { Weighs 2 result going.old going.new }
     ensures left { OnOk result (going.new.state.used < budget) }
     ensures grows { going.old.state.used ≤ going.new.state.used }
 {

@@ -1,11 +1,12 @@
 // Targets: a value is bound to a name, unpacked, or stored in an attribute or at an index.
-ghost use Rattle.std.specs.Prelude.{◌<◌, ◌≤◌, OnOk};
+ghost use Rattle.std.specs.Prelude.{◌≡◌, ◌<◌, ◌≤◌, ◌+◌, ◌*◌, OnOk};
 ghost use Rattle.py_tree.specs.Seen.{tree};
 ghost use Rattle.py_frames.specs.Doing.{on_next, spend_each};
-ghost use Rattle.py_frames.specs.Parts.{trees_from};
+ghost use Rattle.py_frames.specs.Parts.{tree_count, trees_from};
 ghost use Rattle.py_frames.specs.Expressions.{assign, assign_each};
 ghost use Rattle.py_frames.specs.Walk_frames.{targets_in, unpacked};
 ghost use Rattle.py_frames.specs.Frames.{GoesOn, KeepsRoom, within};
+ghost use Rattle.py_frames.specs.Weights.{Weighs, frame_weight, target_weight, targets_left};
 
 use crate::targets::{assign_name, assign_trailed, assign_tuple, counts_to, elements_of};
 use crate::walk_parts::{Parted, is_target, split, target_at, target_count};
@@ -21,7 +22,7 @@ use py_turns::block::leaves;
 use py_values::{Frozen, Val, Vals};
 
 /// A value goes to a target.
-#[tactic(auto, using(crate::proofs::TargetLaws::target_rules))]
+#[tactic(auto, using(py_turns::proofs::WeighLaws::weigh_rules, crate::proofs::TargetLaws::target_rules))]
 pub fn assign(
     going: &mut Going,
     functions: &Functions,
@@ -32,6 +33,7 @@ pub fn assign(
 ) -> Result<Now, Halt>
     requires { going.old.state.used < budget }
     ensures moves { GoesOn functions.now frozen.now result going.old going.new budget (λ k. assign k (tree target.now) v) }
+    ensures weighs { Weighs (target_weight (tree target.now)) result going.old going.new }
     ensures left { OnOk result (going.new.state.used < budget) }
     ensures grows { going.old.state.used ≤ going.new.state.used }
 {
@@ -54,7 +56,7 @@ pub fn assign(
 }
 
 /// A value goes to a target; a frame waits until it is there.
-#[tactic(auto, using(crate::proofs::TargetLaws::under_rules))]
+#[tactic(auto, using(py_turns::proofs::WeighLaws::weigh_rules, crate::proofs::TargetLaws::under_rules))]
 pub fn assign_under(
     going: &mut Going,
     functions: &Functions,
@@ -67,6 +69,7 @@ pub fn assign_under(
     requires lives { going.old.state.used < budget }
     requires room { KeepsRoom frame going.old.state.here.room }
     ensures moves { GoesOn functions.now frozen.now result going.old going.new budget (within frame (λ k. assign k (tree target.now) v)) }
+    ensures weighs { Weighs (frame_weight frame + target_weight (tree target.now)) result going.old going.new }
     ensures left { OnOk result (going.new.state.used < budget) }
     ensures grows { going.old.state.used ≤ going.new.state.used }
 {
@@ -77,7 +80,7 @@ pub fn assign_under(
 }
 
 /// A value is unpacked, whose elements are there: as many as there are targets.
-#[tactic(auto, using(crate::proofs::TargetLaws::unpack_rules))]
+#[tactic(auto, using(py_turns::proofs::WeighLaws::weigh_rules, crate::proofs::TargetLaws::unpack_rules))]
 pub fn unpacked(
     going: &mut Going,
     functions: &Functions,
@@ -88,6 +91,7 @@ pub fn unpacked(
 ) -> Result<Now, Halt>
     requires { going.old.state.used < budget }
     ensures moves { GoesOn functions.now frozen.now result going.old going.new budget (λ k. unpacked k (tree node) row) }
+    ensures weighs { Weighs 1 result going.old going.new }
     ensures left { OnOk result (going.new.state.used < budget) }
     ensures grows { going.old.state.used ≤ going.new.state.used }
 {
@@ -104,7 +108,7 @@ pub fn unpacked(
 }
 
 // The units of so many targets, and then the elements go to them.
-#[tactic(auto, using(crate::proofs::TargetLaws::spread_rules))]
+#[tactic(auto, using(py_turns::proofs::WeighLaws::weigh_rules, crate::proofs::TargetLaws::spread_rules))]
 pub fn unpacked_to(
     going: &mut Going,
     functions: &Functions,
@@ -115,8 +119,10 @@ pub fn unpacked_to(
     count: u64,
     budget: u64,
 ) -> Result<Now, Halt>
-    requires { going.old.state.used < budget }
+    requires lives { going.old.state.used < budget }
+    requires counts { count ≡ tree_count (targets_in (tree node)) }
     ensures moves { GoesOn functions.now frozen.now result going.old going.new budget (λ k. spend_each count place (assign_each k (targets_in (tree node)) vals)) }
+    ensures weighs { Weighs 1 result going.old going.new }
     ensures left { OnOk result (going.new.state.used < budget) }
     ensures grows { going.old.state.used ≤ going.new.state.used }
 {
@@ -127,7 +133,7 @@ pub fn unpacked_to(
 }
 
 // Each of the targets from this number on takes a value.
-#[tactic(auto, using(crate::proofs::TargetLaws::each_rules))]
+#[tactic(auto, using(py_turns::proofs::WeighLaws::weigh_rules, crate::proofs::TargetLaws::each_rules))]
 pub fn assign_each(
     going: &mut Going,
     functions: &Functions,
@@ -139,6 +145,7 @@ pub fn assign_each(
 ) -> Result<Now, Halt>
     requires { going.old.state.used < budget }
     ensures moves { GoesOn functions.now frozen.now result going.old going.new budget (λ k. assign_each k (trees_from n (targets_in (tree node))) vals) }
+    ensures weighs { Weighs (1 + 3 * targets_left node n) result going.old going.new }
     ensures left { OnOk result (going.new.state.used < budget) }
     ensures grows { going.old.state.used ≤ going.new.state.used }
 {
@@ -160,7 +167,7 @@ pub fn assign_each(
 }
 
 /// A value went to the target before this one.
-#[tactic(auto, using(crate::proofs::TargetLaws::left_rules))]
+#[tactic(auto, using(py_turns::proofs::WeighLaws::weigh_rules, crate::proofs::TargetLaws::left_rules))]
 pub fn unpacking_left(
     going: &mut Going,
     functions: &Functions,
@@ -173,6 +180,7 @@ pub fn unpacking_left(
 ) -> Result<Now, Halt>
     requires { going.old.state.used < budget }
     ensures moves { GoesOn functions.now frozen.now result going.old going.new budget (λ k. on_next got (assign_each k (trees_from n (targets_in (tree node))) vals)) }
+    ensures weighs { Weighs (1 + 3 * targets_left node n) result going.old going.new }
     ensures left { OnOk result (going.new.state.used < budget) }
     ensures grows { going.old.state.used ≤ going.new.state.used }
 {

@@ -7,6 +7,7 @@ ghost use Rattle.py_values.specs.Elements.{elements, counts_to};
 ghost use Rattle.py_frames.specs.Expressions.{assign, reach};
 ghost use Rattle.py_walks.specs.Walk_parts.{TellsElements};
 ghost use Rattle.py_frames.specs.Frames.{GoesOn};
+ghost use Rattle.py_frames.specs.Weights.{Weighs};
 
 use amh_host::Place;
 use py_frames::frame::{Along, CallFrame, Frame, Now, WalkFrame};
@@ -22,7 +23,7 @@ use py_turns::expr_values::bind;
 use py_values::{Frozen, Val, Vals, ValueStop};
 
 // A name is bound.
-#[tactic(auto, using(crate::proofs::TargetLaws::name_rules))]
+#[tactic(auto, using(py_turns::proofs::WeighLaws::weigh_rules, crate::proofs::TargetLaws::name_rules))]
 pub fn assign_name(
     going: &mut Going,
     functions: &Functions,
@@ -35,6 +36,7 @@ pub fn assign_name(
     requires lives { going.old.state.used < budget }
     requires kind { tree target.now ≡ Named target.now.place name.now }
     ensures moves { GoesOn functions.now frozen.now result going.old going.new budget (λ k. assign k (tree target.now) v) }
+    ensures weighs { Weighs 0 result going.old going.new }
     ensures left { OnOk result (going.new.state.used < budget) }
     ensures grows { going.old.state.used ≤ going.new.state.used }
 {
@@ -45,7 +47,7 @@ pub fn assign_name(
 }
 
 // A value is unpacked: its elements first.
-#[tactic(auto, using(crate::proofs::TargetLaws::tuple_rules))]
+#[tactic(auto, using(py_turns::proofs::WeighLaws::weigh_rules, crate::proofs::TargetLaws::tuple_rules))]
 pub fn assign_tuple(
     going: &mut Going,
     functions: &Functions,
@@ -58,6 +60,7 @@ pub fn assign_tuple(
     requires lives { going.old.state.used < budget }
     requires kind { tree target.now ≡ Tuple target.now.place (trees (map tree _items.now.items)) }
     ensures moves { GoesOn functions.now frozen.now result going.old going.new budget (λ k. assign k (tree target.now) v) }
+    ensures weighs { Weighs 2 result going.old going.new }
     ensures left { OnOk result (going.new.state.used < budget) }
     ensures grows { going.old.state.used ≤ going.new.state.used }
 {
@@ -71,7 +74,7 @@ pub fn assign_tuple(
 }
 
 // A value is stored in what trails last: what it trails first.
-#[tactic(auto, using(crate::proofs::TargetLaws::trailed_rules))]
+#[tactic(auto, using(py_turns::proofs::WeighLaws::weigh_rules, crate::proofs::TargetLaws::trailed_rules))]
 pub fn assign_trailed(
     going: &mut Going,
     functions: &Functions,
@@ -85,6 +88,7 @@ pub fn assign_trailed(
     requires lives { going.old.state.used < budget }
     requires kind { tree target.now ≡ Trailed target.now.place (tree first.now) (trailers (map trailer_of _behind.now.items)) }
     ensures moves { GoesOn functions.now frozen.now result going.old going.new budget (λ k. assign k (tree target.now) v) }
+    ensures weighs { Weighs 0 result going.old going.new }
     ensures left { OnOk result (going.new.state.used < budget) }
     ensures grows { going.old.state.used ≤ going.new.state.used }
 {
@@ -109,7 +113,7 @@ pub fn assign_trailed(
 }
 
 // What the last trailer of a target stands behind comes first, where nothing is stored.
-#[tactic(auto, using(py_frames::proofs::BeginLaws::no_memory))]
+#[tactic(auto, using(py_turns::proofs::WeighLaws::weigh_rules, py_frames::proofs::BeginLaws::no_memory))]
 fn reach_trailed(
     going: &mut Going,
     functions: &Functions,
@@ -122,6 +126,7 @@ fn reach_trailed(
     requires lives { going.old.state.used < budget }
     requires kind { tree target.now ≡ Trailed target.now.place (tree first.now) (trailers (map trailer_of _behind.now.items)) }
     ensures moves { GoesOn functions.now frozen.now result going.old going.new budget (λ k. reach k (tree target.now)) }
+    ensures weighs { Weighs 1 result going.old going.new }
     ensures left { OnOk result (going.new.state.used < budget) }
     ensures grows { going.old.state.used ≤ going.new.state.used }
 {
@@ -148,7 +153,7 @@ fn reach_trailed(
 }
 
 /// A target to which nothing goes, as that of an annotation without a value: its primary and its index are evaluated.
-#[tactic(auto, using(crate::proofs::TargetLaws::reach_rules))]
+#[tactic(auto, using(py_turns::proofs::WeighLaws::weigh_rules, crate::proofs::TargetLaws::reach_rules))]
 pub fn reach(
     going: &mut Going,
     functions: &Functions,
@@ -158,6 +163,7 @@ pub fn reach(
 ) -> Result<Now, Halt>
     requires { going.old.state.used < budget }
     ensures moves { GoesOn functions.now frozen.now result going.old going.new budget (λ k. reach k (tree target.now)) }
+    ensures weighs { Weighs 1 result going.old going.new }
     ensures left { OnOk result (going.new.state.used < budget) }
     ensures grows { going.old.state.used ≤ going.new.state.used }
 {

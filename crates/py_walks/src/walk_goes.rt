@@ -1,8 +1,9 @@
 // How the frames of comprehensions and of targets go on.
-ghost use Rattle.std.specs.Prelude.{◌≡◌, ◌<◌, ◌≤◌, true, OnOk};
+ghost use Rattle.std.specs.Prelude.{◌≡◌, ◌<◌, ◌≤◌, ◌+◌, ◌-◌, true, OnOk};
 ghost use Rattle.py_frames.specs.Walk_frames.{walk_goes, walk_value_goes};
-ghost use Rattle.py_walks.specs.Walk_parts.{takes_any};
+ghost use Rattle.py_walks.specs.Walk_parts.{goes_with, takes_any};
 ghost use Rattle.py_frames.specs.Frames.{GoesOn};
+ghost use Rattle.py_frames.specs.Weights.{Weighs, got_weight, walk_weight};
 
 use crate::comp_turns::{bound_left, made_came, pair_made_came, source_row_came, tested_came};
 use crate::comprehensions::source_came;
@@ -47,6 +48,7 @@ pub fn walk_goes(
 ) -> Result<Now, Halt>
     requires { going.old.state.used < budget }
     ensures moves { GoesOn functions.now frozen.now result going.old going.new budget (λ k. walk_goes k frame got) }
+    ensures weighs { goes_with frame got ≡ true → Weighs (walk_weight frame + got_weight got - 1) result going.old going.new }
     ensures left { OnOk result (going.new.state.used < budget) }
     ensures grows { going.old.state.used ≤ going.new.state.used }
 {
@@ -72,6 +74,7 @@ fn walk_left(
     requires lives { going.old.state.used < budget }
     requires kind { takes_any frame ≡ true }
     ensures moves { GoesOn functions.now frozen.now result going.old going.new budget (λ k. walk_goes k frame got) }
+    ensures weighs { Weighs (walk_weight frame + got_weight got - 1) result going.old going.new }
     ensures left { OnOk result (going.new.state.used < budget) }
     ensures grows { going.old.state.used ≤ going.new.state.used }
 {
@@ -92,7 +95,7 @@ fn walk_left(
 }
 
 // A frame that waits for a value.
-#[tactic(auto, using(crate::proofs::WalkGoes::value_rules))]
+#[tactic(auto, using(py_turns::proofs::WeighLaws::weigh_rules, crate::proofs::WalkGoes::value_rules))]
 fn walk_value(
     going: &mut Going,
     functions: &Functions,
@@ -103,6 +106,7 @@ fn walk_value(
 ) -> Result<Now, Halt>
     requires { going.old.state.used < budget }
     ensures moves { GoesOn functions.now frozen.now result going.old going.new budget (λ k. walk_value_goes k frame v) }
+    ensures weighs { Weighs (walk_weight frame + 1) result going.old going.new }
     ensures left { OnOk result (going.new.state.used < budget) }
     ensures grows { going.old.state.used ≤ going.new.state.used }
 {

@@ -7,7 +7,7 @@ use Rattle.py_callables.proofs.attribute.object_attribute.Goals as goal
 pub returns-in-Some-clause-moves : goal.returns-in-Some-clause-moves
 returns-in-Some-clause-moves c =
     let e : Some c.in-Some.v ≡ attribute_in (seen c.args.frozen.now c.args.going.now.state.heap) c.args.name.now (attributes (row_at (seen c.args.frozen.now c.args.going.now.state.heap) c.args.o.0)) = cc (c.attribute.ensures, c.in-Some.is, c.as_str.ensures) in
-    object_has c.args.functions.now c.args.frozen.now c.give.result c.args.going.now _ c.args.budget c.args.rounds c.args.o.0 c.args.name.now c.args.place c.in-Some.v e c.give.ensures
+    object_has c.args.functions.now c.args.frozen.now c.give.result c.args.going.now _ c.args.budget c.args.rounds c.args.o.0 c.args.name.now c.args.place c.in-Some.v e c.give.ensures.moves
 
 pub returns-clause-moves : goal.returns-clause-moves
 returns-clause-moves c =

@@ -25,4 +25,4 @@ returns-in-Err-clause-moves c =
 pub returns-clause-moves : goal.returns-clause-moves
 returns-clause-moves c =
     c.loop-at.invariant.goes _ _ (omega arith)
-    (summed_none c.args.functions.now c.args.frozen.now c.give.result c.loop-at.going c.loop-at.going c.args.budget c.loop-at.at c.loop-at.sum c.args.row c.loop-at.row c.args.place c.loop-at.invariant.row (omega (arith, c.loop-at-test.false, c.len.ensures)) c.give.ensures)
+    (summed_none c.args.functions.now c.args.frozen.now c.give.result c.loop-at.going c.loop-at.going c.args.budget c.loop-at.at c.loop-at.sum c.args.row c.loop-at.row c.args.place c.loop-at.invariant.row (omega (arith, c.loop-at-test.false, c.len.ensures)) c.give.ensures.moves)

@@ -12,4 +12,4 @@ returns-then-is_next-clause-moves c =
 pub returns-clause-moves : goal.returns-clause-moves
 returns-clause-moves c =
     let e : is_next c.args.got ≡ false = cc in
-    ended_other c.args.functions.now c.args.frozen.now c.comes.result c.args.going.now _ c.args.budget c.args.s.now.place c.args.name.now _ (steps_of c.args.body.now) (step_of c.args.s.now) c.args.base c.args.keywords c.args.outer c.replace-inner.new.dest c.args.got c.requires e c.replace-inner.ensures.after c.comes.ensures
+    ended_other c.args.functions.now c.args.frozen.now c.comes.result c.args.going.now _ c.args.budget c.args.s.now.place c.args.name.now _ (steps_of c.args.body.now) (step_of c.args.s.now) c.args.base c.args.keywords c.args.outer c.replace-inner.new.dest c.args.got c.requires e c.replace-inner.ensures.after c.comes.ensures.moves

@@ -23,4 +23,4 @@ pub returns-in-ClassTold-clause-moves : goal.returns-in-ClassTold-clause-moves
 returns-in-ClassTold-clause-moves c = value_as _ _ _ _ _ _ _ _ _ c.in-ClassTold.is c.class_told.ensures.moves
 
 pub returns-in-ClassBody-clause-moves : goal.returns-in-ClassBody-clause-moves
-returns-in-ClassBody-clause-moves c = value_as _ _ _ _ _ _ _ _ _ c.in-ClassBody.is c.comes.ensures
+returns-in-ClassBody-clause-moves c = value_as _ _ _ _ _ _ _ _ _ c.in-ClassBody.is c.comes.ensures.moves
