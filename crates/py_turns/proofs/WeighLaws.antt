@@ -1,11 +1,13 @@
 -- What turns leave, weighed: frames that are pushed, units that are spent, and parts of a turn.
 use Rattle.std.proofs.Common.{◌≡◌, ℕ, ◌+◌, ◌*◌, ◌≤◌, subst, List, ◌∷◌, Result, Ok, Err, arith}
+use Rattle.py_frames.specs.declared.request.Act.{Act}
+use Rattle.py_frames.specs.declared.request.Act.TheVariants as act
 use Rattle.py_frames.specs.declared.state.Halt.{Halt}
 use Rattle.py_frames.specs.declared.state.Halt.TheVariants.{Stopped, Asks, NoMemory}
 use Rattle.py_frames.specs.declared.frame.Frame.{Frame}
 use Rattle.py_frames.specs.declared.frame.Now.{Now}
 use Rattle.py_frames.specs.declared.going.Going.{Going}
-use Rattle.py_frames.specs.Weights.{work, now_weight, frame_weight, weight, Weighs}
+use Rattle.py_frames.specs.Weights.{work, act_weight, now_weight, frame_weight, weight, Weighs}
 
 -- at most so much is at most more
 pub weighs_less : (r : Result Now Halt) (x y : Going) (m n : ℕ) → m ≤ n → Weighs m r x y → Weighs n r x y
@@ -59,4 +61,26 @@ weighs_halts (Stopped stop) x y n w = omega (arith, w)
 weighs_halts (Asks q) x y n w = omega (arith, w)
 weighs_halts NoMemory x y n w = tt
 
-pub ruleset weigh_rules = (weighs_less, weighs_pushed, weighs_behind, weighs_later, weighs_halts)
+-- a request that was asked, whatever its act
+act_little : (a : Act) → act_weight a ≤ 1
+act_little act.Import = omega arith
+act_little act.Attribute = omega arith
+act_little act.SetAttribute = omega arith
+act_little act.CallThing = omega arith
+act_little act.Index = omega arith
+act_little act.SetIndex = omega arith
+act_little act.Operator = omega arith
+act_little act.Length = omega arith
+act_little act.Iterate = omega arith
+act_little act.Enter = omega arith
+act_little act.Leave = omega arith
+act_little act.ClassMade = omega arith
+act_little act.InitBase = omega arith
+act_little act.BodyEnd = omega arith
+act_little act.Returned = omega arith
+act_little act.Await = omega arith
+
+pub weighs_asked : (r : Result Now Halt) (x y : Going) (a : Act) (n : ℕ) → 1 ≤ n → Weighs (act_weight a) r x y → Weighs n r x y
+weighs_asked r x y a n e h = let little : act_weight a ≤ 1 = act_little a in weighs_less r x y (act_weight a) n (omega (arith, little, e)) h
+
+pub ruleset weigh_rules = (weighs_less, weighs_pushed, weighs_behind, weighs_later, weighs_halts, weighs_asked)
