@@ -30,7 +30,7 @@ use py_turns::expr_values::{new_dict, truth};
 use py_values::{Frozen, ScopeId, Val, Vals};
 
 /// What a comprehension goes over has come.
-#[tactic(auto, using(py_turns::proofs::WeighLaws::weigh_rules, crate::proofs::CompLaws::row_rules))]
+#[tactic(auto, using(py_turns::proofs::WeighLaws::weigh_rules, crate::proofs::WeighLaws::walk_weighs, crate::proofs::CompLaws::row_rules))]
 pub fn source_row_came(
     going: &mut Going,
     functions: &Functions,
@@ -53,7 +53,7 @@ pub fn source_row_came(
 }
 
 // Over a value, where one may go over it.
-#[tactic(auto, using(py_turns::proofs::WeighLaws::weigh_rules, crate::proofs::CompLaws::fit_rules))]
+#[tactic(auto, using(py_turns::proofs::WeighLaws::weigh_rules, crate::proofs::WeighLaws::walk_weighs, crate::proofs::CompLaws::fit_rules))]
 pub fn comp_row(
     going: &mut Going,
     functions: &Functions,
@@ -78,7 +78,7 @@ pub fn comp_row(
 }
 
 // Over a value in a scope of its own.
-#[tactic(auto, using(py_turns::proofs::WeighLaws::weigh_rules, crate::proofs::CompLaws::over_rules))]
+#[tactic(auto, using(py_turns::proofs::WeighLaws::weigh_rules, crate::proofs::WeighLaws::walk_weighs, crate::proofs::CompLaws::over_rules))]
 pub fn comp_over(
     going: &mut Going,
     functions: &Functions,
@@ -116,7 +116,7 @@ pub fn comp_over(
 }
 
 // The elements behind those of a walk, where the dict that is gone over has kept its size.
-#[tactic(auto, using(py_turns::proofs::WeighLaws::weigh_rules, crate::proofs::CompLaws::walk_rules))]
+#[tactic(auto, using(py_turns::proofs::WeighLaws::weigh_rules, crate::proofs::WeighLaws::walk_weighs, crate::proofs::CompLaws::walk_rules))]
 pub fn walks_on(
     going: &mut Going,
     functions: &Functions,
@@ -150,7 +150,7 @@ pub fn walks_on(
 }
 
 // What the elements become, back in the scope of before.
-#[tactic(auto, using(py_turns::proofs::WeighLaws::weigh_rules, crate::proofs::CompLaws::end_rules))]
+#[tactic(auto, using(py_turns::proofs::WeighLaws::weigh_rules, crate::proofs::WeighLaws::walk_weighs, crate::proofs::CompLaws::end_rules))]
 pub fn walk_ends(
     going: &mut Going,
     functions: &Functions,
@@ -174,7 +174,7 @@ pub fn walk_ends(
 }
 
 // A turn spends its unit, and its element goes to the targets.
-#[tactic(auto, using(py_turns::proofs::WeighLaws::weigh_rules, crate::proofs::CompLaws::turn_rules))]
+#[tactic(auto, using(py_turns::proofs::WeighLaws::weigh_rules, crate::proofs::WeighLaws::walk_weighs, crate::proofs::CompLaws::turn_rules))]
 pub fn element_turn(
     going: &mut Going,
     functions: &Functions,
@@ -213,7 +213,7 @@ pub fn element_turn(
 }
 
 /// An element went to the targets: it is made, where the condition holds.
-#[tactic(auto, using(py_turns::proofs::WeighLaws::weigh_rules, crate::proofs::WalkLaws::left_rules))]
+#[tactic(auto, using(py_turns::proofs::WeighLaws::weigh_rules, crate::proofs::WeighLaws::walk_weighs, crate::proofs::WalkLaws::left_rules))]
 pub fn bound_left(
     going: &mut Going,
     functions: &Functions,
@@ -239,7 +239,7 @@ pub fn bound_left(
 }
 
 /// The condition has come.
-#[tactic(auto, using(py_turns::proofs::WeighLaws::weigh_rules, crate::proofs::CompLaws::tested_rules))]
+#[tactic(auto, using(py_turns::proofs::WeighLaws::weigh_rules, crate::proofs::WeighLaws::walk_weighs, crate::proofs::CompLaws::tested_rules))]
 pub fn tested_came(
     going: &mut Going,
     functions: &Functions,
@@ -266,7 +266,7 @@ pub fn tested_came(
     }
 }
 
-#[tactic(auto, using(py_turns::proofs::WeighLaws::weigh_rules, crate::proofs::CompLaws::truth_rules))]
+#[tactic(auto, using(py_turns::proofs::WeighLaws::weigh_rules, crate::proofs::WeighLaws::walk_weighs, crate::proofs::CompLaws::truth_rules))]
 pub fn tested(
     going: &mut Going,
     functions: &Functions,
@@ -297,7 +297,7 @@ pub fn tested(
 }
 
 // The element, where this condition is true.
-#[tactic(auto, using(py_turns::proofs::WeighLaws::weigh_rules, crate::proofs::CompLaws::truth_rules))]
+#[tactic(auto, using(py_turns::proofs::WeighLaws::weigh_rules, crate::proofs::WeighLaws::walk_weighs, crate::proofs::CompLaws::truth_rules))]
 pub fn tested_truth(
     going: &mut Going,
     functions: &Functions,
@@ -335,7 +335,7 @@ pub fn tested_truth(
 }
 
 /// The element has come, or its key.
-#[tactic(auto, using(py_turns::proofs::WeighLaws::weigh_rules, crate::proofs::CompLaws::came_rules))]
+#[tactic(auto, using(py_turns::proofs::WeighLaws::weigh_rules, crate::proofs::WeighLaws::walk_weighs, crate::proofs::CompLaws::came_rules))]
 pub fn made_came(
     going: &mut Going,
     functions: &Functions,
@@ -368,7 +368,7 @@ pub fn made_came(
 }
 
 // The value of a key begins.
-#[tactic(auto, using(py_turns::proofs::WeighLaws::weigh_rules, py_frames::proofs::BeginLaws::no_memory))]
+#[tactic(auto, using(py_turns::proofs::WeighLaws::weigh_rules, crate::proofs::WeighLaws::walk_weighs, py_frames::proofs::BeginLaws::no_memory))]
 fn value_begun(
     going: &mut Going,
     functions: &Functions,
@@ -399,7 +399,7 @@ fn value_begun(
 }
 
 // One element more, and on with the walk.
-#[tactic(auto, using(py_turns::proofs::WeighLaws::weigh_rules, crate::proofs::CompLaws::more_rules))]
+#[tactic(auto, using(py_turns::proofs::WeighLaws::weigh_rules, crate::proofs::WeighLaws::walk_weighs, crate::proofs::CompLaws::more_rules))]
 pub fn one_more(
     going: &mut Going,
     functions: &Functions,
@@ -428,7 +428,7 @@ pub fn one_more(
 }
 
 /// The value of a key has come.
-#[tactic(auto, using(py_turns::proofs::WeighLaws::weigh_rules, crate::proofs::CompLaws::pair_rules))]
+#[tactic(auto, using(py_turns::proofs::WeighLaws::weigh_rules, crate::proofs::WeighLaws::walk_weighs, crate::proofs::CompLaws::pair_rules))]
 pub fn pair_made_came(
     going: &mut Going,
     functions: &Functions,
@@ -457,7 +457,7 @@ pub fn pair_made_came(
 }
 
 // One key more with its value, where it may be a key, and on with the walk.
-#[tactic(auto, using(py_turns::proofs::WeighLaws::weigh_rules, crate::proofs::CompLaws::key_rules))]
+#[tactic(auto, using(py_turns::proofs::WeighLaws::weigh_rules, crate::proofs::WeighLaws::walk_weighs, crate::proofs::CompLaws::key_rules))]
 pub fn one_pair_more(
     going: &mut Going,
     functions: &Functions,
@@ -487,7 +487,7 @@ pub fn one_pair_more(
     Err(stopped(Cause::Raised, parts.place))
 }
 
-#[tactic(auto, using(py_turns::proofs::WeighLaws::weigh_rules, crate::proofs::CompLaws::more_rules))]
+#[tactic(auto, using(py_turns::proofs::WeighLaws::weigh_rules, crate::proofs::WeighLaws::walk_weighs, crate::proofs::CompLaws::more_rules))]
 pub fn pair_pushed(
     going: &mut Going,
     functions: &Functions,

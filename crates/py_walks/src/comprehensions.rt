@@ -22,7 +22,7 @@ use py_turns::attribute_store::as_row;
 use py_values::{Frozen, OwnNames, ScopeId, Val, Vals};
 
 /// Begins a comprehension: its source, which stands outside its scope.
-#[tactic(auto, using(py_turns::proofs::WeighLaws::weigh_rules, crate::proofs::CompLaws::begin_rules))]
+#[tactic(auto, using(py_turns::proofs::WeighLaws::weigh_rules, crate::proofs::WeighLaws::walk_weighs, crate::proofs::CompLaws::begin_rules))]
 pub fn begun_comprehension(
     going: &mut Going,
     functions: &Functions,
@@ -47,7 +47,7 @@ pub fn begun_comprehension(
 }
 
 /// The source of a comprehension has come: a thing gives its elements first.
-#[tactic(auto, using(py_turns::proofs::WeighLaws::weigh_rules, crate::proofs::CompLaws::source_rules))]
+#[tactic(auto, using(py_turns::proofs::WeighLaws::weigh_rules, crate::proofs::WeighLaws::walk_weighs, crate::proofs::CompLaws::source_rules))]
 pub fn source_came(
     going: &mut Going,
     functions: &Functions,
@@ -109,7 +109,7 @@ pub fn element_at(going: &Going, frozen: &Frozen, walk: &Walk) -> Option<Val>
 }
 
 // An element's targets have it.
-#[tactic(auto, using(py_turns::proofs::WeighLaws::weigh_rules, crate::proofs::CompLaws::bound_rules))]
+#[tactic(auto, using(py_turns::proofs::WeighLaws::weigh_rules, crate::proofs::WeighLaws::walk_weighs, crate::proofs::CompLaws::bound_rules))]
 pub fn element_bound(
     going: &mut Going,
     functions: &Functions,
@@ -147,7 +147,7 @@ pub fn element_bound(
 }
 
 // The element that is made, or its key.
-#[tactic(auto, using(py_turns::proofs::WeighLaws::weigh_rules, crate::proofs::CompLaws::made_rules))]
+#[tactic(auto, using(py_turns::proofs::WeighLaws::weigh_rules, crate::proofs::WeighLaws::walk_weighs, crate::proofs::CompLaws::made_rules))]
 pub fn element_begun(
     going: &mut Going,
     functions: &Functions,

@@ -29,7 +29,7 @@ use py_turns::expr_values::bind;
 use py_values::{Frozen, Val};
 
 /// The source of a `for` has come: a thing gives its elements first.
-#[tactic(auto, using(py_turns::proofs::WeighLaws::weigh_rules, crate::proofs::ForLaws::other_rules))]
+#[tactic(auto, using(py_turns::proofs::WeighLaws::weigh_rules, crate::proofs::WeighLaws::walk_weighs, crate::proofs::ForLaws::other_rules))]
 pub fn for_source_came(
     going: &mut Going,
     functions: &Functions,
@@ -61,7 +61,7 @@ pub fn for_source_came(
 }
 
 /// What a `for` goes over has come.
-#[tactic(auto, using(py_turns::proofs::WeighLaws::weigh_rules, crate::proofs::ForLaws::other_rules))]
+#[tactic(auto, using(py_turns::proofs::WeighLaws::weigh_rules, crate::proofs::WeighLaws::walk_weighs, crate::proofs::ForLaws::other_rules))]
 pub fn for_row_came(
     going: &mut Going,
     functions: &Functions,
@@ -92,7 +92,7 @@ pub fn for_row_came(
     Ok(Now::Came(Got::Next))
 }
 
-#[tactic(auto, using(py_turns::proofs::WeighLaws::weigh_rules, crate::proofs::ForLaws::loop_rules))]
+#[tactic(auto, using(py_turns::proofs::WeighLaws::weigh_rules, crate::proofs::WeighLaws::walk_weighs, crate::proofs::ForLaws::loop_rules))]
 pub fn for_loop(
     going: &mut Going,
     functions: &Functions,
@@ -128,7 +128,7 @@ pub fn for_loop(
 }
 
 // The turns behind those of a walk: the next element, where the dict that is gone over has kept its size.
-#[tactic(auto, using(py_turns::proofs::WeighLaws::weigh_rules, crate::proofs::ForLaws::walk_rules))]
+#[tactic(auto, using(py_turns::proofs::WeighLaws::weigh_rules, crate::proofs::WeighLaws::walk_weighs, crate::proofs::ForLaws::walk_rules))]
 pub fn for_turns(
     going: &mut Going,
     functions: &Functions,
@@ -162,7 +162,7 @@ pub fn for_turns(
 }
 
 // A turn spends its unit, and its element goes to the targets.
-#[tactic(auto, using(py_turns::proofs::WeighLaws::weigh_rules, crate::proofs::ForLaws::turn_rules))]
+#[tactic(auto, using(py_turns::proofs::WeighLaws::weigh_rules, crate::proofs::WeighLaws::walk_weighs, crate::proofs::ForLaws::turn_rules))]
 pub fn for_turn(
     going: &mut Going,
     functions: &Functions,
@@ -196,7 +196,7 @@ pub fn for_turn(
 }
 
 // The element goes to the targets, and then the body runs; where the target is a name alone, no frame waits for that.
-#[tactic(auto, using(py_turns::proofs::WeighLaws::weigh_rules))]
+#[tactic(auto, using(py_turns::proofs::WeighLaws::weigh_rules, crate::proofs::WeighLaws::walk_weighs))]
 fn element_given(
     going: &mut Going,
     functions: &Functions,
@@ -225,7 +225,7 @@ fn element_given(
 }
 
 // The element is bound to a name, and then the body runs.
-#[tactic(auto, using(py_turns::proofs::WeighLaws::weigh_rules, crate::proofs::ForLaws::named_bound, crate::proofs::ForLaws::named_refused))]
+#[tactic(auto, using(py_turns::proofs::WeighLaws::weigh_rules, crate::proofs::WeighLaws::walk_weighs, crate::proofs::ForLaws::named_bound, crate::proofs::ForLaws::named_refused))]
 fn name_given(
     going: &mut Going,
     functions: &Functions,
@@ -251,7 +251,7 @@ fn name_given(
 }
 
 /// An element went to the targets: the body, where nothing else came.
-#[tactic(auto, using(py_turns::proofs::WeighLaws::weigh_rules, crate::proofs::WalkLaws::left_rules))]
+#[tactic(auto, using(py_turns::proofs::WeighLaws::weigh_rules, crate::proofs::WeighLaws::walk_weighs, crate::proofs::WalkLaws::left_rules))]
 pub fn for_bound_left(
     going: &mut Going,
     functions: &Functions,
@@ -275,7 +275,7 @@ pub fn for_bound_left(
 }
 
 // The body of a turn.
-#[tactic(auto, using(py_turns::proofs::WeighLaws::weigh_rules, crate::proofs::ForLaws::other_rules))]
+#[tactic(auto, using(py_turns::proofs::WeighLaws::weigh_rules, crate::proofs::WeighLaws::walk_weighs, crate::proofs::ForLaws::other_rules))]
 pub fn for_body(
     going: &mut Going,
     functions: &Functions,
@@ -307,7 +307,7 @@ pub fn for_body(
 }
 
 /// What the body of a turn left: the next turn, or the end.
-#[tactic(auto, using(py_turns::proofs::WeighLaws::weigh_rules, crate::proofs::ForLaws::left_rules))]
+#[tactic(auto, using(py_turns::proofs::WeighLaws::weigh_rules, crate::proofs::WeighLaws::walk_weighs, crate::proofs::ForLaws::left_rules))]
 pub fn for_left(
     going: &mut Going,
     functions: &Functions,
@@ -329,7 +329,7 @@ pub fn for_left(
     }
 }
 
-#[tactic(auto, using(py_turns::proofs::WeighLaws::weigh_rules, crate::proofs::ForLaws::other_rules))]
+#[tactic(auto, using(py_turns::proofs::WeighLaws::weigh_rules, crate::proofs::WeighLaws::walk_weighs, crate::proofs::ForLaws::other_rules))]
 pub fn for_again(
     going: &mut Going,
     functions: &Functions,

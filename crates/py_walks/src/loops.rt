@@ -20,7 +20,7 @@ use py_turns::block::run_block;
 use py_values::{Frozen, Val};
 
 /// Begins a `for`: its source.
-#[tactic(auto, using(py_turns::proofs::WeighLaws::weigh_rules, crate::proofs::ForLaws::begin_rules))]
+#[tactic(auto, using(py_turns::proofs::WeighLaws::weigh_rules, crate::proofs::WeighLaws::walk_weighs, crate::proofs::ForLaws::begin_rules))]
 pub fn for_begun(
     going: &mut Going,
     functions: &Functions,
@@ -49,7 +49,7 @@ pub fn for_begun(
     )
 }
 
-#[tactic(auto, using(py_turns::proofs::WeighLaws::weigh_rules, crate::proofs::ForLaws::source_rules))]
+#[tactic(auto, using(py_turns::proofs::WeighLaws::weigh_rules, crate::proofs::WeighLaws::walk_weighs, crate::proofs::ForLaws::source_rules))]
 pub fn for_source(
     going: &mut Going,
     functions: &Functions,
@@ -87,7 +87,7 @@ pub fn row_size(going: &Going, frozen: &Frozen, v: &Val) -> u64
     }
 }
 
-#[tactic(auto, using(py_turns::proofs::WeighLaws::weigh_rules, crate::proofs::ForLaws::under_rules))]
+#[tactic(auto, using(py_turns::proofs::WeighLaws::weigh_rules, crate::proofs::WeighLaws::walk_weighs, crate::proofs::ForLaws::under_rules))]
 pub fn for_body_under(
     going: &mut Going,
     functions: &Functions,

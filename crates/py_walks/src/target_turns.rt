@@ -22,7 +22,7 @@ use py_turns::block::leaves;
 use py_values::{Frozen, Val, Vals};
 
 /// A value goes to a target.
-#[tactic(auto, using(py_turns::proofs::WeighLaws::weigh_rules, crate::proofs::TargetLaws::target_rules))]
+#[tactic(auto, using(py_turns::proofs::WeighLaws::weigh_rules, crate::proofs::WeighLaws::walk_weighs, crate::proofs::TargetLaws::target_rules))]
 pub fn assign(
     going: &mut Going,
     functions: &Functions,
@@ -56,7 +56,7 @@ pub fn assign(
 }
 
 /// A value goes to a target; a frame waits until it is there.
-#[tactic(auto, using(py_turns::proofs::WeighLaws::weigh_rules, crate::proofs::TargetLaws::under_rules))]
+#[tactic(auto, using(py_turns::proofs::WeighLaws::weigh_rules, crate::proofs::WeighLaws::walk_weighs, crate::proofs::TargetLaws::under_rules))]
 pub fn assign_under(
     going: &mut Going,
     functions: &Functions,
@@ -80,7 +80,7 @@ pub fn assign_under(
 }
 
 /// A value is unpacked, whose elements are there: as many as there are targets.
-#[tactic(auto, using(py_turns::proofs::WeighLaws::weigh_rules, crate::proofs::TargetLaws::unpack_rules))]
+#[tactic(auto, using(py_turns::proofs::WeighLaws::weigh_rules, crate::proofs::WeighLaws::walk_weighs, crate::proofs::TargetLaws::unpack_rules))]
 pub fn unpacked(
     going: &mut Going,
     functions: &Functions,
@@ -108,7 +108,7 @@ pub fn unpacked(
 }
 
 // The units of so many targets, and then the elements go to them.
-#[tactic(auto, using(py_turns::proofs::WeighLaws::weigh_rules, crate::proofs::TargetLaws::spread_rules))]
+#[tactic(auto, using(py_turns::proofs::WeighLaws::weigh_rules, crate::proofs::WeighLaws::walk_weighs, crate::proofs::TargetLaws::spread_rules))]
 pub fn unpacked_to(
     going: &mut Going,
     functions: &Functions,
@@ -133,7 +133,7 @@ pub fn unpacked_to(
 }
 
 // Each of the targets from this number on takes a value.
-#[tactic(auto, using(py_turns::proofs::WeighLaws::weigh_rules, crate::proofs::TargetLaws::each_rules))]
+#[tactic(auto, using(py_turns::proofs::WeighLaws::weigh_rules, crate::proofs::WeighLaws::walk_weighs, crate::proofs::TargetLaws::each_rules))]
 pub fn assign_each(
     going: &mut Going,
     functions: &Functions,
@@ -167,7 +167,7 @@ pub fn assign_each(
 }
 
 /// A value went to the target before this one.
-#[tactic(auto, using(py_turns::proofs::WeighLaws::weigh_rules, crate::proofs::TargetLaws::left_rules))]
+#[tactic(auto, using(py_turns::proofs::WeighLaws::weigh_rules, crate::proofs::WeighLaws::walk_weighs, crate::proofs::TargetLaws::left_rules))]
 pub fn unpacking_left(
     going: &mut Going,
     functions: &Functions,

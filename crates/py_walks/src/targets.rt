@@ -23,7 +23,7 @@ use py_turns::expr_values::bind;
 use py_values::{Frozen, Val, Vals, ValueStop};
 
 // A name is bound.
-#[tactic(auto, using(py_turns::proofs::WeighLaws::weigh_rules, crate::proofs::TargetLaws::name_rules))]
+#[tactic(auto, using(py_turns::proofs::WeighLaws::weigh_rules, crate::proofs::WeighLaws::walk_weighs, crate::proofs::TargetLaws::name_rules))]
 pub fn assign_name(
     going: &mut Going,
     functions: &Functions,
@@ -47,7 +47,7 @@ pub fn assign_name(
 }
 
 // A value is unpacked: its elements first.
-#[tactic(auto, using(py_turns::proofs::WeighLaws::weigh_rules, crate::proofs::TargetLaws::tuple_rules))]
+#[tactic(auto, using(py_turns::proofs::WeighLaws::weigh_rules, crate::proofs::WeighLaws::walk_weighs, crate::proofs::TargetLaws::tuple_rules))]
 pub fn assign_tuple(
     going: &mut Going,
     functions: &Functions,
@@ -74,7 +74,7 @@ pub fn assign_tuple(
 }
 
 // A value is stored in what trails last: what it trails first.
-#[tactic(auto, using(py_turns::proofs::WeighLaws::weigh_rules, crate::proofs::TargetLaws::trailed_rules))]
+#[tactic(auto, using(py_turns::proofs::WeighLaws::weigh_rules, crate::proofs::WeighLaws::walk_weighs, crate::proofs::TargetLaws::trailed_rules))]
 pub fn assign_trailed(
     going: &mut Going,
     functions: &Functions,
@@ -113,7 +113,7 @@ pub fn assign_trailed(
 }
 
 // What the last trailer of a target stands behind comes first, where nothing is stored.
-#[tactic(auto, using(py_turns::proofs::WeighLaws::weigh_rules, py_frames::proofs::BeginLaws::no_memory))]
+#[tactic(auto, using(py_turns::proofs::WeighLaws::weigh_rules, crate::proofs::WeighLaws::walk_weighs, py_frames::proofs::BeginLaws::no_memory))]
 fn reach_trailed(
     going: &mut Going,
     functions: &Functions,
@@ -153,7 +153,7 @@ fn reach_trailed(
 }
 
 /// A target to which nothing goes, as that of an annotation without a value: its primary and its index are evaluated.
-#[tactic(auto, using(py_turns::proofs::WeighLaws::weigh_rules, crate::proofs::TargetLaws::reach_rules))]
+#[tactic(auto, using(py_turns::proofs::WeighLaws::weigh_rules, crate::proofs::WeighLaws::walk_weighs, crate::proofs::TargetLaws::reach_rules))]
 pub fn reach(
     going: &mut Going,
     functions: &Functions,

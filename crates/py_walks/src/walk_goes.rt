@@ -95,7 +95,7 @@ fn walk_left(
 }
 
 // A frame that waits for a value.
-#[tactic(auto, using(py_turns::proofs::WeighLaws::weigh_rules, crate::proofs::WalkGoes::value_rules))]
+#[tactic(auto, using(py_turns::proofs::WeighLaws::weigh_rules, crate::proofs::WeighLaws::walk_weighs, crate::proofs::WalkGoes::value_rules))]
 fn walk_value(
     going: &mut Going,
     functions: &Functions,
