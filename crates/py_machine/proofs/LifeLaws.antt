@@ -227,13 +227,13 @@ resumed_goes start program fns kept frozen a t before without turned behind left
 pub turned_none : (program : Steps) (frozen : Made) (a : Answer) (before behind : Machine) (left : ℕ) → behind.stage ≡ stage.NoMemory → (start : Start) → ResumedFrom start None program frozen a turn.NoMemory before behind left
 turned_none program frozen a before behind left same start = λ given stands. same
 
-pub turned_goes : (fns : Functions) (frozen : Made) (a : Answer) (t : Turn) (before behind : Machine) (left budget : ℕ) (z : Going) (rest : Result Now Halt)
+pub turned_goes : (fns : Functions) (frozen : Made) (a : Answer) (t : Turn) (before behind : Machine) (left budget turned : ℕ) (z : Going) (rest : Result Now Halt)
     → again before.stage ≡ None → budget ≡ before.going.state.used + left → before.going.state.used < budget
     → GoesOn fns frozen rest (took before.going) z budget (meant_by before.stage a)
     → before.going.state.used ≤ z.state.used → OnOk rest (Rests rest z) → KeepsTaken rest before.going z → OnOk rest (z.state.used < budget)
-    → t ≡ turn_of rest → behind ≡ record before { going = z; stage = stage_of rest }
+    → t ≡ turn_of rest → behind ≡ record before { going = z; stage = stage_of rest; turned = turned }
     → (start : Start) → ResumedFrom start None (steps_of fns.program) frozen a t before behind left
-turned_goes fns frozen a t before behind left budget z rest opened e room moves grows rested kept below told stood start = λ given stands.
+turned_goes fns frozen a t before behind left budget turned z rest opened e room moves grows rested kept below told stood start = λ given stands.
     subst (λ n. BringsFrom start (steps_of fns.program) frozen given a t behind.going behind.stage n) e
     (subst (λ (m : Machine). BringsFrom start (steps_of fns.program) frozen given a t m.going m.stage budget) (sym stood)
     (subst (λ u. BringsFrom start (steps_of fns.program) frozen given a u z (stage_of rest) budget) (sym told)

@@ -3,3 +3,4 @@ pub mod Lives
 pub mod Replying
 pub mod Ends
 pub mod Brought
+pub mod Works

@@ -1,5 +1,5 @@
 // The machine: a program from its begin to its end, by the answers that it is given.
-ghost use Rattle.std.specs.Prelude.{◌≡◌, ◌<◌, ◌≤◌, ◌+◌, ◌-◌, [], IfOk, OnOk, MatchResult, None, Some, Ok};
+ghost use Rattle.std.specs.Prelude.{◌≡◌, ◌<◌, ◌≤◌, ◌+◌, ◌-◌, ◌*◌, true, false, [], IfOk, OnOk, MatchResult, None, Some, Ok};
 ghost use Rattle.py_frames.specs.declared.state.Halt.TheVariants as halt;
 ghost use Rattle.py_frames.specs.declared.request.Turn.TheVariants as turn;
 ghost use Rattle.py_machine.specs.declared.machine.Stage.TheVariants as stage;
@@ -11,6 +11,7 @@ ghost use Rattle.py_frames.specs.Tables.{IsTable};
 ghost use Rattle.py_frames.specs.Turns.{Rests};
 ghost use Rattle.py_tree.specs.Programs.{program_of, steps_of};
 ghost use Rattle.py_values.specs.Heaps.{nothing, seen, row_at, text_at};
+ghost use Rattle.py_machine.specs.Works.{work, IsWithin, Ticks, TicksBehind};
 ghost use Rattle.py_machine.specs.Lives.{AreOf, IsOf, IsOfAny, Stands, StandsBeforeBench, Resumed, BenchResumed, ResumedFrom, KeepsBudget, again, worth};
 
 use crate::bench::{bench_begun, bench_state};
@@ -51,6 +52,8 @@ pub struct Machine {
     pub functions: Option<Functions>,
     pub going: Going,
     pub stage: Stage,
+    /// How many steps it ticked: one for each answer that it took, and one for each turn.
+    pub turned: u64,
 }
 
 impl Machine {
@@ -60,6 +63,7 @@ impl Machine {
         ensures stands { IfOk result (Stands (program_of program.now) nothing []) }
         ensures before { IfOk result (λ m. m.stage ≡ stage.Before) }
         ensures unused { IfOk result (λ m. m.going.state.used ≡ 0) }
+        ensures unturned { IfOk result (λ m. m.turned ≡ 0) }
     {
         let Ok(functions) = Functions::of(alloc, &program.body) else {
             return Err(NoMemory);
@@ -73,6 +77,7 @@ impl Machine {
                     state,
                 },
                 stage: Stage::Before,
+                turned: 0,
             }),
             Err(_) => Err(NoMemory),
         }
@@ -84,6 +89,7 @@ impl Machine {
         ensures stands { IfOk result (StandsBeforeBench _frozen.now callee ctx) }
         ensures before { IfOk result (λ m. m.stage ≡ stage.BeforeBench callee ctx) }
         ensures unused { IfOk result (λ m. m.going.state.used ≡ 0) }
+        ensures unturned { IfOk result (λ m. m.turned ≡ 0) }
     {
         Ok(Machine {
             functions: None,
@@ -93,6 +99,7 @@ impl Machine {
                 state: bench_state(alloc),
             },
             stage: Stage::BeforeBench { callee, ctx },
+            turned: 0,
         })
     }
 
@@ -100,7 +107,7 @@ impl Machine {
     /// and each later one is that of the request that waits. The program of a testbench is the one whose body made what is
     /// frozen. What is spent is taken from `left`; `Stopped` with `Spent` comes where the cost reaches it. After the end, a
     /// stop or want of memory each call answers the same. Each answer that is taken ticks `steps`, and so does each turn.
-    #[tactic(auto, using(crate::proofs::LifeLaws::resume_rules))]
+    #[tactic(auto, using(crate::proofs::LifeLaws::resume_rules, crate::proofs::WorkLaws::ticks_rules))]
     pub fn resume<L: Ledger>(
         &mut self,
         program: &Program,
@@ -118,6 +125,7 @@ impl Machine {
         ensures ticks { steps.old ≤ steps.new }
         ensures answer { again self.old.stage ≡ None → steps.old < steps.new }
         ensures kept { KeepsBudget result (self.old.going.state.used + left.old.left) (self.new.going.state.used + left.new.left) }
+        ensures turns { Ticks result steps.old steps.new self.old self.new }
     {
         if let Some(turn) = self.again() {
             return turn;
@@ -145,7 +153,7 @@ impl Machine {
     }
 
     // The turns that an answer brings, and what is told of them.
-    #[tactic(auto, using(crate::proofs::LifeLaws::turned_rules))]
+    #[tactic(auto, using(crate::proofs::LifeLaws::turned_rules, crate::proofs::WorkLaws::behind_rules))]
     fn goes_on<L: Ledger>(
         &mut self,
         functions: &Functions,
@@ -161,18 +169,25 @@ impl Machine {
         ensures left { left.new.left ≡ self.old.going.state.used + left.old.left - self.new.going.state.used }
         ensures ticks { steps.old ≤ steps.new }
         ensures kept { KeepsBudget result (self.old.going.state.used + left.old.left) (self.new.going.state.used + left.new.left) }
+        ensures turns { TicksBehind result steps.old steps.new self.old self.new }
     {
         let Some(budget) = self.going.state.used.checked_add(left.left) else {
             self.stage = Stage::NoMemory;
             return Turn::NoMemory;
         };
-        let rest = replied(
+        let Some(turned) = self.turned.checked_add(1) else {
+            self.stage = Stage::NoMemory;
+            return Turn::NoMemory;
+        };
+        self.turned = turned;
+        let rest = replied_within(
             &mut self.going,
             functions,
             frozen,
             &self.stage,
             answer,
             budget,
+            &mut self.turned,
             steps,
         );
         left.left = budget.saturating_sub(self.going.state.used);
@@ -356,6 +371,7 @@ fn replied<L: Ledger>(
     stage: &Stage,
     answer: Answer,
     budget: u64,
+    turned: &mut u64,
     steps: &mut Steps<L>,
 ) -> Result<Now, Halt>
     requires room { going.old.state.used < budget }
@@ -366,6 +382,7 @@ fn replied<L: Ledger>(
     ensures grows { going.old.state.used ≤ going.new.state.used }
     ensures taken { KeepsTaken result going.old going.new }
     ensures ticks { steps.old ≤ steps.new }
+    ensures counts { steps.new + turned.old ≡ steps.old + turned.new }
 {
     let before = going.state.taken;
     let Ok(()) = take(going) else {
@@ -373,8 +390,51 @@ fn replied<L: Ledger>(
     };
     match answer_goes(going, functions, frozen, stage, answer, budget) {
         Err(halt) => Err(halt),
-        Ok(now) => rest_of(going, functions, frozen, now, before, budget, steps),
+        Ok(now) => rest_of(going, functions, frozen, now, before, budget, turned, steps),
     }
+}
+
+// Whether so many steps are within the work of a machine: three for each unit, each name that was bound and each answer.
+fn is_within(state: &State, turned: u64) -> bool
+    ensures within { result ≡ true → turned ≤ 3 * work state.now }
+    ensures past { result ≡ false → 3 * work state.now < turned }
+{
+    let work = state.used as u128 + state.bound as u128 + state.taken as u128;
+    turned as u128 <= 3 * work
+}
+
+// The turns that an answer brings, where the steps stay within the work, which no clause of a turn says: so it is looked at
+// here.
+#[tactic(auto, using(py_frames::proofs::BeginLaws::no_memory))]
+fn replied_within<L: Ledger>(
+    going: &mut Going,
+    functions: &Functions,
+    frozen: &Frozen,
+    stage: &Stage,
+    answer: Answer,
+    budget: u64,
+    turned: &mut u64,
+    steps: &mut Steps<L>,
+) -> Result<Now, Halt>
+    requires room { going.old.state.used < budget }
+    requires table { IsTable functions.now }
+    ensures moves { GoesOn functions.now frozen.now result (took going.old) going.new budget (meant_by stage.now answer) }
+    ensures rests { OnOk result (Rests result going.new) }
+    ensures left { OnOk result (going.new.state.used < budget) }
+    ensures grows { going.old.state.used ≤ going.new.state.used }
+    ensures taken { KeepsTaken result going.old going.new }
+    ensures ticks { steps.old ≤ steps.new }
+    ensures counts { steps.new + turned.old ≡ steps.old + turned.new }
+    ensures within { IsWithin result turned.new going.new.state }
+{
+    let rest = replied(
+        going, functions, frozen, stage, answer, budget, turned, steps,
+    );
+    if is_within(&going.state, *turned) {
+        return rest;
+    }
+    drop(rest);
+    Err(Halt::NoMemory)
 }
 
 // Turns until they come to rest. No turn takes an answer, which no clause of theirs says: so it is looked at here.
@@ -386,6 +446,7 @@ fn rest_of<L: Ledger>(
     now: Now,
     before: u64,
     budget: u64,
+    turned: &mut u64,
     steps: &mut Steps<L>,
 ) -> Result<Now, Halt>
     requires room { going.old.state.used < budget }
@@ -396,8 +457,9 @@ fn rest_of<L: Ledger>(
     ensures grows { going.old.state.used ≤ going.new.state.used }
     ensures taken { OnOk result (going.new.state.taken ≡ before + 1) }
     ensures ticks { steps.old ≤ steps.new }
+    ensures counts { steps.new + turned.old ≡ steps.old + turned.new }
 {
-    match go(going, functions, frozen, now, budget, steps) {
+    match go(going, functions, frozen, now, budget, turned, steps) {
         Err(halt) => Err(halt),
         Ok(now) => {
             if going.state.taken.checked_sub(before) == Some(1) {

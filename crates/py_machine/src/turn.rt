@@ -1,5 +1,5 @@
 // Turns: each begins a node, or hands what a node came to on to the frame that waits for it.
-ghost use Rattle.std.specs.Prelude.{◌≡◌, ◌<◌, ◌≤◌, ◌∷◌, OnOk};
+ghost use Rattle.std.specs.Prelude.{◌≡◌, ◌<◌, ◌≤◌, ◌+◌, ◌∷◌, OnOk};
 ghost use Rattle.py_frames.specs.Doing.{came, on_value};
 ghost use Rattle.py_frames.specs.Expr_frames.{expr_goes};
 ghost use Rattle.py_frames.specs.declared.frame.Frame.TheVariants as frame;
@@ -24,7 +24,8 @@ use py_values::{Frozen, Val};
 use py_walks::walk_goes::walk_goes;
 use std::sync::ledger::Ledger;
 
-/// Turns, until a request waits or all frames are done with. Each turn ticks `steps` once.
+/// Turns, until a request waits or all frames are done with. Each turn ticks `steps` once, and is one more of those that
+/// the machine `turned`.
 #[tactic(auto, using(crate::proofs::TurnLaws::turns_begin, crate::proofs::TurnLaws::turn_follows, py_frames::proofs::BeginLaws::no_memory))]
 pub fn go<L: Ledger>(
     going: &mut Going,
@@ -32,6 +33,7 @@ pub fn go<L: Ledger>(
     frozen: &Frozen,
     first: Now,
     budget: u64,
+    turned: &mut u64,
     steps: &mut Steps<L>,
 ) -> Result<Now, Halt>
     requires room { going.old.state.used < budget }
@@ -41,14 +43,14 @@ pub fn go<L: Ledger>(
     ensures left { OnOk result (going.new.state.used < budget) }
     ensures grows { going.old.state.used ≤ going.new.state.used }
     ensures ticks { steps.old ≤ steps.new }
+    ensures counts { steps.new + turned.old ≡ steps.old + turned.new }
 {
     let mut now = first;
-    let mut turns = MOST;
-    while turns > 0 {
+    while *turned < MOST {
         if rests(going, &now) {
             return Ok(now);
         }
-        turns -= 1;
+        *turned += 1;
         steps.tick();
         match turn(going, functions, frozen, now, budget) {
             Ok(next) => now = next,
