@@ -1,3 +1,5 @@
+pub mod Held
+pub mod Placed
 pub mod Walks
 pub mod Reads
 pub mod Resolvable
