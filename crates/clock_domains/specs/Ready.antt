@@ -71,4 +71,4 @@ pub record IsReady (q : Pooled) (ds : List Domain) (own : List Process) (all : C
   pub apart : IsDistinct share (map domain_numbers ds)
   pub known : AllByRecursion (HasDomain ds) all.processes
   pub ports_known : AllByRecursion (HasDomains ds) all.memories
-  pub data : AllByRecursion (λ s. is_among (flat_map domain_numbers ds ++ top_inputs top) s ≡ false) (data_signals all.memories)
+  pub free_data : AllByRecursion (λ s. is_among (flat_map domain_numbers ds ++ top_inputs top) s ≡ false) (data_signals all.memories)

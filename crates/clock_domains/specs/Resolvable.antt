@@ -202,7 +202,7 @@ outer_signals root top = flat_map (λ (d : DomainDef). domain_numbers d.domain) 
 pub record IsResolvable (q : Pooled) (root : Fragment) (top : TopPorts) : Type 0 where
   pub tree : IsTree q root
   pub resets : AllByRecursion IsNamedReset q.exprs
-  pub data : AllByRecursion (λ s. is_among (outer_signals root top) s ≡ false) (data_signals (all_memories root))
+  pub free_data : AllByRecursion (λ s. is_among (outer_signals root top) s ≡ false) (data_signals (all_memories root))
   pub apart : AllByRecursion (λ (d : DomainDef). AllByRecursion (AreApart d) (all_definitions root)) (all_definitions root)
   pub names : AllByRecursion (λ (x : Sig). IsName x.name) q.signals
   pub ports : AreTopPorts q top
