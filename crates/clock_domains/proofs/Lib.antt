@@ -21,3 +21,4 @@ pub mod DesignParts
 pub mod DesignWhole
 pub mod GivenDomains
 pub mod ReadyLaws
+pub mod ExprLists

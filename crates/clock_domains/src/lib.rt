@@ -18,6 +18,7 @@ mod columns;
 mod copies;
 mod domains;
 mod drivers;
+mod exprs;
 mod firsts;
 mod hits;
 mod leasts;
