@@ -22,3 +22,4 @@ pub mod DesignWhole
 pub mod GivenDomains
 pub mod ReadyLaws
 pub mod ExprLists
+pub mod HolderLaws

@@ -1,5 +1,6 @@
 pub mod Held
 pub mod Placed
+pub mod Holders
 pub mod Walks
 pub mod Reads
 pub mod Resolvable

@@ -21,6 +21,7 @@ mod drivers;
 mod exprs;
 mod firsts;
 mod hits;
+mod holders;
 mod leasts;
 mod marks;
 mod numbers;
