@@ -11,6 +11,9 @@ use Rattle.clock_domains.specs.Numbers.{bounded}
 abbrev pub first_roots : ℕ → List (List ExprId) → List ExprId
 first_roots i roots = flat_map (λ es. es) (take i roots)
 
+abbrev pub all_roots : List (List ExprId) → List ExprId
+all_roots roots = flat_map (λ es. es) roots
+
 -- the expressions that numbers below a bound have are those that stand in so many fragments
 pub record AreHolders (q : Pooled) (roots : List (List ExprId)) (firsts : List (Option ℕ)) : Type 0 where
   pub size : length firsts ≡ length q.exprs

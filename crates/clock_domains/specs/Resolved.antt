@@ -225,9 +225,10 @@ memory_path [] paths s = None
 memory_path (m ∷ ms) [] s = None
 memory_path (m ∷ ms) (path ∷ paths) s = if is_among (clocked_data m) s then path else memory_path ms paths s
 
--- the path under which a signal is named as a register
+-- the path under which a signal is named as a register: of the first that drives it, or else that gives it
 abbrev pub register_path : Pooled → Contents → ℕ → Option (List ℕ)
-register_path q all s = first_of (process_path q all.processes all.paths s) (memory_path all.memories all.memory_paths s)
+register_path q all s =
+    if is_driven q (filter is_clocked all.processes) s then process_path q all.processes all.paths s else memory_path all.memories all.memory_paths s
 
 abbrev pub named_registers : Pooled → Contents → List Port → List ℕ
 named_registers q all ports =
@@ -279,13 +280,14 @@ abbrev pub unless : Option ResolveStop → Result Circuit ResolveStop → Result
 unless None r = r
 unless (Some stop) r = Err stop
 
--- over the pool with the domains' signals, the drivers are told before there is a design: two read ports before all statements, and a
--- statement that drives what a read port gives like one that drives what an earlier one does
+-- what is told of drivers: two read ports before all statements, and a statement that drives what a read port gives like one that drives
+-- what an earlier one does
+abbrev pub driver_stop : Pooled → List Domain → Contents → TopPorts → Option ResolveStop
+driver_stop q domains all top = first_of (data_refusal all.memories) (driver_refusal q (design_inputs domains top) (data_signals all.memories) all.processes)
+
+-- over the pool in which resets are signals, the drivers are told before there is a design
 unfoldable pub resolved_in : Pooled → List Domain → List Process → Contents → TopPorts → Result Circuit ResolveStop
-resolved_in q domains own all top =
-    unless (data_refusal all.memories)
-    (unless (driver_refusal q (design_inputs domains top) (data_signals all.memories) all.processes)
-    (Ok (circuit_of q domains all (ports_of q domains own all top))))
+resolved_in q domains own all top = unless (driver_stop q domains all top) (Ok (circuit_of q domains all (ports_of q domains own all top)))
 
 -- the pool with the signals of the domains that are made
 abbrev pub made_pool : Pooled → Fragment → Pooled
@@ -298,14 +300,15 @@ made_domains q root = domains_from (all_definitions root) (length q.signals) (do
 abbrev pub whole_pool : Pooled → Fragment → Pooled
 whole_pool q root = placed_pool (made_domains q root) (made_pool q root) (fragment_exprs root)
 
--- a clash is told before a reset that there is none of, this before the limits, and these before the drivers
-unfoldable pub resolved : Pooled → Fragment → TopPorts → Result Circuit ResolveStop
-resolved q root top =
+-- what is told of domains: a clash before a reset that there is none of, and this before the limits
+abbrev pub domain_stop : Pooled → Fragment → Option ResolveStop
+domain_stop q root =
     let definitions = all_definitions root in
-    unless (clash_after [] definitions)
-    (unless (reset_refusal definitions (held_resets q (fragment_exprs root)))
-    (unless (limit_where (is_past_limit q definitions (domain_names q root)))
-    (resolved_in (whole_pool q root) (made_domains q root) root.processes (all_contents root) top)))
+    first_of (clash_after [] definitions) (first_of (reset_refusal definitions (held_resets q (fragment_exprs root))) (limit_where (is_past_limit q definitions (domain_names q root))))
+
+-- the domains are told before the drivers
+unfoldable pub resolved : Pooled → Fragment → TopPorts → Result Circuit ResolveStop
+resolved q root top = unless (domain_stop q root) (resolved_in (whole_pool q root) (made_domains q root) root.processes (all_contents root) top)
 
 -- ---- refusals
 

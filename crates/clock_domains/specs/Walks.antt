@@ -105,10 +105,12 @@ side_name (Clocked n) = Some n
 abbrev pub port_names : Memory → List (List ℕ)
 port_names m = map (λ (w : MemWrite). w.domain) m.writes ++ filter_map (λ (r : MemRead). r.domain) m.reads
 
+-- but for those of resets
+abbrev pub plain_names : Leaf → List (List ℕ)
+plain_names l = map (λ (d : DomainDef). d.domain.name) l.domains ++ (filter_map (λ (p : Process). side_name p.side) l.processes ++ flat_map port_names l.memories)
+
 abbrev pub own_names : Pooled → Leaf → List (List ℕ)
-own_names q l =
-    map (λ (d : DomainDef). d.domain.name) l.domains
-    ++ (filter_map (λ (p : Process). side_name p.side) l.processes ++ (flat_map port_names l.memories ++ map (λ (r : ResetCall). r.domain) (held_resets q (leaf_exprs l))))
+own_names q l = plain_names l ++ map (λ (r : ResetCall). r.domain) (held_resets q (leaf_exprs l))
 
 abbrev pub names_of : Pooled → Forest → List (List ℕ)
 names_of q f = gathered (own_names q) f
