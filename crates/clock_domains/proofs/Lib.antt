@@ -23,3 +23,5 @@ pub mod GivenDomains
 pub mod ReadyLaws
 pub mod ExprLists
 pub mod HolderLaws
+pub mod NamesOnce
+pub mod PlacedLaws

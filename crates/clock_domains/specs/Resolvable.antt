@@ -32,6 +32,7 @@ use Rattle.design_ir.specs.Circuits.{is_among}
 use Rattle.design_ir.specs.Designs.{IsAddressWidth, IsGranularity, IsTransparent, holds_reset, share}
 use Rattle.clock_domains.specs.declared.top.TopPorts.{TopPorts}
 use Rattle.clock_domains.specs.declared.top.TopPorts.TheVariants.{Members, Held, Loose}
+use Rattle.clock_domains.specs.Held.{ResetCall, held_resets, leaf_exprs}
 use Rattle.clock_domains.specs.Reads.{data_signals}
 use Rattle.clock_domains.specs.Walks.{all_definitions, all_memories}
 
@@ -153,15 +154,15 @@ pub record IsMemoryOf (q : Pooled) (m : Memory) : Type 0 where
 
 -- ---- trees
 
--- a reset that stands in an expression has the name of a domain
-abbrev pub IsNamedReset : Expr → Type 0
-IsNamedReset (Reset domain place) = IsName domain
-IsNamedReset e = ⊤
+-- a reset has the name of a domain
+abbrev pub IsNamedReset : ResetCall → Type 0
+IsNamedReset r = IsName r.domain
 
 pub record IsModule (q : Pooled) (l : Leaf) : Type 0 where
   pub domains : AllByRecursion (IsDefinition q) l.domains
   pub memories : AllByRecursion (IsMemoryOf q) l.memories
   pub processes : AllByRecursion (IsOpenSide q) l.processes
+  pub resets : AllByRecursion IsNamedReset (held_resets q (leaf_exprs l))
 
 -- modules one after another, each with a name and with modules below it
 abbrev pub AreModules : Pooled → Forest → Type 0
@@ -201,7 +202,6 @@ outer_signals root top = flat_map (λ (d : DomainDef). domain_numbers d.domain) 
 
 pub record IsResolvable (q : Pooled) (root : Fragment) (top : TopPorts) : Type 0 where
   pub tree : IsTree q root
-  pub resets : AllByRecursion IsNamedReset q.exprs
   pub free_data : AllByRecursion (λ s. is_among (outer_signals root top) s ≡ false) (data_signals (all_memories root))
   pub apart : AllByRecursion (λ (d : DomainDef). AllByRecursion (AreApart d) (all_definitions root)) (all_definitions root)
   pub names : AllByRecursion (λ (x : Sig). IsName x.name) q.signals
