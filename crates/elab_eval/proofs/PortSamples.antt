@@ -4,6 +4,7 @@ use Rattle.identifiers.proofs.Computing.{identifiers}
 use Rattle.design_ir.specs.declared.port.Port.{Port}
 use Rattle.clock_domains.specs.declared.top.TopPorts.TheVariants.{Members}
 use Rattle.elab_store.specs.Components.{members_in}
+use Rattle.elab_store.specs.Leaves.{leaves_in}
 use Rattle.elab_acts.proofs.ComponentSamples.{thing, class, object, with_wiring, with_in, with_out, with_component, bit, with_a, with_b, with_y, gate_names, gate_vals, with_gate, rows, with_top}
 use Rattle.elab_acts.proofs.ShapeSamples.{hw, heap, op, sub, cmd, held, call, with_c, with_s}
 use Rattle.elab_eval.specs.ComponentTops.{component_ports}
@@ -18,7 +19,7 @@ gate_ports : List Port
 gate_ports = port (codes "a") 0 true ∷ port (codes "b") 1 true ∷ port (codes "y") 2 false ∷ []
 
 gate_given : component_ports with_top.held.store (record { 0 = 1 }) ≡ Some (Members gate_ports)
-unfolding identifiers thing class object bit with_wiring with_in with_out with_component with_a with_b with_y gate_names gate_vals with_gate rows with_top port gate_ports members_in
+unfolding identifiers thing class object bit with_wiring with_in with_out with_component with_a with_b with_y gate_names gate_vals with_gate rows with_top port gate_ports members_in leaves_in
 gate_given = refl
 
 -- before its `__init__` a component has none, and is no top
