@@ -36,3 +36,4 @@ pub mod GuardLaws
 pub mod Whole
 pub mod Runs
 pub mod Needs
+pub mod PlacingLaws

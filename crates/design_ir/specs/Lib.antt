@@ -28,3 +28,4 @@ pub mod Needed
 pub mod Loops
 pub mod Choices
 pub mod Designs
+pub mod Placing

@@ -8,7 +8,8 @@ ghost use Rattle.design_ir.specs.Named.{AllBelow};
 ghost use Rattle.design_ir.specs.PoolRules.{IsPool, IsRefusal, HasInit, IsAskable, IsFormed, IsShaped, bad_operand, greatest_width, shape_stop, signal_added, signal_refusal, expr_added};
 ghost use Rattle.amh_bits.specs.Patterns.{IsOf};
 ghost use Rattle.design_ir.specs.Settling.{IsUnsettled, is_signal, reshaped, settle_refusal, signal_settled};
-ghost use Rattle.design_ir.specs.Values.{form, form_step, total_width, common_of_all};
+ghost use Rattle.design_ir.specs.Placing.{IsResetAt, reset_placed};
+ghost use Rattle.design_ir.specs.Values.{form, form_step, signal_form, total_width, common_of_all};
 
 use crate::copies::copies;
 use crate::expr::Expr;
@@ -121,6 +122,16 @@ impl Pool {
             return Err(NoMemory);
         }
         self.put(e, shape)
+    }
+
+    /// Puts a signal of one bit in the place of a reset.
+    pub fn place_reset(&mut self, e: ExprId, s: SigId)
+        requires reset { IsResetAt self.old e.0 }
+        requires there { s.0 < length self.old.signals }
+        requires bit { signal_form self.old.signals s.0 ≡ unsigned 1 }
+        ensures { self.new ≡ reset_placed self.old e.0 s }
+    {
+        self.exprs[e.0 as usize] = Expr::Sig(s);
     }
 
     /// Opens the pool, so that a caller knows its rules.
