@@ -21,3 +21,7 @@ pub mod DesignParts
 pub mod DesignWhole
 pub mod GivenDomains
 pub mod ReadyLaws
+pub mod ExprLists
+pub mod HolderLaws
+pub mod NamesOnce
+pub mod PlacedLaws

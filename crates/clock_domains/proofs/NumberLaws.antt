@@ -10,9 +10,9 @@ use Rattle.design_ir.specs.declared.process.Process.{Process}
 use Rattle.design_ir.specs.Pools.{Pooled}
 use Rattle.design_ir.specs.Guards.{driven}
 use Rattle.design_ir.specs.Circuits.{is_among}
-use Rattle.clock_domains.specs.Firsts.{first_at, first_clocked}
+use Rattle.clock_domains.specs.Firsts.{first_at, first_clocked, lesser}
 use Rattle.clock_domains.specs.Marks.{is_marked, marked, comes_out}
-use Rattle.clock_domains.specs.Numbers.{lesser, lowered, is_below, bounded, process_targets}
+use Rattle.clock_domains.specs.Numbers.{lowered, is_below, bounded, process_targets}
 use Rattle.clock_domains.specs.Reads.{block_targets, is_driven}
 use Rattle.clock_domains.specs.Resolved.{is_clocked}
 use Rattle.clock_domains.proofs.Lists.{take-push, take_end, or_false, length_map}
@@ -81,14 +81,14 @@ or_true true = refl
 or_true false = refl
 
 -- numbers below the bound are marks, and others are none
-lowered_below : (i n : ℕ) (ks : List ℕ) (firsts : List (Option ℕ)) → nat_lt n i ≡ true → bounded i (lowered ks n firsts) ≡ marked ks (bounded i firsts)
+pub lowered_below : (i n : ℕ) (ks : List ℕ) (firsts : List (Option ℕ)) → nat_lt n i ≡ true → bounded i (lowered ks n firsts) ≡ marked ks (bounded i firsts)
 lowered_below i n [] firsts e = refl
 lowered_below i n (k ∷ ks) firsts e =
     let o = first_at firsts k in
     lowered_below i n ks (slice_set firsts k (lesser o (Some n))) e
     ∙ ap (marked ks) (bounded_set i firsts k (lesser o (Some n)) ∙ ap (slice_set (bounded i firsts) k) (below_lesser i o (Some n) ∙ ap (λ b. is_below i o || b) e ∙ or_true (is_below i o)))
 
-lowered_past : (i n : ℕ) (ks : List ℕ) (firsts : List (Option ℕ)) → nat_lt n i ≡ false → bounded i (lowered ks n firsts) ≡ bounded i firsts
+pub lowered_past : (i n : ℕ) (ks : List ℕ) (firsts : List (Option ℕ)) → nat_lt n i ≡ false → bounded i (lowered ks n firsts) ≡ bounded i firsts
 lowered_past i n [] firsts e = refl
 lowered_past i n (k ∷ ks) firsts e =
     let o = first_at firsts k in
