@@ -1,11 +1,11 @@
-use Rattle.std.proofs.Common.{◌≡◌, ◌∙◌, ◌++◌, ◌∷◌, [], ℕ, List, length, map, Some, slice_get, refl, ap}
+use Rattle.std.proofs.Common.{◌≡◌, ◌∙◌, ◌++◌, length, map, Some, slice_get, refl, ap}
 use Rattle.std.proofs.lemmas.Option.{slice_get_read}
 use Rattle.design_ir.specs.declared.memory.Memory.{Memory}
 use Rattle.design_ir.specs.declared.process.Process.{Process}
 use Rattle.design_ir.specs.Forests.{Leaf}
 use Rattle.design_ir.specs.Fragments.{leaf_of}
 use Rattle.clock_domains.specs.Held.{leaf_exprs}
-use Rattle.clock_domains.specs.Walks.{gathered_under, memory_named, memory_paths, memory_paths_of, memories_of, named_memories, naming_path, path_under, paths_of, plain_names, process_paths}
+use Rattle.clock_domains.specs.Walks.{memory_named, memory_paths, memory_paths_of, memories_of, named_memories, naming_path, path_under, paths_of, plain_names, process_paths}
 use Rattle.clock_domains.proofs.WalkLaws.{gathered_turn, leaves_turn, under_turn}
 use Rattle.clock_domains.proofs.walk.Walk.+walk.Goals as goal
 

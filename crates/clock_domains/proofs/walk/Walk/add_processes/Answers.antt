@@ -1,4 +1,4 @@
-use Rattle.std.proofs.Common.{◌≡◌, ◌∙◌, ◌++◌, ◌∷◌, [], List, Option, ℕ, length, map, take, Some, slice_get, refl, ap}
+use Rattle.std.proofs.Common.{◌≡◌, ◌∙◌, ◌++◌, ◌∷◌, [], List, length, map, take, Some, slice_get, refl, ap}
 use Rattle.std.proofs.lemmas.Option.{slice_get_read}
 use Rattle.design_ir.specs.declared.process.Process.{Process}
 use Rattle.design_ir.specs.Fragments.{leaf_of}
@@ -20,7 +20,7 @@ loop-process-preserved c =
     record {
       processes =
           added_turn (λ (xs : List Process). xs) ps i p (p ∷ []) old.processes.items cur.processes.items c.push.new.self.items at refl before.processes
-          (c.in_ok-push.ensures.items ∙ ap (λ (x : Process). cur.processes.items ++ x ∷ []) c.in_ok-copied_process.ensures);
+          (◌∙◌ {A = List Process} c.in_ok-push.ensures.items (ap (λ (x : Process). cur.processes.items ++ x ∷ []) c.in_ok-copied_process.ensures));
       paths =
           added_turn (map (λ (x : Process). path)) ps i p (path ∷ []) old.paths cur.paths c.push-in-loop-process.new.self at (map-push (λ (x : Process). path) (take i ps) p) before.paths
           (c.in_ok-push-2.ensures.ok ∙ ap (λ x. cur.paths ++ x ∷ []) c.in_ok-naming_path.ensures);
