@@ -23,5 +23,6 @@ pub mod GivenDomains
 pub mod ReadyLaws
 pub mod ExprLists
 pub mod HolderLaws
+pub mod ResetNames
 pub mod NamesOnce
 pub mod PlacedLaws
