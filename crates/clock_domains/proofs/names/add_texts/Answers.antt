@@ -1,0 +1,1 @@
+use Rattle.clock_domains.proofs.NamesOnce.{once_spare}
