@@ -26,3 +26,4 @@ pub mod HolderLaws
 pub mod ResetNames
 pub mod NamesOnce
 pub mod PlacedLaws
+pub mod PlacingLaws

@@ -18,6 +18,12 @@ numbers-push a n = ap (range_with_len a) (let e : n + 1 ≡ suc n = omega arith 
     push a zero = ap (λ m. m ∷ []) (let e : a ≡ a + 0 = omega arith in e)
     push a (suc n) = ap (λ xs. a ∷ xs) (push (a + 1) n ∙ ap (λ m. range_with_len (a + 1) n ++ m ∷ []) (let e : a + 1 + n ≡ a + suc n = omega arith in e))
 
+pub range_parted : (a n m : ℕ) → range_with_len a (n + m) ≡ range_with_len a n ++ range_with_len (a + n) m
+range_parted a zero m = ap (range_with_len a) (let e : 0 + m ≡ m = omega arith in e) ∙ ap (λ k. range_with_len k m) (let e : a ≡ a + 0 = omega arith in e)
+range_parted a (suc n) m =
+    ap (range_with_len a) (let e : suc n + m ≡ suc (n + m) = omega arith in e)
+    ∙ ap (λ xs. a ∷ xs) (range_parted (a + 1) n m ∙ ap (λ k. range_with_len (a + 1) n ++ range_with_len k m) (let e : a + 1 + n ≡ a + suc n = omega arith in e))
+
 -- a number and no other
 same_number : (n : ℕ) → (n == n) ≡ true
 same_number n = grind (arith, nat_tests)
