@@ -1,5 +1,5 @@
 -- Resets as the signals that they are: which are held, which domains have none, and each placed in turn.
-use Rattle.std.proofs.Common.{◌≡◌, ℕ, zero, suc, ◌+◌, ◌-◌, ◌<◌, ◌≤◌, ◌==◌, nat_lt, ◌⊎◌, inl, inr, Bool, true, false, ◌||◌, ◌&&◌, not, cond, List, [], ◌∷◌, ◌++◌, map, length, take, Option, Some, None, is_some, slice_get, slice_set, position, refl, sym, ap, ◌∙◌, subst, arith, append-nil}
+use Rattle.std.proofs.Common.{◌≡◌, ℕ, zero, suc, ◌+◌, ◌-◌, ◌<◌, ◌≤◌, ◌==◌, nat_lt, ◌⊎◌, inl, inr, Bool, true, false, ◌||◌, ◌&&◌, not, cond, List, [], ◌∷◌, ◌++◌, map, length, take, Option, Some, None, is_some, bytes_eq, slice_get, slice_set, position, refl, sym, ap, ◌∙◌, subst, arith, append-nil}
 use Rattle.std.specs.Prelude.{option_and_then, option_map}
 use Rattle.std.specs.Option.{option_map_or, option_or}
 use Rattle.std.specs.List.{AllByRecursion, filter, filter_map, find, list_any, range_with_len}
@@ -7,8 +7,9 @@ use Rattle.std.proofs.lemmas.Bool.{false≢true}
 use Rattle.std.proofs.lemmas.Bool.Decides.{nat_tests}
 use Rattle.std.proofs.lemmas.List.Elements.{filter-append, filter_map-append}
 use Rattle.std.proofs.lemmas.List.Folds.{find-append}
+use Rattle.std.proofs.lemmas.Slice.Eq.{bytes_eq-Decides}
 use Rattle.lists.specs.Texts.{text_eq}
-use Rattle.lists.proofs.TextLaws.{text_eq_same, text_eq_true}
+use Rattle.lists.proofs.TextLaws.{by_equal, text_eq_true}
 use Rattle.shape_rules.specs.Forms.{unsigned}
 use Rattle.amh_host.specs.declared.place.Place.{Place}
 use Rattle.design_ir.specs.declared.ids.ExprId.{ExprId}
@@ -31,6 +32,8 @@ use Rattle.clock_domains.specs.Placed.{or_signal, placed_expr, placed_from, plac
 use Rattle.clock_domains.specs.Placing.{IsLacking, IsLackingPut, place_stop, placed_signal, signal_for}
 use Rattle.clock_domains.specs.Resolvable.{IsBit, IsDomainOf, IsResetOf}
 use Rattle.clock_domains.specs.Resolved.{clash_after, defined_domain, first_of, has_name, lacks_reset, reset_refusal}
+use Rattle.clock_domains.specs.Stops.{IsOwed}
+use Rattle.clock_domains.specs.Tracked.{IsPut}
 use Rattle.clock_domains.proofs.ClashLaws.{clash_told, names_of}
 use Rattle.clock_domains.proofs.EachOnce.{find_nowhere, find_placed}
 use Rattle.clock_domains.proofs.Lists.{or_false, take_end, take-push}
@@ -52,6 +55,9 @@ held_is q roots firsts k h low = split (first_at firsts k) refl
     split : (o : Option ℕ) → first_at firsts k ≡ o → is_some o ≡ is_within q (all_roots roots) k
     split None e = sym (ap (is_below (length roots)) e) ∙ told (length roots) (omega arith)
     split (Some m) e = sym (below_greater m (length roots + suc m) (omega arith)) ∙ sym (ap (is_below (length roots + suc m)) e) ∙ told (length roots + suc m) (omega arith)
+
+abbrev pub has_holder : List (Option ℕ) → ℕ → Bool
+has_holder firsts k = is_some (first_at firsts k)
 
 -- ---- domains without a reset
 
@@ -120,17 +126,19 @@ lacking_turn ds i d look look' at free lacking put name =
     new true e = absurd (no_some (sym (clash_told ds i d at (clash_taken [] ds i free) e) ∙ free))
     new false e = e
 
+or_end : (b : Bool) → (b || true) ≡ true
+or_end true = refl
+or_end false = refl
+
 -- a name more, where the definition has no reset
-pub lacking_put : (look look' : List ℕ → Option ℕ) (d : DomainDef) → is_some d.domain.rst ≡ false → ((name : List ℕ) → look' name ≡ cond (text_eq d.domain.name name) (Some 0) (look name)) → IsLackingPut look d look'
-lacking_put look look' d without h name = ap is_some (h name) ∙ split (text_eq d.domain.name name) ∙ ap (λ b. is_some (look name) || (b && text_eq d.domain.name name)) (sym (ap not without))
+pub lacking_put : (look look' : List ℕ → Option ℕ) (d : DomainDef) (name : List ℕ) → name ≡ d.domain.name → is_some d.domain.rst ≡ false → IsPut look name 0 look' → IsLackingPut look d look'
+lacking_put look look' d name same without put q =
+    ap is_some (put q) ∙ ap (λ t. is_some (cond t (Some 0) (look q))) (by_equal (bytes_eq name q) name q (bytes_eq-Decides name q) ∙ ap (λ n. text_eq n q) same)
+    ∙ split (text_eq d.domain.name q) ∙ ap (λ b. is_some (look q) || (b && text_eq d.domain.name q)) (sym (ap not without))
   where
-    split : (t : Bool) → is_some (cond t (Some 0) (look name)) ≡ (is_some (look name) || (true && t))
-    split true = sym (or_true (is_some (look name)))
-      where
-        or_true : (b : Bool) → (b || true) ≡ true
-        or_true true = refl
-        or_true false = refl
-    split false = sym (or_false (is_some (look name)))
+    split : (t : Bool) → is_some (cond t (Some 0) (look q)) ≡ (is_some (look q) || (true && t))
+    split true = sym (or_end (is_some (look q)))
+    split false = sym (or_false (is_some (look q)))
 
 pub lacking_same : (look : List ℕ → Option ℕ) (d : DomainDef) → is_some d.domain.rst ≡ true → IsLackingPut look d look
 lacking_same look d with' name = sym (ap (λ b. is_some (look name) || (not b && text_eq d.domain.name name)) with' ∙ or_false (is_some (look name)))
@@ -183,6 +191,25 @@ stop_is ds look (Binary op a b) h = refl
 stop_is ds look (Mux s a b) h = refl
 stop_is ds look (Matches a patterns) h = refl
 
+-- a refusal is for a reset alone
+pub stop_owed : (look : List ℕ → Option ℕ) (e : Expr) (owed : Option ResolveStop) (s : ResolveStop) → place_stop look e ≡ Some s → owed ≡ Some s → IsOwed owed s
+stop_owed look (Reset domain place) owed s h told = split (is_some (look domain)) h
+  where
+    split : (b : Bool) → cond b (Some (NoReset place)) None ≡ Some s → IsOwed owed s
+    split true e = let same : NoReset place ≡ s = cc in subst (IsOwed owed) same (told ∙ ap Some (sym same))
+    split false e = absurd cc
+stop_owed look (expr.TheVariants.Sig x) owed s h told = absurd cc
+stop_owed look (Slice a low width) owed s h told = absurd cc
+stop_owed look (Cat es) owed s h told = absurd cc
+stop_owed look (Part a offset width stride) owed s h told = absurd cc
+stop_owed look (Pick index es) owed s h told = absurd cc
+stop_owed look (Cast a signed) owed s h told = absurd cc
+stop_owed look (Const n x) owed s h told = absurd cc
+stop_owed look (Unary op a) owed s h told = absurd cc
+stop_owed look (Binary op a b) owed s h told = absurd cc
+stop_owed look (Mux x a b) owed s h told = absurd cc
+stop_owed look (Matches a patterns) owed s h told = absurd cc
+
 calls-push : (q : Pooled) (roots : List ExprId) (k : ℕ) → calls_to q roots (k + 1) ≡ calls_to q roots k ++ filter_map (call_at q) (cond (is_within q roots k) (k ∷ []) [])
 calls-push q roots k =
     ap (λ ks. filter_map (call_at q) (filter (is_within q roots) ks)) (numbers-push 0 k ∙ ap (λ m. range_with_len 0 k ++ m ∷ []) (let e : 0 + k ≡ k = omega arith in e))
@@ -216,6 +243,9 @@ reset_found ds name k d placed at = ap (option_and_then (λ (x : Domain). x.rst)
 
 pub reset_nowhere : (ds : List Domain) (name : List ℕ) → position (λ (x : Domain). text_eq x.name name) ds ≡ None → reset_of ds name ≡ None
 reset_nowhere ds name nowhere = ap (option_and_then (λ (x : Domain). x.rst)) (find_nowhere (λ (x : Domain). text_eq x.name name) ds nowhere)
+
+pub signal_is : (ds : List Domain) (held : Bool) (o : Option Expr) (name : List ℕ) (place : Place) → held ≡ true → o ≡ Some (Reset name place) → placed_signal ds held o ≡ reset_of ds name
+signal_is ds held o name place here at = ap (placed_signal ds held) at ∙ ap (λ b. placed_signal ds b (Some (Reset name place))) here
 
 -- it is a bit of the pool
 pub reset_bit : (q : Pooled) (ds : List Domain) (name : List ℕ) (s : SigId) → AllByRecursion (IsDomainOf q) ds → reset_of ds name ≡ Some s → IsBit q s
@@ -278,6 +308,10 @@ module _ (ds : List Domain) where
   placed_agree p p' n (e ∷ es) h =
       let a : cond (p n) (placed_expr ds e) e ≡ cond (p' n) (placed_expr ds e) e = ap (λ b. cond b (placed_expr ds e) e) (h n (omega arith) (omega arith)) in
       let b = placed_agree p p' (suc n) es (λ j le low. h j (omega (arith, le)) (omega (arith, low))) in cc
+
+  pub placed-length : (p : ℕ → Bool) (n : ℕ) (es : List Expr) → length (placed_from ds p n es) ≡ length es
+  placed-length p n [] = refl
+  placed-length p n (e ∷ es) = ap suc (placed-length p (suc n) es)
 
   placed_nowhere : (p : ℕ → Bool) (n : ℕ) (es : List Expr) → ((j : ℕ) → p j ≡ false) → placed_from ds p n es ≡ es
   placed_nowhere p n [] h = refl
