@@ -6,7 +6,7 @@ use Rattle.design_ir.specs.Values.{signal_form}
 use Rattle.shape_rules.specs.Forms.{unsigned}
 use Rattle.clock_domains.specs.Placed.{placed_from}
 use Rattle.clock_domains.specs.Placing.{placed_signal}
-use Rattle.clock_domains.proofs.PlacingLaws.{has_holder, placed_first, placed-length, placed_stays, placed_turns, placed_last, reset_bit, turn_is, up_to}
+use Rattle.clock_domains.proofs.PlacingLaws.{has_holder, placed_first, placed-length, placed_stays, placed_turns, placed_last, reset_bit, turn_get, turn_is, up_to}
 use Rattle.clock_domains.proofs.placing.place_resets.Goals as goal
 use Rattle.clock_domains.proofs.placing.place_resets.Goals.{in-Some, in_default}
 
@@ -68,3 +68,25 @@ loop-k-preserved c =
           ∙ ap (λ (es : List Expr). record q { exprs = es }) (placed_turns ds (has_holder holders) q.exprs k w.in-Some.s turn)
       | in_default w ↦ w.pool-is ∙ inv ∙ ap (λ (es : List Expr). record q { exprs = es }) (placed_stays ds (has_holder holders) q.exprs k (told ∙ w.in_default.is))
     ]
+
+pub place_reset-requires-clause-reset : goal.place_reset-requires-clause-reset
+place_reset-requires-clause-reset c =
+    let q = c.args.pool.now in
+    let ds = c.args.domains.now in
+    let holders = c.args.holders.now in
+    let k = c.loop-k.k in
+    let s = c.in-Some.s in
+    let inv = c.loop-k.invariant in
+    let is = sym (ap (λ (p : Pooled). placed_signal ds (has_holder holders k) (slice_get p.exprs k)) inv) ∙ sym c.placed_signal.ensures ∙ c.in-Some.is in
+    let turn = turn_is ds (has_holder holders) q.exprs k s is in
+    record {
+      domain = turn.signal.domain;
+      place = turn.signal.place;
+      stands = ap (λ (p : Pooled). slice_get p.exprs k) inv ∙ turn_get ds (has_holder holders) q.exprs k ∙ turn.stands ∙ ap Some turn.signal.reset;
+    }
+
+pub returns : goal.returns
+returns c =
+    let q = c.args.pool.now in
+    let past : length q.exprs ≤ c.loop-k.k = omega (arith, c.loop-k-test.false, c.count-k-end.ensures.value) in
+    c.loop-k.invariant ∙ ap (λ (es : List Expr). record q { exprs = es }) (placed_last c.args.domains.now (has_holder c.args.holders.now) q.exprs c.loop-k.k past)
