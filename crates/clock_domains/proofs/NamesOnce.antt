@@ -1,5 +1,5 @@
 -- Names that stand already can be left out where only the first of each counts.
-use Rattle.std.proofs.Common.{◌≡◌, ℕ, zero, suc, ◌+◌, ◌<◌, ◌≤◌, ◌==◌, nat_lt, Bool, true, false, ◌||◌, cond, List, [], ◌∷◌, ◌++◌, map, length, take, Option, Some, None, slice_get, refl, sym, ap, ◌∙◌, subst, arith, append-nil, append_assoc}
+use Rattle.std.proofs.Common.{◌≡◌, ℕ, zero, suc, ◌+◌, ◌<◌, ◌≤◌, ◌==◌, nat_lt, Bool, true, false, ◌||◌, cond, List, [], ◌∷◌, ◌++◌, map, length, Option, Some, None, slice_get, refl, sym, ap, ◌∙◌, subst, arith, append-nil, append_assoc}
 use Rattle.std.specs.Prelude.{option_and_then, option_map}
 use Rattle.std.specs.List.{AllByRecursion, filter, filter_map, flat_map, list_any, range_with_len, cons_option}
 use Rattle.std.proofs.lemmas.Bool.{false≢true}
@@ -16,13 +16,13 @@ use Rattle.design_ir.specs.Pools.{Pooled}
 use Rattle.clock_domains.specs.Firsts.{first_at}
 use Rattle.clock_domains.specs.Held.{ResetCall, forest_exprs, fragment_exprs, held_resets, inside, is_within, leaf_exprs, reset_call}
 use Rattle.clock_domains.specs.Holders.{AreHolders, all_roots, first_roots}
-use Rattle.clock_domains.specs.Marks.{is_marked, numbers}
+use Rattle.clock_domains.specs.Marks.{numbers}
 use Rattle.clock_domains.specs.Names.{all_leaves, is_number, leaves_of, new_resets, with_resets}
-use Rattle.clock_domains.specs.Numbers.{bounded, is_below}
+use Rattle.clock_domains.specs.Numbers.{is_below}
 use Rattle.clock_domains.specs.Resolved.{each_once}
-use Rattle.clock_domains.specs.Walks.{all_names, gathered, names_of, own_names, plain_names}
+use Rattle.clock_domains.specs.Walks.{all_names, gathered, own_names, plain_names}
 use Rattle.clock_domains.proofs.EachOnce.{once-push, once_any}
-use Rattle.clock_domains.proofs.Lists.{all_both, all_filtered, all_imp, any-append, length_map, map-append, or_assoc, passes}
+use Rattle.clock_domains.proofs.Lists.{all_both, all_filtered, all_imp, any-append, map-append, passes}
 use Rattle.clock_domains.proofs.NumberLaws.{bounded_at}
 
 abbrev is_there : List (List ℕ) → List ℕ → Bool
