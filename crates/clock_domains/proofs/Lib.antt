@@ -27,3 +27,4 @@ pub mod ResetNames
 pub mod NamesOnce
 pub mod PlacedLaws
 pub mod PlacingLaws
+pub mod HeldSignals
