@@ -23,5 +23,8 @@ pub mod GivenDomains
 pub mod ReadyLaws
 pub mod ExprLists
 pub mod HolderLaws
+pub mod ResetNames
 pub mod NamesOnce
 pub mod PlacedLaws
+pub mod PlacingLaws
+pub mod HeldSignals
