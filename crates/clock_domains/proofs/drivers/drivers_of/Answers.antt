@@ -1,7 +1,6 @@
-use Rattle.std.proofs.Common.{◌≡◌, ◌∙◌, ℕ, List, None, Err, IfErr, sym, ap, subst}
+use Rattle.std.proofs.Common.{◌∙◌, ℕ, List, Err, IfErr, sym, ap, subst}
 use Rattle.std.proofs.lemmas.Result.{err_from_is_err_and}
 use Rattle.design_ir.specs.Circuits.{is_among}
-use Rattle.clock_domains.specs.declared.stop.ResolveStop.{ResolveStop}
 use Rattle.clock_domains.specs.Marks.{Flag}
 use Rattle.clock_domains.specs.Reads.{data_signals}
 use Rattle.clock_domains.specs.Resolved.{data_refusal, driver_refusal, first_of}

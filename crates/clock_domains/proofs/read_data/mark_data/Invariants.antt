@@ -1,4 +1,4 @@
-use Rattle.std.proofs.Common.{◌≡◌, ◌&&◌, ◌||◌, ◌<◌, ℕ, nat_lt, length}
+use Rattle.std.proofs.Common.{◌≡◌, ◌&&◌, ◌||◌, ℕ, nat_lt, length}
 use Rattle.clock_domains.specs.Marks.{is_marked}
 use Rattle.clock_domains.proofs.read_data.mark_data.Given as goal
 

@@ -1,4 +1,4 @@
-use Rattle.std.proofs.Common.{◌≡◌, ◌&&◌, ◌<◌, ℕ, Some, cond, nat_lt, length}
+use Rattle.std.proofs.Common.{◌≡◌, ◌&&◌, ℕ, Some, cond, nat_lt, length}
 use Rattle.clock_domains.specs.Firsts.{first_at}
 use Rattle.clock_domains.specs.Marks.{is_marked}
 use Rattle.clock_domains.proofs.read_data.number_data.Given as goal
