@@ -58,7 +58,7 @@ path_is q (p ∷ ps) (path ∷ paths) s = split (is_clocked p && is_among (drive
     split false None h = h
     split false (Some k) h = h
 
-place_wider : (n : ℕ) (o : Option ℕ) → IsPlace n o → IsPlace (suc n) (option_map (λ (k : ℕ). suc k) o)
+pub place_wider : (n : ℕ) (o : Option ℕ) → IsPlace n o → IsPlace (suc n) (option_map (λ (k : ℕ). suc k) o)
 place_wider n None h = tt
 place_wider n (Some k) h = omega (arith, h)
 

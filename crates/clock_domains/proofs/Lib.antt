@@ -8,6 +8,7 @@ pub mod MadeDomains
 pub mod WalkLaws
 pub mod FirstLaws
 pub mod NumberLaws
+pub mod DataLaws
 pub mod DriverLaws
 pub mod ReadLaws
 pub mod PortLaws
