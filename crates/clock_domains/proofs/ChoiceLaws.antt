@@ -108,7 +108,7 @@ loose_same q own all mine driven read rules o d r =
     let ms = all.memories in
     let same : (s : ℕ) → s < length mine → known_port q (is_marked mine) (is_marked driven) (is_marked read) s ≡ loose_port q own all s =
     λ s low.
-        port_by q s (is_marked mine s) (is_marked read s) (is_marked driven s) (is_driven q own s) (is_read q ps ms s) (is_given q ps ms s) (o.each s (omega (arith, low, o.size))) (r.each s (omega (arith, low, o.size))) (d.each s (omega (arith, low, o.size))) in
+    port_by q s (is_marked mine s) (is_marked read s) (is_marked driven s) (is_driven q own s) (is_read q ps ms s) (is_given q ps ms s) (o.each s (omega (arith, low, o.size))) (r.each s (omega (arith, low, o.size))) (d.each s (omega (arith, low, o.size))) in
     filter_map_agree (known_port q (is_marked mine) (is_marked driven) (is_marked read)) (loose_port q own all) (range_with_len 0 (length mine)) (range_all (λ s. known_port q (is_marked mine) (is_marked driven) (is_marked read) s ≡ loose_port q own all s) 0 (length mine) (λ s low high. same s (omega (arith, high))))
     ∙ range_shorter (loose_port q own all) (length q.signals) (length mine) (omega (arith, rules.few_signals, o.size)) (λ s le. loose_none q own all s rules le)
 

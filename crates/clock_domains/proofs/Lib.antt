@@ -7,7 +7,6 @@ pub mod EachOnce
 pub mod MadeDomains
 pub mod WalkLaws
 pub mod FirstLaws
-pub mod SiteLaws
 pub mod NumberLaws
 pub mod DriverLaws
 pub mod ReadLaws
