@@ -18,6 +18,7 @@ pub mod DesignNames
 pub mod DesignSound
 pub mod DesignFacts
 pub mod DesignParts
+pub mod DesignMemories
 pub mod DesignWhole
 pub mod GivenDomains
 pub mod ReadyLaws
