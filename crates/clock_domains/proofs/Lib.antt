@@ -20,6 +20,7 @@ pub mod DesignFacts
 pub mod DesignParts
 pub mod DesignMemories
 pub mod DesignWhole
+pub mod WalkedParts
 pub mod GivenDomains
 pub mod ReadyLaws
 pub mod ExprLists
