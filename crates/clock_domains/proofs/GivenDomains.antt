@@ -55,7 +55,7 @@ new_form [] (n ∷ names) (suc (suc s)) k e h = new_form [] names s s (omega ari
 new_form (x ∷ xs) names zero k e h = absurd (omega (arith, e))
 new_form (x ∷ xs) names (suc s) k e h = new_form xs names s k (omega (arith, e)) h
 
-old_form : (xs more : List Sig) (s : ℕ) → s < length xs → signal_form (xs ++ more) s ≡ signal_form xs s
+pub old_form : (xs more : List Sig) (s : ℕ) → s < length xs → signal_form (xs ++ more) s ≡ signal_form xs s
 old_form [] more s h = absurd (omega (arith, h))
 old_form (x ∷ xs) more zero h = refl
 old_form (x ∷ xs) more (suc s) h = old_form xs more s (omega (arith, h))

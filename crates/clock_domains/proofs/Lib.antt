@@ -27,3 +27,4 @@ pub mod ExprLists
 pub mod HolderLaws
 pub mod NamesOnce
 pub mod PlacedLaws
+pub mod PlacedParts
