@@ -28,3 +28,4 @@ pub mod HolderLaws
 pub mod NamesOnce
 pub mod PlacedLaws
 pub mod PlacedParts
+pub mod HeldNames
