@@ -24,20 +24,17 @@ use Rattle.clock_domains.specs.declared.top.TopPorts.TheVariants.{Members, Held,
 use Rattle.clock_domains.specs.Reads.{is_driven, is_given, is_read}
 use Rattle.clock_domains.specs.Walks.{Contents}
 use Rattle.clock_domains.specs.Resolvable.{IsPlain, IsSideOf, AreTopPorts}
-use Rattle.clock_domains.specs.Resolved.{with_domains, domain_number, port_of, top_ports, signals_of, driver_refusal, loose_port, first_of, first_refusal, statement_refusal}
+use Rattle.clock_domains.specs.Resolved.{domain_number, port_of, top_ports, signals_of, driver_refusal, loose_port, first_of, first_refusal, statement_refusal}
 use Rattle.clock_domains.proofs.Lists.{all_filtered, all_imp, all_joined, all_mapped, all_unmapped, any-append, any_none, none_any, or_none, map_map}
-use Rattle.clock_domains.proofs.MadeDomains.{length_with}
 use Rattle.clock_domains.proofs.ChoiceLaws.{range_all}
 
--- ---- the pool with the domains' signals
+-- ---- a pool with more signals
 
-pub longer : (q : Pooled) (names : List (List ℕ)) (s : ℕ) → s < length q.signals → s < length (with_domains q names).signals
-longer q names s h = omega (arith, h, length_with q names)
-
-pub top_with : (q : Pooled) (names : List (List ℕ)) (top : TopPorts) → AreTopPorts q top → AreTopPorts (with_domains q names) top
-top_with q names (Members given) h = record { each = all_imp (λ (p : Port) k. record { there = longer q names p.sig.0 k.there; name = k.name }) given h.each; distinct = h.distinct }
-top_with q names (Held given) h = record { each = all_imp (λ (p : Port) k. record { there = longer q names p.sig.0 k.there; name = k.name }) given h.each; distinct = h.distinct }
-top_with q names Loose h = tt
+-- ports are ports of a pool that has more signals
+pub top_wider : (q w : Pooled) (top : TopPorts) → ((s : ℕ) → s < length q.signals → s < length w.signals) → AreTopPorts q top → AreTopPorts w top
+top_wider q w (Members given) longer h = record { each = all_imp (λ (p : Port) k. record { there = longer p.sig.0 k.there; name = k.name }) given h.each; distinct = h.distinct }
+top_wider q w (Held given) longer h = record { each = all_imp (λ (p : Port) k. record { there = longer p.sig.0 k.there; name = k.name }) given h.each; distinct = h.distinct }
+top_wider q w Loose longer h = tt
 
 -- ---- sides have domains
 

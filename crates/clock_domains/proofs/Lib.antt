@@ -29,3 +29,4 @@ pub mod NamesOnce
 pub mod PlacedLaws
 pub mod PlacedParts
 pub mod HeldNames
+pub mod SiteLaws

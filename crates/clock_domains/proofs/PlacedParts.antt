@@ -218,7 +218,7 @@ module _ (q w : Pooled) (moved : IsMoved q w) where
 
 -- ---- the expressions of a memory are there
 
-all_together : {A B : Type 0} (P : B → Type 0) (f : A → List B) (xs : List A) → AllByRecursion (λ x. AllByRecursion P (f x)) xs → AllByRecursion P (flat_map f xs)
+pub all_together : {A B : Type 0} (P : B → Type 0) (f : A → List B) (xs : List A) → AllByRecursion (λ x. AllByRecursion P (f x)) xs → AllByRecursion P (flat_map f xs)
 all_together P f [] h = tt
 all_together P f (x ∷ xs) h = all_joined P (f x) (flat_map f xs) h.0 (all_together P f xs h.1)
 
