@@ -124,10 +124,10 @@ module _ (q : Pooled) (k : ℕ) (name : List ℕ) (place : Place) (at : slice_ge
       elim (within_either q (leaf_exprs l) (forest_exprs below ++ forest_exprs rest) k h) [
         | inl own ↦ text_left (own_names q l) (names_of q below ++ names_of q rest) name (own_reset l own)
         | inr more ↦ text_right (own_names q l) (names_of q below ++ names_of q rest) name
-          (elim (within_either q (forest_exprs below) (forest_exprs rest) k more) [
-            | inl inner ↦ text_left (names_of q below) (names_of q rest) name (below_reset below inner)
-            | inr others ↦ text_right (names_of q below) (names_of q rest) name (below_reset rest others)
-          ])
+            (elim (within_either q (forest_exprs below) (forest_exprs rest) k more) [
+              | inl inner ↦ text_left (names_of q below) (names_of q rest) name (below_reset below inner)
+              | inr others ↦ text_right (names_of q below) (names_of q rest) name (below_reset rest others)
+            ])
       ]
 
   pub walk_reset : (f : Fragment) → is_within q (fragment_exprs f) k ≡ true → HasText (all_names q f) name

@@ -36,7 +36,7 @@ use Rattle.clock_domains.specs.Resolvable.{IsDefinition, IsDomainOf, IsMemoryOf,
 use Rattle.clock_domains.specs.Resolved.{clash_after, clocked_data, column_of_port, column_of_register, columns_after, columns_of, circuit_of, defined_domain, domain_names, domain_ports, domain_signals, domain_stop, domains_from, driver_stop, has_width, is_clocked, is_past_limit, limit_where, made_domains, made_names, made_pool, named_registers, ports_named, ports_of, process_in, register_path, reset_refusal, resolved, resolved_in, signals_of, top_ports, unless, whole_pool, with_domains, IsResolveRefusal}
 use Rattle.clock_domains.specs.Chosen.{IsSignal}
 use Rattle.clock_domains.specs.Firsts.{AreNumbersThere, AreSites, IsPlace, column_under, first_at, first_site, known_column, path_at}
-use Rattle.clock_domains.specs.Ready.{AreWalked, IsPlainMemory, IsReady}
+use Rattle.clock_domains.specs.Ready.{AreClocked, AreWalked, IsPlainMemory, IsReady}
 use Rattle.clock_domains.specs.Stops.{IsOwed}
 use Rattle.clock_domains.proofs.Lists.{all_both, all_filtered, all_imp, all_joined, all_mapped, all_unmapped, any-append, or_none}
 use Rattle.clock_domains.proofs.EachOnce.{once_all, once_distinct}
@@ -69,7 +69,7 @@ module _ (q : Pooled) (ds : List Domain) (own : List Process) (all : Contents) (
       all_together (λ s. s < length q.signals) (λ (m : Memory). map (λ (r : MemRead). r.word.0) m.reads) all.memories
       (all_imp (λ (m : Memory) k. all_mapped (λ s. s < length q.signals) (λ (r : MemRead). r.word.0) m.reads (all_imp (λ (r : MemRead) x. x.word.there) m.reads k.memory.reads)) all.memories h.memories)
 
-  pub ready_clocked : AllByRecursion (λ (m : Memory). AllByRecursion (λ s. s < length q.signals) (clocked_data m)) all.memories
+  pub ready_clocked : AreClocked q all.memories
   ready_clocked =
       all_imp (λ (m : Memory) k. all_mapped (λ s. s < length q.signals) (λ (r : MemRead). r.word.0) (filter (λ (r : MemRead). is_some r.domain) m.reads)
       (all_filtered (λ (r : MemRead). r.word.0 < length q.signals) (λ (r : MemRead). is_some r.domain) m.reads (all_imp (λ (r : MemRead) x. x.word.there) m.reads k.memory.reads))) all.memories h.memories
@@ -108,11 +108,7 @@ registers_there q all ports rs e =
     all_unmapped (λ s. s < length q.signals) (λ (s : SigId). s.0) rs
     (subst (AllByRecursion (λ s. s < length q.signals)) (sym e) (all_filtered (λ s. s < length q.signals) _ (range_with_len 0 (length q.signals)) (range_all (λ s. s < length q.signals) 0 (length q.signals) (λ s low high. omega (arith, high)))))
 
--- the clocked read ports of memories give signals of the pool
-abbrev pub AreClocked : Pooled → Contents → Type 0
-AreClocked q all = AllByRecursion (λ (m : Memory). AllByRecursion (λ s. s < length q.signals) (clocked_data m)) all.memories
-
-module _ (q : Pooled) (all : Contents) (sites : List (Option ℕ)) (rules : IsPool q) (walk : AreWalked all) (clocked : AreClocked q all) (f : AreSites q all.processes all.memories sites) where
+module _ (q : Pooled) (all : Contents) (sites : List (Option ℕ)) (rules : IsPool q) (walk : AreWalked all) (clocked : AreClocked q all.memories) (f : AreSites q all.processes all.memories sites) where
   abbrev paths : List (Option (List ℕ))
   paths = all.paths ++ all.memory_paths
 
@@ -160,7 +156,7 @@ module _ (q : Pooled) (all : Contents) (sites : List (Option ℕ)) (rules : IsPo
   sites_places s =
       elim (cases_lt s 16384) [
         | inl small ↦ subst (IsPlace (length paths)) (sym (f.each s small))
-          (subst (λ n. IsPlace n (first_site q all.processes all.memories s)) (sym (length-append all.paths all.memory_paths ∙ ap (λ n. n + length all.memory_paths) walk.size ∙ ap (λ n. length all.processes + n) walk.memory_size)) (site_place q all.processes all.memories s))
+            (subst (λ n. IsPlace n (first_site q all.processes all.memories s)) (sym (length-append all.paths all.memory_paths ∙ ap (λ n. n + length all.memory_paths) walk.size ∙ ap (λ n. length all.processes + n) walk.memory_size)) (site_place q all.processes all.memories s))
         | inr large ↦ subst (IsPlace (length paths)) (sym (get_or_past sites s None (omega (arith, large, f.size)))) tt
       ]
 
