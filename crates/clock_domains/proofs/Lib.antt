@@ -19,7 +19,9 @@ pub mod DesignNames
 pub mod DesignSound
 pub mod DesignFacts
 pub mod DesignParts
+pub mod DesignMemories
 pub mod DesignWhole
+pub mod WalkedParts
 pub mod GivenDomains
 pub mod ReadyLaws
 pub mod ExprLists
@@ -29,3 +31,6 @@ pub mod NamesOnce
 pub mod PlacedLaws
 pub mod PlacingLaws
 pub mod HeldSignals
+pub mod PlacedParts
+pub mod HeldNames
+pub mod SiteLaws
