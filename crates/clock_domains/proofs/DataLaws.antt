@@ -1,10 +1,10 @@
 -- The data of read ports: marks of those that were seen, and the numbers of their memories.
-use Rattle.std.proofs.Common.{◌≡◌, ℕ, zero, suc, ◌+◌, ◌<◌, ◌≤◌, ◌==◌, nat_lt, Bool, true, false, not, ◌||◌, cond, List, [], ◌∷◌, ◌++◌, map, length, take, drop, Option, Some, None, slice_get, slice_set, is_some, refl, sym, ap, ◌∙◌, subst, arith, append-nil}
+use Rattle.std.proofs.Common.{◌≡◌, ℕ, zero, suc, ◌+◌, ◌<◌, ◌==◌, Bool, true, false, not, ◌||◌, cond, List, [], ◌∷◌, ◌++◌, map, length, take, drop, Option, Some, None, slice_get, slice_set, is_some, refl, sym, ap, ◌∙◌, subst, arith, append-nil}
 use Rattle.std.specs.Prelude.{option_map}
-use Rattle.std.specs.List.{AllByRecursion, filter, flat_map}
-use Rattle.std.proofs.lemmas.Bool.{false≢true, eqb-true, eq-eqb}
+use Rattle.std.specs.List.{AllByRecursion, filter}
+use Rattle.std.proofs.lemmas.Bool.{false≢true}
 use Rattle.std.proofs.lemmas.Bool.Decides.{nat_tests}
-use Rattle.std.proofs.lemmas.List.{get_or-set_same, get_or-set_other, length-set}
+use Rattle.std.proofs.lemmas.List.{length-set}
 use Rattle.std.proofs.lemmas.List.Concat.{flat_map-append}
 use Rattle.std.proofs.lemmas.List.Elements.{filter-append}
 use Rattle.design_ir.specs.declared.memory.MemRead.{MemRead}
@@ -17,9 +17,9 @@ use Rattle.clock_domains.specs.Numbers.{lowered}
 use Rattle.clock_domains.specs.Reads.{data_signals}
 use Rattle.clock_domains.specs.Resolved.{clocked_data, first_of, has_twice}
 use Rattle.clock_domains.proofs.FirstLaws.{place_wider, take_length}
-use Rattle.clock_domains.proofs.Lists.{all_filtered, all_left, all_mapped, all_right, all_unmapped, map-append, or_assoc, or_false, take-push, take_and_drop}
+use Rattle.clock_domains.proofs.Lists.{all_filtered, all_left, all_mapped, all_right, all_unmapped, map-append, or_assoc, take-push, take_and_drop}
 use Rattle.clock_domains.proofs.Markings.{length_marked, marked-append, marked_set}
-use Rattle.clock_domains.proofs.NumberLaws.{first_at_set, lesser_again, lowered_at}
+use Rattle.clock_domains.proofs.NumberLaws.{lesser_again, lowered_at}
 
 -- ---- what is marked, or stands twice
 

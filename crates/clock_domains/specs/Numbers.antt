@@ -1,5 +1,5 @@
 -- Numbers of processes that are kept for expressions and for signals, the least for each. Those below a bound are marks.
-use Rattle.std.specs.Prelude.{ℕ, nat_lt, Bool, false, if◌then◌else◌, List, [], ◌∷◌, map, slice_set, Option, Some, None}
+use Rattle.std.specs.Prelude.{ℕ, nat_lt, Bool, false, List, [], ◌∷◌, map, slice_set, Option, Some, None}
 use Rattle.std.specs.List.{flat_map}
 use Rattle.design_ir.specs.declared.process.Process.{Process}
 use Rattle.clock_domains.specs.Reads.{block_targets}
