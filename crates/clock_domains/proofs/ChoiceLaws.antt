@@ -8,7 +8,6 @@ use Rattle.std.proofs.lemmas.List.Elements.{filter_map-append}
 use Rattle.design_ir.specs.declared.ids.SigId.{SigId}
 use Rattle.design_ir.specs.declared.port.Port.{Port}
 use Rattle.design_ir.specs.declared.domain.Domain.{Domain}
-use Rattle.design_ir.specs.declared.memory.Memory.{Memory}
 use Rattle.design_ir.specs.declared.process.Process.{Process}
 use Rattle.design_ir.specs.Pools.{Pooled}
 use Rattle.design_ir.specs.PoolRules.{IsPool}
@@ -17,8 +16,8 @@ use Rattle.clock_domains.specs.declared.top.TopPorts.{TopPorts}
 use Rattle.clock_domains.specs.declared.top.TopPorts.TheVariants.{Members, Held, Loose}
 use Rattle.clock_domains.specs.Marks.{Flag, is_marked}
 use Rattle.clock_domains.specs.Reads.{is_driven, is_given, is_read, read_roots}
-use Rattle.clock_domains.specs.Resolvable.{AreTopPorts}
 use Rattle.clock_domains.specs.Walks.{Contents}
+use Rattle.clock_domains.specs.Resolvable.{AreTopPorts}
 use Rattle.clock_domains.specs.Resolved.{has_width, loose_port, port_of, top_ports, signals_of, reset_port, domain_ports, ports_of_domain, ports_of, and_new}
 use Rattle.clock_domains.specs.Chosen.{is_new, held_port, known_port, known_ports, IsKnown, IsSignal, IsResetThere}
 use Rattle.clock_domains.proofs.Lists.{all_imp, all_joined, all_mapped}
@@ -44,10 +43,6 @@ flags_known q own all mine driven read rules o d r = record {
   own_there = flag_there mine (is_driven q own) (length q.signals) o (λ s le. is_driven_none q own s rules le);
   read_there = flag_there read (is_read q all.processes all.memories) (length q.signals) r (λ s le. read_none q (read_roots q all.processes all.memories) s rules le);
 }
-
--- marks by processes and memories that are the same
-pub flag_same : (marks : List Bool) (test : List Process → List Memory → ℕ → Bool) (ps ps' : List Process) (ms ms' : List Memory) → ps ≡ ps' → ms ≡ ms' → Flag marks (test ps ms) → Flag marks (test ps' ms')
-flag_same marks test ps ps' ms ms' e f h = subst (λ xs. Flag marks (test ps' xs)) f (subst (λ xs. Flag marks (test xs ms)) e h)
 
 -- ---- lists
 
@@ -97,23 +92,17 @@ port_by q s a b c a' b' c' e f g =
 
 loose_none : (q : Pooled) (own : List Process) (all : Contents) (s : ℕ) → IsPool q → length q.signals ≤ s → loose_port q own all s ≡ None
 loose_none q own all s rules le =
-    let ps = all.processes in
-    let ms = all.memories in
-    port_by q s (is_driven q own s) (is_read q ps ms s) (is_given q ps ms s) false false (is_given q ps ms s) (is_driven_none q own s rules le) (read_none q (read_roots q ps ms) s rules le) refl
+    port_by q s (is_driven q own s) (is_read q all.processes all.memories s) (is_given q all.processes all.memories s) false false (is_given q all.processes all.memories s) (is_driven_none q own s rules le) (read_none q (read_roots q all.processes all.memories) s rules le) refl
 
 loose_same : (q : Pooled) (own : List Process) (all : Contents) (mine driven read : List Bool) → IsPool q → Flag mine (is_driven q own) → Flag driven (is_given q all.processes all.memories) → Flag read (is_read q all.processes all.memories)
     → filter_map (known_port q (is_marked mine) (is_marked driven) (is_marked read)) (range_with_len 0 (length mine)) ≡ top_ports q own all Loose
 loose_same q own all mine driven read rules o d r =
-    let ps = all.processes in
-    let ms = all.memories in
     let same : (s : ℕ) → s < length mine → known_port q (is_marked mine) (is_marked driven) (is_marked read) s ≡ loose_port q own all s =
-    λ s low.
-    port_by q s (is_marked mine s) (is_marked read s) (is_marked driven s) (is_driven q own s) (is_read q ps ms s) (is_given q ps ms s) (o.each s (omega (arith, low, o.size))) (r.each s (omega (arith, low, o.size))) (d.each s (omega (arith, low, o.size))) in
+    λ s low. port_by q s (is_marked mine s) (is_marked read s) (is_marked driven s) (is_driven q own s) (is_read q all.processes all.memories s) (is_given q all.processes all.memories s) (o.each s (omega (arith, low, o.size))) (r.each s (omega (arith, low, o.size))) (d.each s (omega (arith, low, o.size))) in
     filter_map_agree (known_port q (is_marked mine) (is_marked driven) (is_marked read)) (loose_port q own all) (range_with_len 0 (length mine)) (range_all (λ s. known_port q (is_marked mine) (is_marked driven) (is_marked read) s ≡ loose_port q own all s) 0 (length mine) (λ s low high. same s (omega (arith, high))))
     ∙ range_shorter (loose_port q own all) (length q.signals) (length mine) (omega (arith, rules.few_signals, o.size)) (λ s le. loose_none q own all s rules le)
 
-known_same : (q : Pooled) (own : List Process) (all : Contents) (mine driven read : List Bool) (top : TopPorts) → IsPool q → AreTopPorts q top → Flag mine (is_driven q own) → Flag driven (is_given q all.processes all.memories) → Flag read (is_read q all.processes all.memories)
-    → known_ports q mine driven read top ≡ top_ports q own all top
+known_same : (q : Pooled) (own : List Process) (all : Contents) (mine driven read : List Bool) (top : TopPorts) → IsPool q → AreTopPorts q top → Flag mine (is_driven q own) → Flag driven (is_given q all.processes all.memories) → Flag read (is_read q all.processes all.memories) → known_ports q mine driven read top ≡ top_ports q own all top
 known_same q own all mine driven read (Members given) rules h o d r = refl
 known_same q own all mine driven read (Held given) rules h o d r =
     map_on (held_port (is_marked driven)) (λ (p : Port). record p { is_input = not (is_given q all.processes all.memories p.sig.0) }) given
@@ -176,9 +165,8 @@ domain_there q driven (d ∷ ds) h = all_joined (λ (p : Port). p.sig.0 < length
 
 -- ---- all ports
 
-pub chosen_same : (q : Pooled) (domains : List Domain) (own : List Process) (all : Contents) (is_port mine driven read : List Bool) (top : TopPorts) → IsPool q → AreTopPorts q top → AllByRecursion (IsSignal q) domains
-    → Flag is_port (is_among (signals_of (domain_ports q (is_marked driven) domains))) → Flag mine (is_driven q own) → Flag driven (is_given q all.processes all.memories) → Flag read (is_read q all.processes all.memories)
-    → domain_ports q (is_marked driven) domains ++ filter (is_new q (is_marked is_port)) (known_ports q mine driven read top) ≡ ports_of q domains own all top
+pub chosen_same : (q : Pooled) (domains : List Domain) (own : List Process) (all : Contents) (is_port mine driven read : List Bool) (top : TopPorts) → IsPool q → AreTopPorts q top → AllByRecursion (IsSignal q) domains → Flag is_port (is_among (signals_of (domain_ports q (is_marked driven) domains)))
+    → Flag mine (is_driven q own) → Flag driven (is_given q all.processes all.memories) → Flag read (is_read q all.processes all.memories) → domain_ports q (is_marked driven) domains ++ filter (is_new q (is_marked is_port)) (known_ports q mine driven read top) ≡ ports_of q domains own all top
 chosen_same q domains own all is_port mine driven read top rules h signals f o d r =
     let before = domain_ports q (is_marked driven) domains in
     ap (λ xs. before ++ filter (is_new q (is_marked is_port)) xs) (known_same q own all mine driven read top rules h o d r)

@@ -7,7 +7,8 @@ use Rattle.clock_domains.specs.Reads.{is_given, is_read}
 use Rattle.clock_domains.specs.Resolved.{signals_of, domain_ports}
 use Rattle.clock_domains.specs.Chosen.{is_new, known_ports}
 use Rattle.clock_domains.proofs.Lists.{all_imp}
-use Rattle.clock_domains.proofs.ChoiceLaws.{chosen_same, domain_there, flag_same, flags_known}
+use Rattle.clock_domains.proofs.ChoiceLaws.{chosen_same, domain_there, flags_known}
+use Rattle.clock_domains.proofs.PortLaws.{flag_same}
 use Rattle.clock_domains.proofs.ports.ports_of.Goals as goal
 
 pub domain_ports-requires-clause-size : goal.domain_ports-requires-clause-size
