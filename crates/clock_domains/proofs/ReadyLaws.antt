@@ -51,8 +51,9 @@ use Rattle.clock_domains.proofs.DesignSound.{first_none, top_wider}
 use Rattle.clock_domains.proofs.DesignParts.{domain_signal_names, domains_signal}
 use Rattle.clock_domains.proofs.DesignWhole.{IsApart, design_apart, design_sound}
 use Rattle.clock_domains.proofs.GivenDomains.{domains_apart, domains_free, domains_known, domains_sound, few_names, names_distinct, ports_known}
-use Rattle.clock_domains.proofs.HeldNames.{HasText, held_signals}
-use Rattle.clock_domains.proofs.PlacedParts.{IsMoved, all_together, moved_memory, placed_signals, roots_within, whole_domains, whole_memory, whole_side}
+use Rattle.clock_domains.proofs.HeldSignals.{held_signals}
+use Rattle.clock_domains.proofs.PlacedLaws.{placed_rules, placed_signals}
+use Rattle.clock_domains.proofs.PlacedParts.{IsMoved, all_together, moved_memory, roots_within, whole_domains, whole_memory, whole_side}
 use Rattle.clock_domains.proofs.SiteLaws.{memory_none, site_none, site_path, site_place}
 use Rattle.clock_domains.proofs.WalkedParts.{top_processes, walk_memories, walk_ports, walk_processes}
 
@@ -257,6 +258,9 @@ module _ (q : Pooled) (ds : List Domain) (own : List Process) (all : Contents) (
 
 -- ---- a module with those below it
 
+abbrev HasText : List (List ℕ) → List ℕ → Type 0
+HasText names n = list_any (λ m. text_eq m n) names ≡ true
+
 all_texts : (names : List (List ℕ)) → AllByRecursion (HasText names) names
 all_texts [] = tt
 all_texts (n ∷ names) = (
@@ -371,12 +375,15 @@ module _ (q : Pooled) (root : Fragment) (top : TopPorts) where
             ∙ parts.1
 
     -- what is asked of a module and of those below it is asked of what was walked
-    module _ (rules : IsPool q) (rules_made : IsPool made) (rules_within : IsPool within) (placed : domain_stop q root ≡ None) where
+    module _ (rules : IsPool q) (rules_made : IsPool made) (placed : domain_stop q root ≡ None) where
+      rules_within : IsPool within
+      rules_within = placed_rules domains made (fragment_exprs root) domains_made_sound rules_made
+
       parts : ArePlaced
       parts = are_placed placed
 
       side : (p : Process) → IsOpenSide q p → AllByRecursion IsHeld (block_exprs p.body) → IsSideOf within p
-      side p = whole_side q (made_names q root) domains (fragment_exprs root) rules rules_made rules_within (held_signals q root definitions (length q.signals) (made_names q root) parts.resets) domains_made_sound p
+      side p = whole_side q (made_names q root) domains (fragment_exprs root) rules rules_made rules_within (held_signals q root parts.resets) domains_made_sound p
 
       pub walked_ready : IsReady within domains root.processes (all_contents root) top
       walked_ready = record {
@@ -385,7 +392,7 @@ module _ (q : Pooled) (root : Fragment) (top : TopPorts) where
         processes = walk_processes q IsHeld (IsSideOf within) side root given.tree held;
         memories =
             walk_memories q IsHeld (IsPlainMemory within)
-            (λ name m path h v. whole_memory q (made_names q root) domains (fragment_exprs root) rules rules_made rules_within (held_signals q root definitions (length q.signals) (made_names q root) parts.resets) domains_made_sound name m path h v) root given.tree held;
+            (λ name m path h v. whole_memory q (made_names q root) domains (fragment_exprs root) rules rules_made rules_within (held_signals q root parts.resets) domains_made_sound name m path h v) root given.tree held;
         names =
             subst (AllByRecursion (λ (x : Sig). IsName x.name)) (sym (placed_signals domains made (fragment_exprs root)))
             (all_joined (λ (x : Sig). IsName x.name) q.signals (flat_map domain_signals (made_names q root)) given.names
