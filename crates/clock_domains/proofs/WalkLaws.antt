@@ -1,12 +1,15 @@
 -- What a tree of modules gives: processes and their paths, definitions and names of domains.
 use Rattle.std.proofs.Common.{◌≡◌, ℕ, ◌+◌, Bool, true, false, ◌&&◌, ◌||◌, cond, List, [], ◌∷◌, ◌++◌, map, length, take, Option, Some, None, slice_get, codes, refl, sym, ap, ◌∙◌, subst, arith, append_assoc, append-nil}
-use Rattle.std.specs.List.{AllByRecursion, flat_map, filter_map, list_any}
+use Rattle.std.specs.List.{AllByRecursion, cons_option, flat_map, filter_map, list_any}
 use Rattle.std.proofs.lemmas.List.{length-append}
 use Rattle.std.proofs.lemmas.List.Concat.{flat_map-append}
 use Rattle.lists.specs.Names.{IsName}
 use Rattle.lists.specs.Texts.{text_eq}
 use Rattle.lists.proofs.TextLaws.{text_eq_same}
+use Rattle.design_ir.specs.declared.ids.ExprId.{ExprId}
 use Rattle.design_ir.specs.declared.domain.DomainDef.{DomainDef}
+use Rattle.design_ir.specs.declared.memory.MemWrite.{MemWrite}
+use Rattle.design_ir.specs.declared.memory.MemRead.{MemRead}
 use Rattle.design_ir.specs.declared.memory.Memory.{Memory}
 use Rattle.design_ir.specs.declared.process.Side.{Side}
 use Rattle.design_ir.specs.declared.process.Side.TheVariants.{Comb, Clocked}
@@ -19,11 +22,12 @@ use Rattle.design_ir.specs.Guards.{driven}
 use Rattle.design_ir.specs.Circuits.{is_among}
 use Rattle.design_ir.proofs.Lists.{forest_of_snoc}
 use Rattle.clock_domains.specs.Held.{ResetCall, held_resets, leaf_exprs}
-use Rattle.clock_domains.specs.Resolvable.{IsDefinition, IsNamedSide, IsOpenSide, IsModule, IsTree, AreModules}
+use Rattle.clock_domains.specs.Names.{leaves_of}
+use Rattle.clock_domains.specs.Resolvable.{IsClockingOf, IsDefinition, IsMemoryOf, IsNamedSide, IsOpenSide, IsModule, IsReadOf, IsTree, IsWriteOf, AreModules}
 use Rattle.clock_domains.specs.Resolved.{clocked_data, is_clocked, memory_path, process_path}
 use Rattle.clock_domains.specs.Ready.{IsNaming, IsUnder}
 use Rattle.clock_domains.specs.Walks.{gathered, gathered_under, processes_of, all_processes, naming_path, path_under, process_paths, paths_of, all_paths, memory_named, named_memories, memories_of, all_memories, memory_paths, memory_paths_of, all_memory_paths, plain_names, port_names, definitions_of, all_definitions, side_name, own_names, names_of, all_names}
-use Rattle.clock_domains.proofs.Lists.{all_imp, all_joined, all_mapped, any-append, length_map, take-push}
+use Rattle.clock_domains.proofs.Lists.{all_imp, all_joined, all_mapped, any-append, length_map, map-append, take-push}
 
 -- ---- one module more
 
@@ -62,6 +66,20 @@ pub under_turn : {A : Type 0} (own : List ℕ → Leaf → List A) (path : List 
 under_turn own path fs i f old cur mid new at h k m =
     joined_turn old cur mid new (gathered_under own path (forest_of (take i fs))) (own path (leaf_of f)) (gathered_under own (path_under path f.name) f.submodules) h k m
     ∙ ap (λ xs. old ++ xs) (sym (ap (gathered_under own path) (at_more fs i f at) ∙ under-push own path (forest_of (take i fs)) (leaf_of f) f.submodules))
+
+-- what is computed of each fragment
+leaves_mapped : {B : Type 0} (g : Leaf → B) (f : Forest) → map g (leaves_of f) ≡ gathered (λ (l : Leaf). g l ∷ []) f
+leaves_mapped g bare = refl
+leaves_mapped g (grown l below rest) =
+    ap (λ xs. g l ∷ xs) (map-append g (leaves_of below) (leaves_of rest) ∙ let a = leaves_mapped g below in let b = leaves_mapped g rest in cc)
+
+pub leaves_turn : {B : Type 0} (g : Leaf → B) (fs : List Fragment) (i : ℕ) (f : Fragment) (old cur mid new : List B) → slice_get fs i ≡ Some f → cur ≡ old ++ map g (leaves_of (forest_of (take i fs))) → mid ≡ cur ++ g (leaf_of f) ∷ [] → new ≡ mid ++ map g (leaves_of f.submodules)
+    → new ≡ old ++ map g (leaves_of (forest_of (take (i + 1) fs)))
+leaves_turn g fs i f old cur mid new at h k m =
+    gathered_turn (λ (l : Leaf). g l ∷ []) fs i f old cur mid new at
+    (h ∙ ap (λ xs. old ++ xs) (leaves_mapped g (forest_of (take i fs)))) k
+    (m ∙ ap (λ xs. mid ++ xs) (leaves_mapped g f.submodules))
+    ∙ ap (λ xs. old ++ xs) (sym (leaves_mapped g (forest_of (take (i + 1) fs))))
 
 -- ---- as many paths as processes, and as memories
 
@@ -168,9 +186,32 @@ clocked_named q (p ∷ ps) h = by_side p.side refl h.0.side (clocked_named q ps 
     by_side Comb e n rest = subst (λ (s : Side). AllByRecursion IsName (clocked_names (record { side = s; body = p.body } ∷ ps))) (sym e) rest
     by_side (Clocked m) e n rest = subst (λ (s : Side). AllByRecursion IsName (clocked_names (record { side = s; body = p.body } ∷ ps))) (sym e) (subst IsNamedSide e n, rest)
 
--- open: the names of memory ports are names by IsWriteOf and IsReadOf, those of resets by `resets` of IsModule
+clocking_named : (q : Pooled) (d : Option (List ℕ)) (e : Option ExprId) (names : List (List ℕ)) → IsClockingOf q d e → AllByRecursion IsName names → AllByRecursion IsName (cons_option d names)
+clocking_named q None e names h rest = rest
+clocking_named q (Some n) None names h rest = absurd h
+clocking_named q (Some n) (Some e) names h rest = (h.0, rest)
+
+reads_named : (q : Pooled) (m : Memory) (rs : List MemRead) → AllByRecursion (IsReadOf q m) rs → AllByRecursion IsName (filter_map (λ (r : MemRead). r.domain) rs)
+reads_named q m [] h = tt
+reads_named q m (r ∷ rs) h = clocking_named q r.domain r.enable (filter_map (λ (r : MemRead). r.domain) rs) h.0.clocking (reads_named q m rs h.1)
+
+ports_named : (q : Pooled) (m : Memory) → IsMemoryOf q m → AllByRecursion IsName (port_names m)
+ports_named q m h =
+    all_joined IsName (map (λ (w : MemWrite). w.domain) m.writes) (filter_map (λ (r : MemRead). r.domain) m.reads)
+    (all_mapped IsName (λ (w : MemWrite). w.domain) m.writes (all_imp (λ (w : MemWrite) (x : IsWriteOf q m w). x.domain) m.writes h.writes))
+    (reads_named q m m.reads h.reads)
+
+memories_named : (q : Pooled) (ms : List Memory) → AllByRecursion (IsMemoryOf q) ms → AllByRecursion IsName (flat_map port_names ms)
+memories_named q [] h = tt
+memories_named q (m ∷ ms) h = all_joined IsName (port_names m) (flat_map port_names ms) (ports_named q m h.0) (memories_named q ms h.1)
+
 own_named : (q : Pooled) (l : Leaf) → IsModule q l → AllByRecursion IsName (own_names q l)
-own_named q l h = ?
+own_named q l h =
+    all_joined IsName (plain_names l) (map (λ (r : ResetCall). r.domain) (held_resets q (leaf_exprs l)))
+    (all_joined IsName (map (λ (d : DomainDef). d.domain.name) l.domains) (clocked_names l.processes ++ flat_map port_names l.memories)
+    (all_mapped IsName (λ (d : DomainDef). d.domain.name) l.domains (all_imp (λ (d : DomainDef) (x : IsDefinition q d). x.name) l.domains h.domains))
+    (all_joined IsName (clocked_names l.processes) (flat_map port_names l.memories) (clocked_named q l.processes h.processes) (memories_named q l.memories h.memories)))
+    (all_mapped IsName (λ (r : ResetCall). r.domain) (held_resets q (leaf_exprs l)) h.resets)
 
 below_names : (q : Pooled) (f : Forest) → AreModules q f → AllByRecursion IsName (names_of q f)
 below_names q bare h = tt

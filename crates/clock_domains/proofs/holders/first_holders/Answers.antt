@@ -1,10 +1,9 @@
-use Rattle.std.proofs.Common.{◌≡◌, ◌∙◌, ℕ, List, Option, None, false, length, replicate, refl, sym, ap, subst}
+use Rattle.std.proofs.Common.{◌≡◌, ◌∙◌, ℕ, None, false, length, replicate, sym, ap, subst}
 use Rattle.std.specs.List.{AllByRecursion}
 use Rattle.std.proofs.lemmas.List.{length-replicate}
-use Rattle.design_ir.specs.declared.ids.ExprId.{ExprId}
 use Rattle.design_ir.specs.Named.{AllBelow}
 use Rattle.clock_domains.specs.Holders.{first_roots}
-use Rattle.clock_domains.specs.Marks.{is_marked, marked, numbers}
+use Rattle.clock_domains.specs.Marks.{is_marked}
 use Rattle.clock_domains.specs.Numbers.{bounded}
 use Rattle.clock_domains.proofs.HolderLaws.{first_there, within_is}
 use Rattle.clock_domains.proofs.Markings.{fresh_marks}

@@ -4,7 +4,7 @@ use Rattle.design_ir.specs.Named.{named}
 use Rattle.clock_domains.specs.Firsts.{first_at}
 use Rattle.clock_domains.specs.Held.{inside}
 use Rattle.clock_domains.specs.Marks.{numbers, comes_out}
-use Rattle.clock_domains.specs.Numbers.{bounded, lowered}
+use Rattle.clock_domains.specs.Numbers.{bounded}
 use Rattle.clock_domains.proofs.Lists.{all_imp}
 use Rattle.clock_domains.proofs.HolderLaws.{inside_lead}
 use Rattle.clock_domains.proofs.NumberLaws.{down_no, down_yes, length_lowered}

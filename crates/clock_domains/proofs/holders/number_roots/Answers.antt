@@ -1,4 +1,4 @@
-use Rattle.std.proofs.Common.{◌≡◌, ◌∙◌, ℕ, List, Some, length, take, slice_get, refl, sym, ap, subst}
+use Rattle.std.proofs.Common.{◌≡◌, ◌∙◌, List, Some, length, slice_get, refl, sym, ap, subst}
 use Rattle.std.proofs.lemmas.Option.{slice_get_read}
 use Rattle.design_ir.specs.declared.ids.ExprId.{ExprId}
 use Rattle.design_ir.specs.Named.{AllBelow}
