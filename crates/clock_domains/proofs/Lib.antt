@@ -32,3 +32,4 @@ pub mod PlacingLaws
 pub mod HeldSignals
 pub mod PlacedParts
 pub mod SiteLaws
+pub mod PlacedDomains

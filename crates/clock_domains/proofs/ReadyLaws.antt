@@ -34,7 +34,7 @@ use Rattle.clock_domains.specs.Held.{fragment_exprs, held_resets, is_within, mem
 use Rattle.clock_domains.specs.Marks.{Flag, is_marked}
 use Rattle.clock_domains.specs.Reads.{data_signals, is_driven, is_given}
 use Rattle.clock_domains.specs.Walks.{Contents, all_contents, all_definitions, all_memories, all_names, all_paths, all_processes, port_names}
-use Rattle.clock_domains.specs.Resolvable.{IsDefinition, IsDomainOf, IsMemoryOf, IsOpenSide, IsPlain, IsResolvable, IsSideOf, domain_numbers, top_inputs}
+use Rattle.clock_domains.specs.Resolvable.{IsDefinition, IsDomainOf, IsMemoryOf, IsOpenSide, IsPlain, IsResolvable, IsSideOf, IsTree, domain_numbers, top_inputs}
 use Rattle.clock_domains.specs.Resolved.{clash_after, clocked_data, column_of_port, column_of_register, columns_after, columns_of, circuit_of, defined_domain, domain_names, domain_ports, domain_signals, domain_stop, domains_from, driver_stop, has_width, is_clocked, is_past_limit, limit_where, made_domains, made_names, made_pool, named_registers, ports_named, ports_of, process_in, register_path, reset_refusal, resolved, resolved_in, signals_of, top_ports, unless, whole_pool, with_domains, IsResolveRefusal}
 use Rattle.clock_domains.specs.Chosen.{IsSignal}
 use Rattle.clock_domains.specs.Firsts.{AreNumbersThere, AreSites, IsPlace, column_under, first_at, first_site, known_column, path_at}
@@ -329,15 +329,25 @@ module _ (q : Pooled) (root : Fragment) (top : TopPorts) where
       let second = first_none (reset_refusal definitions (held_resets q (fragment_exprs root))) (limit_where (is_past_limit q definitions names)) first.1 in
       record { no_clash = first.0; resets = second.0; room = not_past (is_past_limit q definitions names) second.1 }
 
+  module _ (tree : IsTree q root) where
+    pub tree_defined : AllByRecursion (IsDefinition q) definitions
+    tree_defined = walk_definitions q root tree
+
+    pub tree_named : AllByRecursion IsName names
+    tree_named = once_all IsName (all_names q root) (walk_names q root tree)
+
+    pub tree_sound : AllByRecursion (IsDomainOf made) domains
+    tree_sound = domains_sound q definitions names tree_defined tree_named
+
   module _ (given : IsResolvable q root top) where
     defined : AllByRecursion (IsDefinition q) definitions
-    defined = walk_definitions q root given.tree
+    defined = tree_defined given.tree
 
     named : AllByRecursion IsName names
-    named = once_all IsName (all_names q root) (walk_names q root given.tree)
+    named = tree_named given.tree
 
-    pub domains_made_sound : AllByRecursion (IsDomainOf made) domains
-    domains_made_sound = domains_sound q definitions names defined named
+    domains_made_sound : AllByRecursion (IsDomainOf made) domains
+    domains_made_sound = tree_sound given.tree
 
     -- every domain rises
     pub resolved_rising : (c : Circuit) → resolved q root top ≡ Ok c → AllRisingSync c
