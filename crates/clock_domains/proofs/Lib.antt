@@ -34,3 +34,4 @@ pub mod HeldSignals
 pub mod PlacedParts
 pub mod HeldNames
 pub mod SiteLaws
+pub mod PlacedDomains

@@ -264,6 +264,5 @@ pub fn resolve(
     let mut pool = pool;
     pool.known();
     let Placed { held, domains } = placed_domains(alloc, &mut pool, &root)?;
-    pool.known();
     design_in(alloc, pool, domains, &root, held, &top)
 }

@@ -1,28 +1,16 @@
-use Rattle.std.proofs.Common.{rules, ◌≡◌, ◌<◌, ◌^◌, ◌++◌, Ok, None, map, length, IfOk, IfErr, OnOk, ℕ, ◌+◌, ◌-◌, ◌*◌, ◌≤◌, ◌/◌, ◌%◌, Bool, true, false, nat_eq, nat_lt, List, [], ◌∷◌, slice_index_or, slice_set, bit_and, bit_or, Fits, w8, w32, w64, Bor, MutBor}
-use Rattle.std.specs.List.{AllByRecursion}
-use Rattle.design_ir.specs.PoolRules.{IsPool}
-use Rattle.design_ir.specs.Rising.{AllRisingSync}
-use Rattle.design_ir.specs.declared.fragment.Fragment.{Fragment}
-use Rattle.clock_domains.specs.declared.top.TopPorts.{TopPorts}
-use Rattle.clock_domains.specs.Firsts.{AreSites}
-use Rattle.clock_domains.specs.Marks.{Flag}
-use Rattle.clock_domains.specs.Reads.{is_given}
-use Rattle.clock_domains.specs.Ready.{AreClocked, AreWalked, IsReady}
-use Rattle.clock_domains.specs.Resolvable.{IsResolvable}
-use Rattle.clock_domains.specs.Resolved.{IsResolveRefusal, columns_of, domain_stop, made_domains, made_pool, named_registers, ports_named, ports_of, process_in, resolved, resolved_in, whole_pool}
-use Rattle.clock_domains.specs.Stops.{IsOwed}
-use Rattle.clock_domains.specs.Walked.{IsKeptBy, IsWalkOf}
-use Rattle.clock_domains.specs.Walks.{Contents}
+use Rattle.std.proofs.Common.{◌≡◌, ◌++◌, ◌∙◌, [], ◌∷◌, ap, append_assoc, length, refl, slice_get, Some, sym, take}
+use Rattle.std.proofs.lemmas.Option.{slice_get_read}
+use Rattle.clock_domains.proofs.Lists.{take-push}
 use Rattle.clock_domains.proofs.resolving.joined_paths.Goals as goal
 
--- src/resolving.rt:63:5
-pub loop-path-init : goal.loop-path-init
-loop-path-init c = ?
-
--- src/resolving.rt:63:5
 pub loop-path-preserved : goal.loop-path-preserved
-loop-path-preserved c = ?
-
--- src/resolving.rt:55:1
-pub returns : goal.returns
-returns c = ?
+loop-path-preserved c =
+    let items = c.args.memories.now in
+    let i = c.loop-path.path-index in
+    let item = c.path-item.result in
+    let at : slice_get items i ≡ Some item = slice_get_read items (length items) i item refl c.loop-path-test.true c.path-item.is in
+    c.in_ok-push.ensures.ok
+    ∙ ap (λ x. c.loop-path.paths ++ x ∷ []) c.in_ok-copied_name.ensures
+    ∙ ap (λ xs. xs ++ item ∷ []) c.loop-path.invariant
+    ∙ append_assoc c.args.processes (take i items) (item ∷ [])
+    ∙ ap (λ xs. c.args.processes ++ xs) (sym (take-push items i item at))
