@@ -18,10 +18,15 @@ pub mod DesignNames
 pub mod DesignSound
 pub mod DesignFacts
 pub mod DesignParts
+pub mod DesignMemories
 pub mod DesignWhole
+pub mod WalkedParts
 pub mod GivenDomains
 pub mod ReadyLaws
 pub mod ExprLists
 pub mod HolderLaws
 pub mod NamesOnce
 pub mod PlacedLaws
+pub mod PlacedParts
+pub mod HeldNames
+pub mod SiteLaws

@@ -113,7 +113,7 @@ walk_memory_length f =
 pub top_path : IsUnder []
 top_path = record { names = []; each = tt; whole = refl }
 
-under_more : (path name : List ℕ) → IsUnder path → IsName name → IsUnder (path_under path name)
+pub under_more : (path name : List ℕ) → IsUnder path → IsName name → IsUnder (path_under path name)
 under_more path name h n = record {
   names = h.names ++ name ∷ [];
   each = all_joined IsName h.names (name ∷ []) h.each (n, tt);
