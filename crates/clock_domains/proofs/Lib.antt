@@ -25,8 +25,10 @@ pub mod GivenDomains
 pub mod ReadyLaws
 pub mod ExprLists
 pub mod HolderLaws
+pub mod ResetNames
 pub mod NamesOnce
 pub mod PlacedLaws
 pub mod PlacedParts
 pub mod HeldNames
 pub mod SiteLaws
+pub mod PlacingLaws
