@@ -1,7 +1,9 @@
--- Pools that agree on expressions with all that stand in these. (Draft: not checked yet.)
-use Rattle.std.proofs.Common.{◌≡◌, ℕ, zero, suc, ◌+◌, ◌<◌, ◌≤◌, Bool, true, false, ◌||◌, cond, List, [], ◌∷◌, ◌++◌, length, Option, Some, None, slice_get, refl, sym, ap, ◌∙◌, subst, arith}
+-- Pools that agree on expressions with all that stand in these.
+use Rattle.std.proofs.Common.{◌≡◌, ℕ, zero, suc, ◌+◌, ◌<◌, ◌≤◌, ◌==◌, Bool, true, false, ◌||◌, ◌&&◌, cond, List, [], ◌∷◌, ◌++◌, length, Option, Some, None, slice_get, refl, sym, ap, ◌∙◌, subst, arith}
 use Rattle.std.specs.Prelude.{IsSome, is_some}
-use Rattle.std.specs.List.{AllByRecursion, list_any}
+use Rattle.std.specs.List.{AllByRecursion, flat_map, list_all, list_any}
+use Rattle.std.proofs.lemmas.Bool.{false≢true}
+use Rattle.std.proofs.lemmas.Bool.Decides.{nat_tests}
 use Rattle.design_ir.specs.declared.ids.ExprId.{ExprId}
 use Rattle.design_ir.specs.declared.ids.SigId.{SigId}
 use Rattle.design_ir.specs.declared.domain.Domain.{Domain}
@@ -14,13 +16,24 @@ use Rattle.design_ir.specs.PoolRules.{IsPool}
 use Rattle.design_ir.specs.Circuits.{is_among}
 use Rattle.design_ir.specs.Designs.{holds_reset, reset_test}
 use Rattle.design_ir.specs.Targets.{is_target, target_test}
+use Rattle.design_ir.proofs.Answers.{answer_past}
 use Rattle.design_ir.proofs.Congruence.{AreSame, same_below}
 use Rattle.design_ir.proofs.Equations.{answer_at, standing}
-use Rattle.clock_domains.specs.Held.{inside, is_within}
+use Rattle.design_ir.proofs.TargetLaws.{is_target_is}
+use Rattle.clock_domains.specs.Held.{inside, inside_step, is_within}
 use Rattle.clock_domains.specs.Marks.{numbers}
-use Rattle.clock_domains.specs.Placed.{placed_expr, placed_from, placed_pool, reset_of}
+use Rattle.clock_domains.specs.Placed.{or_signal, placed_expr, placed_from, placed_pool, reset_of}
 use Rattle.clock_domains.specs.Resolvable.{is_open_target, open_target_test}
 use Rattle.clock_domains.proofs.HolderLaws.{inside_lead}
+use Rattle.clock_domains.proofs.Lists.{any-append, any_none}
+use Rattle.clock_domains.proofs.Outs.{among_flat}
+
+-- ---- past the end
+
+none_past : {A : Type 0} (xs : List A) (k : ℕ) → slice_get xs k ≡ None → length xs ≤ k
+none_past [] k h = omega arith
+none_past (x ∷ xs) zero h = absurd cc
+none_past (x ∷ xs) (suc k) h = omega (arith, none_past xs k h)
 
 -- ---- what stands in an expression that is within stands within
 
@@ -28,8 +41,98 @@ use Rattle.clock_domains.proofs.HolderLaws.{inside_lead}
 abbrev pub AreWithin : (ℕ → Bool) → List ExprId → Type 0
 AreWithin w es = AllByRecursion (λ (e : ExprId). w e.0 ≡ true) es
 
+or_end : (a b : Bool) → b ≡ true → (a || b) ≡ true
+or_end true b h = refl
+or_end false b h = h
+
+or_begin : (a b : Bool) → a ≡ true → (a || b) ≡ true
+or_begin a b h = ap (λ x. x || b) h
+
+same_number : (j k : ℕ) → (j == k) ≡ true → k ≡ j
+same_number j k h = grind (arith, nat_tests)
+
+-- some element passes, where one that is among them does
+any_found : (p : ℕ → Bool) (ks : List ℕ) (k : ℕ) → is_among ks k ≡ true → p k ≡ true → list_any p ks ≡ true
+any_found p [] k among h = absurd (false≢true among)
+any_found p (j ∷ ks) k among h = split (λ later. any_found p ks k later h) (j == k) refl
+  where
+    split : (is_among ks k ≡ true → list_any p ks ≡ true) → (b : Bool) → (j == k) ≡ b → (p j || list_any p ks) ≡ true
+    split rest true e = or_begin (p j) (list_any p ks) (sym (ap p (same_number j k e)) ∙ h)
+    split rest false e = or_end (p j) (list_any p ks) (rest (sym (ap (λ b. b || is_among ks k) e) ∙ among))
+
+-- or passes another test, where each that passes the one does
+any_wider : (p s : ℕ → Bool) (ks : List ℕ) → AllByRecursion (λ k. p k ≡ true → s k ≡ true) ks → list_any p ks ≡ true → list_any s ks ≡ true
+any_wider p s [] h any = any
+any_wider p s (k ∷ ks) h any = split (any_wider p s ks h.1) (p k) refl
+  where
+    split : (list_any p ks ≡ true → list_any s ks ≡ true) → (b : Bool) → p k ≡ b → (s k || list_any s ks) ≡ true
+    split rest true e = or_begin (s k) (list_any s ks) (h.0 e)
+    split rest false e = or_end (s k) (list_any s ks) (rest (sym (ap (λ b. b || list_any p ks) e) ∙ any))
+
+-- each of these is a number among theirs
+all_among : (es : List ExprId) (P : ℕ → Type 0) → ((k : ℕ) → is_among (numbers es) k ≡ true → P k) → AllByRecursion (λ (e : ExprId). P e.0) es
+all_among [] P h = tt
+all_among (e ∷ es) P h = (h e.0 (or_begin (e.0 == e.0) (is_among (numbers es) e.0) (own e.0)), all_among es P (λ k later. h k (or_end (e.0 == k) (is_among (numbers es) k) later)))
+  where
+    own : (n : ℕ) → (n == n) ≡ true
+    own n = grind (arith, nat_tests)
+
+all_numbered : (es : List ExprId) (P : ℕ → Type 0) → AllByRecursion (λ (e : ExprId). P e.0) es → AllByRecursion P (numbers es)
+all_numbered [] P h = tt
+all_numbered (e ∷ es) P h = (h.0, all_numbered es P h.1)
+
+-- each of these below a number
+all_below : (n : ℕ) (es : List ExprId) (P : ℕ → Type 0) → AllBelow n es → ((k : ℕ) → k < n → P k) → AllByRecursion (λ (e : ExprId). P e.0) es
+all_below n [] P low h = tt
+all_below n (e ∷ es) P low h = (h e.0 low.0, all_below n es P low.1 h)
+
+or_cases : (a b : Bool) (C : Type 0) → (a || b) ≡ true → (a ≡ true → C) → (b ≡ true → C) → C
+or_cases true b C h left right = left refl
+or_cases false b C h left right = right h
+
+module _ (q : Pooled) (rules : IsPool q) where
+  inside_none : (k : ℕ) → slice_get q.exprs k ≡ None → inside q k ≡ []
+  unfolding inside
+  inside_none k at = answer_past [] inside_step q.exprs k (none_past q.exprs k at)
+
+  -- what stands in what stands in one stands in it
+  inside_deeper : (n r k m : ℕ) → r < n → is_among (inside q r) k ≡ true → is_among (inside q k) m ≡ true → is_among (inside q r) m ≡ true
+  inside_deeper zero r k m low h deep = absurd (omega (arith, low))
+  inside_deeper (suc n) r k m low h deep = by (λ j less in_j. inside_deeper n j k m less in_j deep) (slice_get q.exprs r) refl
+    where
+      by : ((j : ℕ) → j < n → is_among (inside q j) k ≡ true → is_among (inside q j) m ≡ true) → (o : Option Expr) → slice_get q.exprs r ≡ o → is_among (inside q r) m ≡ true
+      by rest None at = absurd (false≢true (sym (ap (λ ss. is_among ss k) (inside_none r at)) ∙ h))
+      by rest (Some x) at =
+          let names = (standing q r x rules at).names in
+          let ks = numbers (named x) in
+          let deeper : list_any (λ j. is_among (inside q j) m) ks ≡ true =
+          or_cases (is_among ks k) (list_any (λ j. is_among (inside q j) k) ks) (list_any (λ j. is_among (inside q j) m) ks ≡ true) (sym (inside_lead q r x k rules at) ∙ h)
+          (λ here. any_found (λ j. is_among (inside q j) m) ks k here deep)
+          (λ there.
+          any_wider (λ j. is_among (inside q j) k) (λ j. is_among (inside q j) m) ks
+          (all_numbered (named x) (λ j. is_among (inside q j) k ≡ true → is_among (inside q j) m ≡ true) (all_below r (named x) (λ j. is_among (inside q j) k ≡ true → is_among (inside q j) m ≡ true) names (λ j less. rest j (omega (arith, less, low)))))
+          there) in
+          inside_lead q r x m rules at ∙ or_end (is_among ks m) (list_any (λ j. is_among (inside q j) m) ks) deeper
+
 pub parts_within : (q : Pooled) (roots : List ExprId) (k : ℕ) (e : Expr) → IsPool q → slice_get q.exprs k ≡ Some e → is_within q roots k ≡ true → AreWithin (is_within q roots) (named e)
-parts_within q roots k e rules at h = ?
+parts_within q roots k e rules at h = all_among (named e) (λ m. is_within q roots m ≡ true) each
+  where
+    parted : (m : ℕ) → is_within q roots m ≡ (is_among (numbers roots) m || list_any (λ r. is_among (inside q r) m) (numbers roots))
+    parted m = any-append (λ x. x == m) (numbers roots) (flat_map (inside q) (numbers roots)) ∙ ap (λ b. is_among (numbers roots) m || b) (among_flat (inside q) (numbers roots) m)
+
+    in_one : (m : ℕ) → list_any (λ r. is_among (inside q r) m) (numbers roots) ≡ true → is_within q roots m ≡ true
+    in_one m there = parted m ∙ or_end (is_among (numbers roots) m) (list_any (λ r. is_among (inside q r) m) (numbers roots)) there
+
+    all_wider : (m : ℕ) → is_among (inside q k) m ≡ true → (ns : List ℕ) → AllByRecursion (λ r. is_among (inside q r) k ≡ true → is_among (inside q r) m ≡ true) ns
+    all_wider m deep [] = tt
+    all_wider m deep (n ∷ ns) = ((λ there. inside_deeper q rules (suc n) n k m (omega arith) there deep), all_wider m deep ns)
+
+    each : (m : ℕ) → is_among (numbers (named e)) m ≡ true → is_within q roots m ≡ true
+    each m part =
+        let deep : is_among (inside q k) m ≡ true = inside_lead q k e m rules at ∙ or_begin (is_among (numbers (named e)) m) (list_any (λ j. is_among (inside q j) m) (numbers (named e))) part in
+        or_cases (is_among (numbers roots) k) (list_any (λ r. is_among (inside q r) k) (numbers roots)) (is_within q roots m ≡ true) (sym (parted k) ∙ h)
+        (λ here. in_one m (any_found (λ r. is_among (inside q r) m) (numbers roots) k here deep))
+        (λ there. in_one m (any_wider (λ r. is_among (inside q r) k) (λ r. is_among (inside q r) m) (numbers roots) (all_wider m deep (numbers roots)) there))
 
 -- ---- where two pools agree there, so do the answers for them
 
@@ -45,16 +148,16 @@ module _ {A : Type 0} (d : A) (step : (ℕ → A) → Expr → A) (q p : Pooled)
 
   up_to : (n k : ℕ) → k < n → w k ≡ true → answer d step p.exprs k ≡ answer d step q.exprs k
   up_to zero k low h = absurd (omega (arith, low))
-  up_to (suc n) k low h = by (slice_get q.exprs k) refl
+  up_to (suc n) k low h = by (λ j less in_w. up_to n j less in_w) (slice_get q.exprs k) refl
     where
-      by : (o : Option Expr) → slice_get q.exprs k ≡ o → answer d step p.exprs k ≡ answer d step q.exprs k
+      by : ((j : ℕ) → j < n → w j ≡ true → answer d step p.exprs j ≡ answer d step q.exprs j) → (o : Option Expr) → slice_get q.exprs k ≡ o → answer d step p.exprs k ≡ answer d step q.exprs k
       -- past the pool both are the default
-      by None at = ?
-      by (Some e) at =
+      by rest None at = answer_past d step p.exprs k (none_past p.exprs k (agree k h ∙ at)) ∙ sym (answer_past d step q.exprs k (none_past q.exprs k at))
+      by rest (Some e) at =
           let here = agree k h ∙ at in
           let looks : (f g : ℕ → A) → ((j : ℕ) → j < k → f j ≡ g j) → step f e ≡ step g e = λ f g same. by_parts f g e (same_below f g k (named e) same (standing q k e rules at).names) in
           answer_at d step p.exprs k e here looks
-          ∙ by_parts (answer d step p.exprs) (answer d step q.exprs) e (below_same k (named e) (λ j less in_w. up_to n j (omega (arith, less, low)) in_w) (standing q k e rules at).names (closed k e at h))
+          ∙ by_parts (answer d step p.exprs) (answer d step q.exprs) e (below_same k (named e) (λ j less in_w. rest j (omega (arith, less, low)) in_w) (standing q k e rules at).names (closed k e at h))
           ∙ sym (answer_at d step q.exprs k e at looks)
 
   pub same_within : (k : ℕ) → w k ≡ true → answer d step p.exprs k ≡ answer d step q.exprs k
@@ -72,14 +175,162 @@ AreSignals ds q roots = (k : ℕ) (e : Expr) → slice_get q.exprs k ≡ Some e 
 
 -- the expression at a number
 pub placed_at : (ds : List Domain) (passes : ℕ → Bool) (n : ℕ) (es : List Expr) (k : ℕ) (e : Expr) → slice_get es k ≡ Some e → slice_get (placed_from ds passes n es) k ≡ Some (cond (passes (n + k)) (placed_expr ds e) e)
-placed_at ds passes n [] k e at = cc
-placed_at ds passes n (x ∷ es) zero e at = ?
-placed_at ds passes n (x ∷ es) (suc k) e at = ?
+placed_at ds passes n [] k e at = absurd cc
+placed_at ds passes n (x ∷ es) zero e at =
+    let same : x ≡ e = cc in
+    ap (λ y. Some (cond (passes n) (placed_expr ds y) y)) same ∙ ap (λ m. Some (cond (passes m) (placed_expr ds e) e)) (let next : n ≡ n + 0 = omega arith in next)
+placed_at ds passes n (x ∷ es) (suc k) e at = placed_at ds passes (suc n) es k e at ∙ ap (λ m. Some (cond (passes m) (placed_expr ds e) e)) (let next : suc n + k ≡ n + suc k = omega arith in next)
+
+placed_length : (ds : List Domain) (passes : ℕ → Bool) (n : ℕ) (es : List Expr) → length (placed_from ds passes n es) ≡ length es
+placed_length ds passes n [] = refl
+placed_length ds passes n (e ∷ es) = ap suc (placed_length ds passes (suc n) es)
+
+-- what has a signal is one
+signal_step : {A : Type 0} (f : Expr → A) (a : A) (ds : List Domain) (name : List ℕ) (e : Expr) → is_some (reset_of ds name) ≡ true → ((s : SigId) → f (expr.TheVariants.Sig s) ≡ a) → f (or_signal e (reset_of ds name)) ≡ a
+signal_step f a ds name e h each = by (reset_of ds name) h
+  where
+    by : (o : Option SigId) → is_some o ≡ true → f (or_signal e o) ≡ a
+    by None none = absurd (false≢true none)
+    by (Some s) some = each s
+
+plain_step : (ds : List Domain) (holds : ℕ → Bool) (e : Expr) → HasSignal ds e → AllByRecursion (λ (a : ExprId). holds a.0 ≡ false) (named e) → reset_test holds (placed_expr ds e) ≡ false
+plain_step ds holds (Reset name place) h parts = signal_step (reset_test holds) false ds name (Reset name place) h (λ s. refl)
+plain_step ds holds (Const n s) h parts = refl
+plain_step ds holds (expr.TheVariants.Sig s) h parts = refl
+plain_step ds holds (Unary op a) h parts = any_none (λ (x : ExprId). holds x.0) (a ∷ []) parts
+plain_step ds holds (Binary op a b) h parts = any_none (λ (x : ExprId). holds x.0) (a ∷ b ∷ []) parts
+plain_step ds holds (Mux s a b) h parts = any_none (λ (x : ExprId). holds x.0) (s ∷ a ∷ b ∷ []) parts
+plain_step ds holds (Slice a low width) h parts = any_none (λ (x : ExprId). holds x.0) (a ∷ []) parts
+plain_step ds holds (Cat es) h parts = any_none (λ (x : ExprId). holds x.0) es parts
+plain_step ds holds (Part a offset width stride) h parts = any_none (λ (x : ExprId). holds x.0) (a ∷ offset ∷ []) parts
+plain_step ds holds (Pick index es) h parts = any_none (λ (x : ExprId). holds x.0) (index ∷ es) parts
+plain_step ds holds (Cast a signed) h parts = any_none (λ (x : ExprId). holds x.0) (a ∷ []) parts
+plain_step ds holds (Matches a patterns) h parts = any_none (λ (x : ExprId). holds x.0) (a ∷ []) parts
+
+any_same : (f g : ℕ → Bool) (es : List ExprId) → AreSame f g es → list_any (λ (k : ExprId). f k.0) es ≡ list_any (λ (k : ExprId). g k.0) es
+any_same f g [] h = refl
+any_same f g (e ∷ es) h = let a = h.0 in let b = any_same f g es h.1 in cc
+
+reset_same : (f g : ℕ → Bool) (e : Expr) → AreSame f g (named e) → reset_test f e ≡ reset_test g e
+reset_same f g (Reset name place) h = refl
+reset_same f g (Const n s) h = refl
+reset_same f g (expr.TheVariants.Sig s) h = refl
+reset_same f g (Unary op a) h = any_same f g (a ∷ []) h
+reset_same f g (Binary op a b) h = any_same f g (a ∷ b ∷ []) h
+reset_same f g (Mux s a b) h = any_same f g (s ∷ a ∷ b ∷ []) h
+reset_same f g (Slice a low width) h = any_same f g (a ∷ []) h
+reset_same f g (Cat es) h = any_same f g es h
+reset_same f g (Part a offset width stride) h = any_same f g (a ∷ offset ∷ []) h
+reset_same f g (Pick index es) h = any_same f g (index ∷ es) h
+reset_same f g (Cast a signed) h = any_same f g (a ∷ []) h
+reset_same f g (Matches a patterns) h = any_same f g (a ∷ []) h
+
+all_same : (f g : ℕ → Bool) (es : List ExprId) → AreSame f g es → list_all (λ (k : ExprId). f k.0) es ≡ list_all (λ (k : ExprId). g k.0) es
+all_same f g [] h = refl
+all_same f g (e ∷ es) h = let a = h.0 in let b = all_same f g es h.1 in cc
+
+open_same : (f g : ℕ → Bool) (e : Expr) → AreSame f g (named e) → open_target_test f e ≡ open_target_test g e
+open_same f g (Reset name place) h = refl
+open_same f g (Const n s) h = refl
+open_same f g (expr.TheVariants.Sig s) h = refl
+open_same f g (Unary op a) h = refl
+open_same f g (Binary op a b) h = refl
+open_same f g (Mux s a b) h = refl
+open_same f g (Slice a low width) h = h.0
+open_same f g (Cat es) h = all_same f g es h
+open_same f g (Part a offset width stride) h = h.0
+open_same f g (Pick index es) h = all_same f g es h.1
+open_same f g (Cast a signed) h = h.0
+open_same f g (Matches a patterns) h = refl
+
+and_cases : (a b : Bool) → (a && b) ≡ true → (a ≡ true) × (b ≡ true)
+and_cases true b h = (refl, h)
+and_cases false b h = absurd (false≢true h)
+
+-- the one test gives the other
+abbrev Gives : (ℕ → Bool) → (ℕ → Bool) → List ExprId → Type 0
+Gives f g es = AllByRecursion (λ (a : ExprId). f a.0 ≡ true → g a.0 ≡ true) es
+
+all_given : (f g : ℕ → Bool) (es : List ExprId) → Gives f g es → list_all (λ (k : ExprId). f k.0) es ≡ true → list_all (λ (k : ExprId). g k.0) es ≡ true
+all_given f g [] h all = refl
+all_given f g (e ∷ es) h all =
+    let parts = and_cases (f e.0) (list_all (λ (k : ExprId). f k.0) es) all in
+    ap (λ b. b && list_all (λ (k : ExprId). g k.0) es) (h.0 parts.0) ∙ all_given f g es h.1 parts.1
+
+target_step : (ds : List Domain) (f g : ℕ → Bool) (e : Expr) → HasSignal ds e → Gives f g (named e) → open_target_test f e ≡ true → target_test g (placed_expr ds e) ≡ true
+target_step ds f g (Reset name place) h parts t = signal_step (target_test g) true ds name (Reset name place) h (λ s. refl)
+target_step ds f g (Const n s) h parts t = t
+target_step ds f g (expr.TheVariants.Sig s) h parts t = refl
+target_step ds f g (Unary op a) h parts t = t
+target_step ds f g (Binary op a b) h parts t = t
+target_step ds f g (Mux s a b) h parts t = t
+target_step ds f g (Slice a low width) h parts t = parts.0 t
+target_step ds f g (Cat es) h parts t = all_given f g es parts t
+target_step ds f g (Part a offset width stride) h parts t = parts.0 t
+target_step ds f g (Pick index es) h parts t = all_given f g es parts.1 t
+target_step ds f g (Cast a signed) h parts t = parts.0 t
+target_step ds f g (Matches a patterns) h parts t = t
+
+-- what holds of each part that is within, below a number
+all_parts : (n : ℕ) (w : ℕ → Bool) (P : ℕ → Type 0) (es : List ExprId) → AllBelow n es → AreWithin w es → ((j : ℕ) → j < n → w j ≡ true → P j) → AllByRecursion (λ (e : ExprId). P e.0) es
+all_parts n w P [] low in_w h = tt
+all_parts n w P (e ∷ es) low in_w h = (h e.0 low.0 in_w.0, all_parts n w P es low.1 in_w.1 h)
+
+module _ (ds : List Domain) (q : Pooled) (roots : List ExprId) (rules : IsPool q) (rules' : IsPool (placed_pool ds q roots)) (signals : AreSignals ds q roots) where
+  -- the expression in the placed pool
+  here_placed : (k : ℕ) (e : Expr) → slice_get q.exprs k ≡ Some e → is_within q roots k ≡ true → slice_get (placed_pool ds q roots).exprs k ≡ Some (placed_expr ds e)
+  unfolding placed_pool
+  here_placed k e at h =
+      placed_at ds (is_within q roots) 0 q.exprs k e at
+      ∙ ap (λ b. Some (cond b (placed_expr ds e) e)) (ap (is_within q roots) (let next : 0 + k ≡ k = omega arith in next) ∙ h)
+
+  past_placed : (k : ℕ) → slice_get q.exprs k ≡ None → length (placed_pool ds q roots).exprs ≤ k
+  unfolding placed_pool
+  past_placed k at = omega (arith, placed_length ds (is_within q roots) 0 q.exprs, none_past q.exprs k at)
+
+  holds_none : (k : ℕ) → slice_get q.exprs k ≡ None → holds_reset (placed_pool ds q roots) k ≡ false
+  unfolding holds_reset
+  holds_none k at = answer_past false reset_test (placed_pool ds q roots).exprs k (past_placed k at)
+
+  holds_is : (k : ℕ) (x : Expr) → slice_get (placed_pool ds q roots).exprs k ≡ Some x → holds_reset (placed_pool ds q roots) k ≡ reset_test (holds_reset (placed_pool ds q roots)) x
+  unfolding holds_reset
+  holds_is k x at = answer_at false reset_test (placed_pool ds q roots).exprs k x at (λ f g same. reset_same f g x (same_below f g k (named x) same (standing (placed_pool ds q roots) k x rules' at).names))
+
+  plain_up_to : (n k : ℕ) → k < n → is_within q roots k ≡ true → holds_reset (placed_pool ds q roots) k ≡ false
+  plain_up_to zero k low h = absurd (omega (arith, low))
+  plain_up_to (suc n) k low h = by (λ j less in_w. plain_up_to n j less in_w) (slice_get q.exprs k) refl
+    where
+      by : ((j : ℕ) → j < n → is_within q roots j ≡ true → holds_reset (placed_pool ds q roots) j ≡ false) → (o : Option Expr) → slice_get q.exprs k ≡ o → holds_reset (placed_pool ds q roots) k ≡ false
+      by rest None at = holds_none k at
+      by rest (Some e) at =
+          holds_is k (placed_expr ds e) (here_placed k e at h)
+          ∙ plain_step ds (holds_reset (placed_pool ds q roots)) e (signals k e at h)
+          (all_parts k (is_within q roots) (λ j. holds_reset (placed_pool ds q roots) j ≡ false) (named e) (standing q k e rules at).names (parts_within q roots k e rules at h) (λ j less in_w. rest j (omega (arith, less, low)) in_w))
+
+  open_none : (k : ℕ) → slice_get q.exprs k ≡ None → is_open_target q k ≡ false
+  unfolding is_open_target
+  open_none k at = answer_past false open_target_test q.exprs k (none_past q.exprs k at)
+
+  open_is : (k : ℕ) (e : Expr) → slice_get q.exprs k ≡ Some e → is_open_target q k ≡ open_target_test (is_open_target q) e
+  unfolding is_open_target
+  open_is k e at = answer_at false open_target_test q.exprs k e at (λ f g same. open_same f g e (same_below f g k (named e) same (standing q k e rules at).names))
+
+  target_up_to : (n k : ℕ) → k < n → is_within q roots k ≡ true → is_open_target q k ≡ true → is_target (placed_pool ds q roots) k ≡ true
+  target_up_to zero k low h t = absurd (omega (arith, low))
+  target_up_to (suc n) k low h t = by (λ j less in_w. target_up_to n j less in_w) (slice_get q.exprs k) refl
+    where
+      by : ((j : ℕ) → j < n → is_within q roots j ≡ true → is_open_target q j ≡ true → is_target (placed_pool ds q roots) j ≡ true) → (o : Option Expr) → slice_get q.exprs k ≡ o → is_target (placed_pool ds q roots) k ≡ true
+      by rest None at = absurd (false≢true (sym (open_none k at) ∙ t))
+      by rest (Some e) at =
+          is_target_is (placed_pool ds q roots) k (placed_expr ds e) rules' (here_placed k e at h)
+          ∙ target_step ds (is_open_target q) (is_target (placed_pool ds q roots)) e (signals k e at h)
+          (all_parts k (is_within q roots) (λ j. is_open_target q j ≡ true → is_target (placed_pool ds q roots) j ≡ true) (named e) (standing q k e rules at).names (parts_within q roots k e rules at h) (λ j less in_w. rest j (omega (arith, less, low)) in_w))
+          (sym (open_is k e at) ∙ t)
 
 -- so no reset stands in what is within
 pub placed_plain : (ds : List Domain) (q : Pooled) (roots : List ExprId) → IsPool q → IsPool (placed_pool ds q roots) → AreSignals ds q roots → (k : ℕ) → is_within q roots k ≡ true → holds_reset (placed_pool ds q roots) k ≡ false
-placed_plain ds q roots rules rules' signals k h = ?
+placed_plain ds q roots rules rules' signals k h = plain_up_to ds q roots rules rules' signals (suc k) k (omega arith) h
 
 -- and a target where resets were taken for signals is one
 pub placed_target : (ds : List Domain) (q : Pooled) (roots : List ExprId) → IsPool q → IsPool (placed_pool ds q roots) → AreSignals ds q roots → (k : ℕ) → is_within q roots k ≡ true → is_open_target q k ≡ true → is_target (placed_pool ds q roots) k ≡ true
-placed_target ds q roots rules rules' signals k h t = ?
+placed_target ds q roots rules rules' signals k h t = target_up_to ds q roots rules rules' signals (suc k) k (omega arith) h t

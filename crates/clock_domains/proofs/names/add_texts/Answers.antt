@@ -1,2 +1,1 @@
-use Rattle.clock_domains.proofs.NamesOnce.{once_resets, all_roots_are}
-use Rattle.clock_domains.proofs.PlacingLaws.{held_is}
+use Rattle.clock_domains.proofs.PlacedLaws.{placed_plain}
