@@ -28,7 +28,8 @@ pub mod HolderLaws
 pub mod ResetNames
 pub mod NamesOnce
 pub mod PlacedLaws
-pub mod PlacedParts
-pub mod HeldNames
-pub mod SiteLaws
 pub mod PlacingLaws
+pub mod HeldSignals
+pub mod PlacedParts
+pub mod SiteLaws
+pub mod PlacedDomains

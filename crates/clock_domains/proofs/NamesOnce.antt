@@ -1,5 +1,5 @@
 -- Names that stand already can be left out where only the first of each counts.
-use Rattle.std.proofs.Common.{◌≡◌, ℕ, zero, suc, ◌+◌, ◌<◌, ◌≤◌, ◌==◌, nat_lt, Bool, true, false, ◌||◌, cond, List, [], ◌∷◌, ◌++◌, map, length, take, Option, Some, None, slice_get, refl, sym, ap, ◌∙◌, subst, arith, append-nil, append_assoc}
+use Rattle.std.proofs.Common.{◌≡◌, ℕ, zero, suc, ◌+◌, ◌<◌, ◌≤◌, ◌==◌, nat_lt, Bool, true, false, ◌||◌, cond, List, [], ◌∷◌, ◌++◌, map, length, Option, Some, None, slice_get, refl, sym, ap, ◌∙◌, subst, arith, append-nil, append_assoc}
 use Rattle.std.specs.Prelude.{option_and_then, option_map}
 use Rattle.std.specs.List.{AllByRecursion, filter, filter_map, flat_map, list_any, range_with_len, cons_option}
 use Rattle.std.proofs.lemmas.Bool.{false≢true}
@@ -16,16 +16,16 @@ use Rattle.design_ir.specs.Pools.{Pooled}
 use Rattle.clock_domains.specs.Firsts.{first_at}
 use Rattle.clock_domains.specs.Held.{ResetCall, forest_exprs, fragment_exprs, held_resets, inside, is_within, leaf_exprs, reset_call}
 use Rattle.clock_domains.specs.Holders.{AreHolders, all_roots, first_roots}
-use Rattle.clock_domains.specs.Marks.{is_marked, numbers}
+use Rattle.clock_domains.specs.Marks.{numbers}
 use Rattle.clock_domains.specs.Names.{all_leaves, is_number, leaves_of, new_resets, with_resets}
-use Rattle.clock_domains.specs.Numbers.{bounded, is_below}
+use Rattle.clock_domains.specs.Numbers.{is_below}
 use Rattle.clock_domains.specs.Resolved.{each_once}
-use Rattle.clock_domains.specs.Walks.{all_names, gathered, names_of, own_names, plain_names}
+use Rattle.clock_domains.specs.Walks.{all_names, gathered, own_names, plain_names}
 use Rattle.clock_domains.proofs.EachOnce.{once-push, once_any}
-use Rattle.clock_domains.proofs.Lists.{all_both, all_filtered, all_imp, any-append, length_map, map-append, or_assoc, passes}
+use Rattle.clock_domains.proofs.Lists.{all_both, all_filtered, all_imp, any-append, map-append, passes}
 use Rattle.clock_domains.proofs.NumberLaws.{bounded_at}
 
-abbrev is_there : List (List ℕ) → List ℕ → Bool
+abbrev pub is_there : List (List ℕ) → List ℕ → Bool
 is_there ns n = list_any (λ m. text_eq m n) ns
 
 -- what comes behind depends on which came before alone
@@ -116,30 +116,30 @@ or_true : (a b : Bool) → b ≡ true → (a || b) ≡ true
 or_true true b h = refl
 or_true false b h = h
 
--- what one of them gives is there
-found_there : (g : ℕ → Option (List ℕ)) (w : ℕ → Bool) (ks : List ℕ) (k : ℕ) (n : List ℕ) → is_among ks k ≡ true → w k ≡ true → g k ≡ Some n → is_there (filter_map g (filter w ks)) n ≡ true
-found_there g w [] k n among passing is = absurd (false≢true among)
-found_there g w (j ∷ ks) k n among passing is = first (λ later. found_there g w ks k n later passing is) (j == k) refl
+-- what one of them gives passes
+pub found_any : {A : Type 0} (t : A → Bool) (g : ℕ → Option A) (w : ℕ → Bool) (ks : List ℕ) (k : ℕ) (x : A) → is_among ks k ≡ true → w k ≡ true → g k ≡ Some x → t x ≡ true → list_any t (filter_map g (filter w ks)) ≡ true
+found_any t g w [] k x among passing is good = absurd (false≢true among)
+found_any {A} t g w (j ∷ ks) k x among passing is good = first (λ later. found_any t g w ks k x later passing is good) (j == k) refl
   where
     same : (j == k) ≡ true → j ≡ k
     same e = grind (arith, nat_tests)
 
-    more : is_there (filter_map g (filter w ks)) n ≡ true → (b : Bool) (o : Option (List ℕ)) → is_there (cond b (cons_option o (filter_map g (filter w ks))) (filter_map g (filter w ks))) n ≡ true
+    more : list_any t (filter_map g (filter w ks)) ≡ true → (b : Bool) (o : Option A) → list_any t (cond b (cons_option o (filter_map g (filter w ks))) (filter_map g (filter w ks))) ≡ true
     more there true None = there
-    more there true (Some m) = or_true (text_eq m n) (is_there (filter_map g (filter w ks)) n) there
+    more there true (Some m) = or_true (t m) (list_any t (filter_map g (filter w ks))) there
     more there false o = there
 
     split : (b : Bool) → filter_map g (cond b (j ∷ filter w ks) (filter w ks)) ≡ cond b (cons_option (g j) (filter_map g (filter w ks))) (filter_map g (filter w ks))
     split true = refl
     split false = refl
 
-    first : (is_among ks k ≡ true → is_there (filter_map g (filter w ks)) n ≡ true) → (b : Bool) → (j == k) ≡ b → is_there (filter_map g (cond (w j) (j ∷ filter w ks) (filter w ks))) n ≡ true
+    first : (is_among ks k ≡ true → list_any t (filter_map g (filter w ks)) ≡ true) → (b : Bool) → (j == k) ≡ b → list_any t (filter_map g (cond (w j) (j ∷ filter w ks) (filter w ks))) ≡ true
     first rest true e =
         let here : j ≡ k = same e in
-        ap (λ b. is_there (filter_map g (cond b (j ∷ filter w ks) (filter w ks))) n) (ap w here ∙ passing)
-        ∙ ap (λ o. is_there (cons_option o (filter_map g (filter w ks))) n) (ap g here ∙ is)
-        ∙ ap (λ b. b || is_there (filter_map g (filter w ks)) n) (text_eq_same n)
-    first rest false e = ap (λ xs. is_there xs n) (split (w j)) ∙ more (rest (sym (ap (λ b. b || is_among ks k) e) ∙ among)) (w j) (g j)
+        ap (λ b. list_any t (filter_map g (cond b (j ∷ filter w ks) (filter w ks)))) (ap w here ∙ passing)
+        ∙ ap (λ o. list_any t (cons_option o (filter_map g (filter w ks)))) (ap g here ∙ is)
+        ∙ ap (λ b. b || list_any t (filter_map g (filter w ks))) good
+    first rest false e = ap (list_any t) (split (w j)) ∙ more (rest (sym (ap (λ b. b || is_among ks k) e) ∙ among)) (w j) (g j)
 
 -- ---- what stands in two lists of expressions
 
@@ -184,9 +184,11 @@ flat_mapped : {A B : Type 0} (g : A → List B) (xs : List A) → flat_map (λ y
 flat_mapped g [] = refl
 flat_mapped g (x ∷ xs) = ap (λ ys. g x ++ ys) (flat_mapped g xs)
 
+pub all_exprs_are : (f : Fragment) → flat_map leaf_exprs (all_leaves f) ≡ fragment_exprs f
+all_exprs_are f = ap (λ xs. leaf_exprs (leaf_of f) ++ xs) (gathered_flat leaf_exprs f.submodules ∙ forest_roots f.submodules)
+
 pub all_roots_are : (f : Fragment) → all_roots (map leaf_exprs (all_leaves f)) ≡ fragment_exprs f
-all_roots_are f =
-    flat_mapped leaf_exprs (all_leaves f) ∙ ap (λ xs. leaf_exprs (leaf_of f) ++ xs) (gathered_flat leaf_exprs f.submodules ∙ forest_roots f.submodules)
+all_roots_are f = flat_mapped leaf_exprs (all_leaves f) ∙ all_exprs_are f
 
 -- ---- the fragment that holds a reset first
 
@@ -223,11 +225,11 @@ told_before true own below here a b c d = refl
 told_before false own below here a b c d = sym (ap (λ x. x || here) (sym a) ∙ d) ∙ sym b ∙ c
 
 module _ (q : Pooled) (firsts : List (Option ℕ)) where
-  abbrev call_at : ℕ → Option ResetCall
+  abbrev pub call_at : ℕ → Option ResetCall
   call_at k = option_and_then reset_call (slice_get q.exprs k)
 
   -- the name of the domain of an expression, where it is a reset
-  abbrev name_at : ℕ → Option (List ℕ)
+  abbrev pub name_at : ℕ → Option (List ℕ)
   name_at k = option_map (λ (r : ResetCall). r.domain) (call_at k)
 
   abbrev has_number : ℕ → ℕ → Bool
@@ -245,7 +247,7 @@ module _ (q : Pooled) (firsts : List (Option ℕ)) where
   new_are n = map_found (λ (r : ResetCall). r.domain) call_at (filter (has_number n) (range_with_len 0 (length q.exprs)))
 
   -- a reset that some of these hold has its name among theirs
-  held_there : (before : List Leaf) (k : ℕ) (name : List ℕ) → k < length q.exprs → is_within q (flat_map leaf_exprs before) k ≡ true → name_at k ≡ Some name → is_there (flat_map (own_names q) before) name ≡ true
+  pub held_there : (before : List Leaf) (k : ℕ) (name : List ℕ) → k < length q.exprs → is_within q (flat_map leaf_exprs before) k ≡ true → name_at k ≡ Some name → is_there (flat_map (own_names q) before) name ≡ true
   held_there [] k name low h is = absurd (false≢true (sym (within_none q k) ∙ h))
   held_there (l ∷ before) k name low h is =
       any-append (λ m. text_eq m name) (own_names q l) (flat_map (own_names q) before)
@@ -254,7 +256,7 @@ module _ (q : Pooled) (firsts : List (Option ℕ)) where
       own : is_within q (leaf_exprs l) k ≡ true → is_there (own_names q l) name ≡ true
       own here =
           any-append (λ m. text_eq m name) (plain_names l) (held_names l)
-          ∙ or_true (is_there (plain_names l) name) (is_there (held_names l) name) (ap (λ xs. is_there xs name) (held_are l) ∙ found_there name_at (is_within q (leaf_exprs l)) (range_with_len 0 (length q.exprs)) k name (range_among 0 (length q.exprs) k (omega arith) (omega (arith, low))) here is)
+          ∙ or_true (is_there (plain_names l) name) (is_there (held_names l) name) (ap (λ xs. is_there xs name) (held_are l) ∙ found_any (λ m. text_eq m name) name_at (is_within q (leaf_exprs l)) (range_with_len 0 (length q.exprs)) k name (range_among 0 (length q.exprs) k (omega arith) (omega (arith, low))) here is (text_eq_same name))
 
       split : (is_within q (flat_map leaf_exprs before) k ≡ true → is_there (flat_map (own_names q) before) name ≡ true) → (b : Bool) → is_within q (leaf_exprs l) k ≡ b → (is_there (own_names q l) name || is_there (flat_map (own_names q) before) name) ≡ true
       split rest true e = ap (λ b. b || is_there (flat_map (own_names q) before) name) (own e)

@@ -1,21 +1,25 @@
 -- Pools that agree on expressions with all that stand in these.
 use Rattle.std.proofs.Common.{◌≡◌, ℕ, zero, suc, ◌+◌, ◌<◌, ◌≤◌, ◌==◌, Bool, true, false, ◌||◌, ◌&&◌, cond, List, [], ◌∷◌, ◌++◌, length, Option, Some, None, slice_get, refl, sym, ap, ◌∙◌, subst, arith}
-use Rattle.std.specs.Prelude.{IsSome, is_some}
-use Rattle.std.specs.List.{AllByRecursion, flat_map, list_all, list_any}
+use Rattle.std.specs.Prelude.{is_some, option_and_then, slice_index_or}
+use Rattle.std.specs.List.{AllByRecursion, find, flat_map, list_all, list_any}
 use Rattle.std.proofs.lemmas.Bool.{false≢true}
 use Rattle.std.proofs.lemmas.Bool.Decides.{nat_tests}
+use Rattle.lists.specs.Texts.{text_eq}
+use Rattle.shape_rules.specs.Forms.{Form, unsigned}
 use Rattle.design_ir.specs.declared.ids.ExprId.{ExprId}
 use Rattle.design_ir.specs.declared.ids.SigId.{SigId}
+use Rattle.design_ir.specs.declared.signal.Sig.{Sig}
 use Rattle.design_ir.specs.declared.domain.Domain.{Domain}
 use Rattle.design_ir.specs.declared.expr.Expr as expr
 use Rattle.design_ir.specs.declared.expr.Expr.{Expr}
 use Rattle.design_ir.specs.declared.expr.Expr.TheVariants.{Const, Unary, Binary, Mux, Slice, Cat, Part, Pick, Cast, Matches, Reset}
 use Rattle.design_ir.specs.Named.{named, AllBelow}
-use Rattle.design_ir.specs.Pools.{Pooled, answer}
-use Rattle.design_ir.specs.PoolRules.{IsPool}
+use Rattle.design_ir.specs.Pools.{Pooled, answer, answers}
+use Rattle.design_ir.specs.PoolRules.{AreExprs, IsExpr, IsPool, most_exprs, shape_stop}
 use Rattle.design_ir.specs.Circuits.{is_among}
 use Rattle.design_ir.specs.Designs.{holds_reset, reset_test}
 use Rattle.design_ir.specs.Targets.{is_target, target_test}
+use Rattle.design_ir.specs.Values.{form, form_step, signal_form}
 use Rattle.design_ir.proofs.Answers.{answer_past}
 use Rattle.design_ir.proofs.Congruence.{AreSame, same_below}
 use Rattle.design_ir.proofs.Equations.{answer_at, standing}
@@ -23,7 +27,7 @@ use Rattle.design_ir.proofs.TargetLaws.{is_target_is}
 use Rattle.clock_domains.specs.Held.{inside, inside_step, is_within}
 use Rattle.clock_domains.specs.Marks.{numbers}
 use Rattle.clock_domains.specs.Placed.{or_signal, placed_expr, placed_from, placed_pool, reset_of}
-use Rattle.clock_domains.specs.Resolvable.{is_open_target, open_target_test}
+use Rattle.clock_domains.specs.Resolvable.{IsBit, IsDomainOf, IsResetOf, is_open_target, open_target_test}
 use Rattle.clock_domains.proofs.HolderLaws.{inside_lead}
 use Rattle.clock_domains.proofs.Lists.{any-append, any_none}
 use Rattle.clock_domains.proofs.Outs.{among_flat}
@@ -181,7 +185,7 @@ placed_at ds passes n (x ∷ es) zero e at =
     ap (λ y. Some (cond (passes n) (placed_expr ds y) y)) same ∙ ap (λ m. Some (cond (passes m) (placed_expr ds e) e)) (let next : n ≡ n + 0 = omega arith in next)
 placed_at ds passes n (x ∷ es) (suc k) e at = placed_at ds passes (suc n) es k e at ∙ ap (λ m. Some (cond (passes m) (placed_expr ds e) e)) (let next : suc n + k ≡ n + suc k = omega arith in next)
 
-placed_length : (ds : List Domain) (passes : ℕ → Bool) (n : ℕ) (es : List Expr) → length (placed_from ds passes n es) ≡ length es
+pub placed_length : (ds : List Domain) (passes : ℕ → Bool) (n : ℕ) (es : List Expr) → length (placed_from ds passes n es) ≡ length es
 placed_length ds passes n [] = refl
 placed_length ds passes n (e ∷ es) = ap suc (placed_length ds passes (suc n) es)
 
@@ -334,3 +338,106 @@ placed_plain ds q roots rules rules' signals k h = plain_up_to ds q roots rules 
 -- and a target where resets were taken for signals is one
 pub placed_target : (ds : List Domain) (q : Pooled) (roots : List ExprId) → IsPool q → IsPool (placed_pool ds q roots) → AreSignals ds q roots → (k : ℕ) → is_within q roots k ≡ true → is_open_target q k ≡ true → is_target (placed_pool ds q roots) k ≡ true
 placed_target ds q roots rules rules' signals k h t = target_up_to ds q roots rules rules' signals (suc k) k (omega arith) h t
+
+-- ---- shapes and rules stay
+
+-- the signal of a reset is a bit of the pool
+pub reset_bit : (q : Pooled) (ds : List Domain) (name : List ℕ) (s : SigId) → AllByRecursion (IsDomainOf q) ds → reset_of ds name ≡ Some s → IsBit q s
+reset_bit q [] name s h is = absurd cc
+reset_bit q (d ∷ ds) name s h is = split (λ more. reset_bit q ds name s h.1 more) (text_eq d.name name) is
+  where
+    own : (o : Option SigId) → IsResetOf q d.clk o → o ≡ Some s → IsBit q s
+    own None there e = absurd cc
+    own (Some x) there e = subst (IsBit q) (let same : x ≡ s = cc in same) there.0
+
+    split : (reset_of ds name ≡ Some s → IsBit q s) → (b : Bool) → option_and_then (λ (x : Domain). x.rst) (cond b (Some d) (find (λ (x : Domain). text_eq x.name name) ds)) ≡ Some s → IsBit q s
+    split rest true e = own d.rst h.0.reset e
+    split rest false e = rest e
+
+-- so a reset that becomes it keeps its shape
+module _ (sigs : List Sig) (ds : List Domain) (there : (name : List ℕ) (s : SigId) → reset_of ds name ≡ Some s → s.0 < length sigs) (bits : (name : List ℕ) (s : SigId) → reset_of ds name ≡ Some s → signal_form sigs s.0 ≡ unsigned 1) where
+  form_placed : (f : ℕ → Form) (e : Expr) → form_step sigs f (placed_expr ds e) ≡ form_step sigs f e
+  form_placed f (Reset name place) = by (reset_of ds name) refl
+    where
+      by : (o : Option SigId) → reset_of ds name ≡ o → form_step sigs f (or_signal (Reset name place) o) ≡ unsigned 1
+      by None is = refl
+      by (Some s) is = bits name s is
+  form_placed f (Const n s) = refl
+  form_placed f (expr.TheVariants.Sig s) = refl
+  form_placed f (Unary op a) = refl
+  form_placed f (Binary op a b) = refl
+  form_placed f (Mux s a b) = refl
+  form_placed f (Slice a low width) = refl
+  form_placed f (Cat es) = refl
+  form_placed f (Part a offset width stride) = refl
+  form_placed f (Pick index es) = refl
+  form_placed f (Cast a signed) = refl
+  form_placed f (Matches a patterns) = refl
+
+  form_chosen : (f : ℕ → Form) (e : Expr) (b : Bool) → form_step sigs f (cond b (placed_expr ds e) e) ≡ form_step sigs f e
+  form_chosen f e true = form_placed f e
+  form_chosen f e false = refl
+
+  is_placed : (known : List Form) (e : Expr) → IsExpr sigs known e → IsExpr sigs known (placed_expr ds e)
+  is_placed known (Reset name place) h = by (reset_of ds name) refl
+    where
+      by : (o : Option SigId) → reset_of ds name ≡ o → IsExpr sigs known (or_signal (Reset name place) o)
+      by None is = h
+      by (Some s) is = record { names = tt; formed = tt; parts = there name s is; accepted = ap (λ (f : Form). shape_stop false f.width) (bits name s is) }
+  is_placed known (Const n s) h = h
+  is_placed known (expr.TheVariants.Sig s) h = h
+  is_placed known (Unary op a) h = h
+  is_placed known (Binary op a b) h = h
+  is_placed known (Mux s a b) h = h
+  is_placed known (Slice a low width) h = h
+  is_placed known (Cat es) h = h
+  is_placed known (Part a offset width stride) h = h
+  is_placed known (Pick index es) h = h
+  is_placed known (Cast a signed) h = h
+  is_placed known (Matches a patterns) h = h
+
+  is_chosen : (known : List Form) (e : Expr) (b : Bool) → IsExpr sigs known e → IsExpr sigs known (cond b (placed_expr ds e) e)
+  is_chosen known e true h = is_placed known e h
+  is_chosen known e false h = h
+
+  abbrev known_form : List Form → ℕ → Form
+  known_form known k = slice_index_or known k (unsigned 0)
+
+  shapes_placed : (passes : ℕ → Bool) (n : ℕ) (known : List Form) (es : List Expr) → answers (unsigned 0) (form_step sigs) known (placed_from ds passes n es) ≡ answers (unsigned 0) (form_step sigs) known es
+  shapes_placed passes n known [] = refl
+  shapes_placed passes n known (e ∷ es) =
+      shapes_placed passes (suc n) (known ++ form_step sigs (known_form known) (cond (passes n) (placed_expr ds e) e) ∷ []) es
+      ∙ ap (λ (f : Form). answers (unsigned 0) (form_step sigs) (known ++ f ∷ []) es) (form_chosen (known_form known) e (passes n))
+
+  exprs_placed : (passes : ℕ → Bool) (n : ℕ) (known : List Form) (es : List Expr) → AreExprs sigs known es → AreExprs sigs known (placed_from ds passes n es)
+  exprs_placed passes n known [] h = tt
+  exprs_placed passes n known (e ∷ es) h =
+      let same = form_chosen (known_form known) e (passes n) in (
+        is_chosen known e (passes n) h.0,
+        exprs_placed passes (suc n) (known ++ form_step sigs (known_form known) (cond (passes n) (placed_expr ds e) e) ∷ []) es (subst (λ (f : Form). AreExprs sigs (known ++ f ∷ []) es) (sym same) h.1),
+      )
+
+pub placed_form : (ds : List Domain) (q : Pooled) (roots : List ExprId) (k : ℕ) → AllByRecursion (IsDomainOf q) ds → form (placed_pool ds q roots) k ≡ form q k
+unfolding form placed_pool
+placed_form ds q roots k h =
+    ap (λ (fs : List Form). slice_index_or fs k (unsigned 0))
+    (shapes_placed q.signals ds (λ name s is. (reset_bit q ds name s h is).there) (λ name s is. (reset_bit q ds name s h is).form) (is_within q roots) 0 [] q.exprs)
+
+pub placed_rules : (ds : List Domain) (q : Pooled) (roots : List ExprId) → AllByRecursion (IsDomainOf q) ds → IsPool q → IsPool (placed_pool ds q roots)
+unfolding placed_pool
+placed_rules ds q roots h rules = record {
+  few_signals = rules.few_signals;
+  few_bits = rules.few_bits;
+  few_exprs = subst (λ n. n ≤ most_exprs) (sym (placed_length ds (is_within q roots) 0 q.exprs)) rules.few_exprs;
+  shapes = rules.shapes;
+  inits = rules.inits;
+  exprs = exprs_placed q.signals ds (λ name s is. (reset_bit q ds name s h is).there) (λ name s is. (reset_bit q ds name s h is).form) (is_within q roots) 0 [] q.exprs rules.exprs;
+}
+
+pub placed_signals : (ds : List Domain) (q : Pooled) (roots : List ExprId) → (placed_pool ds q roots).signals ≡ q.signals
+unfolding placed_pool
+placed_signals ds q roots = refl
+
+pub placed_count : (ds : List Domain) (q : Pooled) (roots : List ExprId) → length (placed_pool ds q roots).exprs ≡ length q.exprs
+unfolding placed_pool
+placed_count ds q roots = placed_length ds (is_within q roots) 0 q.exprs

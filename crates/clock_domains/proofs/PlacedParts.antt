@@ -36,7 +36,7 @@ use Rattle.clock_domains.specs.Walks.{memory_named}
 use Rattle.clock_domains.proofs.Lists.{all_both, all_imp, all_joined, any-append}
 use Rattle.clock_domains.proofs.GivenDomains.{old_form}
 use Rattle.clock_domains.proofs.MadeDomains.{length_with}
-use Rattle.clock_domains.proofs.PlacedLaws.{AreSignals, placed_plain, placed_target}
+use Rattle.clock_domains.proofs.PlacedLaws.{AreSignals, placed_count, placed_form, placed_plain, placed_signals, placed_target}
 use Rattle.clock_domains.proofs.WalkedParts.{block_targets}
 
 -- ---- what stands directly in fragments stands in them
@@ -71,64 +71,7 @@ pub form_with : (q : Pooled) (names : List (List ℕ)) (k : ℕ) → IsPool q �
 unfolding form
 form_with q names k rules = ap (λ (fs : List Form). slice_index_or fs k (unsigned 0)) (forms_with q.signals (flat_map domain_signals names) q.exprs rules.exprs)
 
--- ---- resets are placed
-
-pub reset_bit : (q : Pooled) (ds : List Domain) (name : List ℕ) (s : SigId) → AllByRecursion (IsDomainOf q) ds → reset_of ds name ≡ Some s → signal_form q.signals s.0 ≡ unsigned 1
-reset_bit q [] name s h e = cc
-reset_bit q (d ∷ ds) name s h e = split (text_eq d.name name) e (reset_bit q ds name s h.1)
-  where
-    by : (o : Option SigId) → IsResetOf q d.clk o → o ≡ Some s → signal_form q.signals s.0 ≡ unsigned 1
-    by None k f = cc
-    by (Some t) k f = let same : t ≡ s = cc in subst (λ (x : SigId). signal_form q.signals x.0 ≡ unsigned 1) same k.0.form
-
-    split : (b : Bool) → option_and_then (λ (d : Domain). d.rst) (cond b (Some d) (find (λ (d : Domain). text_eq d.name name) ds)) ≡ Some s → (reset_of ds name ≡ Some s → signal_form q.signals s.0 ≡ unsigned 1) → signal_form q.signals s.0 ≡ unsigned 1
-    split true f rest = by d.rst h.0.reset f
-    split false f rest = rest f
-
-module _ (q : Pooled) (ds : List Domain) (sound : AllByRecursion (IsDomainOf q) ds) where
-  placed_step : (form : ℕ → Form) (e : Expr) → form_step q.signals form (placed_expr ds e) ≡ form_step q.signals form e
-  placed_step form (Const n s) = refl
-  placed_step form (expr.TheVariants.Sig s) = refl
-  placed_step form (Unary op a) = refl
-  placed_step form (Binary op a b) = refl
-  placed_step form (Mux s a b) = refl
-  placed_step form (Slice a low width) = refl
-  placed_step form (Cat es) = refl
-  placed_step form (Part a offset width stride) = refl
-  placed_step form (Pick index es) = refl
-  placed_step form (Cast a signed) = refl
-  placed_step form (Matches a patterns) = refl
-  placed_step form (Reset name place) = by (reset_of ds name) refl
-    where
-      by : (o : Option SigId) → reset_of ds name ≡ o → form_step q.signals form (or_signal (Reset name place) o) ≡ unsigned 1
-      by None e = refl
-      by (Some s) e = reset_bit q ds name s sound e
-
-  either_step : (form : ℕ → Form) (e : Expr) (b : Bool) → form_step q.signals form (cond b (placed_expr ds e) e) ≡ form_step q.signals form e
-  either_step form e true = placed_step form e
-  either_step form e false = refl
-
-  placed_forms : (passes : ℕ → Bool) (n : ℕ) (known : List Form) (es : List Expr) → answers (unsigned 0) (form_step q.signals) known (placed_from ds passes n es) ≡ answers (unsigned 0) (form_step q.signals) known es
-  placed_forms passes n known [] = refl
-  placed_forms passes n known (e ∷ es) =
-      ap (λ f. answers (unsigned 0) (form_step q.signals) (known ++ f ∷ []) (placed_from ds passes (suc n) es)) (either_step (λ k. slice_index_or known k (unsigned 0)) e (passes n))
-      ∙ placed_forms passes (suc n) (known ++ form_step q.signals (λ k. slice_index_or known k (unsigned 0)) e ∷ []) es
-
-  pub placed_form : (roots : List ExprId) (k : ℕ) → form (placed_pool ds q roots) k ≡ form q k
-  unfolding form placed_pool
-  placed_form roots k = ap (λ (fs : List Form). slice_index_or fs k (unsigned 0)) (placed_forms (is_within q roots) 0 [] q.exprs)
-
-pub placed_signals : (ds : List Domain) (q : Pooled) (roots : List ExprId) → (placed_pool ds q roots).signals ≡ q.signals
-unfolding placed_pool
-placed_signals ds q roots = refl
-
-from_length : (ds : List Domain) (passes : ℕ → Bool) (n : ℕ) (es : List Expr) → length (placed_from ds passes n es) ≡ length es
-from_length ds passes n [] = refl
-from_length ds passes n (e ∷ es) = ap suc (from_length ds passes (suc n) es)
-
-pub placed_length : (ds : List Domain) (q : Pooled) (roots : List ExprId) → length (placed_pool ds q roots).exprs ≡ length q.exprs
-unfolding placed_pool
-placed_length ds q roots = from_length ds (is_within q roots) 0 q.exprs
+-- ---- targets are those of the pool before
 
 open_with : (q : Pooled) (names : List (List ℕ)) (k : ℕ) → is_open_target (with_domains q names) k ≡ is_open_target q k
 unfolding is_open_target
@@ -250,21 +193,21 @@ module _ (q : Pooled) (names : List (List ℕ)) (ds : List Domain) (roots : List
   module _ (rules : IsPool q) (sound : AllByRecursion (IsDomainOf made) ds) where
     pub whole_moved : IsMoved q whole
     whole_moved = record {
-      exprs = placed_length ds made roots;
-      forms = λ k. placed_form made ds sound roots k ∙ form_with q names k rules;
+      exprs = placed_count ds made roots;
+      forms = λ k. placed_form ds made roots k sound ∙ form_with q names k rules;
       more = flat_map domain_signals names;
       signals = placed_signals ds made roots;
     }
 
   made_whole_moved : AllByRecursion (IsDomainOf made) ds → IsMoved made whole
-  made_whole_moved sound = record { exprs = placed_length ds made roots; forms = λ k. placed_form made ds sound roots k; more = []; signals = placed_signals ds made roots ∙ sym (append-nil made.signals) }
+  made_whole_moved sound = record { exprs = placed_count ds made roots; forms = λ k. placed_form ds made roots k sound; more = []; signals = placed_signals ds made roots ∙ sym (append-nil made.signals) }
 
   pub whole_domains : AllByRecursion (IsDomainOf made) ds → AllByRecursion (IsDomainOf whole) ds
   whole_domains sound = all_imp (λ (d : Domain) h. moved_domain made whole (made_whole_moved sound) d h) ds sound
 
   module _ (rules : IsPool q) (rules_made : IsPool made) (rules_whole : IsPool whole) (signals : AreSignals ds made roots) (sound : AllByRecursion (IsDomainOf made) ds) where
     whole_plain : (e : ExprId) → IsThere q e → IsHeld e → IsPlain whole e
-    whole_plain e low h = record { there = omega (arith, low, placed_length ds made roots); resolved = placed_plain ds made roots rules_made rules_whole signals e.0 h }
+    whole_plain e low h = record { there = omega (arith, low, placed_count ds made roots); resolved = placed_plain ds made roots rules_made rules_whole signals e.0 h }
 
     pub whole_side : (p : Process) → IsOpenSide q p → AllByRecursion IsHeld (block_exprs p.body) → IsSideOf whole p
     whole_side p h held = record {

@@ -1,8 +1,8 @@
 -- Resets as the signals that they are: which are held, which domains have none, and each placed in turn.
-use Rattle.std.proofs.Common.{◌≡◌, ℕ, zero, suc, ◌+◌, ◌-◌, ◌<◌, ◌≤◌, ◌==◌, nat_lt, ◌⊎◌, inl, inr, Bool, true, false, ◌||◌, ◌&&◌, not, cond, List, [], ◌∷◌, ◌++◌, map, length, take, Option, Some, None, is_some, bytes_eq, slice_get, slice_set, position, refl, sym, ap, ◌∙◌, subst, arith, append-nil}
+use Rattle.std.proofs.Common.{◌≡◌, ℕ, zero, suc, ◌+◌, ◌-◌, ◌<◌, ◌≤◌, nat_lt, ◌⊎◌, inl, inr, Bool, true, false, ◌||◌, ◌&&◌, not, cond, List, [], ◌∷◌, ◌++◌, length, take, Option, Some, None, is_some, bytes_eq, slice_get, slice_set, position, refl, sym, ap, ◌∙◌, subst, arith, append-nil}
 use Rattle.std.specs.Prelude.{option_and_then, option_map}
 use Rattle.std.specs.Option.{option_map_or, option_or}
-use Rattle.std.specs.List.{AllByRecursion, filter, filter_map, find, list_any, range_with_len}
+use Rattle.std.specs.List.{filter, filter_map, find, range_with_len}
 use Rattle.std.proofs.lemmas.Bool.{false≢true}
 use Rattle.std.proofs.lemmas.Bool.Decides.{nat_tests}
 use Rattle.std.proofs.lemmas.List.Elements.{filter-append, filter_map-append}
@@ -10,7 +10,6 @@ use Rattle.std.proofs.lemmas.List.Folds.{find-append}
 use Rattle.std.proofs.lemmas.Slice.Eq.{bytes_eq-Decides}
 use Rattle.lists.specs.Texts.{text_eq}
 use Rattle.lists.proofs.TextLaws.{by_equal, text_eq_true}
-use Rattle.shape_rules.specs.Forms.{unsigned}
 use Rattle.amh_host.specs.declared.place.Place.{Place}
 use Rattle.design_ir.specs.declared.ids.ExprId.{ExprId}
 use Rattle.design_ir.specs.declared.ids.SigId.{SigId}
@@ -19,19 +18,16 @@ use Rattle.design_ir.specs.declared.domain.DomainDef.{DomainDef}
 use Rattle.design_ir.specs.declared.expr.Expr as expr
 use Rattle.design_ir.specs.declared.expr.Expr.{Expr}
 use Rattle.design_ir.specs.declared.expr.Expr.TheVariants.{Const, Unary, Binary, Mux, Slice, Cat, Part, Pick, Cast, Matches, Reset}
-use Rattle.design_ir.specs.Placing.{IsResetAt}
 use Rattle.design_ir.specs.Pools.{Pooled}
-use Rattle.design_ir.specs.Values.{signal_form}
 use Rattle.clock_domains.specs.declared.stop.ResolveStop.{ResolveStop}
 use Rattle.clock_domains.specs.declared.stop.ResolveStop.TheVariants.{DomainClash, NoReset}
 use Rattle.clock_domains.specs.Firsts.{first_at}
 use Rattle.clock_domains.specs.Held.{ResetCall, held_resets, is_within, reset_call}
-use Rattle.clock_domains.specs.Holders.{AreHolders, all_roots, first_roots}
+use Rattle.clock_domains.specs.Holders.{AreHolders, all_roots}
 use Rattle.clock_domains.specs.Numbers.{is_below}
 use Rattle.clock_domains.specs.Placed.{or_signal, placed_expr, placed_from, placed_pool, reset_of}
 use Rattle.clock_domains.specs.Placing.{IsLacking, IsLackingPut, place_stop, placed_signal, signal_for}
-use Rattle.clock_domains.specs.Resolvable.{IsBit, IsDomainOf, IsResetOf}
-use Rattle.clock_domains.specs.Resolved.{clash_after, defined_domain, first_of, has_name, lacks_reset, reset_refusal}
+use Rattle.clock_domains.specs.Resolved.{clash_after, first_of, has_name, lacks_reset, reset_refusal}
 use Rattle.clock_domains.specs.Stops.{IsOwed}
 use Rattle.clock_domains.specs.Tracked.{IsPut}
 use Rattle.clock_domains.proofs.ClashLaws.{clash_told, names_of}
@@ -247,19 +243,6 @@ reset_nowhere ds name nowhere = ap (option_and_then (λ (x : Domain). x.rst)) (f
 pub signal_is : (ds : List Domain) (held : Bool) (o : Option Expr) (name : List ℕ) (place : Place) → held ≡ true → o ≡ Some (Reset name place) → placed_signal ds held o ≡ reset_of ds name
 signal_is ds held o name place here at = ap (placed_signal ds held) at ∙ ap (λ b. placed_signal ds b (Some (Reset name place))) here
 
--- it is a bit of the pool
-pub reset_bit : (q : Pooled) (ds : List Domain) (name : List ℕ) (s : SigId) → AllByRecursion (IsDomainOf q) ds → reset_of ds name ≡ Some s → IsBit q s
-reset_bit q [] name s h is = absurd cc
-reset_bit q (d ∷ ds) name s h is = split (λ more. reset_bit q ds name s h.1 more) (text_eq d.name name) is
-  where
-    own : (o : Option SigId) → IsResetOf q d.clk o → o ≡ Some s → IsBit q s
-    own None there e = absurd cc
-    own (Some x) there e = subst (IsBit q) (let same : x ≡ s = cc in same) there.0
-
-    split : (reset_of ds name ≡ Some s → IsBit q s) → (b : Bool) → option_and_then (λ (x : Domain). x.rst) (cond b (Some d) (find (λ (x : Domain). text_eq x.name name) ds)) ≡ Some s → IsBit q s
-    split rest true e = own d.rst h.0.reset e
-    split rest false e = rest e
-
 -- what has a signal is a reset
 pub record IsSignal (ds : List Domain) (e : Expr) (s : SigId) : Type 0 where
   pub domain : List ℕ
@@ -308,10 +291,6 @@ module _ (ds : List Domain) where
   placed_agree p p' n (e ∷ es) h =
       let a : cond (p n) (placed_expr ds e) e ≡ cond (p' n) (placed_expr ds e) e = ap (λ b. cond b (placed_expr ds e) e) (h n (omega arith) (omega arith)) in
       let b = placed_agree p p' (suc n) es (λ j le low. h j (omega (arith, le)) (omega (arith, low))) in cc
-
-  pub placed-length : (p : ℕ → Bool) (n : ℕ) (es : List Expr) → length (placed_from ds p n es) ≡ length es
-  placed-length p n [] = refl
-  placed-length p n (e ∷ es) = ap suc (placed-length p (suc n) es)
 
   placed_nowhere : (p : ℕ → Bool) (n : ℕ) (es : List Expr) → ((j : ℕ) → p j ≡ false) → placed_from ds p n es ≡ es
   placed_nowhere p n [] h = refl

@@ -19,6 +19,7 @@ use Rattle.design_ir.specs.declared.process.DesignProcess.{DesignProcess}
 use Rattle.design_ir.specs.declared.memory.MemRead.{MemRead}
 use Rattle.design_ir.specs.declared.memory.Memory.{Memory}
 use Rattle.design_ir.specs.declared.fragment.Fragment.{Fragment}
+use Rattle.design_ir.specs.Named.{AllBelow}
 use Rattle.design_ir.specs.Pools.{Pooled}
 use Rattle.design_ir.specs.PoolRules.{IsPool}
 use Rattle.design_ir.specs.Circuits.{Circuit, is_among}
@@ -26,31 +27,33 @@ use Rattle.design_ir.specs.Guards.{block_exprs}
 use Rattle.design_ir.specs.Designs.{IsDesign}
 use Rattle.design_ir.specs.Rising.{AllRisingSync}
 use Rattle.clock_domains.specs.declared.top.TopPorts.{TopPorts}
+use Rattle.clock_domains.specs.declared.top.TopPorts.TheVariants.{Members, Held, Loose}
 use Rattle.clock_domains.specs.declared.stop.ResolveStop.{ResolveStop}
 use Rattle.clock_domains.specs.declared.stop.ResolveStop.TheVariants as stop
-use Rattle.clock_domains.specs.Held.{fragment_exprs, held_resets, is_within}
+use Rattle.clock_domains.specs.Held.{fragment_exprs, held_resets, is_within, memory_exprs}
 use Rattle.clock_domains.specs.Marks.{Flag, is_marked}
 use Rattle.clock_domains.specs.Reads.{data_signals, is_driven, is_given}
 use Rattle.clock_domains.specs.Walks.{Contents, all_contents, all_definitions, all_memories, all_names, all_paths, all_processes, port_names}
-use Rattle.clock_domains.specs.Resolvable.{IsDefinition, IsDomainOf, IsMemoryOf, IsOpenSide, IsResolvable, IsSideOf, domain_numbers, top_inputs}
+use Rattle.clock_domains.specs.Resolvable.{IsDefinition, IsDomainOf, IsMemoryOf, IsOpenSide, IsPlain, IsResolvable, IsSideOf, IsTree, domain_numbers, top_inputs}
 use Rattle.clock_domains.specs.Resolved.{clash_after, clocked_data, column_of_port, column_of_register, columns_after, columns_of, circuit_of, defined_domain, domain_names, domain_ports, domain_signals, domain_stop, domains_from, driver_stop, has_width, is_clocked, is_past_limit, limit_where, made_domains, made_names, made_pool, named_registers, ports_named, ports_of, process_in, register_path, reset_refusal, resolved, resolved_in, signals_of, top_ports, unless, whole_pool, with_domains, IsResolveRefusal}
 use Rattle.clock_domains.specs.Chosen.{IsSignal}
 use Rattle.clock_domains.specs.Firsts.{AreNumbersThere, AreSites, IsPlace, column_under, first_at, first_site, known_column, path_at}
-use Rattle.clock_domains.specs.Ready.{AreWalked, IsPlainMemory, IsReady}
+use Rattle.clock_domains.specs.Ready.{AreClocked, AreWalked, IsPlainMemory, IsReady}
 use Rattle.clock_domains.specs.Stops.{IsOwed}
 use Rattle.clock_domains.proofs.Lists.{all_both, all_filtered, all_imp, all_joined, all_mapped, all_unmapped, any-append, or_none}
 use Rattle.clock_domains.proofs.EachOnce.{once_all, once_distinct}
 use Rattle.clock_domains.proofs.WalkLaws.{walk_definitions, walk_has, walk_length, walk_memory_length, walk_memory_named, walk_named, walk_names}
 use Rattle.clock_domains.proofs.MadeDomains.{domains_length, length_with}
-use Rattle.clock_domains.proofs.DriverLaws.{is_driven_none}
+use Rattle.clock_domains.proofs.DriverLaws.{is_driven_none, plain_below}
 use Rattle.clock_domains.proofs.ChoiceLaws.{range_all, range_split, domain_there, top_there}
 use Rattle.clock_domains.proofs.DesignNames.{columns_length}
 use Rattle.clock_domains.proofs.DesignSound.{first_none, top_wider}
 use Rattle.clock_domains.proofs.DesignParts.{domain_signal_names, domains_signal}
 use Rattle.clock_domains.proofs.DesignWhole.{IsApart, design_apart, design_sound}
 use Rattle.clock_domains.proofs.GivenDomains.{domains_apart, domains_free, domains_known, domains_sound, few_names, names_distinct, ports_known}
-use Rattle.clock_domains.proofs.HeldNames.{HasText, held_signals}
-use Rattle.clock_domains.proofs.PlacedParts.{IsMoved, all_together, moved_memory, placed_signals, roots_within, whole_domains, whole_memory, whole_side}
+use Rattle.clock_domains.proofs.HeldSignals.{held_signals}
+use Rattle.clock_domains.proofs.PlacedLaws.{placed_rules, placed_signals}
+use Rattle.clock_domains.proofs.PlacedParts.{IsMoved, all_together, moved_memory, roots_within, whole_domains, whole_memory, whole_side}
 use Rattle.clock_domains.proofs.SiteLaws.{memory_none, site_none, site_path, site_place}
 use Rattle.clock_domains.proofs.WalkedParts.{top_processes, walk_memories, walk_ports, walk_processes}
 
@@ -69,10 +72,14 @@ module _ (q : Pooled) (ds : List Domain) (own : List Process) (all : Contents) (
       all_together (λ s. s < length q.signals) (λ (m : Memory). map (λ (r : MemRead). r.word.0) m.reads) all.memories
       (all_imp (λ (m : Memory) k. all_mapped (λ s. s < length q.signals) (λ (r : MemRead). r.word.0) m.reads (all_imp (λ (r : MemRead) x. x.word.there) m.reads k.memory.reads)) all.memories h.memories)
 
-  pub ready_clocked : AllByRecursion (λ (m : Memory). AllByRecursion (λ s. s < length q.signals) (clocked_data m)) all.memories
+  pub ready_clocked : AreClocked q all.memories
   ready_clocked =
       all_imp (λ (m : Memory) k. all_mapped (λ s. s < length q.signals) (λ (r : MemRead). r.word.0) (filter (λ (r : MemRead). is_some r.domain) m.reads)
       (all_filtered (λ (r : MemRead). r.word.0 < length q.signals) (λ (r : MemRead). is_some r.domain) m.reads (all_imp (λ (r : MemRead) x. x.word.there) m.reads k.memory.reads))) all.memories h.memories
+
+  -- and their expressions are there
+  pub ready_exprs : AllBelow (length q.exprs) (flat_map memory_exprs all.memories)
+  ready_exprs = plain_below q (flat_map memory_exprs all.memories) (all_together (IsPlain q) memory_exprs all.memories (all_imp (λ (m : Memory) k. k.expressions) all.memories h.memories))
 
   pub ready_design : IsPool q → driver_stop q ds all top ≡ None → length all.processes < 2 ^ 32 → IsDesign (circuit_of q ds all (ports_of q ds own all top))
   ready_design rules free few = design_sound q ds own all top h rules free few
@@ -80,6 +87,20 @@ module _ (q : Pooled) (ds : List Domain) (own : List Process) (all : Contents) (
   -- however many processes there are
   pub ready_apart : IsPool q → driver_stop q ds all top ≡ None → IsApart (circuit_of q ds all (ports_of q ds own all top))
   ready_apart rules free = design_apart q ds own all top h rules free
+
+-- the ports look at processes and memories alone
+module _ (q : Pooled) (ds : List Domain) (own : List Process) where
+  of_both : TopPorts → List Process → List Memory → List Port
+  of_both top ps ms = ports_of q ds own (record { processes = ps; paths = []; memories = ms; memory_paths = [] }) top
+
+  both_alike : (top : TopPorts) (a : Contents) → ports_of q ds own a top ≡ of_both top a.processes a.memories
+  unfolding of_both
+  both_alike (Members given) a = refl
+  both_alike (Held given) a = refl
+  both_alike Loose a = refl
+
+  pub ports_alike : (top : TopPorts) (a b : Contents) → a.processes ≡ b.processes → a.memories ≡ b.memories → ports_of q ds own a top ≡ ports_of q ds own b top
+  ports_alike top a b e f = both_alike top a ∙ ap (λ ps. of_both top ps a.memories) e ∙ ap (of_both top b.processes) f ∙ sym (both_alike top b)
 
 -- ---- named registers
 
@@ -108,11 +129,7 @@ registers_there q all ports rs e =
     all_unmapped (λ s. s < length q.signals) (λ (s : SigId). s.0) rs
     (subst (AllByRecursion (λ s. s < length q.signals)) (sym e) (all_filtered (λ s. s < length q.signals) _ (range_with_len 0 (length q.signals)) (range_all (λ s. s < length q.signals) 0 (length q.signals) (λ s low high. omega (arith, high)))))
 
--- the clocked read ports of memories give signals of the pool
-abbrev pub AreClocked : Pooled → Contents → Type 0
-AreClocked q all = AllByRecursion (λ (m : Memory). AllByRecursion (λ s. s < length q.signals) (clocked_data m)) all.memories
-
-module _ (q : Pooled) (all : Contents) (sites : List (Option ℕ)) (rules : IsPool q) (walk : AreWalked all) (clocked : AreClocked q all) (f : AreSites q all.processes all.memories sites) where
+module _ (q : Pooled) (all : Contents) (sites : List (Option ℕ)) (rules : IsPool q) (walk : AreWalked all) (clocked : AreClocked q all.memories) (f : AreSites q all.processes all.memories sites) where
   abbrev paths : List (Option (List ℕ))
   paths = all.paths ++ all.memory_paths
 
@@ -144,6 +161,17 @@ module _ (q : Pooled) (all : Contents) (sites : List (Option ℕ)) (rules : IsPo
       (all_filtered (λ s. known_column q paths sites s ≡ column_of_register q all s) _ (range_with_len 0 (length q.signals))
       (range_all (λ s. known_column q paths sites s ≡ column_of_register q all s) 0 (length q.signals) (λ s low high. ap (λ o. column_under q o s) (path_same s (omega (arith, high, rules.few_signals))))))
 
+  -- what is found by paths that are these
+  pub registers_found : (xs : List (Option (List ℕ))) (ports : List Port) (is_port : List Bool) (found : List ℕ) → xs ≡ paths → Flag is_port (is_among (signals_of ports))
+      → found ≡ filter (λ s. is_some (path_at xs (first_at sites s)) && (not (is_marked is_port s) && has_width q s)) (range_with_len 0 (length sites)) → found ≡ named_registers q all ports
+  registers_found xs ports is_port found e g h = h ∙ ap (λ ys. filter (λ s. is_some (path_at ys (first_at sites s)) && (not (is_marked is_port s) && has_width q s)) (range_with_len 0 (length sites))) e ∙ registers_same ports is_port g
+
+  pub columns_found : (ports' ports : List Port) (xs : List (Option (List ℕ))) (found : List ℕ) (named : List Column) → ports' ≡ ports → xs ≡ paths → found ≡ named_registers q all ports → named ≡ map (known_column q xs sites) found
+      → columns_after [] (map column_of_port ports' ++ named) ≡ columns_of q all ports (named_registers q all ports)
+  columns_found ports' ports xs found named a b r e =
+      ap (λ ps. columns_after [] (map column_of_port ps ++ named)) a
+      ∙ ap (λ cs. columns_after [] (map column_of_port ports ++ cs)) (e ∙ ap (λ ys. map (known_column q ys sites) found) b ∙ ap (map (known_column q paths sites)) r ∙ columns_same ports)
+
   -- only signals of the pool have numbers
   pub sites_there : AreNumbersThere q sites
   sites_there = record { size = f.size; there = λ s is. elim (cases_lt s (length q.signals)) [ inl below ↦ below | inr past ↦ absurd (nowhere s past is) ] }
@@ -160,7 +188,7 @@ module _ (q : Pooled) (all : Contents) (sites : List (Option ℕ)) (rules : IsPo
   sites_places s =
       elim (cases_lt s 16384) [
         | inl small ↦ subst (IsPlace (length paths)) (sym (f.each s small))
-          (subst (λ n. IsPlace n (first_site q all.processes all.memories s)) (sym (length-append all.paths all.memory_paths ∙ ap (λ n. n + length all.memory_paths) walk.size ∙ ap (λ n. length all.processes + n) walk.memory_size)) (site_place q all.processes all.memories s))
+            (subst (λ n. IsPlace n (first_site q all.processes all.memories s)) (sym (length-append all.paths all.memory_paths ∙ ap (λ n. n + length all.memory_paths) walk.size ∙ ap (λ n. length all.processes + n) walk.memory_size)) (site_place q all.processes all.memories s))
         | inr large ↦ subst (IsPlace (length paths)) (sym (get_or_past sites s None (omega (arith, large, f.size)))) tt
       ]
 
@@ -230,6 +258,9 @@ module _ (q : Pooled) (ds : List Domain) (own : List Process) (all : Contents) (
 
 -- ---- a module with those below it
 
+abbrev HasText : List (List ℕ) → List ℕ → Type 0
+HasText names n = list_any (λ m. text_eq m n) names ≡ true
+
 all_texts : (names : List (List ℕ)) → AllByRecursion (HasText names) names
 all_texts [] = tt
 all_texts (n ∷ names) = (
@@ -298,15 +329,25 @@ module _ (q : Pooled) (root : Fragment) (top : TopPorts) where
       let second = first_none (reset_refusal definitions (held_resets q (fragment_exprs root))) (limit_where (is_past_limit q definitions names)) first.1 in
       record { no_clash = first.0; resets = second.0; room = not_past (is_past_limit q definitions names) second.1 }
 
+  module _ (tree : IsTree q root) where
+    pub tree_defined : AllByRecursion (IsDefinition q) definitions
+    tree_defined = walk_definitions q root tree
+
+    pub tree_named : AllByRecursion IsName names
+    tree_named = once_all IsName (all_names q root) (walk_names q root tree)
+
+    pub tree_sound : AllByRecursion (IsDomainOf made) domains
+    tree_sound = domains_sound q definitions names tree_defined tree_named
+
   module _ (given : IsResolvable q root top) where
     defined : AllByRecursion (IsDefinition q) definitions
-    defined = walk_definitions q root given.tree
+    defined = tree_defined given.tree
 
     named : AllByRecursion IsName names
-    named = once_all IsName (all_names q root) (walk_names q root given.tree)
+    named = tree_named given.tree
 
-    pub domains_made_sound : AllByRecursion (IsDomainOf made) domains
-    domains_made_sound = domains_sound q definitions names defined named
+    domains_made_sound : AllByRecursion (IsDomainOf made) domains
+    domains_made_sound = tree_sound given.tree
 
     -- every domain rises
     pub resolved_rising : (c : Circuit) → resolved q root top ≡ Ok c → AllRisingSync c
@@ -344,12 +385,15 @@ module _ (q : Pooled) (root : Fragment) (top : TopPorts) where
             ∙ parts.1
 
     -- what is asked of a module and of those below it is asked of what was walked
-    module _ (rules : IsPool q) (rules_made : IsPool made) (rules_within : IsPool within) (placed : domain_stop q root ≡ None) where
+    module _ (rules : IsPool q) (rules_made : IsPool made) (placed : domain_stop q root ≡ None) where
+      rules_within : IsPool within
+      rules_within = placed_rules domains made (fragment_exprs root) domains_made_sound rules_made
+
       parts : ArePlaced
       parts = are_placed placed
 
       side : (p : Process) → IsOpenSide q p → AllByRecursion IsHeld (block_exprs p.body) → IsSideOf within p
-      side p = whole_side q (made_names q root) domains (fragment_exprs root) rules rules_made rules_within (held_signals q root definitions (length q.signals) (made_names q root) parts.resets) domains_made_sound p
+      side p = whole_side q (made_names q root) domains (fragment_exprs root) rules rules_made rules_within (held_signals q root parts.resets) domains_made_sound p
 
       pub walked_ready : IsReady within domains root.processes (all_contents root) top
       walked_ready = record {
@@ -358,7 +402,7 @@ module _ (q : Pooled) (root : Fragment) (top : TopPorts) where
         processes = walk_processes q IsHeld (IsSideOf within) side root given.tree held;
         memories =
             walk_memories q IsHeld (IsPlainMemory within)
-            (λ name m path h v. whole_memory q (made_names q root) domains (fragment_exprs root) rules rules_made rules_within (held_signals q root definitions (length q.signals) (made_names q root) parts.resets) domains_made_sound name m path h v) root given.tree held;
+            (λ name m path h v. whole_memory q (made_names q root) domains (fragment_exprs root) rules rules_made rules_within (held_signals q root parts.resets) domains_made_sound name m path h v) root given.tree held;
         names =
             subst (AllByRecursion (λ (x : Sig). IsName x.name)) (sym (placed_signals domains made (fragment_exprs root)))
             (all_joined (λ (x : Sig). IsName x.name) q.signals (flat_map domain_signals (made_names q root)) given.names

@@ -1,5 +1,5 @@
 -- A module with those below it whose domains were made.
-use Rattle.std.specs.Prelude.{◌≡◌, ◌++◌, ℕ, ◌≤◌, ⊤, false, List, map, length, position, is_some, IsSome, Option, Some, None, codes}
+use Rattle.std.specs.Prelude.{◌≡◌, ◌++◌, ℕ, ◌<◌, ◌≤◌, ⊤, false, List, map, length, position, is_some, IsSome, Option, Some, None, codes}
 use Rattle.std.specs.List.{AllByRecursion, IsDistinct, flat_map}
 use Rattle.lists.specs.Texts.{text_eq}
 use Rattle.lists.specs.Names.{IsName, IsPath}
@@ -17,7 +17,7 @@ use Rattle.clock_domains.specs.Held.{memory_exprs}
 use Rattle.clock_domains.specs.Reads.{data_signals}
 use Rattle.clock_domains.specs.Walks.{Contents}
 use Rattle.clock_domains.specs.Resolvable.{IsPlain, IsSideOf, IsMemoryOf, AreTopPorts, IsDomainOf, domain_numbers, top_inputs}
-use Rattle.clock_domains.specs.Resolved.{domain_number, is_clocked}
+use Rattle.clock_domains.specs.Resolved.{clocked_data, domain_number, is_clocked}
 
 -- names, with a dot behind each
 pub record IsUnder (path : List ℕ) : Type 0 where
@@ -36,6 +36,10 @@ pub record AreWalked (all : Contents) : Type 0 where
   pub each : AllByRecursion IsNaming all.paths
   pub memory_size : length all.memory_paths ≡ length all.memories
   pub memory_each : AllByRecursion IsNaming all.memory_paths
+
+-- clocked read ports give signals of the pool
+abbrev pub AreClocked : Pooled → List Memory → Type 0
+AreClocked q ms = AllByRecursion (λ (m : Memory). AllByRecursion (λ s. s < length q.signals) (clocked_data m)) ms
 
 -- a clocked side has one of these domains
 abbrev pub HasDomain : List Domain → Process → Type 0

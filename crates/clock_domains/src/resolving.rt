@@ -1,17 +1,19 @@
 // From a module with those below it to a design.
-ghost use Rattle.std.specs.Prelude.{◌≡◌, ◌<◌, ◌^◌, ◌++◌, Ok, None, map, length, IfOk, IfErr, OnOk};
+ghost use Rattle.std.specs.Prelude.{◌≡◌, ◌<◌, ◌^◌, ◌++◌, List, Ok, None, map, length, IfOk, IfErr, OnOk};
+ghost use Rattle.std.specs.List.{AllByRecursion};
+ghost use Rattle.design_ir.specs.PoolRules.{IsPool};
 ghost use Rattle.design_ir.specs.Rising.{AllRisingSync};
-ghost use Rattle.design_ir.specs.declared.fragment.Fragment.{Fragment};
-ghost use Rattle.clock_domains.specs.declared.top.TopPorts.{TopPorts};
+ghost use Rattle.design_ir.specs.declared.ids.ExprId.{ExprId};
 ghost use Rattle.clock_domains.specs.Firsts.{AreSites};
 ghost use Rattle.clock_domains.specs.Marks.{Flag};
 ghost use Rattle.clock_domains.specs.Reads.{is_given};
-ghost use Rattle.clock_domains.specs.Ready.{IsReady};
-ghost use Rattle.clock_domains.specs.Resolvable.{IsResolvable};
-ghost use Rattle.clock_domains.specs.Resolved.{IsResolveRefusal, columns_of, domain_stop, made_domains, named_registers, ports_named, ports_of, process_in, resolved, resolved_in, whole_pool};
+ghost use Rattle.clock_domains.specs.Ready.{AreClocked, AreWalked, IsReady};
+ghost use Rattle.clock_domains.specs.Held.{leaf_exprs};
+ghost use Rattle.clock_domains.specs.Names.{all_leaves};
+ghost use Rattle.clock_domains.specs.Resolvable.{IsResolvable, IsTree};
+ghost use Rattle.clock_domains.specs.Resolved.{IsResolveRefusal, columns_of, domain_stop, made_domains, made_pool, named_registers, ports_named, ports_of, process_in, resolved, resolved_in, whole_pool};
 ghost use Rattle.clock_domains.specs.Stops.{IsOwed};
-ghost use Rattle.clock_domains.specs.Walked.{IsKeptBy, IsWalkOf};
-ghost use Rattle.clock_domains.specs.Walks.{Contents};
+ghost use Rattle.clock_domains.specs.Walks.{Contents, all_contents, all_memories, all_memory_paths, all_paths, all_processes};
 
 use crate::clashes::no_clash;
 use crate::columns::{columns_of, named_registers, ports_named, register_columns};
@@ -74,9 +76,13 @@ fn columns_in(
 ) -> Result<Columns, NoMemory>
     ghost all: { Contents }
     requires paths { paths.now ≡ all.paths ++ all.memory_paths }
+    requires walk { AreWalked all }
+    requires clocked { AreClocked pool.now all.memories }
+    requires ports { AllByRecursion (λ p. p.sig.0 < length pool.now.signals) ports.now }
     requires sites { AreSites pool.now all.processes all.memories sites.now }
     ensures { IfOk result (λ cs. cs ≡ columns_of pool.now all ports.now (named_registers pool.now all ports.now)) }
 {
+    pool.known();
     let is_port = mark_ports(alloc, ports.as_slice())?;
     let registers = named_registers(alloc, pool, paths, sites, is_port.as_slice())?;
     let named = register_columns(alloc, pool, paths, sites, registers.as_slice())?;
@@ -88,7 +94,7 @@ fn parts_of(
     alloc: Global,
     pool: &Pool,
     domains: &[Domain],
-    own: &[Process],
+    root: &Fragment,
     held: Held,
     drivers: Drivers,
     top: &TopPorts,
@@ -97,15 +103,14 @@ fn parts_of(
     requires processes { held.processes.items ≡ all.processes }
     requires memories { held.memories ≡ all.memories }
     requires paths { held.paths ≡ all.paths ++ all.memory_paths }
-    requires ready { IsReady pool.now domains.now own.now all top.now }
+    requires ready { IsReady pool.now domains.now root.now.processes all top.now }
     requires driven { Flag drivers.driven.items (is_given pool.now all.processes all.memories) }
     requires sites { AreSites pool.now all.processes all.memories drivers.sites.items }
     ensures processes { IfOk result (λ x. x.processes ≡ map (process_in domains.now) all.processes) }
     ensures memories { IfOk result (λ x. x.memories ≡ all.memories) }
-    ensures columns { IfOk result (λ x. let ports = ports_of pool.now domains.now own.now all top.now in x.columns ≡ columns_of pool.now all ports (named_registers pool.now all ports)) }
-    ensures ports { IfOk result (λ x. x.ports ≡ ports_named (ports_of pool.now domains.now own.now all top.now) x.columns) }
+    ensures columns { IfOk result (λ x. let ports = ports_of pool.now domains.now root.now.processes all top.now in x.columns ≡ columns_of pool.now all ports (named_registers pool.now all ports)) }
+    ensures ports { IfOk result (λ x. x.ports ≡ ports_named (ports_of pool.now domains.now root.now.processes all top.now) x.columns) }
 {
-    let _ = pool.count();
     let Held {
         processes,
         memories,
@@ -116,7 +121,7 @@ fn parts_of(
         alloc,
         pool,
         domains,
-        own,
+        root.processes.as_slice(),
         processes.as_slice(),
         memories.as_slice(),
         driven,
@@ -136,20 +141,19 @@ fn design_in(
     alloc: Global,
     pool: Pool,
     domains: Domains,
-    own: &[Process],
+    root: &Fragment,
     held: Held,
     top: &TopPorts,
 ) -> Result<Design, ResolveStop>
-    ghost all: { Contents }
-    requires processes { held.processes.items ≡ all.processes }
-    requires memories { held.memories ≡ all.memories }
-    requires paths { held.paths ≡ all.paths ++ all.memory_paths }
-    requires ready { IsReady pool domains own.now all top.now }
-    requires few { length all.processes < 2 ^ 32 }
-    ensures design { IfOk result (λ d. resolved_in pool domains own.now all top.now ≡ Ok d) }
-    ensures refused { IfErr result (IsResolveRefusal (resolved_in pool domains own.now all top.now)) }
+    requires processes { held.processes.items ≡ all_processes root.now }
+    requires memories { held.memories ≡ all_memories root.now }
+    requires paths { held.paths ≡ all_paths root.now ++ all_memory_paths root.now }
+    requires ready { IsReady pool domains root.now.processes (all_contents root.now) top.now }
+    requires few { length held.processes.items < 2 ^ 32 }
+    ensures design { IfOk result (λ d. resolved_in pool domains root.now.processes (all_contents root.now) top.now ≡ Ok d) }
+    ensures refused { IfErr result (IsResolveRefusal (resolved_in pool domains root.now.processes (all_contents root.now) top.now)) }
 {
-    let _ = pool.count();
+    pool.known();
     let inputs = mark_design_inputs(alloc, &pool, domains.as_slice(), top)?;
     let drivers = drivers_of(
         alloc,
@@ -158,7 +162,7 @@ fn design_in(
         held.memories.as_slice(),
         inputs.as_slice(),
     )?;
-    let parts = parts_of(alloc, &pool, domains.as_slice(), own, held, drivers, top)?;
+    let parts = parts_of(alloc, &pool, domains.as_slice(), root, held, drivers, top)?;
     Ok(Design::new(
         pool,
         parts.processes,
@@ -167,29 +171,6 @@ fn design_in(
         parts.ports,
         parts.columns,
     ))
-}
-
-// Makes the domains of a module and of those below it, and puts the signals of their resets in the places of those that are
-// held; or refuses a name that is defined twice, a reset that there is none of, or a passed limit.
-fn placed_domains(alloc: Global, pool: &mut Pool, walk: &mut Walk) -> Result<Domains, ResolveStop>
-    ghost root: { Fragment }
-    requires walked { IsWalkOf root walk.old }
-    requires tree { (top : TopPorts) × IsResolvable pool.old root top }
-    ensures kept { IfOk result (λ _. IsKeptBy walk.old walk.new) }
-    ensures accepted { OnOk result (domain_stop pool.old root ≡ None) }
-    ensures pool { OnOk result (pool.new ≡ whole_pool pool.old root) }
-    ensures domains { IfOk result (λ ds. ds ≡ made_domains pool.old root) }
-    ensures refused { IfErr result (IsOwed (domain_stop pool.old root)) }
-{
-    let holders = first_holders(alloc, pool, walk.roots.as_slice())?;
-    add_resets(alloc, pool, holders.as_slice(), &mut walk.names)?;
-    let definitions = walk.definitions.as_slice();
-    no_clash(alloc, definitions)?;
-    no_missing_reset(alloc, pool, holders.as_slice(), definitions)?;
-    let names = joined_names(alloc, walk.names.as_slice())?;
-    let domains = domains_made(alloc, pool, definitions, names.as_slice())?;
-    place_resets(pool, holders.as_slice(), domains.as_slice());
-    Ok(domains)
 }
 
 // What a walk holds, with the paths of memories behind those of processes.
@@ -209,6 +190,46 @@ fn held_of(alloc: Global, walk: Walk) -> Result<Held, NoMemory>
         processes,
         memories,
         paths: joined_paths(alloc, paths, memory_paths.as_slice())?,
+    })
+}
+
+// What modules hold, and the domains of their names.
+#[derive(Drop)]
+struct Placed {
+    held: Held,
+    domains: Domains,
+}
+
+// Makes the domains of a module and of those below it, and puts the signals of their resets in the places of those that are
+// held; or refuses a name that is defined twice, a reset that there is none of, or a passed limit.
+fn placed_domains(alloc: Global, pool: &mut Pool, root: &Fragment) -> Result<Placed, ResolveStop>
+    ghost roots: { List (List ExprId) }
+    requires roots { roots ≡ map leaf_exprs (all_leaves root.now) }
+    requires tree { IsTree pool.old root.now }
+    ensures processes { IfOk result (λ x. x.held.processes.items ≡ all_processes root.now) }
+    ensures few { IfOk result (λ x. length x.held.processes.items < 2 ^ 32) }
+    ensures memories { IfOk result (λ x. x.held.memories ≡ all_memories root.now) }
+    ensures paths { IfOk result (λ x. x.held.paths ≡ all_paths root.now ++ all_memory_paths root.now) }
+    ensures domains { IfOk result (λ x. x.domains ≡ made_domains pool.old root.now) }
+    ensures accepted { OnOk result (domain_stop pool.old root.now ≡ None) }
+    ensures pool { OnOk result (pool.new ≡ whole_pool pool.old root.now) }
+    ensures made { OnOk result (IsPool (made_pool pool.old root.now)) }
+    ensures refused { IfErr result (IsOwed (domain_stop pool.old root.now)) }
+{
+    pool.known();
+    let mut walk = walked(alloc, root)?;
+    let holders = first_holders(alloc, pool, walk.roots.as_slice())?;
+    add_resets(alloc, pool, holders.as_slice(), &mut walk.names)?;
+    let definitions = walk.definitions.as_slice();
+    no_clash(alloc, definitions)?;
+    no_missing_reset(alloc, pool, holders.as_slice(), definitions)?;
+    let names = joined_names(alloc, walk.names.as_slice())?;
+    let domains = domains_made(alloc, pool, definitions, names.as_slice())?;
+    pool.known();
+    place_resets(pool, holders.as_slice(), domains.as_slice());
+    Ok(Placed {
+        held: held_of(alloc, walk)?,
+        domains,
     })
 }
 
@@ -241,9 +262,7 @@ pub fn resolve(
     ensures refused { IfErr result (IsResolveRefusal (resolved pool root top)) }
 {
     let mut pool = pool;
-    let _ = pool.count();
-    let mut walk = walked(alloc, &root)?;
-    let domains = placed_domains(alloc, &mut pool, &mut walk)?;
-    let held = held_of(alloc, walk)?;
-    design_in(alloc, pool, domains, root.processes.as_slice(), held, &top)
+    pool.known();
+    let Placed { held, domains } = placed_domains(alloc, &mut pool, &root)?;
+    design_in(alloc, pool, domains, &root, held, &top)
 }

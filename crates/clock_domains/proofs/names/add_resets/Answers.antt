@@ -1,7 +1,5 @@
-use Rattle.std.proofs.Common.{◌≡◌, ◌∙◌, ◌<◌, ◌+◌, ℕ, List, Some, None, length, slice_get, refl, sym, ap, subst}
-use Rattle.std.proofs.lemmas.Option.{slice_get_read}
-use Rattle.clock_domains.specs.Names.{with_name, with_resets}
-use Rattle.clock_domains.specs.Firsts.{first_at}
+use Rattle.std.proofs.Common.{◌≡◌, ◌∙◌, ◌<◌, ℕ, length, sym, ap, subst}
+use Rattle.clock_domains.specs.Names.{with_name}
 use Rattle.clock_domains.proofs.ResetNames.{with_none, with_some, with_zero, with-length}
 use Rattle.clock_domains.proofs.names.add_resets.Goals as goal
 use Rattle.clock_domains.proofs.names.add_resets.Goals.{in-Some+in_ok-add_reset, in_default}

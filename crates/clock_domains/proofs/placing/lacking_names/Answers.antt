@@ -1,4 +1,4 @@
-use Rattle.std.proofs.Common.{◌≡◌, ◌∙◌, ℕ, List, Some, length, slice_get, refl, sym, ap}
+use Rattle.std.proofs.Common.{◌≡◌, Some, length, slice_get, refl}
 use Rattle.std.specs.BTreeMap.{get_by_text}
 use Rattle.std.proofs.lemmas.Option.{slice_get_read}
 use Rattle.clock_domains.proofs.PlacingLaws.{lacking_turn}

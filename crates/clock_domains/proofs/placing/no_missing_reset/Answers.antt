@@ -1,7 +1,5 @@
-use Rattle.std.proofs.Common.{◌≡◌, ◌∙◌, ◌<◌, ◌≤◌, ◌+◌, ℕ, List, Bool, true, false, Option, Some, None, length, slice_get, is_some, refl, sym, ap, subst, arith}
+use Rattle.std.proofs.Common.{◌≡◌, ◌∙◌, ◌<◌, ◌+◌, true, false, length, is_some, sym, ap, arith}
 use Rattle.std.specs.BTreeMap.{get_by_text}
-use Rattle.design_ir.specs.declared.ids.ExprId.{ExprId}
-use Rattle.clock_domains.specs.Firsts.{first_at}
 use Rattle.clock_domains.specs.Held.{held_resets, is_within}
 use Rattle.clock_domains.specs.Holders.{all_roots}
 use Rattle.clock_domains.specs.Resolved.{reset_refusal}

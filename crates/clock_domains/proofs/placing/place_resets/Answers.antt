@@ -1,12 +1,12 @@
-use Rattle.std.proofs.Common.{◌≡◌, ◌∙◌, ◌<◌, ◌≤◌, ◌+◌, ℕ, List, Bool, true, false, Option, Some, None, length, slice_get, is_some, refl, sym, ap, subst, arith}
+use Rattle.std.proofs.Common.{◌≡◌, ◌∙◌, ◌<◌, ◌≤◌, List, true, false, Some, length, slice_get, sym, ap, subst, arith}
 use Rattle.design_ir.specs.declared.expr.Expr.{Expr}
 use Rattle.design_ir.specs.Pools.{Pooled}
-use Rattle.design_ir.specs.Placing.{IsResetAt, reset_placed}
+use Rattle.design_ir.specs.Placing.{reset_placed}
 use Rattle.design_ir.specs.Values.{signal_form}
 use Rattle.shape_rules.specs.Forms.{unsigned}
-use Rattle.clock_domains.specs.Placed.{placed_from}
 use Rattle.clock_domains.specs.Placing.{placed_signal}
-use Rattle.clock_domains.proofs.PlacingLaws.{has_holder, placed_first, placed-length, placed_stays, placed_turns, placed_last, reset_bit, turn_get, turn_is, up_to}
+use Rattle.clock_domains.proofs.PlacedLaws.{placed_length, reset_bit}
+use Rattle.clock_domains.proofs.PlacingLaws.{has_holder, placed_first, placed_stays, placed_turns, placed_last, turn_get, turn_is, up_to}
 use Rattle.clock_domains.proofs.placing.place_resets.Goals as goal
 use Rattle.clock_domains.proofs.placing.place_resets.Goals.{in-Some, in_default}
 
@@ -19,14 +19,14 @@ pub placed_signal-requires-clause-there : goal.placed_signal-requires-clause-the
 placed_signal-requires-clause-there c =
     let q = c.args.pool.now in
     let ds = c.args.domains.now in
-    let size : length c.loop-k.pool.exprs ≡ length q.exprs = ap (λ (p : Pooled). length p.exprs) c.loop-k.invariant ∙ placed-length ds (up_to ds (has_holder c.args.holders.now) c.loop-k.k) 0 q.exprs in
+    let size : length c.loop-k.pool.exprs ≡ length q.exprs = ap (λ (p : Pooled). length p.exprs) c.loop-k.invariant ∙ placed_length ds (up_to ds (has_holder c.args.holders.now) c.loop-k.k) 0 q.exprs in
     omega (arith, size, c.loop-k-test.true, c.count-k-end.ensures.value)
 
 pub placed_signal-requires-clause-size : goal.placed_signal-requires-clause-size
 placed_signal-requires-clause-size c =
     let q = c.args.pool.now in
     let ds = c.args.domains.now in
-    let size : length c.loop-k.pool.exprs ≡ length q.exprs = ap (λ (p : Pooled). length p.exprs) c.loop-k.invariant ∙ placed-length ds (up_to ds (has_holder c.args.holders.now) c.loop-k.k) 0 q.exprs in
+    let size : length c.loop-k.pool.exprs ≡ length q.exprs = ap (λ (p : Pooled). length p.exprs) c.loop-k.invariant ∙ placed_length ds (up_to ds (has_holder c.args.holders.now) c.loop-k.k) 0 q.exprs in
     c.requires.size ∙ sym size
 
 pub place_reset-requires-clause-there : goal.place_reset-requires-clause-there

@@ -1,1 +1,0 @@
-use Rattle.clock_domains.proofs.PlacedLaws.{placed_plain}
