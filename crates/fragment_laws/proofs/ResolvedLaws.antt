@@ -28,7 +28,7 @@ use Rattle.clock_domains.specs.Ready.{IsPlainMemory, IsReady}
 use Rattle.clock_domains.specs.Walks.{Contents, all_contents}
 use Rattle.clock_domains.proofs.Lists.{all_left, all_right}
 use Rattle.clock_domains.proofs.DesignMemories.{all_parted}
-use Rattle.clock_domains.proofs.PlacedParts.{placed_signals}
+use Rattle.clock_domains.proofs.PlacedLaws.{placed_signals}
 use Rattle.clock_domains.proofs.ReadyLaws.{ready_apart, resolved_whole, walked_ready}
 use Rattle.fragment_laws.specs.Surroundings.{domain_of, pool_in}
 use Rattle.fragment_laws.specs.SamePools.{AllSame, AreSameIn, IsSameMemory}
@@ -65,7 +65,7 @@ module _ (q : Pooled) (f : Fragment) (top : TopPorts) (given : IsResolvable q f 
   signals_are = placed_signals ds w (fragment_exprs f)
 
   ready : IsReady v ds f.processes all top
-  ready = walked_ready q f top given rules (rules_with q (made_names q f) v rules whole signals_are) whole placed
+  ready = walked_ready q f top given rules (rules_with q (made_names q f) v rules whole signals_are) placed
 
   -- ---- each clocked side has a domain
 

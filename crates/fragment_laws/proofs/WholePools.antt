@@ -15,10 +15,9 @@ use Rattle.design_ir.specs.Pools.{Pooled}
 use Rattle.design_ir.specs.PoolRules.{AreExprs, HasInit, IsPool, signal_bits}
 use Rattle.design_ir.proofs.Growth.{exprs_more}
 use Rattle.clock_domains.specs.Held.{is_within}
-use Rattle.clock_domains.specs.Placed.{placed_expr, placed_from, placed_pool}
-use Rattle.clock_domains.specs.Placed as placed
+use Rattle.clock_domains.specs.Placed.{or_signal, placed_expr, placed_from, placed_pool, reset_of}
 use Rattle.clock_domains.specs.Resolved.{domain_signals, with_domains}
-use Rattle.fragment_laws.specs.Surroundings.{or_signal, read_in, pool_in, reset_of}
+use Rattle.fragment_laws.specs.Surroundings.{read_in, pool_in}
 
 -- ---- a signal in the place of its reset is read as the reset is
 
@@ -37,7 +36,7 @@ module _ (ds : List Domain) where
   read_placed (Matches a patterns) = refl
   read_placed (Reset name place) = by (reset_of ds name) refl
     where
-      by : (o : Option SigId) → reset_of ds name ≡ o → read_in ds (placed.or_signal (Reset name place) o) ≡ or_signal (Reset name place) o
+      by : (o : Option SigId) → reset_of ds name ≡ o → read_in ds (or_signal (Reset name place) o) ≡ or_signal (Reset name place) o
       by None at = ap (or_signal (Reset name place)) at
       by (Some s) at = refl
 
