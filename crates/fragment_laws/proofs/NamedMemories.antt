@@ -3,7 +3,7 @@ use Rattle.std.specs.Prelude.{◌≡◌, refl, ℕ, List, [], ◌∷◌, ◌++�
 use Rattle.std.proofs.Common.{sym, ◌∙◌, ap}
 use Rattle.design_ir.specs.declared.memory.Memory.{Memory}
 use Rattle.design_ir.specs.declared.fragment.Fragment.{Fragment}
-use Rattle.design_ir.specs.Forests.{Leaf, Forest, bare, grown}
+use Rattle.design_ir.specs.Forests.{Forest, bare, grown}
 use Rattle.clock_domains.specs.Walks.{memory_named, named_memories, path_under}
 use Rattle.clock_domains.specs.Walks as walk
 use Rattle.clock_domains.proofs.Lists.{map-append}
