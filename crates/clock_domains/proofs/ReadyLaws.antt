@@ -272,6 +272,17 @@ all_texts (n ∷ names) = (
     or_true true b e = refl
     or_true false b e = e
 
+-- the domains of a tree are domains of the pool in which they are made
+module _ (q : Pooled) (root : Fragment) (tree : IsTree q root) where
+  pub tree_defined : AllByRecursion (IsDefinition q) (all_definitions root)
+  tree_defined = walk_definitions q root tree
+
+  pub tree_named : AllByRecursion IsName (domain_names q root)
+  tree_named = once_all IsName (all_names q root) (walk_names q root tree)
+
+  pub tree_sound : AllByRecursion (IsDomainOf (made_pool q root)) (made_domains q root)
+  tree_sound = domains_sound q (all_definitions root) (domain_names q root) tree_defined tree_named
+
 module _ (q : Pooled) (root : Fragment) (top : TopPorts) where
   abbrev pub definitions : List DomainDef
   definitions = all_definitions root
@@ -329,25 +340,15 @@ module _ (q : Pooled) (root : Fragment) (top : TopPorts) where
       let second = first_none (reset_refusal definitions (held_resets q (fragment_exprs root))) (limit_where (is_past_limit q definitions names)) first.1 in
       record { no_clash = first.0; resets = second.0; room = not_past (is_past_limit q definitions names) second.1 }
 
-  module _ (tree : IsTree q root) where
-    pub tree_defined : AllByRecursion (IsDefinition q) definitions
-    tree_defined = walk_definitions q root tree
-
-    pub tree_named : AllByRecursion IsName names
-    tree_named = once_all IsName (all_names q root) (walk_names q root tree)
-
-    pub tree_sound : AllByRecursion (IsDomainOf made) domains
-    tree_sound = domains_sound q definitions names tree_defined tree_named
-
   module _ (given : IsResolvable q root top) where
     defined : AllByRecursion (IsDefinition q) definitions
-    defined = tree_defined given.tree
+    defined = tree_defined q root given.tree
 
     named : AllByRecursion IsName names
-    named = tree_named given.tree
+    named = tree_named q root given.tree
 
     domains_made_sound : AllByRecursion (IsDomainOf made) domains
-    domains_made_sound = tree_sound given.tree
+    domains_made_sound = tree_sound q root given.tree
 
     -- every domain rises
     pub resolved_rising : (c : Circuit) → resolved q root top ≡ Ok c → AllRisingSync c

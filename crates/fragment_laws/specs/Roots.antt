@@ -76,7 +76,8 @@ pub record MeansItsRoot (q : Pooled) (f : Fragment) (c : Circuit) : Type 0 where
 abbrev pub DesignsMeanTheirRoots : Type 0
 DesignsMeanTheirRoots = (q : Pooled) (f : Fragment) (c : Circuit) → IsDesign c → IsRoot q f c → MeansItsRoot q f c
 
--- so it is where `resolve` gives the design, over the pool with the signals of the domains that it makes
+-- so it is where `resolve` gives the design, over the pool with the signals of the domains that it makes, in which resets are still
+-- resets
 abbrev pub ResolvedMeansItsRoot : Type 0
 ResolvedMeansItsRoot =
     (q : Pooled) (f : Fragment) (top : TopPorts) (c : Circuit) → IsPool q → IsPool c.pool → IsResolvable q f top → resolved q f top ≡ Ok c → MeansItsRoot (made_pool q f) f c

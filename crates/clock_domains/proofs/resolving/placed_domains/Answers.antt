@@ -1,0 +1,65 @@
+use Rattle.std.proofs.Common.{◌≡◌, ◌∙◌, ◌<◌, ◌++◌, ℕ, List, Option, None, [], map, length, refl, sym, ap, subst, arith}
+use Rattle.std.specs.List.{AllByRecursion, flat_map}
+use Rattle.std.proofs.lemmas.Result.{err_from_is_err_and}
+use Rattle.design_ir.specs.declared.ids.ExprId.{ExprId}
+use Rattle.design_ir.specs.declared.domain.Domain.{Domain}
+use Rattle.design_ir.specs.declared.domain.DomainDef.{DomainDef}
+use Rattle.design_ir.specs.Forests.{Leaf}
+use Rattle.design_ir.specs.Named.{AllBelow}
+use Rattle.design_ir.specs.Pools.{Pooled}
+use Rattle.clock_domains.specs.Held.{fragment_exprs, held_resets, leaf_exprs}
+use Rattle.clock_domains.specs.Holders.{AreHolders, all_roots}
+use Rattle.clock_domains.specs.Names.{all_leaves}
+use Rattle.clock_domains.specs.Resolvable.{IsDomainOf}
+use Rattle.clock_domains.specs.Resolved.{clash_after, domain_names, each_once, is_past_limit, limit_where, made_pool, reset_refusal}
+use Rattle.clock_domains.specs.Stops.{IsOwed}
+use Rattle.clock_domains.specs.Walks.{all_definitions, plain_names}
+use Rattle.clock_domains.proofs.Lists.{length_map}
+use Rattle.clock_domains.proofs.NamesOnce.{all_roots_are}
+use Rattle.clock_domains.proofs.PlacedDomains.{AreMadeOf, clash_first, holder_there, lacking_second, limit_of, limit_third, made_of, names_found, none_told, roots_there, whole_is}
+use Rattle.clock_domains.proofs.ReadyLaws.{tree_sound}
+use Rattle.clock_domains.proofs.resolving.placed_domains.Goals as goal
+
+pub first_holders-requires : goal.first_holders-requires
+first_holders-requires g c =
+    subst (AllByRecursion (AllBelow (length c.args.pool.now.exprs))) (sym (c.as_slice.ensures ∙ c.in_ok-walk.ensures.roots)) (roots_there c.args.pool.now c.args.root.now c.requires.1)
+
+pub add_resets-requires-clause-size : goal.add_resets-requires-clause-size
+add_resets-requires-clause-size g c = ap length c.as_slice-2.ensures.value ∙ c.in_ok-holders.ensures.size
+
+pub add_resets-requires-clause-there : goal.add_resets-requires-clause-there
+add_resets-requires-clause-there g c k n e =
+    let q = c.args.pool.now in
+    let root = c.args.root.now in
+    let leaves = all_leaves root in
+    let walk = c.in_ok-walk.ensures in
+    let held = subst (AreHolders q (map leaf_exprs leaves)) (sym c.as_slice-2.ensures.value) (subst (λ (rs : List (List ExprId)). AreHolders q rs c.in_ok-holders.holders.items) (c.as_slice.ensures ∙ walk.roots) c.in_ok-holders.ensures) in
+    let low = holder_there q (map leaf_exprs leaves) c.as_slice-2.result.now k n held e in
+    omega (arith, low, length_map leaf_exprs leaves, length_map plain_names leaves, ap length walk.names)
+
+pub no_missing_reset-requires-clause-holders : goal.no_missing_reset-requires-clause-holders
+no_missing_reset-requires-clause-holders g c =
+    let q = c.args.pool.now in
+    subst (AreHolders q g.roots) (sym c.as_slice-4.ensures.value) (subst (λ (rs : List (List ExprId)). AreHolders q rs c.in_ok-holders.holders.items) (c.as_slice.ensures ∙ c.in_ok-walk.ensures.roots ∙ sym c.requires.0) c.in_ok-holders.ensures)
+
+pub no_missing_reset-requires-clause-distinct : goal.no_missing_reset-requires-clause-distinct
+no_missing_reset-requires-clause-distinct g c = c.in_ok-no_clash.ensures.accepted
+
+pub place_resets-requires-clause-size : goal.place_resets-requires-clause-size
+place_resets-requires-clause-size g c =
+    let q = c.args.pool.now in
+    let root = c.args.root.now in
+    let made = c.in_ok-domains.ensures.made in
+    ap length c.as_slice-7.ensures.value ∙ c.in_ok-holders.ensures.size ∙ sym (ap (λ (p : Pooled). length p.exprs) made.pool)
+
+pub place_resets-requires-clause-domains : goal.place_resets-requires-clause-domains
+place_resets-requires-clause-domains g c =
+    let q = c.args.pool.now in
+    let root = c.args.root.now in
+    let walk = c.in_ok-walk.ensures in
+    let held = subst (λ (rs : List (List ExprId)). AreHolders q rs c.in_ok-holders.holders.items) (c.as_slice.ensures ∙ walk.roots) c.in_ok-holders.ensures in
+    let held' = subst (AreHolders q (map leaf_exprs (all_leaves root))) (sym c.as_slice-2.ensures.value) held in
+    let said = names_found q root c.as_slice-2.result.now c.in_ok-walk.walk.names.items c.add_resets.new.names.items c.as_slice-6.result.now held' walk.names c.in_ok-add_resets.ensures (c.as_slice-6.ensures ∙ c.in_ok-names.ensures ∙ ap (flat_map (λ (own : List (List ℕ)). own)) c.as_slice-5.ensures.value) in
+    let made = made_of q root c.as_slice-3.result.now c.as_slice-6.result.now c.domains_made.new.pool c.in_ok-domains.domains (c.as_slice-3.ensures ∙ walk.definitions) said c.in_ok-domains.ensures.made in
+    subst (λ (p : Pooled). AllByRecursion (IsDomainOf p) c.as_slice-8.result.now) (sym made.pool)
+    (subst (AllByRecursion (IsDomainOf (made_pool q root))) (sym (c.as_slice-8.ensures ∙ made.domains)) (tree_sound q root c.requires.1))
