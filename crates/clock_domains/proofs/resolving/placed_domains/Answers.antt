@@ -38,13 +38,11 @@ add_resets-requires-clause-there g c k n e =
     let low = holder_there q (map leaf_exprs leaves) c.as_slice-2.result.now k n held e in
     omega (arith, low, length_map leaf_exprs leaves, length_map plain_names leaves, ap length walk.names)
 
-pub no_missing_reset-requires-clause-holders : goal.no_missing_reset-requires-clause-holders
-no_missing_reset-requires-clause-holders g c =
+pub no_missing_reset-requires : goal.no_missing_reset-requires
+no_missing_reset-requires g c =
     let q = c.args.pool.now in
-    subst (AreHolders q g.roots) (sym c.as_slice-4.ensures.value) (subst (λ (rs : List (List ExprId)). AreHolders q rs c.in_ok-holders.holders.items) (c.as_slice.ensures ∙ c.in_ok-walk.ensures.roots ∙ sym c.requires.0) c.in_ok-holders.ensures)
-
-pub no_missing_reset-requires-clause-distinct : goal.no_missing_reset-requires-clause-distinct
-no_missing_reset-requires-clause-distinct g c = c.in_ok-no_clash.ensures.accepted
+    let held = subst (AreHolders q g.roots) (sym c.as_slice-4.ensures.value) (subst (λ (rs : List (List ExprId)). AreHolders q rs c.in_ok-holders.holders.items) (c.as_slice.ensures ∙ c.in_ok-walk.ensures.roots ∙ sym c.requires.0) c.in_ok-holders.ensures) in
+    (held, c.in_ok-no_clash.ensures.accepted)
 
 pub place_resets-requires-clause-size : goal.place_resets-requires-clause-size
 place_resets-requires-clause-size g c =

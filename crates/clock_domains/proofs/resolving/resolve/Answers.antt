@@ -1,4 +1,4 @@
-use Rattle.std.proofs.Common.{◌≡◌, List, None, Ok, sym, ◌∙◌, ap, subst}
+use Rattle.std.proofs.Common.{◌≡◌, List, None, Ok, refl, sym, ◌∙◌, ap, subst}
 use Rattle.std.specs.Prelude.{IfOk, IfErr}
 use Rattle.std.specs.List.{AllByRecursion}
 use Rattle.std.proofs.lemmas.Result.{IfOk-weaker, err_from_is_err_and}
@@ -10,8 +10,8 @@ use Rattle.clock_domains.specs.Walks.{all_contents}
 use Rattle.clock_domains.proofs.ReadyLaws.{domain_owed, resolved_is, resolved_rising, walked_ready}
 use Rattle.clock_domains.proofs.resolving.resolve.Goals as goal
 
-pub placed_domains-requires-clause-tree : goal.placed_domains-requires-clause-tree
-placed_domains-requires-clause-tree c = c.requires.tree
+pub placed_domains-requires : goal.placed_domains-requires
+placed_domains-requires c = (refl, c.requires.tree)
 
 pub design_in-requires-clause-ready : goal.design_in-requires-clause-ready
 design_in-requires-clause-ready c =
