@@ -41,18 +41,21 @@ drivers_of-requires-clause-few c = omega (arith, ap length c.as_slice-2.ensures.
 pub drivers_of-requires-clause-inputs : goal.drivers_of-requires-clause-inputs
 drivers_of-requires-clause-inputs c = ap length c.as_slice-4.ensures.value ∙ c.in_ok-inputs.ensures.size
 
-pub parts_of-requires-clause-ready : goal.parts_of-requires-clause-ready
-parts_of-requires-clause-ready c = subst (λ (ds : List Domain). IsReady c.args.pool ds c.args.root.now.processes (all_contents c.args.root.now) c.args.top.now) (sym c.as_slice-5.ensures) c.requires.ready
-
-pub parts_of-requires-clause-driven : goal.parts_of-requires-clause-driven
-parts_of-requires-clause-driven c =
-    subst (λ (ms : List Memory). Flag c.in_ok-drivers.drivers.driven.items (is_given c.args.pool (all_processes c.args.root.now) ms)) (c.as_slice-3.ensures ∙ c.requires.memories)
-    (subst (λ (ps : List Process). Flag c.in_ok-drivers.drivers.driven.items (is_given c.args.pool ps c.as_slice-3.result.now)) (c.as_slice-2.ensures.value ∙ c.requires.processes) c.in_ok-drivers.ensures.driven)
-
-pub parts_of-requires-clause-sites : goal.parts_of-requires-clause-sites
-parts_of-requires-clause-sites c =
-    subst (λ (ms : List Memory). AreSites c.args.pool (all_processes c.args.root.now) ms c.in_ok-drivers.drivers.sites.items) (c.as_slice-3.ensures ∙ c.requires.memories)
-    (subst (λ (ps : List Process). AreSites c.args.pool ps c.as_slice-3.result.now c.in_ok-drivers.drivers.sites.items) (c.as_slice-2.ensures.value ∙ c.requires.processes) c.in_ok-drivers.ensures.sites)
+pub parts_of-requires : goal.parts_of-requires
+parts_of-requires c =
+    let q = c.args.pool in
+    let root = c.args.root.now in
+    let drivers = c.in_ok-drivers.drivers in
+    let ps = c.as_slice-2.ensures.value ∙ c.requires.processes in
+    let ms = c.as_slice-3.ensures ∙ c.requires.memories in
+    let ready = subst (λ (ds : List Domain). IsReady q ds root.processes (all_contents root) c.args.top.now) (sym c.as_slice-5.ensures) c.requires.ready in
+    let driven =
+    subst (λ (xs : List Memory). Flag drivers.driven.items (is_given q (all_processes root) xs)) ms
+    (subst (λ (xs : List Process). Flag drivers.driven.items (is_given q xs c.as_slice-3.result.now)) ps c.in_ok-drivers.ensures.driven) in
+    let sites =
+    subst (λ (xs : List Memory). AreSites q (all_processes root) xs drivers.sites.items) ms
+    (subst (λ (xs : List Process). AreSites q xs c.as_slice-3.result.now drivers.sites.items) ps c.in_ok-drivers.ensures.sites) in
+    (c.requires.processes, (c.requires.memories, (c.requires.paths, (ready, (driven, sites)))))
 
 pub returns-in_err-drivers-clause-refused : goal.returns-in_err-drivers-clause-refused
 returns-in_err-drivers-clause-refused c =

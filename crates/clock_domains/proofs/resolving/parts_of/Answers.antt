@@ -15,49 +15,36 @@ use Rattle.clock_domains.specs.Walks.{Contents}
 use Rattle.clock_domains.proofs.ReadyLaws.{columns_enough, ports_alike, ready_clocked, ready_domains, ready_exprs, ready_ports}
 use Rattle.clock_domains.proofs.resolving.parts_of.Goals as goal
 
-pub ports_of-requires-clause-domains : goal.ports_of-requires-clause-domains
-ports_of-requires-clause-domains g c = ready_domains c.args.pool.now c.args.domains.now c.args.root.now.processes g.all c.args.top.now c.requires.1.1.1.0
-
-pub ports_of-requires-clause-own : goal.ports_of-requires-clause-own
-ports_of-requires-clause-own g c = subst (AllByRecursion (IsSideOf c.args.pool.now)) (sym c.as_slice.ensures) c.requires.1.1.1.0.own_processes
-
-pub ports_of-requires-clause-sides : goal.ports_of-requires-clause-sides
-ports_of-requires-clause-sides g c = subst (AllByRecursion (IsSideOf c.args.pool.now)) (sym (c.as_slice-2.ensures.value ∙ c.requires.0)) c.requires.1.1.1.0.processes
-
-pub ports_of-requires-clause-ports : goal.ports_of-requires-clause-ports
-ports_of-requires-clause-ports g c =
-    subst (λ (ms : List Memory). AllBelow (length c.args.pool.now.exprs) (flat_map memory_exprs ms)) (sym (c.as_slice-3.ensures ∙ c.requires.1.0)) (ready_exprs c.args.pool.now c.args.domains.now c.args.root.now.processes g.all c.args.top.now c.requires.1.1.1.0)
-
-pub ports_of-requires-clause-top : goal.ports_of-requires-clause-top
-ports_of-requires-clause-top g c = c.requires.1.1.1.0.ports
-
-pub ports_of-requires-clause-driven : goal.ports_of-requires-clause-driven
-ports_of-requires-clause-driven g c =
-    subst (λ (ps : List Process). Flag c.args.drivers.driven.items (is_given c.args.pool.now ps c.as_slice-3.result.now)) (sym (c.as_slice-2.ensures.value ∙ c.requires.0))
-    (subst (λ (ms : List Memory). Flag c.args.drivers.driven.items (is_given c.args.pool.now g.all.processes ms)) (sym (c.as_slice-3.ensures ∙ c.requires.1.0)) c.requires.1.1.1.1.0)
-
-pub columns_in-requires-clause-paths : goal.columns_in-requires-clause-paths
-columns_in-requires-clause-paths g c = c.as_slice-4.ensures ∙ c.requires.1.1.0
-
-pub columns_in-requires-clause-walk : goal.columns_in-requires-clause-walk
-columns_in-requires-clause-walk g c = c.requires.1.1.1.0.walk
-
-pub columns_in-requires-clause-clocked : goal.columns_in-requires-clause-clocked
-columns_in-requires-clause-clocked g c = ready_clocked c.args.pool.now c.args.domains.now c.args.root.now.processes g.all c.args.top.now c.requires.1.1.1.0
-
-pub columns_in-requires-clause-ports : goal.columns_in-requires-clause-ports
-columns_in-requires-clause-ports g c =
+pub ports_of-requires : goal.ports_of-requires
+ports_of-requires g c =
     let q = c.args.pool.now in
     let ds = c.args.domains.now in
     let own = c.args.root.now.processes in
     let top = c.args.top.now in
+    let ready = c.requires.1.1.1.0 in
+    let ps = c.as_slice-2.ensures.value ∙ c.requires.0 in
+    let ms = c.as_slice-3.ensures ∙ c.requires.1.0 in
+    let own' = subst (AllByRecursion (IsSideOf q)) (sym c.as_slice.ensures) ready.own_processes in
+    let sides = subst (AllByRecursion (IsSideOf q)) (sym ps) ready.processes in
+    let exprs = subst (λ (xs : List Memory). AllBelow (length q.exprs) (flat_map memory_exprs xs)) (sym ms) (ready_exprs q ds own g.all top ready) in
+    let driven =
+    subst (λ (xs : List Process). Flag c.args.drivers.driven.items (is_given q xs c.as_slice-3.result.now)) (sym ps)
+    (subst (λ (xs : List Memory). Flag c.args.drivers.driven.items (is_given q g.all.processes xs)) (sym ms) c.requires.1.1.1.1.0) in
+    (refl, (refl, (ready_domains q ds own g.all top ready, (own', (sides, (exprs, (ready.ports, driven)))))))
+
+pub columns_in-requires : goal.columns_in-requires
+columns_in-requires g c =
+    let q = c.args.pool.now in
+    let ds = c.args.domains.now in
+    let own = c.args.root.now.processes in
+    let top = c.args.top.now in
+    let ready = c.requires.1.1.1.0 in
     let held : Contents = record { processes = c.as_slice-2.result.now; paths = []; memories = c.as_slice-3.result.now; memory_paths = [] } in
     let made : c.in_ok-ports.ports ≡ ports_of q ds own g.all top =
     c.in_ok-ports.ensures ∙ ap (λ (xs : List Process). ports_of q ds xs held top) c.as_slice.ensures ∙ ports_alike q ds own top held g.all (c.as_slice-2.ensures.value ∙ c.requires.0) (c.as_slice-3.ensures ∙ c.requires.1.0) in
-    subst (AllByRecursion (λ (p : Port). p.sig.0 < length q.signals)) (sym made) (ready_ports q ds own g.all top c.requires.1.1.1.0)
-
-pub columns_in-requires-clause-sites : goal.columns_in-requires-clause-sites
-columns_in-requires-clause-sites g c = subst (AreSites c.args.pool.now g.all.processes g.all.memories) (sym c.as_slice-5.ensures.value) c.requires.1.1.1.1.1
+    let there = subst (AllByRecursion (λ (p : Port). p.sig.0 < length q.signals)) (sym made) (ready_ports q ds own g.all top ready) in
+    let sites = subst (AreSites q g.all.processes g.all.memories) (sym c.as_slice-5.ensures.value) c.requires.1.1.1.1.1 in
+    (c.as_slice-4.ensures ∙ c.requires.1.1.0, (ready.walk, (ready_clocked q ds own g.all top ready, (there, sites))))
 
 pub processes_made-requires : goal.processes_made-requires
 processes_made-requires g c = c.requires.1.1.1.0.few
