@@ -32,6 +32,5 @@ pub mod PlacedLaws
 pub mod PlacingLaws
 pub mod HeldSignals
 pub mod PlacedParts
-pub mod HeldNames
 pub mod SiteLaws
 pub mod PlacedDomains
