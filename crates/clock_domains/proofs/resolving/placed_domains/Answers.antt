@@ -41,7 +41,7 @@ add_resets-requires-clause-there g c k n e =
 pub no_missing_reset-requires : goal.no_missing_reset-requires
 no_missing_reset-requires g c =
     let q = c.args.pool.now in
-    let held = subst (AreHolders q g.roots) (sym c.as_slice-4.ensures.value) (subst (λ (rs : List (List ExprId)). AreHolders q rs c.in_ok-holders.holders.items) (c.as_slice.ensures ∙ c.in_ok-walk.ensures.roots ∙ sym c.requires.0) c.in_ok-holders.ensures) in
+    let held = subst (AreHolders q g.roots) (sym c.as_slice-3.ensures.value) (subst (λ (rs : List (List ExprId)). AreHolders q rs c.in_ok-holders.holders.items) (c.as_slice.ensures ∙ c.in_ok-walk.ensures.roots ∙ sym c.requires.0) c.in_ok-holders.ensures) in
     (held, c.in_ok-no_clash.ensures.accepted)
 
 pub place_resets-requires-clause-size : goal.place_resets-requires-clause-size
@@ -49,7 +49,7 @@ place_resets-requires-clause-size g c =
     let q = c.args.pool.now in
     let root = c.args.root.now in
     let made = c.in_ok-domains.ensures.made in
-    ap length c.as_slice-7.ensures.value ∙ c.in_ok-holders.ensures.size ∙ sym (ap (λ (p : Pooled). length p.exprs) made.pool)
+    ap length c.as_slice-6.ensures.value ∙ c.in_ok-holders.ensures.size ∙ sym (ap (λ (p : Pooled). length p.exprs) made.pool)
 
 pub place_resets-requires-clause-domains : goal.place_resets-requires-clause-domains
 place_resets-requires-clause-domains g c =
@@ -58,14 +58,14 @@ place_resets-requires-clause-domains g c =
     let walk = c.in_ok-walk.ensures in
     let held = subst (λ (rs : List (List ExprId)). AreHolders q rs c.in_ok-holders.holders.items) (c.as_slice.ensures ∙ walk.roots) c.in_ok-holders.ensures in
     let held' = subst (AreHolders q (map leaf_exprs (all_leaves root))) (sym c.as_slice-2.ensures.value) held in
-    let said = names_found q root c.as_slice-2.result.now c.in_ok-walk.walk.names.items c.add_resets.new.names.items c.as_slice-6.result.now held' walk.names c.in_ok-add_resets.ensures (c.as_slice-6.ensures ∙ c.in_ok-names.ensures ∙ ap (flat_map (λ (own : List (List ℕ)). own)) c.as_slice-5.ensures.value) in
-    let made = made_of q root c.as_slice-3.result.now c.as_slice-6.result.now c.domains_made.new.pool c.in_ok-domains.domains (c.as_slice-3.ensures ∙ walk.definitions) said c.in_ok-domains.ensures.made in
-    subst (λ (p : Pooled). AllByRecursion (IsDomainOf p) c.as_slice-8.result.now) (sym made.pool)
-    (subst (AllByRecursion (IsDomainOf (made_pool q root))) (sym (c.as_slice-8.ensures ∙ made.domains)) (tree_sound q root c.requires.1))
+    let said = names_found q root c.as_slice-2.result.now c.in_ok-walk.walk.names.items c.add_resets.new.names.items c.as_slice-5.result.now held' walk.names c.in_ok-add_resets.ensures (c.as_slice-5.ensures ∙ c.in_ok-names.ensures ∙ ap (flat_map (λ (own : List (List ℕ)). own)) c.as_slice-4.ensures.value) in
+    let made = made_of q root c.as_slice-definitions.result.now c.as_slice-5.result.now c.domains_made.new.pool c.in_ok-domains.domains (c.as_slice-definitions.ensures ∙ walk.definitions) said c.in_ok-domains.ensures.made in
+    subst (λ (p : Pooled). AllByRecursion (IsDomainOf p) c.as_slice-7.result.now) (sym made.pool)
+    (subst (AllByRecursion (IsDomainOf (made_pool q root))) (sym (c.as_slice-7.ensures ∙ made.domains)) (tree_sound q root c.requires.1))
 
 pub returns-in_err-no_clash-clause-refused : goal.returns-in_err-no_clash-clause-refused
 returns-in_err-no_clash-clause-refused g c =
-    let owed = subst (λ (ds : List DomainDef). IsOwed (clash_after [] ds) c.in_err-no_clash.field-0.0) (c.as_slice-3.ensures ∙ c.in_ok-walk.ensures.definitions) c.in_err-no_clash.ensures.refused in
+    let owed = subst (λ (ds : List DomainDef). IsOwed (clash_after [] ds) c.in_err-no_clash.field-0.0) (c.as_slice-definitions.ensures ∙ c.in_ok-walk.ensures.definitions) c.in_err-no_clash.ensures.refused in
     let p = err_from_is_err_and c.from_residual-in_err-no_clash.result c.from_residual-in_err-no_clash.ensures.1 in
     rw (p.1, p.2) (clash_first c.args.pool.now c.args.root.now _ owed)
 
@@ -74,7 +74,7 @@ returns-in_err-no_missing_reset-clause-refused g c =
     let q = c.args.pool.now in
     let root = c.args.root.now in
     let walk = c.in_ok-walk.ensures in
-    let found = c.as_slice-3.ensures ∙ walk.definitions in
+    let found = c.as_slice-definitions.ensures ∙ walk.definitions in
     let free : clash_after [] (all_definitions root) ≡ None = sym (ap (clash_after []) found) ∙ c.in_ok-no_clash.ensures.accepted in
     let roots : all_roots g.roots ≡ fragment_exprs root = ap all_roots c.requires.0 ∙ all_roots_are root in
     let owed =
@@ -90,13 +90,13 @@ returns-in_err-domains-clause-refused g c =
     let walk = c.in_ok-walk.ensures in
     let held = subst (λ (rs : List (List ExprId)). AreHolders q rs c.in_ok-holders.holders.items) (c.as_slice.ensures ∙ walk.roots) c.in_ok-holders.ensures in
     let held' = subst (AreHolders q (map leaf_exprs (all_leaves root))) (sym c.as_slice-2.ensures.value) held in
-    let said = names_found q root c.as_slice-2.result.now c.in_ok-walk.walk.names.items c.add_resets.new.names.items c.as_slice-6.result.now held' walk.names c.in_ok-add_resets.ensures (c.as_slice-6.ensures ∙ c.in_ok-names.ensures ∙ ap (flat_map (λ (own : List (List ℕ)). own)) c.as_slice-5.ensures.value) in
-    let found = c.as_slice-3.ensures ∙ walk.definitions in
+    let said = names_found q root c.as_slice-2.result.now c.in_ok-walk.walk.names.items c.add_resets.new.names.items c.as_slice-5.result.now held' walk.names c.in_ok-add_resets.ensures (c.as_slice-5.ensures ∙ c.in_ok-names.ensures ∙ ap (flat_map (λ (own : List (List ℕ)). own)) c.as_slice-4.ensures.value) in
+    let found = c.as_slice-definitions.ensures ∙ walk.definitions in
     let free : clash_after [] (all_definitions root) ≡ None = sym (ap (clash_after []) found) ∙ c.in_ok-no_clash.ensures.accepted in
     let roots : all_roots g.roots ≡ fragment_exprs root = ap all_roots c.requires.0 ∙ all_roots_are root in
     let none : reset_refusal (all_definitions root) (held_resets q (fragment_exprs root)) ≡ None =
     sym (ap (λ (ds : List DomainDef). reset_refusal ds (held_resets q (all_roots g.roots))) found ∙ ap (λ (es : List ExprId). reset_refusal (all_definitions root) (held_resets q es)) roots) ∙ c.in_ok-no_missing_reset.ensures.accepted in
-    let owed = limit_of q root c.as_slice-3.result.now c.as_slice-6.result.now c.in_err-domains.field-0.0 found said c.in_err-domains.ensures.refused in
+    let owed = limit_of q root c.as_slice-definitions.result.now c.as_slice-5.result.now c.in_err-domains.field-0.0 found said c.in_err-domains.ensures.refused in
     let p = err_from_is_err_and c.from_residual-in_err-domains.result c.from_residual-in_err-domains.ensures.1 in
     rw (p.1, p.2) (limit_third q root _ free none owed)
 
@@ -121,8 +121,8 @@ returns-clause-domains g c =
     let walk = c.in_ok-walk.ensures in
     let held = subst (λ (rs : List (List ExprId)). AreHolders q rs c.in_ok-holders.holders.items) (c.as_slice.ensures ∙ walk.roots) c.in_ok-holders.ensures in
     let held' = subst (AreHolders q (map leaf_exprs (all_leaves root))) (sym c.as_slice-2.ensures.value) held in
-    let said = names_found q root c.as_slice-2.result.now c.in_ok-walk.walk.names.items c.add_resets.new.names.items c.as_slice-6.result.now held' walk.names c.in_ok-add_resets.ensures (c.as_slice-6.ensures ∙ c.in_ok-names.ensures ∙ ap (flat_map (λ (own : List (List ℕ)). own)) c.as_slice-5.ensures.value) in
-    let made = made_of q root c.as_slice-3.result.now c.as_slice-6.result.now c.domains_made.new.pool c.in_ok-domains.domains (c.as_slice-3.ensures ∙ walk.definitions) said c.in_ok-domains.ensures.made in
+    let said = names_found q root c.as_slice-2.result.now c.in_ok-walk.walk.names.items c.add_resets.new.names.items c.as_slice-5.result.now held' walk.names c.in_ok-add_resets.ensures (c.as_slice-5.ensures ∙ c.in_ok-names.ensures ∙ ap (flat_map (λ (own : List (List ℕ)). own)) c.as_slice-4.ensures.value) in
+    let made = made_of q root c.as_slice-definitions.result.now c.as_slice-5.result.now c.domains_made.new.pool c.in_ok-domains.domains (c.as_slice-definitions.ensures ∙ walk.definitions) said c.in_ok-domains.ensures.made in
     made.domains
 
 pub returns-clause-accepted : goal.returns-clause-accepted
@@ -132,9 +132,9 @@ returns-clause-accepted g c =
     let walk = c.in_ok-walk.ensures in
     let held = subst (λ (rs : List (List ExprId)). AreHolders q rs c.in_ok-holders.holders.items) (c.as_slice.ensures ∙ walk.roots) c.in_ok-holders.ensures in
     let held' = subst (AreHolders q (map leaf_exprs (all_leaves root))) (sym c.as_slice-2.ensures.value) held in
-    let said = names_found q root c.as_slice-2.result.now c.in_ok-walk.walk.names.items c.add_resets.new.names.items c.as_slice-6.result.now held' walk.names c.in_ok-add_resets.ensures (c.as_slice-6.ensures ∙ c.in_ok-names.ensures ∙ ap (flat_map (λ (own : List (List ℕ)). own)) c.as_slice-5.ensures.value) in
-    let made = made_of q root c.as_slice-3.result.now c.as_slice-6.result.now c.domains_made.new.pool c.in_ok-domains.domains (c.as_slice-3.ensures ∙ walk.definitions) said c.in_ok-domains.ensures.made in
-    let found = c.as_slice-3.ensures ∙ walk.definitions in
+    let said = names_found q root c.as_slice-2.result.now c.in_ok-walk.walk.names.items c.add_resets.new.names.items c.as_slice-5.result.now held' walk.names c.in_ok-add_resets.ensures (c.as_slice-5.ensures ∙ c.in_ok-names.ensures ∙ ap (flat_map (λ (own : List (List ℕ)). own)) c.as_slice-4.ensures.value) in
+    let made = made_of q root c.as_slice-definitions.result.now c.as_slice-5.result.now c.domains_made.new.pool c.in_ok-domains.domains (c.as_slice-definitions.ensures ∙ walk.definitions) said c.in_ok-domains.ensures.made in
+    let found = c.as_slice-definitions.ensures ∙ walk.definitions in
     let free : clash_after [] (all_definitions root) ≡ None = sym (ap (clash_after []) found) ∙ c.in_ok-no_clash.ensures.accepted in
     let roots : all_roots g.roots ≡ fragment_exprs root = ap all_roots c.requires.0 ∙ all_roots_are root in
     let none : reset_refusal (all_definitions root) (held_resets q (fragment_exprs root)) ≡ None =
@@ -148,10 +148,10 @@ returns-clause-pool g c =
     let walk = c.in_ok-walk.ensures in
     let held = subst (λ (rs : List (List ExprId)). AreHolders q rs c.in_ok-holders.holders.items) (c.as_slice.ensures ∙ walk.roots) c.in_ok-holders.ensures in
     let held' = subst (AreHolders q (map leaf_exprs (all_leaves root))) (sym c.as_slice-2.ensures.value) held in
-    let said = names_found q root c.as_slice-2.result.now c.in_ok-walk.walk.names.items c.add_resets.new.names.items c.as_slice-6.result.now held' walk.names c.in_ok-add_resets.ensures (c.as_slice-6.ensures ∙ c.in_ok-names.ensures ∙ ap (flat_map (λ (own : List (List ℕ)). own)) c.as_slice-5.ensures.value) in
-    let made = made_of q root c.as_slice-3.result.now c.as_slice-6.result.now c.domains_made.new.pool c.in_ok-domains.domains (c.as_slice-3.ensures ∙ walk.definitions) said c.in_ok-domains.ensures.made in
-    let held'' = subst (AreHolders q (map leaf_exprs (all_leaves root))) (sym c.as_slice-7.ensures.value) held in
-    whole_is q root c.domains_made.new.pool c.place_resets.new.pool c.as_slice-8.result.now c.as_slice-7.result.now made.pool (c.as_slice-8.ensures ∙ made.domains) held'' c.place_resets.ensures
+    let said = names_found q root c.as_slice-2.result.now c.in_ok-walk.walk.names.items c.add_resets.new.names.items c.as_slice-5.result.now held' walk.names c.in_ok-add_resets.ensures (c.as_slice-5.ensures ∙ c.in_ok-names.ensures ∙ ap (flat_map (λ (own : List (List ℕ)). own)) c.as_slice-4.ensures.value) in
+    let made = made_of q root c.as_slice-definitions.result.now c.as_slice-5.result.now c.domains_made.new.pool c.in_ok-domains.domains (c.as_slice-definitions.ensures ∙ walk.definitions) said c.in_ok-domains.ensures.made in
+    let held'' = subst (AreHolders q (map leaf_exprs (all_leaves root))) (sym c.as_slice-6.ensures.value) held in
+    whole_is q root c.domains_made.new.pool c.place_resets.new.pool c.as_slice-7.result.now c.as_slice-6.result.now made.pool (c.as_slice-7.ensures ∙ made.domains) held'' c.place_resets.ensures
 
 pub returns-clause-made : goal.returns-clause-made
 returns-clause-made g c =
@@ -160,6 +160,6 @@ returns-clause-made g c =
     let walk = c.in_ok-walk.ensures in
     let held = subst (λ (rs : List (List ExprId)). AreHolders q rs c.in_ok-holders.holders.items) (c.as_slice.ensures ∙ walk.roots) c.in_ok-holders.ensures in
     let held' = subst (AreHolders q (map leaf_exprs (all_leaves root))) (sym c.as_slice-2.ensures.value) held in
-    let said = names_found q root c.as_slice-2.result.now c.in_ok-walk.walk.names.items c.add_resets.new.names.items c.as_slice-6.result.now held' walk.names c.in_ok-add_resets.ensures (c.as_slice-6.ensures ∙ c.in_ok-names.ensures ∙ ap (flat_map (λ (own : List (List ℕ)). own)) c.as_slice-5.ensures.value) in
-    let made = made_of q root c.as_slice-3.result.now c.as_slice-6.result.now c.domains_made.new.pool c.in_ok-domains.domains (c.as_slice-3.ensures ∙ walk.definitions) said c.in_ok-domains.ensures.made in
+    let said = names_found q root c.as_slice-2.result.now c.in_ok-walk.walk.names.items c.add_resets.new.names.items c.as_slice-5.result.now held' walk.names c.in_ok-add_resets.ensures (c.as_slice-5.ensures ∙ c.in_ok-names.ensures ∙ ap (flat_map (λ (own : List (List ℕ)). own)) c.as_slice-4.ensures.value) in
+    let made = made_of q root c.as_slice-definitions.result.now c.as_slice-5.result.now c.domains_made.new.pool c.in_ok-domains.domains (c.as_slice-definitions.ensures ∙ walk.definitions) said c.in_ok-domains.ensures.made in
     subst IsPool made.pool c.known-2.ensures
