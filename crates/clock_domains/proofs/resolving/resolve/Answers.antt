@@ -18,22 +18,22 @@ design_in-requires-clause-ready c =
     let q = c.args.pool in
     let root = c.args.root in
     let top = c.args.top in
-    let placed = c.in_ok-placed_domains.ensures in
-    subst (λ (p : Pooled). IsReady p c.in_ok-placed_domains.field-0.domains root.processes (all_contents root) top) (sym placed.pool)
+    let placed = c.in_ok-held.ensures in
+    subst (λ (p : Pooled). IsReady p c.in_ok-held.field-0.domains root.processes (all_contents root) top) (sym placed.pool)
     (subst (λ (ds : List Domain). IsReady (whole_pool q root) ds root.processes (all_contents root) top) (sym placed.domains) (walked_ready q root top c.requires c.known.ensures placed.made placed.accepted))
 
-pub returns-in_err-placed_domains-clause-refused : goal.returns-in_err-placed_domains-clause-refused
-returns-in_err-placed_domains-clause-refused c =
-    let p = err_from_is_err_and c.from_residual-in_err-placed_domains.result c.from_residual-in_err-placed_domains.ensures.1 in
-    rw (p.1, p.2) (domain_owed c.args.pool c.args.root c.args.top _ c.in_err-placed_domains.ensures.refused)
+pub returns-in_err-held-clause-refused : goal.returns-in_err-held-clause-refused
+returns-in_err-held-clause-refused c =
+    let p = err_from_is_err_and c.from_residual.result c.from_residual.ensures.1 in
+    rw (p.1, p.2) (domain_owed c.args.pool c.args.root c.args.top _ c.in_err-held.ensures.refused)
 
 pub returns-clause-design : goal.returns-clause-design
 returns-clause-design c =
     let q = c.args.pool in
     let root = c.args.root in
     let top = c.args.top in
-    let placed = c.in_ok-placed_domains.ensures in
-    let same : resolved q root top ≡ resolved_in c.placed_domains.new.pool c.in_ok-placed_domains.field-0.domains root.processes (all_contents root) top =
+    let placed = c.in_ok-held.ensures in
+    let same : resolved q root top ≡ resolved_in c.placed_domains.new.pool c.in_ok-held.field-0.domains root.processes (all_contents root) top =
     resolved_is q root top placed.accepted
     ∙ ap (λ (p : Pooled). resolved_in p (made_domains q root) root.processes (all_contents root) top) (sym placed.pool)
     ∙ ap (λ (ds : List Domain). resolved_in c.placed_domains.new.pool ds root.processes (all_contents root) top) (sym placed.domains) in
@@ -44,8 +44,8 @@ returns-clause-rising c =
     let q = c.args.pool in
     let root = c.args.root in
     let top = c.args.top in
-    let placed = c.in_ok-placed_domains.ensures in
-    let same : resolved q root top ≡ resolved_in c.placed_domains.new.pool c.in_ok-placed_domains.field-0.domains root.processes (all_contents root) top =
+    let placed = c.in_ok-held.ensures in
+    let same : resolved q root top ≡ resolved_in c.placed_domains.new.pool c.in_ok-held.field-0.domains root.processes (all_contents root) top =
     resolved_is q root top placed.accepted
     ∙ ap (λ (p : Pooled). resolved_in p (made_domains q root) root.processes (all_contents root) top) (sym placed.pool)
     ∙ ap (λ (ds : List Domain). resolved_in c.placed_domains.new.pool ds root.processes (all_contents root) top) (sym placed.domains) in
@@ -56,8 +56,8 @@ returns-clause-refused c =
     let q = c.args.pool in
     let root = c.args.root in
     let top = c.args.top in
-    let placed = c.in_ok-placed_domains.ensures in
-    let same : resolved q root top ≡ resolved_in c.placed_domains.new.pool c.in_ok-placed_domains.field-0.domains root.processes (all_contents root) top =
+    let placed = c.in_ok-held.ensures in
+    let same : resolved q root top ≡ resolved_in c.placed_domains.new.pool c.in_ok-held.field-0.domains root.processes (all_contents root) top =
     resolved_is q root top placed.accepted
     ∙ ap (λ (p : Pooled). resolved_in p (made_domains q root) root.processes (all_contents root) top) (sym placed.pool)
     ∙ ap (λ (ds : List Domain). resolved_in c.placed_domains.new.pool ds root.processes (all_contents root) top) (sym placed.domains) in
