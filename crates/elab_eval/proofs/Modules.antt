@@ -1,11 +1,10 @@
 -- A tree of modules whose statements stand is one that can be resolved.
-use Rattle.std.specs.Prelude.{IsTrue, ◌≡◌, refl, ℕ, ◌<◌, not, List, [], ◌∷◌, ◌++◌, map, length, slice_get, slice_index_or, Option, Some, None, zero, suc, codes}
+use Rattle.std.specs.Prelude.{IsTrue, ◌≡◌, refl, ℕ, not, List, [], ◌∷◌, ◌++◌, map, slice_get, slice_index_or, Option, Some, None, zero, suc, codes}
 use Rattle.std.specs.Option.{option_map_or}
 use Rattle.std.specs.List.{AllByRecursion}
 use Rattle.std.proofs.Common.{ap, ◌∙◌, subst}
 use Rattle.std.proofs.lemmas.List.Elements.{All-nil}
 use Rattle.lists.specs.Names.{IsName, continues_name}
-use Rattle.design_ir.specs.declared.ids.ExprId.{ExprId}
 use Rattle.design_ir.specs.declared.domain.DomainDef.{DomainDef}
 use Rattle.design_ir.specs.declared.process.Side.{Side}
 use Rattle.design_ir.specs.declared.memory.Memory.{Memory}
