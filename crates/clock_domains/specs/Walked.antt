@@ -15,10 +15,3 @@ pub record IsWalkOf (root : Fragment) (w : Walk) : Type 0 where
   pub names : w.names.items ≡ map plain_names (all_leaves root)
   pub roots : w.roots ≡ map leaf_exprs (all_leaves root)
   pub few : length w.processes.items < 2 ^ 32
-
--- only the names of domains have changed
-pub record IsKeptBy (old new : Walk) : Type 0 where
-  pub processes : new.processes.items ≡ old.processes.items
-  pub paths : new.paths ≡ old.paths
-  pub memories : new.memories ≡ old.memories
-  pub memory_paths : new.memory_paths ≡ old.memory_paths
