@@ -1,7 +1,6 @@
 -- What is proved of the moments at which clocks toggle.
 -- Source: as of Moments and Due.
 use Rattle.std.specs.Prelude.{◌≡◌, ◌≢◌, ℕ, ◌+◌, ◌*◌, ◌<◌, ◌≤◌, ◌^◌, ◌⊎◌, ◌↔◌, true, ⊤, List, [], ◌∷◌, length, slice_get, Contains, Option, Some, None}
-use Rattle.std.specs.List.{AllByRecursion}
 use Rattle.design_ir.specs.declared.ids.DomainId.{DomainId}
 use Rattle.design_ir.specs.declared.event.Event.TheVariants.{Edge}
 use Rattle.design_ir.specs.Circuits.{Circuit}
@@ -14,7 +13,7 @@ use Rattle.calendar.specs.Due.{toggles, is_due, clocks_of, due_domains, AreWithi
 
 -- the test says where a clock toggles
 abbrev pub TestsAreToggles : Type 0
-TestsAreToggles = (c : Clock) (m : ℕ) → IsClock c → (toggles m c ≡ true) ↔ Toggles c m
+TestsAreToggles = (c : Clock) (m : ℕ) → (toggles m c ≡ true) ↔ Toggles c m
 
 -- it begins at its phase
 abbrev pub PhasesAreFirst : Type 0
@@ -55,15 +54,15 @@ TurnsAreInOrder = (c : Clock) (ms : List ℕ) (k m : ℕ) → IsClock c → Foll
 
 -- something is due at the moments alone
 abbrev pub DueIsMoment : Type 0
-DueIsMoment = (clocks : List Clock) (m : ℕ) → AllByRecursion IsClock clocks → (is_due clocks m ≡ true) ↔ IsMoment clocks m
+DueIsMoment = (clocks : List Clock) (m : ℕ) → (is_due clocks m ≡ true) ↔ IsMoment clocks m
 
 -- the domains that are due are those with a clock that toggles
 abbrev pub DueHaveClocks : Type 0
-DueHaveClocks = (clocks : List Clock) (domains m : ℕ) (d : DomainId) → AllByRecursion IsClock clocks → AreWithin domains clocks → Contains (due_domains clocks domains m) d ↔ IsMoment (clocks_of d clocks) m
+DueHaveClocks = (clocks : List Clock) (domains m : ℕ) (d : DomainId) → AreWithin domains clocks → Contains (due_domains clocks domains m) d ↔ IsMoment (clocks_of d clocks) m
 
 -- there are some exactly at the moments
 abbrev pub DueAreSome : Type 0
-DueAreSome = (clocks : List Clock) (domains m : ℕ) → AllByRecursion IsClock clocks → AreWithin domains clocks → (due_domains clocks domains m ≢ []) ↔ IsMoment clocks m
+DueAreSome = (clocks : List Clock) (domains m : ℕ) → AreWithin domains clocks → (due_domains clocks domains m ≢ []) ↔ IsMoment clocks m
 
 -- of a design's domains, where there are any, they are an event that it takes
 abbrev pub DueAreLegal : Type 0
