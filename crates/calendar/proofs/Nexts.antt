@@ -1,8 +1,9 @@
 -- The next moment of several clocks, and moments one after another.
-use Rattle.std.proofs.Common.{◌≡◌, refl, sym, ap, ◌∙◌, subst, ◌⊎◌, inl, inr, ℕ, suc, zero, ◌+◌, ◌*◌, ◌<◌, ◌≤◌, ◌^◌, List, [], ◌∷◌, ◌++◌, Option, Some, None, arith}
+use Rattle.std.proofs.Common.{◌≡◌, refl, sym, ap, ◌∙◌, subst, ◌⊎◌, inl, inr, ℕ, suc, zero, ◌+◌, ◌*◌, ◌<◌, ◌≤◌, ◌^◌, List, [], ◌∷◌, ◌++◌, length, take, get_or, Option, Some, None, arith}
 use Rattle.std.specs.Prelude.{min, Contains, slice_get}
 use Rattle.std.proofs.lemmas.Bool.{cases_lt, cases_order}
 use Rattle.std.proofs.lemmas.Option.{same_Some, none-some}
+use Rattle.std.proofs.lemmas.List.{take_more}
 use Rattle.std.proofs.lemmas.List.Elements.{Contains-append_right}
 use Rattle.std.proofs.Math.Nat.{min-eq_left, min-eq_right}
 use Rattle.calendar.specs.declared.clock.Clock.{Clock}
@@ -41,6 +42,13 @@ next_both xs ys after (Some a) (Some b) p q = elim (cases_lt b a) [
   | inr more ↦ subst (λ (n : ℕ). IsLeast (xs ++ ys) after n) (sym (min-eq_left more))
       (record { moment = moment_left xs ys a p.moment; behind = p.behind; none = λ m h e k. elim (moment_cases xs ys m k) [ | inl i ↦ p.none m h e i | inr j ↦ q.none m h (omega (arith, e, more)) j ] })
 ]
+
+-- one clock more
+pub next_more : (clocks : List Clock) (i : ℕ) (c : Clock) (after a b least : Option ℕ) → i < length clocks → c ≡ get_or clocks i c → IsNext (take i clocks) after a → IsNext (c ∷ []) after b → least ≡ earlier a b
+    → IsNext (take (i + 1) clocks) after least
+next_more clocks i c after a b least held is p q e =
+    let whole : take (i + 1) clocks ≡ take i clocks ++ c ∷ [] = take_more clocks i c held ∙ ap (λ x. take i clocks ++ x ∷ []) (sym is) in
+    subst (λ n. IsNext (take (i + 1) clocks) after n) (sym e) (subst (λ xs. IsNext xs after (earlier a b)) (sym whole) (next_both (take i clocks) (c ∷ []) after a b p q))
 
 -- ---- moments one after another
 
