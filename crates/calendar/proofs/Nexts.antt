@@ -44,11 +44,9 @@ next_both xs ys after (Some a) (Some b) p q = elim (cases_lt b a) [
 ]
 
 -- one clock more
-pub next_more : (clocks : List Clock) (i : ℕ) (c : Clock) (after a b least : Option ℕ) → i < length clocks → c ≡ get_or clocks i c → IsNext (take i clocks) after a → IsNext (c ∷ []) after b → least ≡ earlier a b
-    → IsNext (take (i + 1) clocks) after least
-next_more clocks i c after a b least held is p q e =
-    let whole : take (i + 1) clocks ≡ take i clocks ++ c ∷ [] = take_more clocks i c held ∙ ap (λ x. take i clocks ++ x ∷ []) (sym is) in
-    subst (λ n. IsNext (take (i + 1) clocks) after n) (sym e) (subst (λ xs. IsNext xs after (earlier a b)) (sym whole) (next_both (take i clocks) (c ∷ []) after a b p q))
+pub next_more : (clocks : List Clock) (i : ℕ) (d : Clock) (after a b least : Option ℕ) → i < length clocks → IsNext (take i clocks) after a → IsNext (get_or clocks i d ∷ []) after b → least ≡ earlier a b → IsNext (take (i + 1) clocks) after least
+next_more clocks i d after a b least held p q e =
+    rw (take_more clocks i d held, e) (next_both (take i clocks) (get_or clocks i d ∷ []) after a b p q)
 
 -- ---- moments one after another
 
