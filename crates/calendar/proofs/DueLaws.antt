@@ -1,8 +1,9 @@
 -- What is due at a moment.
-use Rattle.std.proofs.Common.{◌≡◌, ◌≢◌, refl, sym, ap, ◌∙◌, subst, ◌⊎◌, inl, inr, ◌↔◌, ℕ, suc, zero, ◌+◌, ◌<◌, ◌≤◌, Bool, true, false, cond, List, [], ◌∷◌, ◌++◌, map, length, arith}
+use Rattle.std.proofs.Common.{◌≡◌, ◌≢◌, refl, sym, ap, ◌∙◌, subst, ◌⊎◌, inl, inr, ◌↔◌, ℕ, suc, zero, ◌+◌, ◌<◌, ◌≤◌, Bool, true, false, cond, List, [], ◌∷◌, ◌++◌, map, length, get_or, arith}
 use Rattle.std.specs.Prelude.{Contains, filter, ◌==◌}
 use Rattle.std.specs.List.{AllByRecursion, list_any, range_with_len}
 use Rattle.std.proofs.lemmas.Bool.{false≢true, cases_eq, or_cases, or_left, or_right, eqb-true, eq-eqb}
+use Rattle.std.proofs.lemmas.List.FromFn.{filter_of_map_range_with_len_more}
 use Rattle.std.proofs.lemmas.List.Elements.{Contains-append_right, Contains-append_cases}
 use Rattle.design_ir.specs.declared.ids.DomainId.{DomainId}
 use Rattle.design_ir.specs.Circuits.{Circuit}
@@ -149,3 +150,19 @@ pub due_are_legal : DueAreLegal
 due_are_legal c clocks m some =
     let p : DomainId → Bool = λ x. is_due (clocks_of x clocks) m in
     (some, passing_within p 0 (length c.domains) (length c.domains) (omega arith), passing_ascends p 0 (length c.domains) 0 (omega arith))
+
+-- one domain more
+pub due_more : (clocks : List Clock) (domains m : ℕ) (b : Bool) → is_due (clocks_of (domain domains) clocks) m ≡ b → due_domains clocks (domains + 1) m ≡ due_domains clocks domains m ++ cond b (domain domains ∷ []) []
+due_more clocks domains m b e =
+    filter_of_map_range_with_len_more (λ x. is_due (clocks_of x clocks) m) domain 0 domains domains (omega arith)
+    ∙ ap (λ t. due_domains clocks domains m ++ cond t (domain domains ∷ []) []) e
+
+-- a clock that toggles makes its domain due
+pub due_here : (d : DomainId) (clocks : List Clock) (i : ℕ) (x : Clock) (m : ℕ) → i < length clocks → ((get_or clocks i x).domain.0 == d.0) ≡ true → toggles m (get_or clocks i x) ≡ true → is_due (clocks_of d clocks) m ≡ true
+due_here d [] i x m held of toggling = absurd (omega (arith, held))
+due_here d (c ∷ cs) zero x m held of toggling = rw (of, toggling) refl
+due_here d (c ∷ cs) (suc i) x m held of toggling = here (c.domain.0 == d.0) refl (due_here d cs i x m (omega (arith, held)) of toggling)
+  where
+    here : (b : Bool) → (c.domain.0 == d.0) ≡ b → is_due (clocks_of d cs) m ≡ true → is_due (clocks_of d (c ∷ cs)) m ≡ true
+    here true e h = rw e (or_right (toggles m c) (is_due (clocks_of d cs) m) h)
+    here false e h = rw e h
