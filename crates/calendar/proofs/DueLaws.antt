@@ -21,11 +21,11 @@ due_is_moment clocks m = (there clocks, back clocks)
   where
     there : (cs : List Clock) → is_due cs m ≡ true → IsMoment cs m
     there [] h = absurd (false≢true h)
-    there (c ∷ cs) h = elim (or_cases (toggles m c) (is_due cs m) h) [ | inl t ↦ inl ((tests_are_toggles c m).0 t) | inr k ↦ inr (there cs k) ]
+    there (c ∷ cs) h = elim (or_cases (toggles m c) (is_due cs m) h) [ inl t ↦ inl ((tests_are_toggles c m).0 t) | inr k ↦ inr (there cs k) ]
 
     back : (cs : List Clock) → IsMoment cs m → is_due cs m ≡ true
     back [] h = absurd h
-    back (c ∷ cs) h = elim h [ | inl t ↦ or_left (toggles m c) (is_due cs m) ((tests_are_toggles c m).1 t) | inr k ↦ or_right (toggles m c) (is_due cs m) (back cs k) ]
+    back (c ∷ cs) h = elim h [ inl t ↦ or_left (toggles m c) (is_due cs m) ((tests_are_toggles c m).1 t) | inr k ↦ or_right (toggles m c) (is_due cs m) (back cs k) ]
 
 -- ---- the clocks of a domain
 
@@ -39,7 +39,7 @@ moment_of_domain d [] m h = h
 moment_of_domain d (c ∷ cs) m h = here (c.domain.0 == d.0) refl (λ k. moment_of_domain d cs m k)
   where
     here : (b : Bool) → (c.domain.0 == d.0) ≡ b → (IsMoment (clocks_of d cs) m → IsMoment cs m) → IsMoment (c ∷ cs) m
-    here true e more = elim (subst (λ xs. IsMoment xs m) (clocks_more d c cs true e) h) [ | inl t ↦ inl t | inr k ↦ inr (more k) ]
+    here true e more = elim (subst (λ xs. IsMoment xs m) (clocks_more d c cs true e) h) [ inl t ↦ inl t | inr k ↦ inr (more k) ]
     here false e more = inr (more (subst (λ xs. IsMoment xs m) (clocks_more d c cs false e) h))
 
 -- a domain with a clock that toggles

@@ -16,7 +16,7 @@ use Rattle.calendar.proofs.Turns.{toggles_of, phases_are_first, next_is_a_half_a
 
 moment_left : (xs ys : List Clock) (m : ℕ) → IsMoment xs m → IsMoment (xs ++ ys) m
 moment_left [] ys m h = absurd h
-moment_left (c ∷ cs) ys m h = elim h [ | inl t ↦ inl t | inr k ↦ inr (moment_left cs ys m k) ]
+moment_left (c ∷ cs) ys m h = elim h [ inl t ↦ inl t | inr k ↦ inr (moment_left cs ys m k) ]
 
 moment_right : (xs ys : List Clock) (m : ℕ) → IsMoment ys m → IsMoment (xs ++ ys) m
 moment_right [] ys m h = h
@@ -26,21 +26,21 @@ moment_cases : (xs ys : List Clock) (m : ℕ) → IsMoment (xs ++ ys) m → IsMo
 moment_cases [] ys m h = inr h
 moment_cases (c ∷ cs) ys m h = elim h [
   | inl t ↦ inl (inl t)
-  | inr k ↦ elim (moment_cases cs ys m k) [ | inl i ↦ inl (inr i) | inr j ↦ inr j ]
+  | inr k ↦ elim (moment_cases cs ys m k) [ inl i ↦ inl (inr i) | inr j ↦ inr j ]
 ]
 
 -- the earlier one is the next of both
 pub next_both : (xs ys : List Clock) (after a b : Option ℕ) → IsNext xs after a → IsNext ys after b → IsNext (xs ++ ys) after (earlier a b)
-next_both xs ys after None None p q = λ m h k. elim (moment_cases xs ys m k) [ | inl i ↦ p m h i | inr j ↦ q m h j ]
+next_both xs ys after None None p q = λ m h k. elim (moment_cases xs ys m k) [ inl i ↦ p m h i | inr j ↦ q m h j ]
 next_both xs ys after None (Some b) p q =
-    record { moment = moment_right xs ys b q.moment; behind = q.behind; none = λ m h e k. elim (moment_cases xs ys m k) [ | inl i ↦ p m h i | inr j ↦ q.none m h e j ] }
+    record { moment = moment_right xs ys b q.moment; behind = q.behind; none = λ m h e k. elim (moment_cases xs ys m k) [ inl i ↦ p m h i | inr j ↦ q.none m h e j ] }
 next_both xs ys after (Some a) None p q =
-    record { moment = moment_left xs ys a p.moment; behind = p.behind; none = λ m h e k. elim (moment_cases xs ys m k) [ | inl i ↦ p.none m h e i | inr j ↦ q m h j ] }
+    record { moment = moment_left xs ys a p.moment; behind = p.behind; none = λ m h e k. elim (moment_cases xs ys m k) [ inl i ↦ p.none m h e i | inr j ↦ q m h j ] }
 next_both xs ys after (Some a) (Some b) p q = elim (cases_lt b a) [
   | inl less ↦ subst (λ (n : ℕ). IsLeast (xs ++ ys) after n) (sym (min-eq_right (omega (arith, less))))
-      (record { moment = moment_right xs ys b q.moment; behind = q.behind; none = λ m h e k. elim (moment_cases xs ys m k) [ | inl i ↦ p.none m h (omega (arith, e, less)) i | inr j ↦ q.none m h e j ] })
+      (record { moment = moment_right xs ys b q.moment; behind = q.behind; none = λ m h e k. elim (moment_cases xs ys m k) [ inl i ↦ p.none m h (omega (arith, e, less)) i | inr j ↦ q.none m h e j ] })
   | inr more ↦ subst (λ (n : ℕ). IsLeast (xs ++ ys) after n) (sym (min-eq_left more))
-      (record { moment = moment_left xs ys a p.moment; behind = p.behind; none = λ m h e k. elim (moment_cases xs ys m k) [ | inl i ↦ p.none m h e i | inr j ↦ q.none m h (omega (arith, e, more)) j ] })
+      (record { moment = moment_left xs ys a p.moment; behind = p.behind; none = λ m h e k. elim (moment_cases xs ys m k) [ inl i ↦ p.none m h e i | inr j ↦ q.none m h (omega (arith, e, more)) j ] })
 ]
 
 -- one clock more
@@ -57,9 +57,9 @@ next_is_one clocks after (Some a) None p q = absurd (q a p.behind p.moment)
 next_is_one clocks after (Some a) (Some b) p q = elim (cases_order a b) [
   | inl same ↦ ap (λ n. Some n) same
   | inr other ↦ elim other [
-      | inl less ↦ absurd (q.none a p.behind less p.moment)
-      | inr more ↦ absurd (p.none b q.behind more q.moment)
-    ]
+    | inl less ↦ absurd (q.none a p.behind less p.moment)
+    | inr more ↦ absurd (p.none b q.behind more q.moment)
+  ]
 ]
 
 pub none_is_passed : NoneIsPassed
@@ -67,9 +67,9 @@ none_is_passed clocks after [] m f h k = inr h
 none_is_passed clocks after (n ∷ ms) m f h k = elim (cases_order m n) [
   | inl same ↦ inl (0, omega arith, sym same)
   | inr other ↦ elim other [
-      | inl less ↦ absurd (f.0.none m h less k)
-      | inr more ↦ elim (none_is_passed clocks (Some n) ms m f.1 more k) [ | inl i ↦ inl (Contains-append_right (n ∷ []) ms m i) | inr j ↦ inr j ]
-    ]
+    | inl less ↦ absurd (f.0.none m h less k)
+    | inr more ↦ elim (none_is_passed clocks (Some n) ms m f.1 more k) [ inl i ↦ inl (Contains-append_right (n ∷ []) ms m i) | inr j ↦ inr j ]
+  ]
 ]
 
 -- ---- the moments of one clock

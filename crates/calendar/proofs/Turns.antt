@@ -78,7 +78,7 @@ past_of_turn c m is_clock t =
 -- ---- one clock
 
 pub toggles_of : (c : Clock) (m : ℕ) → IsMoment (c ∷ []) m → Toggles c m
-toggles_of c m h = elim h [ | inl t ↦ t | inr never ↦ absurd never ]
+toggles_of c m h = elim h [ inl t ↦ t | inr never ↦ absurd never ]
 
 pub next_below : (c : Clock) (after next : ℕ) → IsPast c after next → next < 2 ^ 63 → IsNext (c ∷ []) (Some after) (Some next)
 next_below c after next p below =
