@@ -1,17 +1,16 @@
 -- What is due at a moment.
-use Rattle.std.proofs.Common.{◌≡◌, ◌≢◌, refl, sym, ap, ◌∙◌, subst, ◌⊎◌, inl, inr, ◌↔◌, ℕ, suc, zero, ◌+◌, ◌<◌, ◌≤◌, Bool, true, false, cond, List, [], ◌∷◌, ◌++◌, map, length, get_or, arith}
+use Rattle.std.proofs.Common.{◌≡◌, ◌≢◌, refl, sym, ap, ◌∙◌, subst, inl, inr, ℕ, suc, zero, ◌+◌, ◌<◌, ◌≤◌, Bool, true, false, cond, List, [], ◌∷◌, ◌++◌, map, length, get_or, arith}
 use Rattle.std.specs.Prelude.{Contains, filter, ◌==◌}
-use Rattle.std.specs.List.{AllByRecursion, list_any, range_with_len}
+use Rattle.std.specs.List.{AllByRecursion, range_with_len}
 use Rattle.std.proofs.lemmas.Bool.{false≢true, cases_eq, or_cases, or_left, or_right, eqb-true, eq-eqb}
 use Rattle.std.proofs.lemmas.List.FromFn.{filter_of_map_range_with_len_more}
 use Rattle.std.proofs.lemmas.List.Elements.{Contains-append_right, Contains-append_cases}
 use Rattle.design_ir.specs.declared.ids.DomainId.{DomainId}
-use Rattle.design_ir.specs.Circuits.{Circuit}
 use Rattle.design_ir.specs.Legal.{Ascending}
 use Rattle.calendar.specs.declared.clock.Clock.{Clock}
-use Rattle.calendar.specs.Moments.{Toggles, IsMoment}
-use Rattle.calendar.specs.Due.{toggles, is_due, domain, clocks_of, due_domains, AreWithin}
-use Rattle.calendar.specs.Laws.{DueIsMoment, DueHaveClocks, DueAreSome, DueAreLegal}
+use Rattle.calendar.specs.Moments.{IsMoment}
+use Rattle.calendar.specs.Due.{toggles, is_due, domain, clocks_of, due_domains, AreWithin, AreAnEvent}
+use Rattle.calendar.specs.Laws.{DueIsMoment, DueHaveClocks, DueAreSome, DueAreAnEvent}
 use Rattle.calendar.proofs.Turns.{tests_are_toggles}
 
 -- ---- moments
@@ -146,10 +145,14 @@ due_are_some clocks domains m w = (λ h. first (due_domains clocks domains m) re
     some : IsDomainOf clocks m domains → due_domains clocks domains m ≢ []
     some o none = nothing o.domain_id (subst (λ xs. Contains xs o.domain_id) none ((due_have_clocks clocks domains m o.domain_id w).1 o.moment))
 
-pub due_are_legal : DueAreLegal
-due_are_legal c clocks m some =
+pub due_are_an_event : DueAreAnEvent
+due_are_an_event clocks domains m some c count =
     let p : DomainId → Bool = λ x. is_due (clocks_of x clocks) m in
-    (some, passing_within p 0 (length c.domains) (length c.domains) (omega arith), passing_ascends p 0 (length c.domains) 0 (omega arith))
+    (some, passing_within p 0 domains (length c.domains) (omega (arith, count)), passing_ascends p 0 domains 0 (omega arith))
+
+-- at a moment of some clock they are an event
+pub event_at : (clocks : List Clock) (domains m : ℕ) (due : List DomainId) → AreWithin domains clocks → due ≡ due_domains clocks domains m → IsMoment clocks m → AreAnEvent domains due
+event_at clocks domains m due within is moment = subst (AreAnEvent domains) (sym is) (due_are_an_event clocks domains m ((due_are_some clocks domains m within).1 moment))
 
 -- one domain more
 pub due_more : (clocks : List Clock) (domains m : ℕ) (b : Bool) → is_due (clocks_of (domain domains) clocks) m ≡ b → due_domains clocks (domains + 1) m ≡ due_domains clocks domains m ++ cond b (domain domains ∷ []) []

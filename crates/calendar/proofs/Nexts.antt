@@ -1,15 +1,15 @@
 -- The next moment of several clocks, and moments one after another.
-use Rattle.std.proofs.Common.{◌≡◌, refl, sym, ap, ◌∙◌, subst, ◌⊎◌, inl, inr, ℕ, suc, zero, ◌+◌, ◌*◌, ◌<◌, ◌≤◌, ◌^◌, List, [], ◌∷◌, ◌++◌, length, take, get_or, Option, Some, None, arith}
-use Rattle.std.specs.Prelude.{min, Contains, slice_get}
+use Rattle.std.proofs.Common.{◌≡◌, refl, sym, ap, ◌∙◌, subst, ◌⊎◌, inl, inr, ℕ, suc, zero, ◌+◌, ◌*◌, ◌<◌, ◌^◌, List, [], ◌∷◌, ◌++◌, length, take, get_or, Option, Some, None, arith}
+use Rattle.std.specs.Prelude.{slice_get}
 use Rattle.std.proofs.lemmas.Bool.{cases_lt, cases_order}
 use Rattle.std.proofs.lemmas.Option.{same_Some, none-some}
 use Rattle.std.proofs.lemmas.List.{take_more}
 use Rattle.std.proofs.lemmas.List.Elements.{Contains-append_right}
 use Rattle.std.proofs.Math.Nat.{min-eq_left, min-eq_right}
 use Rattle.calendar.specs.declared.clock.Clock.{Clock}
-use Rattle.calendar.specs.Moments.{IsClock, Toggles, IsMoment, IsBehind, IsLeast, IsNext}
+use Rattle.calendar.specs.Moments.{IsClock, Toggles, IsMoment, IsLeast, IsNext}
 use Rattle.calendar.specs.Steps.{earlier}
-use Rattle.calendar.specs.Laws.{NextIsOne, Follow, last_of, NoneIsPassed, TurnsAreInOrder}
+use Rattle.calendar.specs.Laws.{NextIsOne, Follow, NoneIsPassed, TurnsAreInOrder}
 use Rattle.calendar.proofs.Turns.{toggles_of, phases_are_first, next_is_a_half_away, last_is_last}
 
 -- ---- the clocks of two lists

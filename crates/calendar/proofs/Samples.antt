@@ -1,5 +1,5 @@
 -- Moments, worked out. A microsecond is 1,000,000,000 femtoseconds.
-use Rattle.std.proofs.Common.{◌≡◌, refl, ℕ, ◌+◌, ◌-◌, ◌<◌, ◌^◌, true, false, List, [], ◌∷◌, map, Some, None, arith}
+use Rattle.std.proofs.Common.{◌≡◌, refl, ℕ, ◌+◌, ◌-◌, ◌<◌, ◌^◌, true, false, [], ◌∷◌, map, Some, None, arith}
 use Rattle.calendar.specs.declared.clock.Clock.{Clock}
 use Rattle.calendar.specs.Moments.{IsClock, IsNext}
 use Rattle.calendar.specs.Due.{toggles, domain, due_domains}

@@ -1,5 +1,5 @@
 -- The turns of one clock.
-use Rattle.std.proofs.Common.{◌≡◌, refl, sym, ap, ◌∙◌, subst, inl, inr, ℕ, suc, ◌+◌, ◌-◌, ◌*◌, ◌/◌, ◌%◌, ◌<◌, ◌≤◌, ◌^◌, ◌↔◌, true, false, [], ◌∷◌, Some, None, arith}
+use Rattle.std.proofs.Common.{◌≡◌, sym, ap, ◌∙◌, subst, inl, inr, ℕ, suc, ◌+◌, ◌-◌, ◌*◌, ◌/◌, ◌%◌, ◌<◌, ◌≤◌, ◌^◌, true, [], ◌∷◌, Some, None, arith}
 use Rattle.std.specs.Prelude.{nat_lt, nat_le, ◌==◌, ◌&&◌}
 use Rattle.std.proofs.lemmas.Bool.{and_parts, and_from, cases_lt, ltb-true, leb-true, eqb-true, lt-ltb, le-leb, eq-eqb}
 use Rattle.std.proofs.lemmas.Nat.{div-add-mod', mod_below, mul-le}
@@ -103,9 +103,6 @@ phases_are_first c below =
       behind = tt;
       none = λ m h early k. let is = (toggles_of c m k).is in omega (arith, is, early);
     }
-
-pub none_at_all : (c : Clock) → 2 ^ 63 ≤ c.phase → IsNext (c ∷ []) None None
-none_at_all c past m h k = let t = toggles_of c m k in let is = t.is in let below = t.below in omega (arith, is, below, past)
 
 pub next_is_a_half_away : NextIsAHalfAway
 next_is_a_half_away c m is_clock t below = next_below c m (m + c.half) (past_of_turn c m is_clock t) below

@@ -1,8 +1,11 @@
 -- The domains whose clocks toggle at a moment.
 -- Source: this project's own rule (docs/RULES.md): clocks that toggle together do so in one event.
-use Rattle.std.specs.Prelude.{ℕ, ◌-◌, ◌%◌, ◌^◌, nat_lt, nat_le, ◌==◌, ◌&&◌, Bool, ◌<◌, List, map, filter}
+use Rattle.std.specs.Prelude.{◌≡◌, ℕ, ◌-◌, ◌%◌, ◌^◌, ◌<◌, nat_lt, nat_le, ◌==◌, ◌&&◌, Bool, List, length, map, filter}
 use Rattle.std.specs.List.{AllByRecursion, list_any, range_with_len}
 use Rattle.design_ir.specs.declared.ids.DomainId.{DomainId}
+use Rattle.design_ir.specs.declared.event.Event.TheVariants.{Edge}
+use Rattle.design_ir.specs.Circuits.{Circuit}
+use Rattle.design_ir.specs.Legal.{IsLegal}
 use Rattle.calendar.specs.declared.clock.Clock.{Clock}
 
 -- below 2^63 and not before the phase, and half a period divides what is between
@@ -24,3 +27,7 @@ due_domains clocks domains m = filter (λ (d : DomainId). is_due (clocks_of d cl
 
 abbrev pub AreWithin : ℕ → List Clock → Type 0
 AreWithin domains clocks = AllByRecursion (λ (c : Clock). c.domain.0 < domains) clocks
+
+-- an event that each design with so many domains takes
+abbrev pub AreAnEvent : ℕ → List DomainId → Type 0
+AreAnEvent domains due = (c : Circuit) → length c.domains ≡ domains → IsLegal c (Edge due)

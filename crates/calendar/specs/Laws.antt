@@ -1,13 +1,10 @@
 -- What is proved of the moments at which clocks toggle.
--- Source: as of Moments and Due.
-use Rattle.std.specs.Prelude.{◌≡◌, ◌≢◌, ℕ, ◌+◌, ◌*◌, ◌<◌, ◌≤◌, ◌^◌, ◌⊎◌, ◌↔◌, true, ⊤, List, [], ◌∷◌, length, slice_get, Contains, Option, Some, None}
+-- Source: those of Moments and Due.
+use Rattle.std.specs.Prelude.{◌≡◌, ◌≢◌, ℕ, ◌+◌, ◌*◌, ◌<◌, ◌≤◌, ◌^◌, ◌⊎◌, ◌↔◌, true, ⊤, List, [], ◌∷◌, slice_get, Contains, Option, Some, None}
 use Rattle.design_ir.specs.declared.ids.DomainId.{DomainId}
-use Rattle.design_ir.specs.declared.event.Event.TheVariants.{Edge}
-use Rattle.design_ir.specs.Circuits.{Circuit}
-use Rattle.design_ir.specs.Legal.{IsLegal}
 use Rattle.calendar.specs.declared.clock.Clock.{Clock}
 use Rattle.calendar.specs.Moments.{IsClock, Toggles, IsMoment, IsBehind, IsNext}
-use Rattle.calendar.specs.Due.{toggles, is_due, clocks_of, due_domains, AreWithin}
+use Rattle.calendar.specs.Due.{toggles, is_due, clocks_of, due_domains, AreWithin, AreAnEvent}
 
 -- ---- one clock
 
@@ -64,6 +61,6 @@ DueHaveClocks = (clocks : List Clock) (domains m : ℕ) (d : DomainId) → AreWi
 abbrev pub DueAreSome : Type 0
 DueAreSome = (clocks : List Clock) (domains m : ℕ) → AreWithin domains clocks → (due_domains clocks domains m ≢ []) ↔ IsMoment clocks m
 
--- of a design's domains, where there are any, they are an event that it takes
-abbrev pub DueAreLegal : Type 0
-DueAreLegal = (c : Circuit) (clocks : List Clock) (m : ℕ) → due_domains clocks (length c.domains) m ≢ [] → IsLegal c (Edge (due_domains clocks (length c.domains) m))
+-- and then they are an event
+abbrev pub DueAreAnEvent : Type 0
+DueAreAnEvent = (clocks : List Clock) (domains m : ℕ) → due_domains clocks domains m ≢ [] → AreAnEvent domains (due_domains clocks domains m)

@@ -1,6 +1,6 @@
 -- The moments at which clocks toggle.
--- Source: Amaranth guide 0.5, Simulator, Testing synchronous circuits (a clock has a period), and `add_clock` of its reference (a phase, by
--- default half the period). That moments are below 2^63 femtoseconds is this project's own rule (docs/RULES.md).
+-- Source: Amaranth user guide 0.5, "Simulator", `add_clock`: the clock of a domain toggles at its phase and every half of its period from
+-- there. That moments are below 2^63 femtoseconds is this project's own rule (docs/RULES.md).
 use Rattle.std.specs.Prelude.{◌≡◌, ℕ, ◌+◌, ◌*◌, ◌<◌, ◌^◌, ◌⊎◌, ⊤, List, [], ◌∷◌, Option, Some, None}
 use Rattle.std.specs.List.{AllByRecursion}
 use Rattle.calendar.specs.declared.clock.Clock.{Clock}

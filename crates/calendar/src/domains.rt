@@ -1,7 +1,7 @@
 // The domains whose clocks toggle at a moment.
 ghost use Rattle.std.specs.Prelude.{◌≡◌, ◌≤◌, IfOk};
-ghost use Rattle.calendar.specs.Moments.{AreClocks, IsClock};
-ghost use Rattle.calendar.specs.Due.{AreWithin, clocks_of, domain, due_domains, is_due, toggles};
+ghost use Rattle.calendar.specs.Moments.{AreClocks, IsClock, IsMoment};
+ghost use Rattle.calendar.specs.Due.{AreAnEvent, AreWithin, clocks_of, due_domains, is_due, toggles};
 
 use crate::clock::Clock;
 use crate::next::LIMIT;
@@ -9,13 +9,14 @@ use amh_host::NoMemory;
 use design_ir::{Clocks, DomainId};
 use std::alloc::Global;
 
-/// The domains whose clocks toggle at a moment, in domain order. Where there are any they are an event of a design with so many
-/// domains.
+/// The domains whose clocks toggle at a moment, in domain order, each once. At a moment of some clock they are an event that a
+/// design with so many domains takes.
 pub fn due(alloc: Global, clocks: &[Clock], domains: usize, at: u64) -> Result<Clocks, NoMemory>
     requires clocks { AreClocks clocks.now }
     requires within { AreWithin domains clocks.now }
     requires few { domains ≤ 65_536 }
-    ensures { IfOk result (λ due. due ≡ due_domains clocks.now domains at) }
+    ensures due { IfOk result (λ due. due ≡ due_domains clocks.now domains at) }
+    ensures event { IfOk result (λ due. IsMoment clocks.now at → AreAnEvent domains due) }
 {
     let mut due = Clocks::new(alloc);
     for number in 0..domains {

@@ -1,5 +1,5 @@
 // The laws of the moments at which clocks toggle. The functions do nothing: their clauses are the laws.
-ghost use Rattle.calendar.specs.Laws.{TestsAreToggles, PhasesAreFirst, NextIsAHalfAway, LastIsLast, NextIsOne, NoneIsPassed, TurnsAreInOrder, DueIsMoment, DueHaveClocks, DueAreSome, DueAreLegal};
+ghost use Rattle.calendar.specs.Laws.{TestsAreToggles, PhasesAreFirst, NextIsAHalfAway, LastIsLast, NextIsOne, NoneIsPassed, TurnsAreInOrder, DueIsMoment, DueHaveClocks, DueAreSome, DueAreAnEvent};
 
 /// A clock toggles first at its phase and then each half later until the limit, so that its moments are those of its turns.
 /// Behind a moment of several clocks there is one next moment at most, and from one to the next none is passed over.
@@ -13,11 +13,11 @@ pub fn moments_are_toggles()
     ensures none_passed { NoneIsPassed }
 {}
 
-/// What is due at a moment is a clock's domain for each clock that toggles then, and no other; there is some exactly at the
-/// moments of the clocks, and then it is an event that the design takes.
+/// Due at a moment are the domains with a clock that toggles then, and no others. There are some exactly at the moments of the
+/// clocks, and then they are an event that a design takes.
 pub fn due_are_events()
     ensures moment { DueIsMoment }
     ensures clocks { DueHaveClocks }
     ensures some { DueAreSome }
-    ensures legal { DueAreLegal }
+    ensures event { DueAreAnEvent }
 {}

@@ -1,7 +1,8 @@
-use Rattle.std.proofs.Common.{◌≡◌, ◌∙◌, ap, sym, ◌++◌, [], ◌∷◌, List, true, false}
+use Rattle.std.proofs.Common.{◌≡◌, ◌∙◌, ap, sym, ℕ, arith, ◌++◌, [], ◌∷◌, List, true, false}
 use Rattle.std.proofs.lemmas.List.{append-nil}
 use Rattle.design_ir.specs.declared.ids.DomainId.{DomainId}
-use Rattle.calendar.proofs.DueLaws.{due_more}
+use Rattle.calendar.specs.Due.{due_domains}
+use Rattle.calendar.proofs.DueLaws.{due_more, event_at}
 use Rattle.calendar.proofs.domains.due.Goals as goal
 use Rattle.calendar.proofs.domains.due.Goals.{then-is_due_in+in_ok-push, else-is_due_in}
 
@@ -15,3 +16,8 @@ loop-number-preserved c =
       | else-is_due_in w ↦
           w.due-is ∙ c.loop-number.invariant ∙ sym (due_more c.args.clocks.now number c.args.at false (sym c.is_due_in.ensures ∙ w.if-is_due_in.false) ∙ append-nil _)
     ]
+
+pub returns-clause-event : goal.returns-clause-event
+returns-clause-event c =
+    let number : c.loop-number.number ≡ c.args.domains = omega (arith, c.loop-number-test.false, c.loop-number.auto.number-end) in
+    event_at c.args.clocks.now c.args.domains c.args.at c.loop-number.due c.requires.within (c.loop-number.invariant ∙ ap (λ (n : ℕ). due_domains c.args.clocks.now n c.args.at) number)

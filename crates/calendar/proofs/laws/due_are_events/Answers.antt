@@ -1,5 +1,5 @@
 -- The laws of what is due.
-use Rattle.calendar.proofs.DueLaws.{due_is_moment, due_have_clocks, due_are_some, due_are_legal}
+use Rattle.calendar.proofs.DueLaws.{due_is_moment, due_have_clocks, due_are_some, due_are_an_event}
 use Rattle.calendar.proofs.laws.due_are_events.Goals as goal
 
 pub returns-clause-moment : goal.returns-clause-moment
@@ -11,5 +11,5 @@ returns-clause-clocks c = due_have_clocks
 pub returns-clause-some : goal.returns-clause-some
 returns-clause-some c = due_are_some
 
-pub returns-clause-legal : goal.returns-clause-legal
-returns-clause-legal c = due_are_legal
+pub returns-clause-event : goal.returns-clause-event
+returns-clause-event c = due_are_an_event
