@@ -1,6 +1,6 @@
 -- The next moment of several clocks, and moments one after another.
 use Rattle.std.proofs.Common.{◌≡◌, refl, sym, ap, ◌∙◌, subst, ◌⊎◌, inl, inr, ℕ, suc, zero, ◌+◌, ◌*◌, ◌<◌, ◌^◌, List, [], ◌∷◌, ◌++◌, length, take, get_or, Option, Some, None, arith}
-use Rattle.std.specs.Prelude.{slice_get}
+use Rattle.std.specs.Prelude.{slice_get, IfSome}
 use Rattle.std.proofs.lemmas.Bool.{cases_lt, cases_order}
 use Rattle.std.proofs.lemmas.Option.{same_Some, none-some}
 use Rattle.std.proofs.lemmas.List.{take_more}
@@ -28,6 +28,14 @@ moment_cases (c ∷ cs) ys m h = elim h [
   | inl t ↦ inl (inl t)
   | inr k ↦ elim (moment_cases cs ys m k) [ inl i ↦ inl (inr i) | inr j ↦ inr j ]
 ]
+
+moment_below : (clocks : List Clock) (m : ℕ) → IsMoment clocks m → m < 2 ^ 63
+moment_below [] m h = absurd h
+moment_below (c ∷ cs) m h = elim h [ inl t ↦ t.below | inr k ↦ moment_below cs m k ]
+
+pub next_is_below : (clocks : List Clock) (after next : Option ℕ) → IsNext clocks after next → IfSome next (λ m. m < 2 ^ 63)
+next_is_below clocks after None n = tt
+next_is_below clocks after (Some m) n = moment_below clocks m n.moment
 
 -- the earlier one is the next of both
 pub next_both : (xs ys : List Clock) (after a b : Option ℕ) → IsNext xs after a → IsNext ys after b → IsNext (xs ++ ys) after (earlier a b)

@@ -8,11 +8,13 @@ use crate::clock::Clock;
 // The moments of a simulation are below this.
 pub(crate) const LIMIT: u64 = 1 << 63;
 
-/// The least moment behind `after`, or of all moments, at which some clock toggles; `None` exactly where there is none.
+/// The least moment behind `after`, or of all moments, at which some clock toggles; `None` exactly where there is none. It is
+/// below 2^63, so that the next one can be asked for behind it.
 pub fn next_toggle(clocks: &[Clock], after: Option<u64>) -> Option<u64>
     requires clocks { AreClocks clocks.now }
     requires after { IfSome after (λ m. m < 2 ^ 63) }
-    ensures { IsNext clocks.now after result }
+    ensures next { IsNext clocks.now after result }
+    ensures below { IfSome result (λ m. m < 2 ^ 63) }
 {
     let mut least = None;
     for clock in clocks {
