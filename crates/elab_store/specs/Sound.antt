@@ -1,5 +1,5 @@
 -- What is held keeps to: whatever is named stands there.
-use Rattle.std.specs.Prelude.{◌≡◌, ℕ, ◌<◌, ⊤, List, [], ◌∷◌, length, slice_get, Option, Some, None, Bool, true, false}
+use Rattle.std.specs.Prelude.{◌≡◌, ℕ, ◌<◌, ⊤, List, [], ◌∷◌, map, length, slice_get, Option, Some, None, Bool, true, false}
 use Rattle.std.specs.Option.{option_map_or}
 use Rattle.std.specs.List.{AllByRecursion}
 use Rattle.lists.specs.Names.{IsName}
@@ -20,10 +20,18 @@ use Rattle.module_dsl.specs.declared.step.Step.TheVariants.{Assign, Enter, Leave
 use Rattle.module_dsl.specs.Builders.{Built}
 use Rattle.elab_store.specs.declared.kept.Begin.{Begin}
 use Rattle.elab_store.specs.declared.kept.Begin.TheVariants as begin
-use Rattle.clock_domains.specs.Resolvable.{IsNamedSide, ArePorts}
+use Rattle.design_ir.specs.declared.port.Port.{Port}
+use Rattle.design_ir.specs.declared.memory.MemWrite.{MemWrite}
+use Rattle.design_ir.specs.declared.memory.MemRead.{MemRead}
+use Rattle.design_ir.specs.Circuits.{is_among}
+use Rattle.clock_domains.specs.Resolvable.{IsNamedSide, ArePorts, domain_numbers}
+use Rattle.memory_ports.specs.Memories.{IsSpec, HasPorts}
+use Rattle.memory_ports.specs.Laws.{IsApart}
 use Rattle.amh_things.specs.Held.{AreHeld}
 use Rattle.elab_store.specs.declared.kept.Equation.{Equation}
 use Rattle.elab_store.specs.declared.kept.Kept.{Kept}
+use Rattle.elab_store.specs.declared.kept.MemoryPort.{MemoryPort}
+use Rattle.elab_store.specs.declared.memories.OwnMemory.{OwnMemory}
 use Rattle.elab_store.specs.declared.kept.Kept.TheVariants as kept
 use Rattle.design_ir.specs.Settling.{is_signal}
 use Rattle.fsm_lowering.specs.Machines.{Machine, HasRegister}
@@ -36,7 +44,7 @@ use Rattle.elab_store.specs.declared.members.NamedMember.{NamedMember}
 use Rattle.elab_store.specs.Leaves.{Signatures}
 use Rattle.elab_store.specs.Faces.{IsFace}
 use Rattle.elab_store.specs.Components.{Components}
-use Rattle.elab_store.specs.Stores.{Held}
+use Rattle.elab_store.specs.Stores.{Stored, Held}
 
 -- a reset; `ResetSignal` comes with domains that modules define
 abbrev pub is_reset : Expr → Bool
@@ -75,6 +83,16 @@ IsBegin q (begin.Case n) = ⊤
 IsBegin q begin.Default = ⊤
 IsBegin q begin.Misplaced = ⊤
 
+abbrev pub IsEnableThere : Pooled → Option ExprId → Type 0
+IsEnableThere q None = ⊤
+IsEnableThere q (Some e) = e.0 < length q.exprs
+
+-- the expressions of a port stand in the pool
+pub record IsMemoryPort (q : Pooled) (x : MemoryPort) : Type 0 where
+  pub addr : x.addr.0 < length q.exprs
+  pub word : x.word.0 < length q.exprs
+  pub enable : IsEnableThere q x.enable
+
 -- an interface has its ends
 abbrev pub IsKept : Pooled → Signatures → List End → Kept → Type 0
 IsKept q sigs ends (kept.Statement x) = IsEquation q x
@@ -85,6 +103,9 @@ IsKept q sigs ends (kept.Domain m d) = ⊤
 IsKept q sigs ends (kept.Submodules m) = ⊤
 IsKept q sigs ends (kept.Definitions m) = ⊤
 IsKept q sigs ends (kept.ClockDomain k) = ⊤
+IsKept q sigs ends (kept.Memory k) = ⊤
+IsKept q sigs ends (kept.OfMemory k m) = ⊤
+IsKept q sigs ends (kept.MemoryPort x) = IsMemoryPort q x
 IsKept q sigs ends (kept.Port is_out shape init) = ⊤
 IsKept q sigs ends (kept.Nested is_out n) = ⊤
 IsKept q sigs ends (kept.Signature n) = ⊤
@@ -174,6 +195,35 @@ pub record AreComponents (q : Pooled) (cs : Components) : Type 0 where
   pub ends : AllByRecursion (IsEnd q) cs.ends
   pub objects : AllByRecursion (λ (o : ℕ × ComponentObject). IsObject q cs.signatures cs.ends o.1) cs.objects
 
+-- ---- memories
+
+-- the signals of a clock domain
+abbrev pub HasNoClock : ℕ → ClockDomain → Type 0
+HasNoClock s x = is_among (domain_numbers x.domain) s ≡ false
+
+-- and those of a component's ports are other ones
+abbrev pub HasNoPort : ℕ → ℕ × ComponentObject → Type 0
+HasNoPort s o = is_among (map (λ (p : Port). p.sig.0) o.1.ports) s ≡ false
+
+-- nothing outside of the memory gives its data
+pub record IsOwnData (s : Stored) (r : MemRead) : Type 0 where
+  pub clocks : AllByRecursion (HasNoClock r.word.0) s.clock_domains.made
+  pub ports : AllByRecursion (HasNoPort r.word.0) s.components.objects
+
+-- the domain of a port has the name of one
+abbrev pub IsNamedRead : Option (List ℕ) → Type 0
+IsNamedRead None = ⊤
+IsNamedRead (Some n) = IsName n
+
+-- its ports have their signals in the pool, which are their own
+pub record IsOwnMemory (q : Pooled) (s : Stored) (x : OwnMemory) : Type 0 where
+  pub spec : IsSpec x.spec
+  pub ports : HasPorts q x.spec
+  pub write_names : AllByRecursion (λ (w : MemWrite). IsName w.domain) x.spec.writes
+  pub read_names : AllByRecursion (λ (r : MemRead). IsNamedRead r.domain) x.spec.reads
+  pub own_data : AllByRecursion (IsOwnData s) x.spec.reads
+  pub machines : AllByRecursion (λ (m : OwnMachine). IsApart q m.machine.signal.0 x.spec) s.machines
+
 pub record IsSound (h : Held) : Type 0 where
   pub names : AllByRecursion (λ (x : Sig). IsName x.name) h.pool.signals
   pub things : AreHeld (length h.pool.exprs) h.store.things
@@ -184,3 +234,4 @@ pub record IsSound (h : Held) : Type 0 where
   pub additions : AllByRecursion (λ (a : Addition). IsName a.name) h.store.hierarchy.additions
   pub clock_domains : AreClockDomains h.pool h.store.clock_domains.made
   pub components : AreComponents h.pool h.store.components
+  pub memories : AllByRecursion (IsOwnMemory h.pool h.store) h.store.memories
