@@ -76,7 +76,7 @@ member_sound s is_out c h t = placed_sound s is_out c.placed c.keywords c.keywor
 -- ---- classes: no act on one changes what is kept of pools, things or modules
 
 made_sound : (class : Val) (base : Option ObjId) (ms : Option (List NamedMember)) (h : Held) → IsSound h → IsSound (component_made class base ms h).held
-made_sound (val.Class c) base (Some ms) h s = record { names = s.names; things = s.things; kept = s.kept; modules = s.modules; components = record { names = s.components.names; ends = s.components.ends; objects = s.components.objects }; machines = s.machines; domains = s.domains; additions = s.additions; clock_domains = s.clock_domains }
+made_sound (val.Class c) base (Some ms) h s = record { names = s.names; things = s.things; kept = s.kept; modules = s.modules; components = record { names = s.components.names; ends = s.components.ends; objects = s.components.objects }; machines = s.machines; domains = s.domains; additions = s.additions; clock_domains = s.clock_domains; memories = s.memories; registers = s.registers }
 made_sound (val.Class c) base None h s = s
 made_sound val.None base ms h s = s
 made_sound (val.Bool b) base ms h s = s
@@ -164,6 +164,8 @@ bound_sound o f ports (Some names) h s face are = record {
   domains = s.domains;
   additions = s.additions;
   clock_domains = s.clock_domains;
+  memories = s.memories;
+  registers = s.registers;
   components = record {
     names = s.components.names;
     ends = s.components.ends;

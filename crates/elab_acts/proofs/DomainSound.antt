@@ -150,7 +150,7 @@ attribute_sound k name h t = own_sound _ name h t
 
 defined_sound : (m : ℕ) (o : Option ℕ) (gives : Val) (p : Place) (h : Held) → IsSound h → IsSound (domain_defined m o gives p h).held
 defined_sound m None gives p h t = t
-defined_sound m (Some k) gives p h t = record { names = t.names; things = t.things; kept = t.kept; modules = t.modules; machines = t.machines; domains = t.domains; additions = t.additions; clock_domains = t.clock_domains; components = t.components }
+defined_sound m (Some k) gives p h t = record { names = t.names; things = t.things; kept = t.kept; modules = t.modules; machines = t.machines; domains = t.domains; additions = t.additions; clock_domains = t.clock_domains; memories = t.memories; registers = t.registers; components = t.components }
 
 pub added_sound : (m : ℕ) (v x : Val) (p : Place) (h : Held) → IsSound h → IsSound (definition_added m v x p h).held
 added_sound m v x p h t = defined_sound m (clock_domain_of (kept_of h.store v)) x p h t

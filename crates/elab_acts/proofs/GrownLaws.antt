@@ -181,6 +181,8 @@ things_grown h ts s held = record {
   domains = s.domains;
   additions = s.additions;
   clock_domains = s.clock_domains;
+  memories = s.memories;
+  registers = s.registers;
   things = all_and (IsHeld (length h.pool.exprs)) h.store.things ts s.things held;
 }
 
@@ -200,6 +202,8 @@ kept_grown h k s held = record {
   domains = s.domains;
   additions = s.additions;
   clock_domains = s.clock_domains;
+  memories = s.memories;
+  registers = s.registers;
   kept = all_and (IsKeptIn h) h.store.kept (k ∷ []) s.kept (held, tt);
 }
 
@@ -217,7 +221,7 @@ module_built q (x ∷ bs) zero b h e = let same : x ≡ b = cc in subst (IsBuilt
 module_built q (x ∷ bs) (suc m) b h e = module_built q bs m b h.1 e
 
 pub with_top_sound : (h : Held) (t : Top) → IsSound h → IsSound (record h { store = record h.store { top = t } })
-with_top_sound h t s = record { names = s.names; things = s.things; kept = s.kept; modules = s.modules; components = s.components; machines = s.machines; domains = s.domains; additions = s.additions; clock_domains = s.clock_domains }
+with_top_sound h t s = record { names = s.names; things = s.things; kept = s.kept; modules = s.modules; components = s.components; machines = s.machines; domains = s.domains; additions = s.additions; clock_domains = s.clock_domains; memories = s.memories; registers = s.registers }
 
 -- ---- a new thing of this crate
 
@@ -230,6 +234,8 @@ keeping_sound h k s held = record {
   domains = s.domains;
   additions = s.additions;
   clock_domains = s.clock_domains;
+  memories = s.memories;
+  registers = s.registers;
   things = all_and (IsHeld (length h.pool.exprs)) h.store.things (thing.Kept (length h.store.kept) ∷ []) s.things (tt, tt);
   kept = all_and (IsKeptIn h) h.store.kept (k ∷ []) s.kept (held, tt);
 }

@@ -60,7 +60,7 @@ if_sound false x y h g = g
 -- ---- refusals
 
 told_sound : (p : Place) (h : Held) → IsSound h → IsSound (record h { store = record h.store { told = Some p } })
-told_sound p h t = record { names = t.names; things = t.things; kept = t.kept; modules = t.modules; machines = t.machines; domains = t.domains; additions = t.additions; clock_domains = t.clock_domains; components = t.components }
+told_sound p h t = record { names = t.names; things = t.things; kept = t.kept; modules = t.modules; machines = t.machines; domains = t.domains; additions = t.additions; clock_domains = t.clock_domains; memories = t.memories; registers = t.registers; components = t.components }
 
 stop_sound : (p : Place) (why : FsmStop) (h : Held) → IsSound h → IsSound (stop_told p why h).held
 stop_sound p (stop.UndefinedState at) h t = told_sound at h t
@@ -132,6 +132,8 @@ moved_sound h k m x y t own built = record {
   domains = t.domains;
   additions = t.additions;
   clock_domains = t.clock_domains;
+  memories = t.memories;
+  registers = t.registers;
   modules = told_module y.pool m y.built h.store.modules built t.modules;
 }
 
@@ -205,6 +207,8 @@ begun_sound m domain name init p h rules t side named =
       domains = u.domains;
       additions = u.additions;
       clock_domains = u.clock_domains;
+      memories = u.memories;
+      registers = u.registers;
       machines = all_and (IsMachine q) h.store.machines (record { of = m; machine = machine_at h.pool domain init p } ∷ []) u.machines (
         record {
           register = get_last h.pool.exprs (expr.Sig (record { 0 = length h.pool.signals }));
@@ -399,6 +403,8 @@ asked_sound k (Some x) name p h t f =
       domains = u.domains;
       additions = u.additions;
       clock_domains = u.clock_domains;
+      memories = u.memories;
+      registers = u.registers;
       machines = set_machine q h.store.machines k _ u.machines (record { register = stays.register; target = stays.target; side = stays.side; front = stays.front });
     } in
     unless_sound (ongoing_refusal h.pool x.machine name) p _ h t (things_grown (with_asked k x name p h) (thing.Value (record { 0 = length h.pool.exprs }) ∷ []) after (omega (arith, length-append h.pool.exprs (made ∷ [])), tt))

@@ -144,6 +144,8 @@ module_sound c h s =
       domains = s.domains;
       additions = s.additions;
       clock_domains = s.clock_domains;
+      memories = s.memories;
+      registers = s.registers;
       modules = all_and (IsBuilt h.pool) h.store.modules (record { name = []; steps = [] } ∷ []) s.modules (record { steps = tt }, tt);
     } tt) s
 
@@ -320,7 +322,7 @@ plain_sound m b (v ∷ vs) ns h t i = t
 case_sound : (m : ℕ) (o : Option (List Pattern)) (h : Held) → IsSound h → IsSound (case_given m o h).held
 case_sound m None h t = t
 case_sound m (Some ps) h t =
-    keeping_sound (with_patterns ps h) (kept_as.Block m (begin.Case (length h.store.patterns))) (record { names = t.names; things = t.things; kept = t.kept; modules = t.modules; components = t.components; machines = t.machines; domains = t.domains; additions = t.additions; clock_domains = t.clock_domains }) tt
+    keeping_sound (with_patterns ps h) (kept_as.Block m (begin.Case (length h.store.patterns))) (record { names = t.names; things = t.things; kept = t.kept; modules = t.modules; components = t.components; machines = t.machines; domains = t.domains; additions = t.additions; clock_domains = t.clock_domains; memories = t.memories; registers = t.registers }) tt
 
 case_in_sound : (s : Seen) (m : ℕ) (vs : List Val) (o : Option ExprId) (h : Held) → IsSound h → IsSound (case_in s m vs o h).held
 case_in_sound s m vs None h t = keeping_sound h (kept_as.Block m begin.Misplaced) t tt
@@ -383,6 +385,8 @@ entered_sound h m b x t k i = by_expr (condition_made (built_blocks b) x) (openi
       domains = u.domains;
       additions = u.additions;
       clock_domains = u.clock_domains;
+      memories = u.memories;
+      registers = u.registers;
       modules = told_module q m (and_entered h.pool b x) h.store.modules (record { steps = all_and (IsTold q) b.steps (Enter (opening_of (length h.pool.exprs) x) ∷ []) l.steps (o, tt) }) u.modules;
     }
 
@@ -440,6 +444,8 @@ left_sound h m b t k = record {
   domains = t.domains;
   additions = t.additions;
   clock_domains = t.clock_domains;
+  memories = t.memories;
+  registers = t.registers;
   modules = told_module h.pool m (and_left b) h.store.modules (record { steps = all_and (IsTold h.pool) b.steps (Leave ∷ []) k.steps (tt, tt) }) t.modules;
 }
 
@@ -487,6 +493,8 @@ naming_sound n h t name = record {
   domains = all_and IsName h.store.domains (n ∷ []) t.domains (name, tt);
   additions = t.additions;
   clock_domains = t.clock_domains;
+  memories = t.memories;
+registers = t.registers;
 }
 
 pub domain_sound : (m : ℕ) (name : Option (List ℕ)) (h : Held) → IsSound h → IsSound (domain_given m name h).held
@@ -526,6 +534,8 @@ put_sound_by h None m b d q t k named e = record {
   domains = t.domains;
   additions = t.additions;
   clock_domains = t.clock_domains;
+  memories = t.memories;
+  registers = t.registers;
   modules = told_module h.pool m (built_with b d q) h.store.modules (record { steps = all_and (IsTold h.pool) b.steps (Assign d q.target q.value q.place ∷ []) k.steps ((named, e), tt) }) t.modules;
 }
 

@@ -1,5 +1,5 @@
 -- What is held keeps to: whatever is named stands there.
-use Rattle.std.specs.Prelude.{◌≡◌, ℕ, ◌<◌, ⊤, List, [], ◌∷◌, map, length, slice_get, Option, Some, None, Bool, true, false}
+use Rattle.std.specs.Prelude.{◌≡◌, ℕ, ◌<◌, ⊤, List, [], ◌∷◌, map, length, slice_get, Option, Some, None, IfSome, Bool, true, false}
 use Rattle.std.specs.Option.{option_map_or}
 use Rattle.std.specs.List.{AllByRecursion}
 use Rattle.lists.specs.Names.{IsName}
@@ -44,7 +44,7 @@ use Rattle.elab_store.specs.declared.members.NamedMember.{NamedMember}
 use Rattle.elab_store.specs.Leaves.{Signatures}
 use Rattle.elab_store.specs.Faces.{IsFace}
 use Rattle.elab_store.specs.Components.{Components}
-use Rattle.elab_store.specs.Stores.{Stored, Held}
+use Rattle.elab_store.specs.Stores.{Held}
 
 -- a reset; `ResetSignal` comes with domains that modules define
 abbrev pub is_reset : Expr → Bool
@@ -206,23 +206,25 @@ abbrev pub HasNoPort : ℕ → ℕ × ComponentObject → Type 0
 HasNoPort s o = is_among (map (λ (p : Port). p.sig.0) o.1.ports) s ≡ false
 
 -- nothing outside of the memory gives its data
-pub record IsOwnData (s : Stored) (r : MemRead) : Type 0 where
-  pub clocks : AllByRecursion (HasNoClock r.word.0) s.clock_domains.made
-  pub ports : AllByRecursion (HasNoPort r.word.0) s.components.objects
+pub record IsOwnData (made : List ClockDomain) (objects : List (ℕ × ComponentObject)) (r : MemRead) : Type 0 where
+  pub clocks : AllByRecursion (HasNoClock r.word.0) made
+  pub ports : AllByRecursion (HasNoPort r.word.0) objects
 
 -- the domain of a port has the name of one
-abbrev pub IsNamedRead : Option (List ℕ) → Type 0
-IsNamedRead None = ⊤
-IsNamedRead (Some n) = IsName n
+abbrev pub IsNamedRead : MemRead → Type 0
+IsNamedRead r = IfSome r.domain IsName
 
--- its ports have their signals in the pool, which are their own
-pub record IsOwnMemory (q : Pooled) (s : Stored) (x : OwnMemory) : Type 0 where
+-- its ports have their signals in the pool, and no one else gives its data
+pub record IsOwnMemory (q : Pooled) (made : List ClockDomain) (objects : List (ℕ × ComponentObject)) (x : OwnMemory) : Type 0 where
   pub spec : IsSpec x.spec
   pub ports : HasPorts q x.spec
   pub write_names : AllByRecursion (λ (w : MemWrite). IsName w.domain) x.spec.writes
-  pub read_names : AllByRecursion (λ (r : MemRead). IsNamedRead r.domain) x.spec.reads
-  pub own_data : AllByRecursion (IsOwnData s) x.spec.reads
-  pub machines : AllByRecursion (λ (m : OwnMachine). IsApart q m.machine.signal.0 x.spec) s.machines
+  pub read_names : AllByRecursion IsNamedRead x.spec.reads
+  pub own_data : AllByRecursion (IsOwnData made objects) x.spec.reads
+
+-- the register of a machine is no signal of a memory's port
+abbrev pub HasOwnRegister : Pooled → List OwnMemory → OwnMachine → Type 0
+HasOwnRegister q memories m = AllByRecursion (λ (x : OwnMemory). IsApart q m.machine.signal.0 x.spec) memories
 
 pub record IsSound (h : Held) : Type 0 where
   pub names : AllByRecursion (λ (x : Sig). IsName x.name) h.pool.signals
@@ -234,4 +236,5 @@ pub record IsSound (h : Held) : Type 0 where
   pub additions : AllByRecursion (λ (a : Addition). IsName a.name) h.store.hierarchy.additions
   pub clock_domains : AreClockDomains h.pool h.store.clock_domains.made
   pub components : AreComponents h.pool h.store.components
-  pub memories : AllByRecursion (IsOwnMemory h.pool h.store) h.store.memories
+  pub memories : AllByRecursion (IsOwnMemory h.pool h.store.clock_domains.made h.store.components.objects) h.store.memories
+  pub registers : AllByRecursion (HasOwnRegister h.pool h.store.memories) h.store.machines
