@@ -67,7 +67,7 @@ use Rattle.elab_store.specs.declared.kept.Begin.{Begin}
 use Rattle.elab_store.specs.declared.kept.Begin.TheVariants as begin
 use Rattle.elab_components.specs.Classes.{is_base, is_keyword, class_made, base_called}
 use Rattle.elab_acts.specs.Tops.{elaborate_of, with_top, top_taken, walk, body_taken, named_top, body_ended, ended_by, elaborate_ended}
-use Rattle.elab_store.specs.Stores.{object_in, first_object, module_of}
+use Rattle.elab_store.specs.Stores.{object_in, first_object, module_of, node_in}
 use Rattle.elab_components.specs.Libraries.{is_enum, is_data, library_named, thing_name_given}
 use Rattle.elab_components.specs.Likes.{liked, like_placed, like_init, own_reset_less, liked_shape, liked_signal}
 use Rattle.elab_store.specs.Sound.{IsEquation, IsBegin, IsKept, IsOpening, IsTold, IsBuilt, IsSound}
@@ -426,6 +426,9 @@ enter_sound (Some (kept_as.Domain m d)) h t f = t
 enter_sound (Some (kept_as.Submodules m)) h t f = t
 enter_sound (Some (kept_as.Definitions m)) h t f = t
 enter_sound (Some (kept_as.ClockDomain k)) h t f = t
+enter_sound (Some (kept_as.Memory k)) h t f = t
+enter_sound (Some (kept_as.OfMemory k y)) h t f = t
+enter_sound (Some (kept_as.MemoryPort x)) h t f = t
 enter_sound (Some (kept_as.Statement q)) h t f = t
 enter_sound (Some (kept_as.Port is_out shape init)) h t f = t
 enter_sound (Some (kept_as.Nested is_out m)) h t f = t
@@ -472,6 +475,9 @@ leave_sound (Some (kept_as.Domain m d)) h t = t
 leave_sound (Some (kept_as.Submodules m)) h t = t
 leave_sound (Some (kept_as.Definitions m)) h t = t
 leave_sound (Some (kept_as.ClockDomain k)) h t = t
+leave_sound (Some (kept_as.Memory k)) h t = t
+leave_sound (Some (kept_as.OfMemory k y)) h t = t
+leave_sound (Some (kept_as.MemoryPort x)) h t = t
 leave_sound (Some (kept_as.Statement q)) h t = t
 leave_sound (Some (kept_as.Port is_out shape init)) h t = t
 leave_sound (Some (kept_as.Nested is_out m)) h t = t
@@ -586,7 +592,7 @@ body_sound name s vals names h t = taken_sound s (named_top name h.store.simulat
 
 ended_sound : (root : Option ℕ) (s : Seen) (v : Val) (h : Held) → IsSound h → IsSound (ended_by root s v h).held
 ended_sound None s v h t = top_sound s v (module_of (kept_of h.store v)) (elaborate_of s v) h t
-ended_sound (Some root) s v h t = submodule.node_or_called_sound (walk s) (module_of (kept_of h.store v)) (elaborate_of s v) h t (λ g. submodule.walk_sound s g)
+ended_sound (Some root) s v h t = submodule.node_or_called_sound (walk s) (node_in (kept_of h.store v)) (elaborate_of s v) h t (λ g. submodule.walk_sound s g)
 
 pub end_sound : (s : Seen) (vs : List Val) (h : Held) → IsSound h → IsSound (elaborate_ended s vs h).held
 end_sound s [] h t = t

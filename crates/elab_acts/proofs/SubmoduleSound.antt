@@ -11,8 +11,9 @@ use Rattle.py_frames.specs.declared.request.Cause.{Cause}
 use Rattle.py_frames.specs.declared.request.Cause.TheVariants.{Raised, Limit}
 use Rattle.elab_store.specs.declared.hierarchy.Addition.{Addition}
 use Rattle.elab_store.specs.declared.hierarchy.Waiting.{Waiting}
+use Rattle.elab_store.specs.declared.hierarchy.NodeOf.{NodeOf}
 use Rattle.elab_store.specs.Hierarchies.{Hierarchy, children_of, addition_name, added_as, with_addition, taken_by, node_taken, first_waiting, thing_waiting}
-use Rattle.elab_store.specs.Stores.{Stored, Held, Answered, kept_of, module_of}
+use Rattle.elab_store.specs.Stores.{Stored, Held, Answered, kept_of, node_in}
 use Rattle.elab_store.specs.Sound.{IsSound}
 use Rattle.elab_store.proofs.NumberNames.{numbered_is_name}
 use Rattle.elab_acts.specs.declared.tops.Calling.{Calling}
@@ -76,11 +77,11 @@ submodules_sound m v h t = if_sound (is_submodules_of m (kept_of h.store v)) _ _
 
 -- ---- the walk
 
-additions_stay : (m : ℕ) (ws : List Waiting) (t : Hierarchy) → (taken_by m ws t).additions ≡ t.additions
+additions_stay : (m : NodeOf) (ws : List Waiting) (t : Hierarchy) → (taken_by m ws t).additions ≡ t.additions
 additions_stay m [] t = refl
 additions_stay m (w ∷ ws) t = refl
 
-node_sound : (m : ℕ) (h : Held) → IsSound h → IsSound (with_node m h)
+node_sound : (m : NodeOf) (h : Held) → IsSound h → IsSound (with_node m h)
 node_sound m h t = hierarchy_sound h (node_taken m h.store.hierarchy) t (subst AreNamed (sym (additions_stay m h.store.hierarchy.waiting h.store.hierarchy)) t.additions)
 
 pub entered_sound : (m : ℕ) (h : Held) → IsSound h → IsSound (with_top m h)
@@ -90,13 +91,13 @@ below_sound : (c : Option Calling) (h : Held) → IsSound h → IsSound (below_c
 below_sound None h t = t
 below_sound (Some c) h t = t
 
-pub node_or_called_sound : (others : Held → Answered) (m : Option ℕ) (c : Option Calling) (h : Held) → IsSound h → ((g : Held) → IsSound g → IsSound (others g).held) → IsSound (node_or_called others m c h).held
+pub node_or_called_sound : (others : Held → Answered) (m : Option NodeOf) (c : Option Calling) (h : Held) → IsSound h → ((g : Held) → IsSound g → IsSound (others g).held) → IsSound (node_or_called others m c h).held
 node_or_called_sound others None c h t f = below_sound c h t
 node_or_called_sound others (Some m) c h t f = f (with_node m h) (node_sound m h t)
 
 thing_sound : (s : Seen) (others : Held → Answered) (o : Option Val) (h : Held) → IsSound h → ((g : Held) → IsSound g → IsSound (others g).held) → IsSound (thing_walked s others o h).held
 thing_sound s others None h t f = t
-thing_sound s others (Some v) h t f = node_or_called_sound others (module_of (kept_of h.store v)) (elaborate_of s v) h t f
+thing_sound s others (Some v) h t f = node_or_called_sound others (node_in (kept_of h.store v)) (elaborate_of s v) h t f
 
 next_sound : (s : Seen) (others : Held → Answered) (o : Option Waiting) (h : Held) → IsSound h → ((g : Held) → IsSound g → IsSound (others g).held) → IsSound (next_walked s others o h).held
 next_sound s others None h t f = t

@@ -15,11 +15,11 @@ use py_frames::request::{Answer, Cause};
 use py_values::{Frozen, Heap, Val};
 use std::alloc::Global;
 
-// A module, or an object with `elaborate`.
+// A module, a memory, or an object with `elaborate`.
 fn is_elaboratable(store: &Store, heap: &Heap, frozen: &Frozen, v: &Val) -> bool
     ensures { result ≡ is_elaboratable (seen frozen.now heap.now) v.now store.now }
 {
-    store.module_of(v).is_some() || elaborate_of(heap, frozen, *v).is_some()
+    store.node_of(v).is_some() || elaborate_of(heap, frozen, *v).is_some()
 }
 
 // Whether a module is elaborated already.

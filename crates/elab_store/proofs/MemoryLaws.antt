@@ -146,21 +146,31 @@ all_last : {A : Type 0} (P : A → Type 0) (xs : List A) (x : A) → AllByRecurs
 all_last P [] x h p = (p, tt)
 all_last P (y ∷ xs) x h p = (h.0, all_last P xs x h.1 p)
 
--- the data of ports that were there are no signals that were made since
-module _ (p : Pooled) (made : List ClockDomain) (objects : List (ℕ × ComponentObject)) where
-  pub clock_more : (x : ClockDomain) → AllByRecursion (λ n. length p.signals ≤ n) (domain_numbers x.domain) → (m : OwnMemory) → IsOwnMemory p made objects m → IsOwnMemory p (made ++ x ∷ []) objects m
-  clock_more x past m h = record {
-    spec = h.spec;
-    ports = h.ports;
-    write_names = h.write_names;
-    read_names = h.read_names;
-    own_data = all_both (HasRead p m.spec.depth m.spec.shape) (IsOwnData made objects) (IsOwnData (made ++ x ∷ []) objects) m.spec.reads more h.ports.reads h.own_data;
-  }
-    where
-      more : (r : MemRead) → HasRead p m.spec.depth m.spec.shape r → IsOwnData made objects r → IsOwnData (made ++ x ∷ []) objects r
-      more r has own =
-          let below : r.word.0 < length p.signals = place_below p.signals r.word.0 has.word.signal has.word.there in
-          record {
-            clocks = all_last (HasNoClock r.word.0) made x own.clocks (not_among (domain_numbers x.domain) r.word.0 (each_holds (λ n. length p.signals ≤ n) (λ n. r.word.0 < n) (domain_numbers x.domain) (λ n le. omega (arith, below, le)) past));
-            ports = own.ports;
-          }
+-- the data of its read ports are among the first so many signals
+abbrev pub HasDataBelow : ℕ → OwnMemory → Type 0
+HasDataBelow k x = AllByRecursion (λ (r : MemRead). r.word.0 < k) x.spec.reads
+
+pub data_below : (p : Pooled) (made : List ClockDomain) (objects : List (ℕ × ComponentObject)) (x : OwnMemory) → IsOwnMemory p made objects x → HasDataBelow (length p.signals) x
+data_below p made objects x h = each_holds (HasRead p x.spec.depth x.spec.shape) (λ (r : MemRead). r.word.0 < length p.signals) x.spec.reads (λ r has. place_below p.signals r.word.0 has.word.signal has.word.there) h.ports.reads
+
+-- signals from k on are none of them
+above_data : (k s : ℕ) (ns : List ℕ) → s < k → AllByRecursion (λ n. k ≤ n) ns → is_among ns s ≡ false
+above_data k s ns below past = not_among ns s (each_holds (λ n. k ≤ n) (λ n. s < n) ns (λ n le. omega (arith, below, le)) past)
+
+pub with_clock : (q : Pooled) (made : List ClockDomain) (objects : List (ℕ × ComponentObject)) (k : ℕ) (x : ClockDomain) → AllByRecursion (λ n. k ≤ n) (domain_numbers x.domain) → (m : OwnMemory) → IsOwnMemory q made objects m → HasDataBelow k m → IsOwnMemory q (made ++ x ∷ []) objects m
+with_clock q made objects k x past m h data_low = record {
+  spec = h.spec;
+  ports = h.ports;
+  write_names = h.write_names;
+  read_names = h.read_names;
+  own_data = all_both (IsOwnData made objects) (λ (r : MemRead). r.word.0 < k) (IsOwnData (made ++ x ∷ []) objects) m.spec.reads
+      (λ r own low. record { clocks = all_last (HasNoClock r.word.0) made x own.clocks (above_data k r.word.0 (domain_numbers x.domain) low past); ports = own.ports }) h.own_data data_low;
+}
+
+-- the data of its read ports are none of these ports
+abbrev pub HasFreeData : List Port → OwnMemory → Type 0
+HasFreeData ports x = AllByRecursion (λ (r : MemRead). is_among (map (λ (p : Port). p.sig.0) ports) r.word.0 ≡ false) x.spec.reads
+
+-- nor are they of ports whose signals were made since
+pub data_free : (k : ℕ) (ports : List Port) → AllByRecursion (λ n. k ≤ n) (map (λ (x : Port). x.sig.0) ports) → (x : OwnMemory) → HasDataBelow k x → HasFreeData ports x
+data_free k ports past x low = each_holds (λ (r : MemRead). r.word.0 < k) (λ (r : MemRead). is_among (map (λ (y : Port). y.sig.0) ports) r.word.0 ≡ false) x.spec.reads (λ r below. above_data k r.word.0 (map (λ (y : Port). y.sig.0) ports) below past) low
