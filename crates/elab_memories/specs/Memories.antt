@@ -66,15 +66,19 @@ abbrev pub shape_given : Seen → Held → Option Val → Result Shaped Cause
 shape_given s h None = Err Raised
 shape_given s h (Some v) = shaped_meant s h.store.things v
 
-abbrev pub and_counted : Option ℤ → Option (List ℤ) → Option (List ℤ)
-and_counted (Some n) (Some ns) = Some (n ∷ ns)
-and_counted None ns = None
-and_counted (Some n) None = None
+abbrev pub and_item : {A : Type 0} → Option A → Option (List A) → Option (List A)
+and_item (Some x) (Some xs) = Some (x ∷ xs)
+and_item None xs = None
+and_item (Some x) None = None
+
+-- what each of them stands for, where all stand for something
+abbrev pub all_given : {A B : Type 0} → (A → Option B) → List A → Option (List B)
+all_given f [] = Some []
+all_given f (x ∷ xs) = and_item (f x) (all_given f xs)
 
 -- the integers of all rows
 abbrev pub all_counted : List Thing → List Val → Option (List ℤ)
-all_counted things [] = Some []
-all_counted things (v ∷ vs) = and_counted (counted things v) (all_counted things vs)
+all_counted things vs = all_given (counted things) vs
 
 abbrev pub counted_rows : Option (List ℤ) → Result (List ℤ) Cause
 counted_rows (Some ns) = Ok ns

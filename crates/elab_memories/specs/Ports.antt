@@ -2,6 +2,7 @@
 -- 0.5, "Memory arrays". That a granularity is no other thing than an integer, and of which refusals the first is told, is this project's own rule.)
 use Rattle.std.specs.Prelude.{ℕ, ◌+◌, ◌==◌, ◌&&◌, nat_le, if◌then◌else◌, List, [], ◌∷◌, length, slice_get, slice_set, ℤ, pos, negsuc, true, false, Option, Some, None, option_and_then, Result, Ok, Err, codes}
 use Rattle.lists.specs.Texts.{text_eq}
+use Rattle.identifiers.specs.Identifiers.{is_identifier}
 use Rattle.py_values.specs.declared.val.Val.{Val}
 use Rattle.py_values.specs.declared.val.Val.TheVariants as val
 use Rattle.py_values.specs.Heaps.{Seen, text_at, row_at}
@@ -23,7 +24,7 @@ use Rattle.elab_store.specs.declared.kept.MemoryMethod.TheVariants.{WritePort, R
 use Rattle.elab_store.specs.declared.memories.OwnMemory.{OwnMemory}
 use Rattle.elab_store.specs.Calls.{Called}
 use Rattle.elab_store.specs.Stores.{Stored, Held, Answered, refused, kept_given, kept_of}
-use Rattle.elab_components.specs.Signals.{formed}
+use Rattle.elab_memories.specs.Memories.{all_given}
 use Rattle.elab_memories.specs.declared.ports.PortArguments.{PortArguments}
 
 -- ---- the arguments: the domain, and what the other one is called
@@ -56,10 +57,13 @@ port_arguments other c = arguments_behind other c.placed c.keywords c.keyword_va
 
 -- ---- what they say
 
+abbrev pub domain_formed : List ℕ → Option (List ℕ)
+domain_formed name = if is_identifier name then Some name else None
+
 -- an identifier
 abbrev pub domain_given : Seen → Option Val → Option (List ℕ)
 domain_given s None = Some (codes "sync")
-domain_given s (Some (val.Str x)) = formed (text_at s x.0)
+domain_given s (Some (val.Str x)) = domain_formed (text_at s x.0)
 domain_given s (Some v) = None
 
 -- A row has 128 bits at most: more than 255 bits divide none but the row without bits, whose granules are no bits, however many stand for one.
@@ -82,15 +86,9 @@ abbrev pub write_number : ℕ → Option Kept → Option ℕ
 write_number k (Some (kept.MemoryPort p)) = if p.is_write && (p.of == k) then Some p.number else None
 write_number k x = None
 
-abbrev pub and_number : Option ℕ → Option (List ℕ) → Option (List ℕ)
-and_number (Some n) (Some ns) = Some (n ∷ ns)
-and_number None ns = None
-and_number (Some n) None = None
-
 -- the numbers of all of them
 abbrev pub write_numbers : Stored → ℕ → List Val → Option (List ℕ)
-write_numbers s k [] = Some []
-write_numbers s k (v ∷ vs) = and_number (write_number k (kept_of s v)) (write_numbers s k vs)
+write_numbers s k vs = all_given (λ v. write_number k (kept_of s v)) vs
 
 -- a list or a tuple of write ports of this memory
 abbrev pub transparent_given : Seen → Stored → ℕ → Option Val → Option (List ℕ)

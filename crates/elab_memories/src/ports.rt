@@ -5,17 +5,17 @@ ghost use Rattle.py_values.specs.Heaps.{seen};
 ghost use Rattle.elab_store.specs.Seen.{called_of};
 ghost use Rattle.memory_ports.specs.Calls.{where_clocked};
 ghost use Rattle.elab_store.specs.Held.{held_of, Gives};
-ghost use Rattle.elab_memories.specs.Ports.{no_arguments, once, with_keyword, with_keywords, port_arguments, domain_given, granule_bits, granule_in, granule_given, write_number, write_numbers, transparent_given, cause_of, made_given, write_ported, write_put, read_domain, read_ported, read_put, port_called};
+ghost use Rattle.elab_memories.specs.Ports.{no_arguments, once, with_keyword, with_keywords, port_arguments, domain_formed, domain_given, granule_bits, granule_in, granule_given, write_number, write_numbers, transparent_given, cause_of, made_given, write_ported, write_put, read_domain, read_ported, read_put, port_called};
 
 use amh_bits::Int;
 use amh_host::Numbers;
 use amh_things::thing::Reading;
 use design_ir::{ExprId, Exprs, Pool};
-use elab_components::signals::formed;
 use elab_store::calls::Called;
 use elab_store::kept::{Kept, MemoryMethod, MemoryPort};
 use elab_store::names::is_text;
 use elab_store::store::{Elaboration, Store};
+use identifiers::is_identifier;
 use lists::NoMemory;
 use memory_ports::{MemStop, MemorySpec};
 use py_frames::request::{Answer, Cause};
@@ -93,7 +93,18 @@ fn port_arguments(other: &str, call: &Called) -> Option<PortArguments>
     }
 }
 
-// The name of the domain, which is an identifier.
+// The name of a domain, where it is an identifier.
+fn domain_formed(alloc: Global, name: &str) -> Result<Option<&str>, NoMemory>
+    ensures { IfOk result (λ formed. option_copied formed ≡ domain_formed name.now) }
+{
+    if is_identifier(alloc, name)? {
+        Ok(Some(name))
+    } else {
+        Ok(None)
+    }
+}
+
+// The name of the domain that is given.
 fn domain_given<'a>(
     alloc: Global,
     heap: &'a Heap,
@@ -104,7 +115,7 @@ fn domain_given<'a>(
 {
     match given {
         None => Ok(Some("sync")),
-        Some(Val::Str(x)) => formed(alloc, heap.text(frozen, x)),
+        Some(Val::Str(x)) => domain_formed(alloc, heap.text(frozen, x)),
         Some(_) => Ok(None),
     }
 }
