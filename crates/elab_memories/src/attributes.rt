@@ -45,10 +45,7 @@ fn give_value(
     elaboration.give(v)
 }
 
-fn give_enable(
-    elaboration: &mut Elaboration,
-    enable: Option<ExprId>,
-) -> Result<Answer, NoMemory>
+fn give_enable(elaboration: &mut Elaboration, enable: Option<ExprId>) -> Result<Answer, NoMemory>
     ensures { Gives result elaboration.new (enable_given enable (held_of elaboration.old)) }
 {
     match enable {

@@ -387,8 +387,7 @@ fn call_read(
     let Some(domain) = domain_given(alloc, heap, frozen, args.domain)? else {
         return elaboration.refuse(Cause::Raised);
     };
-    let Some(through) =
-        transparent_given(&elaboration.store, alloc, heap, frozen, of, args.other)?
+    let Some(through) = transparent_given(&elaboration.store, alloc, heap, frozen, of, args.other)?
     else {
         return elaboration.refuse(Cause::Raised);
     };
