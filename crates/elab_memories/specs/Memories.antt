@@ -1,7 +1,7 @@
 -- `Memory(*, shape, depth, init=())`. (Amaranth standard library reference 0.5, "Memory arrays": the rows are of a shape, there are `depth` of them, and
 -- the first ones are given. That a row is an integer or a member of an enumeration, which is wrapped to the shape, and which refusal is told, is this
 -- project's own rule.)
-use Rattle.std.specs.Prelude.{ℕ, nat_le, nat_lt, if◌then◌else◌, List, [], ◌∷◌, length, map, ℤ, pos, Option, Some, None, option_and_then, Result, Ok, Err, codes}
+use Rattle.std.specs.Prelude.{ℕ, nat_le, nat_lt, if◌then◌else◌, List, [], ◌∷◌, length, map, ℤ, pos, negsuc, Option, Some, None, option_and_then, Result, Ok, Err, codes}
 use Rattle.lists.specs.Texts.{text_eq}
 use Rattle.amh_bits.specs.Patterns.{wrap}
 use Rattle.shape_rules.specs.Forms.{Form}
@@ -57,10 +57,18 @@ memory_arguments c = arguments_behind c.placed c.keywords c.keyword_vals
 
 -- ---- what they say
 
+abbrev pub size_given : ℤ → Option ℕ
+size_given (pos n) = Some n
+size_given (negsuc n) = None
+
+abbrev pub int_given : Val → Option ℤ
+int_given (val.Int n) = Some n
+int_given v = None
+
 -- an integer from 0, which no boolean is
 abbrev pub depth_given : Option Val → Option ℕ
-depth_given (Some (val.Int (pos n))) = Some n
-depth_given v = None
+depth_given None = None
+depth_given (Some v) = option_and_then size_given (int_given v)
 
 abbrev pub shape_given : Seen → Held → Option Val → Result Shaped Cause
 shape_given s h None = Err Raised

@@ -1,6 +1,6 @@
 -- `mem.write_port(*, domain="sync", granularity=None)` and `mem.read_port(*, domain="sync", transparent_for=())`. (Amaranth standard library reference
 -- 0.5, "Memory arrays". That a granularity is no other thing than an integer, and of which refusals the first is told, is this project's own rule.)
-use Rattle.std.specs.Prelude.{ℕ, ◌+◌, ◌==◌, ◌&&◌, nat_le, if◌then◌else◌, List, [], ◌∷◌, length, slice_get, slice_set, ℤ, pos, negsuc, true, false, Option, Some, None, option_and_then, Result, Ok, Err, codes}
+use Rattle.std.specs.Prelude.{ℕ, ◌+◌, ◌==◌, ◌&&◌, nat_le, if◌then◌else◌, Bool, List, [], ◌∷◌, length, slice_get, slice_set, ℤ, pos, negsuc, true, false, Option, Some, None, option_and_then, Result, Ok, Err, codes}
 use Rattle.lists.specs.Texts.{text_eq}
 use Rattle.identifiers.specs.Identifiers.{is_identifier}
 use Rattle.py_values.specs.declared.val.Val.{Val}
@@ -75,11 +75,14 @@ granule_in (Some (pos n)) = Some (Some (granule_bits n))
 granule_in (Some (negsuc n)) = None
 granule_in None = None
 
+abbrev pub is_none : Val → Bool
+is_none val.None = true
+is_none v = false
+
 -- an integer, or the whole row
 abbrev pub granule_given : Option Val → Option (Option ℕ)
 granule_given None = Some None
-granule_given (Some val.None) = Some None
-granule_given (Some v) = granule_in (number_of v)
+granule_given (Some v) = if is_none v then Some None else granule_in (number_of v)
 
 -- the number of a write port of memory k
 abbrev pub write_number : ℕ → Option Kept → Option ℕ

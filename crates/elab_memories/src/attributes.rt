@@ -5,7 +5,6 @@ ghost use Rattle.elab_store.specs.Stores.{thing_given};
 ghost use Rattle.elab_store.specs.Held.{held_of, Gives};
 ghost use Rattle.elab_memories.specs.Attributes.{memory_attribute, enable_given, port_attribute};
 
-use amh_bits::Int;
 use amh_things::thing::Reading;
 use design_ir::ExprId;
 use elab_store::kept::{Kept, MemoryMethod, MemoryPort};
@@ -13,7 +12,7 @@ use elab_store::names::is_text;
 use elab_store::store::Elaboration;
 use lists::NoMemory;
 use py_frames::request::{Answer, Cause};
-use py_values::Val;
+use py_values::{Number, Val};
 
 /// An attribute of a memory, by its number.
 pub fn memory_attribute(
@@ -50,7 +49,7 @@ fn give_enable(elaboration: &mut Elaboration, enable: Option<ExprId>) -> Result<
 {
     match enable {
         Some(e) => give_value(elaboration, Reading::Plain, e),
-        None => elaboration.give(Val::Int(Int::of_u128(1))),
+        None => elaboration.give(Val::Int(Number::of_u128(1))),
     }
 }
 

@@ -8,7 +8,7 @@ ghost use Rattle.py_frames.specs.declared.request.Cause.TheVariants.{Limit};
 ghost use Rattle.memory_ports.specs.Calls.{new_refusal};
 ghost use Rattle.elab_store.specs.Seen.{called_of};
 ghost use Rattle.elab_store.specs.Held.{held_of, Gives};
-ghost use Rattle.elab_memories.specs.Memories.{no_arguments, once, with_keyword, with_keywords, memory_arguments, depth_given, shape_given, all_counted, counted_rows, listed_rows, rows_given, wrapped_rows, spec_where, memory_made, memory_shaped, memory_said, count_refusal, memory_called};
+ghost use Rattle.elab_memories.specs.Memories.{no_arguments, once, with_keyword, with_keywords, memory_arguments, size_given, int_given, depth_given, shape_given, all_counted, counted_rows, listed_rows, rows_given, wrapped_rows, spec_where, memory_made, memory_shaped, memory_said, count_refusal, memory_called};
 
 use amh_bits::Int;
 use design_ir::Ints;
@@ -103,14 +103,29 @@ fn memory_arguments(call: &Called) -> Option<MemoryArguments>
     }
 }
 
+// A number from 0.
+fn size_of(n: Int) -> Option<u128>
+    ensures { result ≡ size_given n }
+{
+    if n.negative { None } else { Some(n.size) }
+}
+
+fn int_of(v: &Val) -> Option<Int>
+    ensures { result ≡ int_given v.now }
+{
+    match v {
+        Val::Int(n) => Some(n.int()),
+        _ => None,
+    }
+}
+
 // How many rows there are.
 fn depth_given(given: Option<Val>) -> Option<u128>
     ensures { result ≡ depth_given given }
 {
-    match given {
-        Some(Val::Int(n)) if !n.negative => Some(n.size),
-        _ => None,
-    }
+    let v = given?;
+    let n = int_of(&v)?;
+    size_of(n)
 }
 
 fn shape_given(

@@ -5,10 +5,11 @@ ghost use Rattle.py_values.specs.Heaps.{seen};
 ghost use Rattle.elab_store.specs.Seen.{called_of};
 ghost use Rattle.memory_ports.specs.Calls.{where_clocked};
 ghost use Rattle.elab_store.specs.Held.{held_of, Gives};
-ghost use Rattle.elab_memories.specs.Ports.{no_arguments, once, with_keyword, with_keywords, port_arguments, domain_formed, domain_given, granule_bits, granule_in, granule_given, write_number, write_numbers, transparent_given, cause_of, made_given, write_ported, write_put, read_domain, read_ported, read_put, port_called};
+ghost use Rattle.elab_memories.specs.Ports.{no_arguments, once, with_keyword, with_keywords, port_arguments, domain_formed, domain_given, granule_bits, granule_in, is_none, granule_given, write_number, write_numbers, transparent_given, cause_of, made_given, write_ported, write_put, read_domain, read_ported, read_put, port_called};
 
 use amh_bits::Int;
 use amh_host::Numbers;
+use amh_things::operand::number_of;
 use amh_things::thing::Reading;
 use design_ir::{ExprId, Exprs, Pool};
 use elab_store::calls::Called;
@@ -128,24 +129,34 @@ fn granule_bits(n: u128) -> u8
     if n <= 255 { n as u8 } else { 255 }
 }
 
-fn granule_in(n: Int) -> Option<Option<u8>>
-    ensures { result ≡ granule_in (Some n) }
+fn granule_in(n: Option<Int>) -> Option<Option<u8>>
+    ensures { result ≡ granule_in n }
 {
-    if n.negative {
-        None
-    } else {
-        Some(Some(granule_bits(n.size)))
+    match n {
+        Some(n) if !n.negative => Some(Some(granule_bits(n.size))),
+        _ => None,
+    }
+}
+
+fn is_none(v: &Val) -> bool
+    ensures { result ≡ is_none v.now }
+{
+    match v {
+        Val::None => true,
+        _ => false,
     }
 }
 
 fn granule_given(given: Option<Val>) -> Option<Option<u8>>
     ensures { result ≡ granule_given given }
 {
-    match given {
-        None | Some(Val::None) => Some(None),
-        Some(Val::Int(n)) => granule_in(n),
-        Some(Val::Bool(bit)) => Some(Some(bit as u8)),
-        Some(_) => None,
+    let Some(v) = given else {
+        return Some(None);
+    };
+    if is_none(&v) {
+        Some(None)
+    } else {
+        granule_in(number_of(&v))
     }
 }
 
