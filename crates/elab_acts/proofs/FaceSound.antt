@@ -240,7 +240,7 @@ pub leaves_free : (ls : List Leaf) (h : Held) → IsSound h → AllByRecursion (
 leaves_free ls h s =
     subst (AllByRecursion (HasFreeData (leaf_ports (length h.pool.signals) ls))) (sym (leaves_memories ls h))
     (all_each (IsOwnMemory h.pool h.store.clock_domains.made h.store.components.objects) (HasFreeData (leaf_ports (length h.pool.signals) ls)) h.store.memories
-        (λ x own. data_free (length h.pool.signals) (leaf_ports (length h.pool.signals) ls) (ports_from (length h.pool.signals) (length h.pool.signals) ls (omega arith)) x (data_below h.pool h.store.clock_domains.made h.store.components.objects x own)) s.memories)
+    (λ x own. data_free (length h.pool.signals) (leaf_ports (length h.pool.signals) ls) (ports_from (length h.pool.signals) (length h.pool.signals) ls (omega arith)) x (data_below h.pool h.store.clock_domains.made h.store.components.objects x own)) s.memories)
 
 -- ---- members of an interface
 

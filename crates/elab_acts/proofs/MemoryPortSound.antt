@@ -324,14 +324,14 @@ module _ (h : Held) (k : ℕ) (x : OwnMemory) (s : IsSound h) (rules : IsPool h.
       let there : length h.pool.exprs + 2 < length r.exprs = omega (arith, length-append h.pool.exprs (expr.Sig (record { 0 = _ }) ∷ []), ap length n.grown.exprs, length-append h.pool.exprs n.grown.more_exprs) in
       keeping_sound (record { pool = r; store = store_with_spec k x m h.store }) (kept_as.MemoryPort (write_kept k x.spec x.reading h.pool))
       (with_spec_sound (record h { pool = r }) k x m t
-          (record {
-            spec = spec_write h.pool x.spec domain g own.spec asked.clocked asked.shared asked.fits asked.room;
-            ports = write_has h.pool x.spec domain g own.ports;
-            write_names = all_and (λ (w : MemWrite). IsName w.domain) x.spec.writes _ own.write_names (named, tt);
-            read_names = own.read_names;
-            own_data = own.own_data;
-          })
-          (each_holds IsLow (λ (c : OwnMachine). IsApart r c.machine.signal.0 m) h.store.machines (λ c l. write_apart h.pool x.spec c.machine.signal.0 l.there own.ports l.apart domain g) lows))
+      (record {
+        spec = spec_write h.pool x.spec domain g own.spec asked.clocked asked.shared asked.fits asked.room;
+        ports = write_has h.pool x.spec domain g own.ports;
+        write_names = all_and (λ (w : MemWrite). IsName w.domain) x.spec.writes _ own.write_names (named, tt);
+        read_names = own.read_names;
+        own_data = own.own_data;
+      })
+      (each_holds IsLow (λ (c : OwnMachine). IsApart r c.machine.signal.0 m) h.store.machines (λ c l. write_apart h.pool x.spec c.machine.signal.0 l.there own.ports l.apart domain g) lows))
       (record { addr = omega (arith, there); word = omega (arith, there); enable = there })
 
   -- the data of a read port that is made
@@ -365,14 +365,14 @@ module _ (h : Held) (k : ℕ) (x : OwnMemory) (s : IsSound h) (rules : IsPool h.
       let t : IsSound (record h { pool = r }) = pool_named h r n in
       keeping_sound (record { pool = r; store = store_with_spec k x m h.store }) (kept_as.MemoryPort (read_kept k x.spec x.reading domain h.pool))
       (with_spec_sound (record h { pool = r }) k x m t
-          (record {
-            spec = spec_read h.pool x.spec domain through own.spec clocked asked.through_clock asked.room;
-            ports = read_has h.pool x.spec domain through own.ports;
-            write_names = own.write_names;
-            read_names = all_and IsNamedRead x.spec.reads _ own.read_names (named, tt);
-            own_data = all_and (IsOwnData h.store.clock_domains.made h.store.components.objects) x.spec.reads _ own.own_data (new_data (length h.pool.signals + 1) (omega arith) _ refl, tt);
-          })
-          (each_holds IsLow (λ (c : OwnMachine). IsApart r c.machine.signal.0 m) h.store.machines (λ c l. read_apart h.pool x.spec c.machine.signal.0 l.there own.ports l.apart domain through) lows))
+      (record {
+        spec = spec_read h.pool x.spec domain through own.spec clocked asked.through_clock asked.room;
+        ports = read_has h.pool x.spec domain through own.ports;
+        write_names = own.write_names;
+        read_names = all_and IsNamedRead x.spec.reads _ own.read_names (named, tt);
+        own_data = all_and (IsOwnData h.store.clock_domains.made h.store.components.objects) x.spec.reads _ own.own_data (new_data (length h.pool.signals + 1) (omega arith) _ refl, tt);
+      })
+      (each_holds IsLow (λ (c : OwnMachine). IsApart r c.machine.signal.0 m) h.store.machines (λ c l. read_apart h.pool x.spec c.machine.signal.0 l.there own.ports l.apart domain through) lows))
       (enable_there domain r refl)
 
 -- ---- the calls

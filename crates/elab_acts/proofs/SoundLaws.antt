@@ -500,7 +500,7 @@ naming_sound n h t name = record {
   additions = t.additions;
   clock_domains = t.clock_domains;
   memories = t.memories;
-registers = t.registers;
+  registers = t.registers;
 }
 
 pub domain_sound : (m : ℕ) (name : Option (List ℕ)) (h : Held) → IsSound h → IsSound (domain_given m name h).held
