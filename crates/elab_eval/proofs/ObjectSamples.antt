@@ -56,6 +56,7 @@ held = record {
     hierarchy = no_hierarchy;
     clock_domains = no_clock_domains;
     machines = [];
+    memories = [];
     domains = [];
     told = None;
     simulation = no_simulation;

@@ -98,6 +98,7 @@ store = record {
   hierarchy = record { additions = additions; nodes = nodes; waiting = [] };
   clock_domains = clock_domains;
   machines = [];
+  memories = [];
   domains = [];
   told = None;
   simulation = no_simulation;
