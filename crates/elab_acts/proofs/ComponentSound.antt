@@ -16,8 +16,6 @@ use Rattle.design_ir.specs.declared.port.Port.{Port}
 use Rattle.design_ir.specs.Pools.{Pooled}
 use Rattle.clock_domains.specs.Resolvable.{ArePorts}
 use Rattle.amh_things.specs.declared.thing.Thing.TheVariants as thing
-use Rattle.amh_things.specs.declared.thing.Reading.{Reading}
-use Rattle.amh_things.specs.Things.{read_as}
 use Rattle.elab_store.specs.declared.shapes.Shaped.{Shaped}
 use Rattle.elab_store.specs.declared.kept.HdlName.{HdlName}
 use Rattle.elab_store.specs.declared.kept.Kept.TheVariants as kept
@@ -30,7 +28,7 @@ use Rattle.elab_store.specs.declared.leaves.Leaf.{Leaf}
 use Rattle.elab_store.specs.Components.{Components}
 use Rattle.elab_store.specs.Leaves.{leaves, leaf_count}
 use Rattle.elab_store.specs.Faces.{IsFace, face_members}
-use Rattle.elab_store.specs.Stores.{Held, Answered, refused, signature_of}
+use Rattle.elab_store.specs.Stores.{Held, refused, signature_of}
 use Rattle.elab_components.specs.Libraries.{library_given}
 use Rattle.elab_components.specs.Members.{member_shaped, member_said, nested_said, member_meant, member_placed, member_called}
 use Rattle.elab_components.specs.ComponentClasses.{component_made, component_base, annotated, class_over, class_answered}

@@ -1,6 +1,6 @@
 -- What is held stays sound where interfaces are made.
 use Rattle.std.proofs.Common.{◌≡◌, ℕ, zero, suc, ◌+◌, ◌<◌, ◌≤◌, ◌==◌, ◌||◌, ◌&&◌, nat_lt, ap, ◌∙◌, sym, subst, refl, not, Bool, true, false, cond, List, [], ◌∷◌, ◌++◌, length, Option, Some, None, true≢false, arith}
-use Rattle.std.specs.Prelude.{⊤, slice_get, codes, IsTrue, All}
+use Rattle.std.specs.Prelude.{⊤, map, slice_get, codes, IsTrue, All}
 use Rattle.std.specs.List.{AllByRecursion}
 use Rattle.std.proofs.lemmas.Bool.{ltb-true}
 use Rattle.std.proofs.lemmas.List.{length-append, append_assoc, append-nil}
@@ -29,12 +29,12 @@ use Rattle.elab_store.specs.declared.members.NamedMember.{NamedMember}
 use Rattle.elab_store.specs.Leaves.{Signatures, joined, turned_by, form_leaves, all_leaves, some_members, leaves_in, leaves, form_count}
 use Rattle.elab_store.specs.Faces.{IsFace, IsMember, member_as, members_from, face_members}
 use Rattle.elab_store.specs.Stores.{Held}
-use Rattle.elab_store.specs.Sound.{IsKept, IsEnd, IsObject, AreComponents, IsOwnMemory, IsSound}
+use Rattle.elab_store.specs.Sound.{IsKept, IsEnd, IsObject, IsOwnMemory, IsSound}
 use Rattle.elab_store.proofs.MemoryLaws.{HasFreeData, data_free, data_below}
 use Rattle.elab_store.proofs.FaceLaws.{all_count}
 use Rattle.elab_store.proofs.LeafLaws.{leaves_here, leaves_before, leaves_grown, in_length, length_more as members_length}
-use Rattle.elab_components.specs.Signals.{signal_passes, with_signal}
-use Rattle.elab_components.specs.Faces.{leaf_signal, next_end, with_end, with_leaf, leaf_made, and_made, leaves_made, port_of, leaf_ports, signing, face_behind, face_made, part_val}
+use Rattle.elab_components.specs.Signals.{signal_passes}
+use Rattle.elab_components.specs.Faces.{leaf_signal, next_end, with_end, with_leaf, and_made, leaves_made, port_of, leaf_ports, signing, part_val}
 use Rattle.elab_components.specs.Interfaces.{name_bound, names_bound}
 use Rattle.elab_acts.proofs.EachLaws.{all_each}
 use Rattle.elab_acts.proofs.GrownLaws.{IsKeptIn, all_and, keeping_sound}
@@ -225,11 +225,11 @@ leaves_sound (l ∷ ls) h ps s names ports = by_test (signal_passes h l.shape.fo
 -- nothing is done to memories
 pub leaves_memories : (ls : List Leaf) (h : Held) → (leaves_made ls h).1.store.memories ≡ h.store.memories
 leaves_memories [] h = refl
-leaves_memories (l ∷ ls) h = by_test (signal_passes h l.shape.form.width)
+leaves_memories (l ∷ ls) h = by_test (signal_passes h l.shape.form.width) (leaves_memories ls (with_leaf l h))
   where
-    by_test : (b : Bool) → (and_made (leaves_made ls) (cond b (false, h) (true, with_leaf l h))).1.store.memories ≡ h.store.memories
-    by_test true = refl
-    by_test false = leaves_memories ls (with_leaf l h)
+    by_test : (b : Bool) → (leaves_made ls (with_leaf l h)).1.store.memories ≡ h.store.memories → (and_made (leaves_made ls) (cond b (false, h) (true, with_leaf l h))).1.store.memories ≡ h.store.memories
+    by_test true rest = refl
+    by_test false rest = rest
 
 ports_from : (n k : ℕ) (ls : List Leaf) → n ≤ k → AllByRecursion (λ m. n ≤ m) (map (λ (p : Port). p.sig.0) (leaf_ports k ls))
 ports_from n k [] le = tt

@@ -1,6 +1,6 @@
 -- What is held stays sound where a memory gets a port.
-use Rattle.std.proofs.Common.{◌≡◌, ◌≢◌, ℕ, zero, suc, ◌+◌, ◌<◌, ◌≤◌, ◌==◌, refl, ap, ◌∙◌, sym, subst, Bool, true, false, cond, List, [], ◌∷◌, ◌++◌, length, Option, Some, None, Result, Ok, Err, ℤ, arith, true≢false, is_some, append_assoc}
-use Rattle.std.specs.Prelude.{◌&&◌, ◌||◌, not, if◌then◌else◌, map, pos, slice_get, slice_set, IfSome, codes}
+use Rattle.std.proofs.Common.{◌≡◌, ◌≢◌, ℕ, zero, suc, ◌+◌, ◌<◌, ◌≤◌, ◌==◌, refl, ap, ◌∙◌, sym, subst, Bool, true, false, List, [], ◌∷◌, ◌++◌, length, Option, Some, None, arith, true≢false, is_some, append_assoc, append-nil}
+use Rattle.std.specs.Prelude.{◌||◌, not, if◌then◌else◌, map, slice_get, slice_set, IfSome, codes}
 use Rattle.std.specs.Fmt.{decimal}
 use Rattle.std.specs.List.{AllByRecursion, list_any, list_all}
 use Rattle.std.specs.Option.{option_map_or}
@@ -14,8 +14,6 @@ use Rattle.identifiers.proofs.NameLaws.{identifier_is_name}
 use Rattle.py_values.specs.declared.val.Val.{Val}
 use Rattle.py_values.specs.declared.val.Val.TheVariants as val
 use Rattle.py_values.specs.Heaps.{Seen, text_at}
-use Rattle.py_frames.specs.declared.request.Cause.{Cause}
-use Rattle.design_ir.specs.declared.ids.ExprId.{ExprId}
 use Rattle.design_ir.specs.declared.ids.SigId.{SigId}
 use Rattle.design_ir.specs.declared.signal.Sig.{Sig}
 use Rattle.design_ir.specs.declared.expr.Expr.{Expr}
@@ -24,7 +22,7 @@ use Rattle.design_ir.specs.declared.port.Port.{Port}
 use Rattle.design_ir.specs.declared.memory.Memory.{Memory}
 use Rattle.design_ir.specs.declared.memory.MemWrite.{MemWrite}
 use Rattle.design_ir.specs.declared.memory.MemRead.{MemRead}
-use Rattle.design_ir.specs.Circuits.{is_among, option_test}
+use Rattle.design_ir.specs.Circuits.{option_test}
 use Rattle.design_ir.specs.Pools.{Pooled}
 use Rattle.design_ir.specs.PoolRules.{IsPool}
 use Rattle.design_ir.specs.Settling.{is_signal}
@@ -36,7 +34,7 @@ use Rattle.memory_ports.specs.Ports.{with_signal, with_signals, is_over, filled}
 use Rattle.memory_ports.specs.Memories.{HasPorts}
 use Rattle.memory_ports.specs.Laws.{IsOther, IsOtherWrite, IsOtherRead, IsApart}
 use Rattle.memory_ports.specs.Calls.{stop_where, is_full, is_elsewhere, is_granule, is_transparent, left_behind, write_signals, write_refusal, read_signals, read_refusal, enable_signals, and_write, and_read}
-use Rattle.memory_ports.proofs.Growing.{grown_not, grown_one, grown_more, grown_all}
+use Rattle.memory_ports.proofs.Growing.{grown_not, grown_all}
 use Rattle.memory_ports.proofs.SpecLaws.{spec_write, spec_read, or_none, not_false}
 use Rattle.memory_ports.proofs.PortLaws.{write_has, read_has}
 use Rattle.elab_store.specs.declared.memories.OwnMemory.{OwnMemory}
@@ -59,17 +57,35 @@ use Rattle.elab_acts.proofs.GrownLaws.{all_and, pool_grown, keeping_sound, name_
 -- ---- a pool that gets signals with names
 
 pub record IsNamedGrowth (q r : Pooled) : Type 0 where
-  pub grown : ports.IsGrown q r
-  pub names : AllByRecursion (λ (x : Sig). IsName x.name) grown.more_signals
+  pub more_signals : List Sig
+  pub more_exprs : List Expr
+  pub signals : r.signals ≡ q.signals ++ more_signals
+  pub exprs : r.exprs ≡ q.exprs ++ more_exprs
+  pub names : AllByRecursion (λ (x : Sig). IsName x.name) more_signals
+
+growth_of : (q r : Pooled) → IsNamedGrowth q r → ports.IsGrown q r
+growth_of q r g = record { more_signals = g.more_signals; more_exprs = g.more_exprs; signals = g.signals; exprs = g.exprs }
 
 pub pool_named : (h : Held) (q : Pooled) → IsSound h → IsNamedGrowth h.pool q → IsSound (record h { pool = q })
-pool_named h q s g = pool_grown h q g.grown.more_signals g.grown.more_exprs s g.grown.signals g.grown.exprs g.names
+pool_named h q s g = pool_grown h q g.more_signals g.more_exprs s g.signals g.exprs g.names
 
 nothing_named : (q : Pooled) → IsNamedGrowth q q
-nothing_named q = record { grown = grown_not q; names = tt }
+nothing_named q = record { more_signals = []; more_exprs = []; signals = sym (append-nil q.signals); exprs = sym (append-nil q.exprs); names = tt }
 
 one_named : (q r : Pooled) (x : Sig) → IsName x.name → IsNamedGrowth (with_signal q x) r → IsNamedGrowth q r
-one_named q r x named g = record { grown = grown_more q (with_signal q x) r (grown_one q x) g.grown; names = (named, g.names) }
+one_named q r x named g =
+    let e : Expr = expr.Sig (record { 0 = length q.signals }) in record {
+      more_signals = x ∷ g.more_signals;
+      more_exprs = e ∷ g.more_exprs;
+      signals = g.signals ∙ append_assoc q.signals (x ∷ []) g.more_signals;
+      exprs = g.exprs ∙ append_assoc q.exprs (e ∷ []) g.more_exprs;
+      names = (named, g.names);
+    }
+
+-- with an expression for each
+signals_length : (q : Pooled) (xs : List Sig) → length (with_signals q xs).exprs ≡ length q.exprs + length xs
+signals_length q [] = omega arith
+signals_length q (x ∷ xs) = omega (arith, signals_length (with_signal q x) xs, length-append q.exprs (expr.Sig (record { 0 = length q.signals }) ∷ []))
 
 pub all_named : (q : Pooled) (xs : List Sig) → AllByRecursion (λ (x : Sig). IsName x.name) xs → IsNamedGrowth q (with_signals q xs)
 all_named q [] named = nothing_named q
@@ -77,11 +93,11 @@ all_named q (x ∷ xs) named = one_named q (with_signals (with_signal q x) xs) x
 
 filled_named : (q : Pooled) (xs : List Sig) → AllByRecursion (λ (x : Sig). IsName x.name) xs → IsNamedGrowth q (filled q xs)
 filled_named q [] named = nothing_named q
-filled_named q (x ∷ xs) named = by_test (is_over q (x ∷ []))
+filled_named q (x ∷ xs) named = by_test (is_over q (x ∷ [])) (filled_named (with_signal q x) xs named.1)
   where
-    by_test : (b : Bool) → IsNamedGrowth q (if b then q else filled (with_signal q x) xs)
-    by_test true = nothing_named q
-    by_test false = one_named q (filled (with_signal q x) xs) x named.0 (filled_named (with_signal q x) xs named.1)
+    by_test : (b : Bool) → IsNamedGrowth (with_signal q x) (filled (with_signal q x) xs) → IsNamedGrowth q (if b then q else filled (with_signal q x) xs)
+    by_test true rest = nothing_named q
+    by_test false rest = one_named q (filled (with_signal q x) xs) x named.0 rest
 
 pub left_named : (q : Pooled) (m : Memory) (xs : List Sig) → AllByRecursion (λ (x : Sig). IsName x.name) xs → IsNamedGrowth q (left_behind q m xs)
 left_named q m xs named = by_test (is_full m)
@@ -213,7 +229,7 @@ module _ (q : Pooled) (m : Memory) (t : ℕ) (low : t < length q.signals) (has :
       let kept = apart_stays q r (grown_all q (read_signals m None)) t m has apart in
       record {
         writes = kept.writes;
-        reads = all_and (IsOtherRead r t) m.reads _ kept.reads ((new_other q r a t (length q.exprs) low refl (grown_all q1 (w ∷ [])), ((λ e. omega (arith, e, low)), tt)), tt);
+        reads = all_and (IsOtherRead r t) m.reads _ kept.reads ((new_other q r a t (length q.exprs) low refl (grown_all q1 (w ∷ [])), (λ e. omega (arith, e, low)), tt), tt);
       }
   read_apart (Some d) through =
       let a = ports.address_signal (codes "r") (length m.reads) m.depth in
@@ -232,7 +248,8 @@ module _ (q : Pooled) (m : Memory) (t : ℕ) (low : t < length q.signals) (has :
         reads = all_and (IsOtherRead r t) m.reads _ kept.reads (
           (
             new_other q r a t (length q.exprs) low refl (grown_all q1 (w ∷ e ∷ [])),
-            ((λ same. omega (arith, same, low)), new_other q2 r e t (length q.exprs + 2) (omega (arith, low, s1, s2)) (omega (arith, e1, e2)) (grown_not r)),
+            (λ same. omega (arith, same, low)),
+            new_other q2 r e t (length q.exprs + 2) (omega (arith, low, s1, s2)) (omega (arith, e1, e2)) (grown_not r),
           ),
           tt,
         );
@@ -291,7 +308,7 @@ module _ (h : Held) (k : ℕ) (x : OwnMemory) (s : IsSound h) (rules : IsPool h.
   left_sound stop.BadGranularity left g = s
   left_sound stop.BadTransparent left g = s
   left_sound stop.TooManyRows left g = s
-  left_sound stop.Limit left g = pool_named h left g
+  left_sound stop.Limit left g = pool_named h left s g
   left_sound stop.NoMemory left g = s
 
   -- all of it in a pool that has grown
@@ -309,7 +326,7 @@ module _ (h : Held) (k : ℕ) (x : OwnMemory) (s : IsSound h) (rules : IsPool h.
       growth stop.BadGranularity = grown_not h.pool
       growth stop.BadTransparent = grown_not h.pool
       growth stop.TooManyRows = grown_not h.pool
-      growth stop.Limit = g.grown
+      growth stop.Limit = growth_of h.pool left g
       growth stop.NoMemory = grown_not h.pool
 
   write_sound : (domain : List ℕ) (g : Option ℕ) → IsName domain → (o : Option MemStop) → write_refusal h.pool x.spec domain g ≡ o
@@ -320,8 +337,8 @@ module _ (h : Held) (k : ℕ) (x : OwnMemory) (s : IsSound h) (rules : IsPool h.
       let r : Pooled = with_signals h.pool (write_signals x.spec g) in
       let n = all_named h.pool (write_signals x.spec g) (write_named x.spec g) in
       let asked = writable h.pool x.spec domain g e in
-      let t : IsSound (record h { pool = r }) = pool_named h r n in
-      let there : length h.pool.exprs + 2 < length r.exprs = omega (arith, length-append h.pool.exprs (expr.Sig (record { 0 = _ }) ∷ []), ap length n.grown.exprs, length-append h.pool.exprs n.grown.more_exprs) in
+      let t : IsSound (record h { pool = r }) = pool_named h r s n in
+      let there : length h.pool.exprs + 2 < length r.exprs = omega (arith, signals_length h.pool (write_signals x.spec g)) in
       keeping_sound (record { pool = r; store = store_with_spec k x m h.store }) (kept_as.MemoryPort (write_kept k x.spec x.reading h.pool))
       (with_spec_sound (record h { pool = r }) k x m t
       (record {
@@ -343,16 +360,11 @@ module _ (h : Held) (k : ℕ) (x : OwnMemory) (s : IsSound h) (rules : IsPool h.
 
   enable_there : (domain : Option (List ℕ)) (r : Pooled) → r ≡ with_signals h.pool (read_signals x.spec domain) → IsMemoryPort r (read_kept k x.spec x.reading domain h.pool)
   enable_there None r same =
-      let e0 : Expr = expr.Sig (record { 0 = length h.pool.signals }) in
-      let n = ap (λ (p : Pooled). length p.exprs) same ∙ length-append (h.pool.exprs ++ e0 ∷ []) (expr.Sig (record { 0 = _ }) ∷ []) in
-      let first = length-append h.pool.exprs (e0 ∷ []) in
-      record { addr = omega (arith, n, first); word = omega (arith, n, first); enable = tt }
+      let n = ap (λ (p : Pooled). length p.exprs) same ∙ signals_length h.pool (read_signals x.spec None) in
+      record { addr = omega (arith, n); word = omega (arith, n); enable = tt }
   enable_there (Some d) r same =
-      let e0 : Expr = expr.Sig (record { 0 = length h.pool.signals }) in
-      let n = ap (λ (p : Pooled). length p.exprs) same ∙ length-append ((h.pool.exprs ++ e0 ∷ []) ++ expr.Sig (record { 0 = _ }) ∷ []) (expr.Sig (record { 0 = _ }) ∷ []) in
-      let first = length-append h.pool.exprs (e0 ∷ []) in
-      let second = length-append (h.pool.exprs ++ e0 ∷ []) (expr.Sig (record { 0 = _ }) ∷ []) in
-      record { addr = omega (arith, n, first, second); word = omega (arith, n, first, second); enable = omega (arith, n, first, second) }
+      let n = ap (λ (p : Pooled). length p.exprs) same ∙ signals_length h.pool (read_signals x.spec (Some d)) in
+      record { addr = omega (arith, n); word = omega (arith, n); enable = omega (arith, n) }
 
   read_sound : (domain : Option (List ℕ)) (through : List ℕ) → IfSome domain IsName → domain ≢ Some (codes "comb") → (o : Option MemStop) → read_refusal h.pool x.spec domain through ≡ o
       → IsSound (ported_given k x (ported o (read_made k x.spec x.reading domain through h.pool) h.pool (left_behind h.pool x.spec (read_signals x.spec domain)) x.spec) h.store).held
@@ -362,7 +374,7 @@ module _ (h : Held) (k : ℕ) (x : OwnMemory) (s : IsSound h) (rules : IsPool h.
       let r : Pooled = with_signals h.pool (read_signals x.spec domain) in
       let n = all_named h.pool (read_signals x.spec domain) (read_named x.spec domain) in
       let asked = readable h.pool x.spec domain through e in
-      let t : IsSound (record h { pool = r }) = pool_named h r n in
+      let t : IsSound (record h { pool = r }) = pool_named h r s n in
       keeping_sound (record { pool = r; store = store_with_spec k x m h.store }) (kept_as.MemoryPort (read_kept k x.spec x.reading domain h.pool))
       (with_spec_sound (record h { pool = r }) k x m t
       (record {

@@ -1,26 +1,16 @@
 -- What is held stays sound by the acts on memories.
-use Rattle.std.proofs.Common.{◌≡◌, ◌≢◌, ℕ, zero, suc, ◌+◌, ◌*◌, ◌<◌, ◌≤◌, refl, ap, ◌∙◌, sym, subst, Bool, true, false, List, [], ◌∷◌, ◌++◌, length, Option, Some, None, Result, Ok, Err, ℤ, arith, true≢false, is_some, append-nil, append_assoc, nat_lt}
-use Rattle.std.specs.Prelude.{◌&&◌, ◌||◌, not, if◌then◌else◌, map, nat_le, slice_get, slice_set, codes}
-use Rattle.std.specs.Fmt.{decimal}
-use Rattle.std.specs.List.{AllByRecursion, list_any, list_all}
+use Rattle.std.proofs.Common.{◌≡◌, ℕ, suc, ◌+◌, ◌*◌, refl, ap, sym, subst, Bool, true, false, List, [], ◌∷◌, ◌++◌, length, Option, Some, None, Result, Ok, Err, ℤ, arith, nat_lt}
+use Rattle.std.specs.Prelude.{◌||◌, if◌then◌else◌, nat_le, codes}
+use Rattle.std.specs.List.{AllByRecursion}
 use Rattle.std.proofs.lemmas.Bool.{ltb-false}
-use Rattle.std.proofs.lemmas.List.{length-append}
-use Rattle.std.proofs.lemmas.List.Sums.{AllPass-from_list_all}
-use Rattle.lists.specs.Names.{IsName, continues_name}
 use Rattle.lists.specs.Texts.{text_eq}
-use Rattle.amh_bits.specs.Patterns.{wrap, IsOf}
+use Rattle.amh_bits.specs.Patterns.{IsOf}
 use Rattle.amh_bits.proofs.Wraps.{wrap_is_of}
 use Rattle.shape_rules.specs.Forms.{Form}
-use Rattle.identifiers.specs.Identifiers.{is_identifier}
-use Rattle.py_values.specs.declared.val.Val.{Val}
-use Rattle.py_values.specs.declared.val.Val.TheVariants as val
-use Rattle.py_values.specs.Heaps.{Seen, text_at}
+use Rattle.py_values.specs.Heaps.{Seen}
 use Rattle.py_frames.specs.declared.request.Cause.{Cause}
 use Rattle.py_frames.specs.declared.request.Cause.TheVariants as cause
 use Rattle.design_ir.specs.declared.ids.ExprId.{ExprId}
-use Rattle.design_ir.specs.declared.signal.Sig.{Sig}
-use Rattle.design_ir.specs.declared.expr.Expr.{Expr}
-use Rattle.design_ir.specs.declared.expr.Expr.TheVariants as expr
 use Rattle.design_ir.specs.declared.memory.Memory.{Memory}
 use Rattle.design_ir.specs.Pools.{Pooled}
 use Rattle.amh_things.specs.Things.{read_as}
@@ -35,15 +25,14 @@ use Rattle.elab_store.specs.declared.kept.Kept.TheVariants as kept_as
 use Rattle.elab_store.specs.declared.kept.MemoryPort.{MemoryPort}
 use Rattle.elab_store.specs.declared.kept.MemoryMethod.TheVariants.{WritePort, ReadPort}
 use Rattle.elab_store.specs.declared.memories.OwnMemory.{OwnMemory}
-use Rattle.elab_store.specs.declared.own_machine.OwnMachine.{OwnMachine}
 use Rattle.elab_store.specs.declared.domains.ClockDomain.{ClockDomain}
 use Rattle.elab_store.specs.declared.faces.ComponentObject.{ComponentObject}
 use Rattle.elab_store.specs.declared.shapes.Shaped.{Shaped}
 use Rattle.elab_store.specs.Calls.{Called}
-use Rattle.elab_store.specs.Stores.{Held, Answered, refused, given}
+use Rattle.elab_store.specs.Stores.{Held, Answered}
 use Rattle.elab_store.specs.Sound.{IsEnableThere, IsMemoryPort, IsOwnMemory, HasOwnRegister, IsSound}
 use Rattle.elab_memories.specs.declared.memories.MemoryArguments.{MemoryArguments}
-use Rattle.elab_memories.specs.Memories.{memory_arguments, depth_given, rows_given, shape_given, with_memory, wrapped_rows, memory_of_rows, memory_made, memory_shaped, count_refusal, memory_said, memory_from, memory_called}
+use Rattle.elab_memories.specs.Memories.{memory_arguments, depth_given, rows_given, shape_given, with_memory, wrapped_rows, memory_of_rows, memory_made, memory_shaped, memory_said, memory_from, memory_called}
 use Rattle.elab_memories.specs.Attributes.{memory_attribute, enable_given, port_attribute}
 use Rattle.elab_acts.proofs.EachLaws.{all_each}
 use Rattle.elab_acts.proofs.GrownLaws.{all_and, things_grown, keeping_sound, read_held}
