@@ -15,7 +15,8 @@ use Rattle.design_ir.specs.Circuits.{is_among}
 use Rattle.clock_domains.specs.declared.top.TopPorts.{TopPorts}
 use Rattle.clock_domains.specs.declared.top.TopPorts.TheVariants.{Members, Held, Loose}
 use Rattle.clock_domains.specs.Marks.{Flag, is_marked}
-use Rattle.clock_domains.specs.Reads.{is_driven, is_read, read_exprs}
+use Rattle.clock_domains.specs.Reads.{is_driven, is_given, is_read, read_roots}
+use Rattle.clock_domains.specs.Walks.{Contents}
 use Rattle.clock_domains.specs.Resolvable.{AreTopPorts}
 use Rattle.clock_domains.specs.Resolved.{has_width, loose_port, port_of, top_ports, signals_of, reset_port, domain_ports, ports_of_domain, ports_of, and_new}
 use Rattle.clock_domains.specs.Chosen.{is_new, held_port, known_port, known_ports, IsKnown, IsSignal, IsResetThere}
@@ -34,13 +35,13 @@ flag_there marks test n f none s is =
       ]
     ]
 
-pub flags_known : (q : Pooled) (own ps : List Process) (mine driven read : List Bool) → IsPool q → Flag mine (is_driven q own) → Flag driven (is_driven q ps) → Flag read (is_read q ps) → IsKnown q mine driven read
-flags_known q own ps mine driven read rules o d r = record {
+pub flags_known : (q : Pooled) (own : List Process) (all : Contents) (mine driven read : List Bool) → IsPool q → Flag mine (is_driven q own) → Flag driven (is_given q all.processes all.memories) → Flag read (is_read q all.processes all.memories) → IsKnown q mine driven read
+flags_known q own all mine driven read rules o d r = record {
   own_size = o.size;
   driven_size = d.size;
   read_size = r.size;
   own_there = flag_there mine (is_driven q own) (length q.signals) o (λ s le. is_driven_none q own s rules le);
-  read_there = flag_there read (is_read q ps) (length q.signals) r (λ s le. read_none q (read_exprs q ps) s rules le);
+  read_there = flag_there read (is_read q all.processes all.memories) (length q.signals) r (λ s le. read_none q (read_roots q all.processes all.memories) s rules le);
 }
 
 -- ---- lists
@@ -89,53 +90,53 @@ port_by q s a b c a' b' c' e f g =
     ∙ ap (λ x. if a' then Some (port_of q false s) else (if x && not c then Some (port_of q true s) else None)) f
     ∙ ap (λ x. if a' then Some (port_of q false s) else (if b' && not x then Some (port_of q true s) else None)) g
 
-loose_none : (q : Pooled) (own ps : List Process) (s : ℕ) → IsPool q → length q.signals ≤ s → loose_port q own ps s ≡ None
-loose_none q own ps s rules le =
-    port_by q s (is_driven q own s) (is_read q ps s) (is_driven q ps s) false false (is_driven q ps s) (is_driven_none q own s rules le) (read_none q (read_exprs q ps) s rules le) refl
+loose_none : (q : Pooled) (own : List Process) (all : Contents) (s : ℕ) → IsPool q → length q.signals ≤ s → loose_port q own all s ≡ None
+loose_none q own all s rules le =
+    port_by q s (is_driven q own s) (is_read q all.processes all.memories s) (is_given q all.processes all.memories s) false false (is_given q all.processes all.memories s) (is_driven_none q own s rules le) (read_none q (read_roots q all.processes all.memories) s rules le) refl
 
-loose_same : (q : Pooled) (own ps : List Process) (mine driven read : List Bool) → IsPool q → Flag mine (is_driven q own) → Flag driven (is_driven q ps) → Flag read (is_read q ps)
-    → filter_map (known_port q (is_marked mine) (is_marked driven) (is_marked read)) (range_with_len 0 (length mine)) ≡ top_ports q own ps Loose
-loose_same q own ps mine driven read rules o d r =
-    let same : (s : ℕ) → s < length mine → known_port q (is_marked mine) (is_marked driven) (is_marked read) s ≡ loose_port q own ps s =
-    λ s low. port_by q s (is_marked mine s) (is_marked read s) (is_marked driven s) (is_driven q own s) (is_read q ps s) (is_driven q ps s) (o.each s (omega (arith, low, o.size))) (r.each s (omega (arith, low, o.size))) (d.each s (omega (arith, low, o.size))) in
-    filter_map_agree (known_port q (is_marked mine) (is_marked driven) (is_marked read)) (loose_port q own ps) (range_with_len 0 (length mine)) (range_all (λ s. known_port q (is_marked mine) (is_marked driven) (is_marked read) s ≡ loose_port q own ps s) 0 (length mine) (λ s low high. same s (omega (arith, high))))
-    ∙ range_shorter (loose_port q own ps) (length q.signals) (length mine) (omega (arith, rules.few_signals, o.size)) (λ s le. loose_none q own ps s rules le)
+loose_same : (q : Pooled) (own : List Process) (all : Contents) (mine driven read : List Bool) → IsPool q → Flag mine (is_driven q own) → Flag driven (is_given q all.processes all.memories) → Flag read (is_read q all.processes all.memories)
+    → filter_map (known_port q (is_marked mine) (is_marked driven) (is_marked read)) (range_with_len 0 (length mine)) ≡ top_ports q own all Loose
+loose_same q own all mine driven read rules o d r =
+    let same : (s : ℕ) → s < length mine → known_port q (is_marked mine) (is_marked driven) (is_marked read) s ≡ loose_port q own all s =
+    λ s low. port_by q s (is_marked mine s) (is_marked read s) (is_marked driven s) (is_driven q own s) (is_read q all.processes all.memories s) (is_given q all.processes all.memories s) (o.each s (omega (arith, low, o.size))) (r.each s (omega (arith, low, o.size))) (d.each s (omega (arith, low, o.size))) in
+    filter_map_agree (known_port q (is_marked mine) (is_marked driven) (is_marked read)) (loose_port q own all) (range_with_len 0 (length mine)) (range_all (λ s. known_port q (is_marked mine) (is_marked driven) (is_marked read) s ≡ loose_port q own all s) 0 (length mine) (λ s low high. same s (omega (arith, high))))
+    ∙ range_shorter (loose_port q own all) (length q.signals) (length mine) (omega (arith, rules.few_signals, o.size)) (λ s le. loose_none q own all s rules le)
 
-known_same : (q : Pooled) (own ps : List Process) (mine driven read : List Bool) (top : TopPorts) → IsPool q → AreTopPorts q top → Flag mine (is_driven q own) → Flag driven (is_driven q ps) → Flag read (is_read q ps) → known_ports q mine driven read top ≡ top_ports q own ps top
-known_same q own ps mine driven read (Members given) rules h o d r = refl
-known_same q own ps mine driven read (Held given) rules h o d r =
-    map_on (held_port (is_marked driven)) (λ (p : Port). record p { is_input = not (is_driven q ps p.sig.0) }) given
+known_same : (q : Pooled) (own : List Process) (all : Contents) (mine driven read : List Bool) (top : TopPorts) → IsPool q → AreTopPorts q top → Flag mine (is_driven q own) → Flag driven (is_given q all.processes all.memories) → Flag read (is_read q all.processes all.memories) → known_ports q mine driven read top ≡ top_ports q own all top
+known_same q own all mine driven read (Members given) rules h o d r = refl
+known_same q own all mine driven read (Held given) rules h o d r =
+    map_on (held_port (is_marked driven)) (λ (p : Port). record p { is_input = not (is_given q all.processes all.memories p.sig.0) }) given
     (all_imp (λ p k. ap (λ (b : Bool). record p { is_input = not b }) (d.each p.sig.0 (omega (arith, k.there, rules.few_signals)))) given h.each)
-known_same q own ps mine driven read Loose rules h o d r = loose_same q own ps mine driven read rules o d r
+known_same q own all mine driven read Loose rules h o d r = loose_same q own all mine driven read rules o d r
 
 AreSmall : Pooled → List Port → Type 0
 AreSmall q ports = AllByRecursion (λ (p : Port). p.sig.0 < length q.signals) ports
 
-loose_there : (q : Pooled) (own ps : List Process) (a n : ℕ) → a + n ≤ length q.signals → AreSmall q (filter_map (loose_port q own ps) (range_with_len a n))
+loose_there : (q : Pooled) (own : List Process) (all : Contents) (a n : ℕ) → a + n ≤ length q.signals → AreSmall q (filter_map (loose_port q own all) (range_with_len a n))
 unfolding AreSmall
-loose_there q own ps a zero le = tt
-loose_there q own ps a (suc n) le = by_port (loose_port q own ps a) refl (loose_there q own ps (a + 1) n (omega (arith, le)))
+loose_there q own all a zero le = tt
+loose_there q own all a (suc n) le = by_port (loose_port q own all a) refl (loose_there q own all (a + 1) n (omega (arith, le)))
   where
     by_test : (p : Port) (x y : Bool) → (if x then Some (port_of q false a) else (if y then Some (port_of q true a) else None)) ≡ Some p → p.sig.0 < length q.signals
     by_test p true y e = let same : port_of q false a ≡ p = cc in subst (λ (x : Port). x.sig.0 < length q.signals) same (omega (arith, le))
     by_test p false true e = let same : port_of q true a ≡ p = cc in subst (λ (x : Port). x.sig.0 < length q.signals) same (omega (arith, le))
     by_test p false false e = cc
 
-    by_port : (o : Option Port) → loose_port q own ps a ≡ o → AllByRecursion (λ (p : Port). p.sig.0 < length q.signals) (filter_map (loose_port q own ps) (range_with_len (a + 1) n)) → AllByRecursion (λ (p : Port). p.sig.0 < length q.signals) (filter_map (loose_port q own ps) (range_with_len a (suc n)))
+    by_port : (o : Option Port) → loose_port q own all a ≡ o → AllByRecursion (λ (p : Port). p.sig.0 < length q.signals) (filter_map (loose_port q own all) (range_with_len (a + 1) n)) → AllByRecursion (λ (p : Port). p.sig.0 < length q.signals) (filter_map (loose_port q own all) (range_with_len a (suc n)))
     by_port None e rest = subst (λ xs. AllByRecursion (λ (p : Port). p.sig.0 < length q.signals) xs) (sym (cons_none e)) rest
       where
-        cons_none : loose_port q own ps a ≡ None → filter_map (loose_port q own ps) (range_with_len a (suc n)) ≡ filter_map (loose_port q own ps) (range_with_len (a + 1) n)
-        cons_none e = let r = filter_map (loose_port q own ps) (range_with_len (a + 1) n) in cc
-    by_port (Some p) e rest = subst (λ xs. AllByRecursion (λ (p : Port). p.sig.0 < length q.signals) xs) (sym (cons_some e)) (by_test p (is_driven q own a) (is_read q ps a && not (is_driven q ps a)) e, rest)
+        cons_none : loose_port q own all a ≡ None → filter_map (loose_port q own all) (range_with_len a (suc n)) ≡ filter_map (loose_port q own all) (range_with_len (a + 1) n)
+        cons_none e = let r = filter_map (loose_port q own all) (range_with_len (a + 1) n) in cc
+    by_port (Some p) e rest = subst (λ xs. AllByRecursion (λ (p : Port). p.sig.0 < length q.signals) xs) (sym (cons_some e)) (by_test p (is_driven q own a) (is_read q all.processes all.memories a && not (is_given q all.processes all.memories a)) e, rest)
       where
-        cons_some : loose_port q own ps a ≡ Some p → filter_map (loose_port q own ps) (range_with_len a (suc n)) ≡ p ∷ filter_map (loose_port q own ps) (range_with_len (a + 1) n)
-        cons_some e = let r = filter_map (loose_port q own ps) (range_with_len (a + 1) n) in cc
+        cons_some : loose_port q own all a ≡ Some p → filter_map (loose_port q own all) (range_with_len a (suc n)) ≡ p ∷ filter_map (loose_port q own all) (range_with_len (a + 1) n)
+        cons_some e = let r = filter_map (loose_port q own all) (range_with_len (a + 1) n) in cc
 
-pub top_there : (q : Pooled) (own ps : List Process) (top : TopPorts) → AreTopPorts q top → AllByRecursion (λ (p : Port). p.sig.0 < length q.signals) (top_ports q own ps top)
+pub top_there : (q : Pooled) (own : List Process) (all : Contents) (top : TopPorts) → AreTopPorts q top → AllByRecursion (λ (p : Port). p.sig.0 < length q.signals) (top_ports q own all top)
 unfolding AreSmall
-top_there q own ps (Members given) h = all_imp (λ p k. k.there) given h.each
-top_there q own ps (Held given) h = all_mapped (λ (p : Port). p.sig.0 < length q.signals) (λ (p : Port). record p { is_input = not (is_driven q ps p.sig.0) }) given (all_imp (λ p k. k.there) given h.each)
-top_there q own ps Loose h = loose_there q own ps 0 (length q.signals) (omega arith)
+top_there q own all (Members given) h = all_imp (λ p k. k.there) given h.each
+top_there q own all (Held given) h = all_mapped (λ (p : Port). p.sig.0 < length q.signals) (λ (p : Port). record p { is_input = not (is_given q all.processes all.memories p.sig.0) }) given (all_imp (λ p k. k.there) given h.each)
+top_there q own all Loose h = loose_there q own all 0 (length q.signals) (omega arith)
 
 -- ---- the ports of domains
 
@@ -164,12 +165,12 @@ domain_there q driven (d ∷ ds) h = all_joined (λ (p : Port). p.sig.0 < length
 
 -- ---- all ports
 
-pub chosen_same : (q : Pooled) (domains : List Domain) (own ps : List Process) (is_port mine driven read : List Bool) (top : TopPorts) → IsPool q → AreTopPorts q top → AllByRecursion (IsSignal q) domains → Flag is_port (is_among (signals_of (domain_ports q (is_marked driven) domains)))
-    → Flag mine (is_driven q own) → Flag driven (is_driven q ps) → Flag read (is_read q ps) → domain_ports q (is_marked driven) domains ++ filter (is_new q (is_marked is_port)) (known_ports q mine driven read top) ≡ ports_of q domains own ps top
-chosen_same q domains own ps is_port mine driven read top rules h signals f o d r =
+pub chosen_same : (q : Pooled) (domains : List Domain) (own : List Process) (all : Contents) (is_port mine driven read : List Bool) (top : TopPorts) → IsPool q → AreTopPorts q top → AllByRecursion (IsSignal q) domains → Flag is_port (is_among (signals_of (domain_ports q (is_marked driven) domains)))
+    → Flag mine (is_driven q own) → Flag driven (is_given q all.processes all.memories) → Flag read (is_read q all.processes all.memories) → domain_ports q (is_marked driven) domains ++ filter (is_new q (is_marked is_port)) (known_ports q mine driven read top) ≡ ports_of q domains own all top
+chosen_same q domains own all is_port mine driven read top rules h signals f o d r =
     let before = domain_ports q (is_marked driven) domains in
-    ap (λ xs. before ++ filter (is_new q (is_marked is_port)) xs) (known_same q own ps mine driven read top rules h o d r)
+    ap (λ xs. before ++ filter (is_new q (is_marked is_port)) xs) (known_same q own all mine driven read top rules h o d r)
     ∙ ap (λ xs. before ++ xs)
-    (filter_agree (is_new q (is_marked is_port)) (λ (p : Port). not (is_among (signals_of before) p.sig.0) && has_width q p.sig.0) (top_ports q own ps top)
-    (all_imp (λ p low. ap (λ (b : Bool). not b && has_width q p.sig.0) (f.each p.sig.0 (omega (arith, low, rules.few_signals)))) (top_ports q own ps top) (top_there q own ps top h)))
-    ∙ ap (λ xs. and_new q xs (top_ports q own ps top)) (domains_same q driven (is_driven q ps) domains rules d signals)
+    (filter_agree (is_new q (is_marked is_port)) (λ (p : Port). not (is_among (signals_of before) p.sig.0) && has_width q p.sig.0) (top_ports q own all top)
+    (all_imp (λ p low. ap (λ (b : Bool). not b && has_width q p.sig.0) (f.each p.sig.0 (omega (arith, low, rules.few_signals)))) (top_ports q own all top) (top_there q own all top h)))
+    ∙ ap (λ xs. and_new q xs (top_ports q own all top)) (domains_same q driven (is_given q all.processes all.memories) domains rules d signals)

@@ -1,8 +1,9 @@
 -- The whole design of a module with those below it keeps to the rules of designs.
-use Rattle.std.proofs.Common.{◌≡◌, ℕ, ◌≤◌, nat_le, Bool, true, false, IsTrue, ◌&&◌, ◌||◌, cond, List, [], ◌∷◌, ◌++◌, map, length, Option, Some, None, is_some, refl, ap, ◌∙◌, arith}
+use Rattle.std.proofs.Common.{◌≡◌, ℕ, ◌≤◌, nat_le, Bool, true, false, IsTrue, ◌&&◌, ◌||◌, ◌==◌, cond, List, [], ◌∷◌, ◌++◌, map, length, Option, Some, None, is_some, refl, ap, ◌∙◌, arith}
 use Rattle.std.specs.List.{AllByRecursion, list_any, flat_map, filter}
 use Rattle.std.specs.Prelude.{All, codes}
 use Rattle.std.proofs.lemmas.List.Elements.{All-cons, All-append, All-nil, All-tail}
+use Rattle.std.proofs.lemmas.Bool.{false≢true}
 use Rattle.std.proofs.lemmas.Bool.Decides.{nat_tests}
 use Rattle.lists.specs.Texts.{text_eq}
 use Rattle.lists.specs.Names.{IsName, continues_name}
@@ -11,6 +12,8 @@ use Rattle.design_ir.specs.declared.signal.Sig.{Sig}
 use Rattle.design_ir.specs.declared.domain.Domain.{Domain}
 use Rattle.design_ir.specs.declared.port.Port.{Port}
 use Rattle.design_ir.specs.declared.port.Column.{Column}
+use Rattle.design_ir.specs.declared.memory.MemRead.{MemRead}
+use Rattle.design_ir.specs.declared.memory.Memory.{Memory}
 use Rattle.design_ir.specs.declared.process.Process.{Process}
 use Rattle.design_ir.specs.declared.process.DesignProcess.{DesignProcess}
 use Rattle.design_ir.specs.Pools.{Pooled}
@@ -18,7 +21,7 @@ use Rattle.design_ir.specs.Guards.{driven}
 use Rattle.design_ir.specs.Circuits.{is_among}
 use Rattle.clock_domains.specs.Reads.{is_driven}
 use Rattle.clock_domains.specs.Resolvable.{IsDomainOf, IsResetOf}
-use Rattle.clock_domains.specs.Resolved.{domain_prefix, domain_signals, process_in, is_clocked, signals_of, ports_named}
+use Rattle.clock_domains.specs.Resolved.{domain_prefix, domain_signals, clocked_data, process_in, is_clocked, memory_path, signals_of, ports_named}
 use Rattle.clock_domains.specs.Chosen.{IsSignal, IsResetThere}
 use Rattle.clock_domains.specs.Ready.{HasDomain}
 use Rattle.clock_domains.proofs.Lists.{all_imp}
@@ -40,6 +43,26 @@ clocked_any q ds s (p ∷ ps) h =
     split : (b : Bool) → ((b && is_among (driven q p.body) s) || is_driven q (filter is_clocked ps) s) ≡ is_driven q (cond b (p ∷ filter is_clocked ps) (filter is_clocked ps)) s
     split true = refl
     split false = refl
+
+-- the data of a clocked read port are those of its memory
+data_any : (s : ℕ) (rs : List MemRead) → list_any (λ (r : MemRead). is_some r.domain && (r.word.0 == s)) rs ≡ is_among (map (λ (r : MemRead). r.word.0) (filter (λ (r : MemRead). is_some r.domain) rs)) s
+data_any s [] = refl
+data_any s (r ∷ rs) = ap (λ b. (is_some r.domain && (r.word.0 == s)) || b) (data_any s rs) ∙ split (is_some r.domain)
+  where
+    split : (b : Bool) → ((b && (r.word.0 == s)) || is_among (map (λ (r : MemRead). r.word.0) (filter (λ (r : MemRead). is_some r.domain) rs)) s) ≡ is_among (map (λ (r : MemRead). r.word.0) (cond b (r ∷ filter (λ (r : MemRead). is_some r.domain) rs) (filter (λ (r : MemRead). is_some r.domain) rs))) s
+    split true = refl
+    split false = refl
+
+-- what has a path as the data of a clocked read port is that
+pub memory_data : (ms : List Memory) (paths : List (Option (List ℕ))) (s : ℕ) → is_some (memory_path ms paths s) ≡ true → list_any (λ (m : Memory). list_any (λ (r : MemRead). is_some r.domain && (r.word.0 == s)) m.reads) ms ≡ true
+memory_data [] paths s h = h
+memory_data (m ∷ ms) [] s h = absurd (false≢true h)
+memory_data (m ∷ ms) (path ∷ paths) s h = split (is_among (clocked_data m) s) (data_any s m.reads) h (memory_data ms paths s)
+  where
+    split : (b : Bool) → list_any (λ (r : MemRead). is_some r.domain && (r.word.0 == s)) m.reads ≡ b → is_some (cond b path (memory_path ms paths s)) ≡ true → (is_some (memory_path ms paths s) ≡ true → list_any (λ (m : Memory). list_any (λ (r : MemRead). is_some r.domain && (r.word.0 == s)) m.reads) ms ≡ true)
+        → (list_any (λ (r : MemRead). is_some r.domain && (r.word.0 == s)) m.reads || list_any (λ (m : Memory). list_any (λ (r : MemRead). is_some r.domain && (r.word.0 == s)) m.reads) ms) ≡ true
+    split true e k rest = ap (λ b. b || list_any (λ (m : Memory). list_any (λ (r : MemRead). is_some r.domain && (r.word.0 == s)) m.reads) ms) e
+    split false e k rest = or_true (list_any (λ (r : MemRead). is_some r.domain && (r.word.0 == s)) m.reads) _ (rest k)
 
 -- ---- ports under the names of their columns
 

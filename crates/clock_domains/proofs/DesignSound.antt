@@ -18,42 +18,23 @@ use Rattle.design_ir.specs.Pools.{Pooled}
 use Rattle.design_ir.specs.Targets.{is_target, target_signals}
 use Rattle.design_ir.specs.Guards.{Guarded, guarded, driven, block_exprs}
 use Rattle.design_ir.specs.Circuits.{is_among}
-use Rattle.design_ir.specs.Designs.{holds_reset, share}
+use Rattle.design_ir.specs.Designs.{share}
 use Rattle.clock_domains.specs.declared.top.TopPorts.{TopPorts}
 use Rattle.clock_domains.specs.declared.top.TopPorts.TheVariants.{Members, Held, Loose}
-use Rattle.clock_domains.specs.Reads.{is_driven, is_read}
+use Rattle.clock_domains.specs.Reads.{is_driven, is_given, is_read}
+use Rattle.clock_domains.specs.Walks.{Contents}
 use Rattle.clock_domains.specs.Resolvable.{IsPlain, IsSideOf, AreTopPorts}
-use Rattle.clock_domains.specs.Resolved.{with_domains, domain_number, port_of, top_ports, signals_of, driver_refusal, loose_port, first_of, first_refusal, statement_refusal}
+use Rattle.clock_domains.specs.Resolved.{domain_number, port_of, top_ports, signals_of, driver_refusal, loose_port, first_of, first_refusal, statement_refusal}
 use Rattle.clock_domains.proofs.Lists.{all_filtered, all_imp, all_joined, all_mapped, all_unmapped, any-append, any_none, none_any, or_none, map_map}
-use Rattle.clock_domains.proofs.MadeDomains.{length_with}
 use Rattle.clock_domains.proofs.ChoiceLaws.{range_all}
 
--- ---- the pool with the domains' signals
+-- ---- a pool with more signals
 
-reset_with : (q : Pooled) (names : List (List ℕ)) (k : ℕ) → holds_reset (with_domains q names) k ≡ holds_reset q k
-unfolding holds_reset
-reset_with q names k = refl
-
-target_with : (q : Pooled) (names : List (List ℕ)) (k : ℕ) → is_target (with_domains q names) k ≡ is_target q k
-unfolding is_target
-target_with q names k = refl
-
-pub plain_with : (q : Pooled) (names : List (List ℕ)) (es : List ExprId) → AllByRecursion (IsPlain q) es → AllByRecursion (IsPlain (with_domains q names)) es
-plain_with q names es h = all_imp (λ e k. record { there = k.there; resolved = reset_with q names e.0 ∙ k.resolved }) es h
-
-pub targets_with : (q : Pooled) (names : List (List ℕ)) (gs : List Guarded) → AllByRecursion (λ (g : Guarded). IsTrue (is_target q g.target.0)) gs → AllByRecursion (λ (g : Guarded). IsTrue (is_target (with_domains q names) g.target.0)) gs
-targets_with q names gs h = all_imp (λ (g : Guarded) k. subst IsTrue (sym (target_with q names g.target.0)) k) gs h
-
-pub sides_with : (q : Pooled) (names : List (List ℕ)) (ps : List Process) → AllByRecursion (IsSideOf q) ps → AllByRecursion (IsSideOf (with_domains q names)) ps
-sides_with q names ps h = all_imp (λ (p : Process) k. record { side = k.side; expressions = plain_with q names (block_exprs p.body) k.expressions; targets = targets_with q names (guarded [] p.body) k.targets }) ps h
-
-pub longer : (q : Pooled) (names : List (List ℕ)) (s : ℕ) → s < length q.signals → s < length (with_domains q names).signals
-longer q names s h = omega (arith, h, length_with q names)
-
-pub top_with : (q : Pooled) (names : List (List ℕ)) (top : TopPorts) → AreTopPorts q top → AreTopPorts (with_domains q names) top
-top_with q names (Members given) h = record { each = all_imp (λ (p : Port) k. record { there = longer q names p.sig.0 k.there; name = k.name }) given h.each; distinct = h.distinct }
-top_with q names (Held given) h = record { each = all_imp (λ (p : Port) k. record { there = longer q names p.sig.0 k.there; name = k.name }) given h.each; distinct = h.distinct }
-top_with q names Loose h = tt
+-- ports are ports of a pool that has more signals
+pub top_wider : (q w : Pooled) (top : TopPorts) → ((s : ℕ) → s < length q.signals → s < length w.signals) → AreTopPorts q top → AreTopPorts w top
+top_wider q w (Members given) longer h = record { each = all_imp (λ (p : Port) k. record { there = longer p.sig.0 k.there; name = k.name }) given h.each; distinct = h.distinct }
+top_wider q w (Held given) longer h = record { each = all_imp (λ (p : Port) k. record { there = longer p.sig.0 k.there; name = k.name }) given h.each; distinct = h.distinct }
+top_wider q w Loose longer h = tt
 
 -- ---- sides have domains
 
@@ -114,41 +95,41 @@ map_same (x ∷ xs) = ap (λ ys. x ∷ ys) (map_same xs)
 
 -- ---- loose ports
 
-abbrev is_loose : Pooled → (own ps : List Process) → ℕ → Bool
-is_loose q own ps a = is_driven q own a || (is_read q ps a && not (is_driven q ps a))
+abbrev is_loose : Pooled → List Process → Contents → ℕ → Bool
+is_loose q own all a = is_driven q own a || (is_read q all.processes all.memories a && not (is_given q all.processes all.memories a))
 
-loose_step : (q : Pooled) (own ps : List Process) (a n : ℕ)
-    → signals_of (filter_map (loose_port q own ps) (range_with_len a (suc n))) ≡ cond (is_loose q own ps a) (a ∷ signals_of (filter_map (loose_port q own ps) (range_with_len (a + 1) n))) (signals_of (filter_map (loose_port q own ps) (range_with_len (a + 1) n)))
-loose_step q own ps a n = bools (is_driven q own a) (is_read q ps a && not (is_driven q ps a)) (filter_map (loose_port q own ps) (range_with_len (a + 1) n))
+loose_step : (q : Pooled) (own : List Process) (all : Contents) (a n : ℕ)
+    → signals_of (filter_map (loose_port q own all) (range_with_len a (suc n))) ≡ cond (is_loose q own all a) (a ∷ signals_of (filter_map (loose_port q own all) (range_with_len (a + 1) n))) (signals_of (filter_map (loose_port q own all) (range_with_len (a + 1) n)))
+loose_step q own all a n = bools (is_driven q own a) (is_read q all.processes all.memories a && not (is_given q all.processes all.memories a)) (filter_map (loose_port q own all) (range_with_len (a + 1) n))
   where
     bools : (x y : Bool) (rest : List Port) → signals_of (cons_option (cond x (Some (port_of q false a)) (cond y (Some (port_of q true a)) None)) rest) ≡ cond (x || y) (a ∷ signals_of rest) (signals_of rest)
     bools true y rest = refl
     bools false true rest = refl
     bools false false rest = refl
 
-loose_past : (q : Pooled) (own ps : List Process) (k a n : ℕ) → k < a → AllByRecursion (λ y. nat_eq k y ≡ false) (signals_of (filter_map (loose_port q own ps) (range_with_len a n)))
-loose_past q own ps k a zero h = tt
-loose_past q own ps k a (suc n) h = subst (AllByRecursion (λ y. nat_eq k y ≡ false)) (sym (loose_step q own ps a n)) (split (is_loose q own ps a) (loose_past q own ps k (a + 1) n (omega (arith, h))))
+loose_past : (q : Pooled) (own : List Process) (all : Contents) (k a n : ℕ) → k < a → AllByRecursion (λ y. nat_eq k y ≡ false) (signals_of (filter_map (loose_port q own all) (range_with_len a n)))
+loose_past q own all k a zero h = tt
+loose_past q own all k a (suc n) h = subst (AllByRecursion (λ y. nat_eq k y ≡ false)) (sym (loose_step q own all a n)) (split (is_loose q own all a) (loose_past q own all k (a + 1) n (omega (arith, h))))
   where
-    split : (b : Bool) → AllByRecursion (λ y. nat_eq k y ≡ false) (signals_of (filter_map (loose_port q own ps) (range_with_len (a + 1) n)))
-        → AllByRecursion (λ y. nat_eq k y ≡ false) (cond b (a ∷ signals_of (filter_map (loose_port q own ps) (range_with_len (a + 1) n))) (signals_of (filter_map (loose_port q own ps) (range_with_len (a + 1) n))))
+    split : (b : Bool) → AllByRecursion (λ y. nat_eq k y ≡ false) (signals_of (filter_map (loose_port q own all) (range_with_len (a + 1) n)))
+        → AllByRecursion (λ y. nat_eq k y ≡ false) (cond b (a ∷ signals_of (filter_map (loose_port q own all) (range_with_len (a + 1) n))) (signals_of (filter_map (loose_port q own all) (range_with_len (a + 1) n))))
     split true rest = (not_equal k a (λ e. omega (arith, e, h)), rest)
     split false rest = rest
 
-loose_distinct : (q : Pooled) (own ps : List Process) (a n : ℕ) → IsDistinct nat_eq (signals_of (filter_map (loose_port q own ps) (range_with_len a n)))
+loose_distinct : (q : Pooled) (own : List Process) (all : Contents) (a n : ℕ) → IsDistinct nat_eq (signals_of (filter_map (loose_port q own all) (range_with_len a n)))
 unfolding IsDistinct
-loose_distinct q own ps a zero = tt
-loose_distinct q own ps a (suc n) = subst (IsDistinct nat_eq) (sym (loose_step q own ps a n)) (split (is_loose q own ps a) (loose_distinct q own ps (a + 1) n))
+loose_distinct q own all a zero = tt
+loose_distinct q own all a (suc n) = subst (IsDistinct nat_eq) (sym (loose_step q own all a n)) (split (is_loose q own all a) (loose_distinct q own all (a + 1) n))
   where
-    split : (b : Bool) → IsDistinct nat_eq (signals_of (filter_map (loose_port q own ps) (range_with_len (a + 1) n)))
-        → IsDistinct nat_eq (cond b (a ∷ signals_of (filter_map (loose_port q own ps) (range_with_len (a + 1) n))) (signals_of (filter_map (loose_port q own ps) (range_with_len (a + 1) n))))
-    split true rest = (loose_past q own ps a (a + 1) n (omega arith), rest)
+    split : (b : Bool) → IsDistinct nat_eq (signals_of (filter_map (loose_port q own all) (range_with_len (a + 1) n)))
+        → IsDistinct nat_eq (cond b (a ∷ signals_of (filter_map (loose_port q own all) (range_with_len (a + 1) n))) (signals_of (filter_map (loose_port q own all) (range_with_len (a + 1) n))))
+    split true rest = (loose_past q own all a (a + 1) n (omega arith), rest)
     split false rest = rest
 
-pub top_distinct : (q : Pooled) (own ps : List Process) (top : TopPorts) → AreTopPorts q top → IsDistinct nat_eq (signals_of (top_ports q own ps top))
-top_distinct q own ps (Members given) h = h.distinct
-top_distinct q own ps (Held given) h = subst (IsDistinct nat_eq) (sym (map_map (λ (p : Port). record p { is_input = not (is_driven q ps p.sig.0) }) (λ (p : Port). p.sig.0) given)) h.distinct
-top_distinct q own ps Loose h = loose_distinct q own ps 0 (length q.signals)
+pub top_distinct : (q : Pooled) (own : List Process) (all : Contents) (top : TopPorts) → AreTopPorts q top → IsDistinct nat_eq (signals_of (top_ports q own all top))
+top_distinct q own all (Members given) h = h.distinct
+top_distinct q own all (Held given) h = subst (IsDistinct nat_eq) (sym (map_map (λ (p : Port). record p { is_input = not (is_given q all.processes all.memories p.sig.0) }) (λ (p : Port). p.sig.0) given)) h.distinct
+top_distinct q own all Loose h = loose_distinct q own all 0 (length q.signals)
 
 -- ---- names of signals
 

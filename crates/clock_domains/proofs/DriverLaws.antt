@@ -1,5 +1,5 @@
 -- What is driven, and the first statement that is refused.
-use Rattle.std.proofs.Common.{◌≡◌, inl, inr, ℕ, zero, suc, ◌<◌, ◌≤◌, ◌==◌, Bool, true, false, ◌||◌, if◌then◌else◌, List, [], ◌∷◌, ◌++◌, map, length, take, Option, Some, None, slice_get, replicate, refl, sym, ap, ◌∙◌, subst, arith, append-nil, append_assoc}
+use Rattle.std.proofs.Common.{◌≡◌, inl, inr, ℕ, zero, suc, ◌+◌, ◌<◌, ◌≤◌, ◌==◌, Bool, true, false, ◌||◌, if◌then◌else◌, List, [], ◌∷◌, ◌++◌, map, length, take, Option, Some, None, slice_get, replicate, refl, sym, ap, ◌∙◌, subst, arith, append-nil, append_assoc}
 use Rattle.std.specs.List.{AllByRecursion, list_any, flat_map}
 use Rattle.std.proofs.lemmas.Bool.{false≢true, eqb-true, eq-eqb}
 use Rattle.std.proofs.lemmas.List.{length-replicate, take-append-le}
@@ -260,41 +260,68 @@ pub driven_by_is : (q : Pooled) (ps : List Process) (s : ℕ) → is_among (driv
 driven_by_is q ps s = among_flat (λ (p : Process). driven q p.body) ps s
 
 -- the refusal by marks is that of the definition
-stop_same : (q : Pooled) (inputs on_inputs driven on_driven : List Bool) (ins : List ℕ) (before : List Process) (b : Block) → IsPool q → Flag inputs (is_among ins) → Flag driven (is_driven q before) → ((k : ℕ) → is_marked on_inputs k ≡ list_any (is_marked inputs) (target_signals q k))
-    → ((k : ℕ) → is_marked on_driven k ≡ list_any (is_marked driven) (target_signals q k)) → block_stop (target_stop on_inputs on_driven) b ≡ first_refusal (statement_refusal q ins (driven_by q before)) (guarded [] b)
-stop_same q inputs on_inputs driven on_driven ins before b rules fi fd hi hd = block_first (target_stop on_inputs on_driven) (statement_refusal q ins (driven_by q before)) each [] b
+stop_same : (q : Pooled) (inputs on_inputs taken on_taken : List Bool) (ins before : List ℕ) (b : Block) → IsPool q → Flag inputs (is_among ins) → Flag taken (is_among before) → ((k : ℕ) → is_marked on_inputs k ≡ list_any (is_marked inputs) (target_signals q k))
+    → ((k : ℕ) → is_marked on_taken k ≡ list_any (is_marked taken) (target_signals q k)) → block_stop (target_stop on_inputs on_taken) b ≡ first_refusal (statement_refusal q ins before) (guarded [] b)
+stop_same q inputs on_inputs taken on_taken ins before b rules fi ft hi ht = block_first (target_stop on_inputs on_taken) (statement_refusal q ins before) each [] b
   where
-    each : (g : Guarded) → target_stop on_inputs on_driven g.target.0 g.place ≡ statement_refusal q ins (driven_by q before) g
+    each : (g : Guarded) → target_stop on_inputs on_taken g.target.0 g.place ≡ statement_refusal q ins before g
     each g =
         let t = g.target.0 in
         let ts = target_signals q t in
         let a : is_marked on_inputs t ≡ share ts ins = hi t ∙ any_agree (is_marked inputs) (is_among ins) ts (all_imp (λ s small. fi.each s small) ts (target_small q t rules)) in
-        let c : is_marked on_driven t ≡ share ts (driven_by q before) = hd t ∙ any_agree (is_marked driven) (is_among (driven_by q before)) ts (all_imp (λ s small. fd.each s small ∙ sym (driven_by_is q before s)) ts (target_small q t rules)) in
-        ap (λ x. if x then Some (stop.DrivenInput g.place) else (if is_marked on_driven t then Some (stop.TwoDrivers g.place) else None)) a
+        let c : is_marked on_taken t ≡ share ts before = ht t ∙ any_agree (is_marked taken) (is_among before) ts (all_imp (λ s small. ft.each s small) ts (target_small q t rules)) in
+        ap (λ x. if x then Some (stop.DrivenInput g.place) else (if is_marked on_taken t then Some (stop.TwoDrivers g.place) else None)) a
         ∙ ap (λ x. if share ts ins then Some (stop.DrivenInput g.place) else (if x then Some (stop.TwoDrivers g.place) else None)) c
 
--- of all processes: a target's least number is below that of a process exactly where one before drives a signal of it
-module _ (q : Pooled) (inputs on_inputs : List Bool) (firsts leasts : List (Option ℕ)) (ins : List ℕ) (rules : IsPool q) (fi : Flag inputs (is_among ins)) (hi : (k : ℕ) → is_marked on_inputs k ≡ list_any (is_marked inputs) (target_signals q k))
-    (hl : (i k : ℕ) → is_marked (bounded i leasts) k ≡ list_any (is_marked (bounded i firsts)) (target_signals q k)) where
+or_either : (a b : Bool) → (a || b) ≡ (b || a)
+or_either true true = refl
+or_either true false = refl
+or_either false true = refl
+or_either false false = refl
+
+-- of all processes: a target's least number is below that of a process exactly where one before drives a signal of it, or a read port
+-- gives it
+module _ (q : Pooled) (inputs on_inputs given : List Bool) (firsts leasts : List (Option ℕ)) (ins before : List ℕ) (rules : IsPool q) (fi : Flag inputs (is_among ins)) (fg : Flag given (is_among before))
+    (hi : (k : ℕ) → is_marked on_inputs k ≡ list_any (is_marked inputs) (target_signals q k)) (hl : (i k : ℕ) → is_marked (bounded i leasts) k ≡ list_any (is_marked (bounded i firsts)) (target_signals q k)) where
   abbrev stop_at : ℕ → ℕ → Place → Option ResolveStop
   stop_at i = target_stop on_inputs (bounded i leasts)
 
-  refusal_from : (n : ℕ) (before rest : List Process) → length before ≡ n → ((i : ℕ) → Flag (bounded i firsts) (is_driven q (take i (before ++ rest)))) → processes_stop stop_at n rest ≡ driver_refusal q ins (driven_by q before) rest
-  refusal_from n before [] size h = refl
-  refusal_from n before (p ∷ rest) size h =
-      ap (λ o. first_of o (processes_stop stop_at (suc n) rest)) (stop_same q inputs on_inputs (bounded n firsts) (bounded n leasts) ins before p.body rules fi (subst (λ ps. Flag (bounded n firsts) (is_driven q ps)) first (h n)) hi (hl n))
-      ∙ ap (first_of (first_refusal (statement_refusal q ins (driven_by q before)) (guarded [] p.body)))
-      (refusal_from (suc n) (before ++ p ∷ []) rest (omega (arith, grown before, size)) (λ i. subst (λ ps. Flag (bounded i firsts) (is_driven q (take i ps))) (sym (append_assoc before (p ∷ []) rest)) (h i)) ∙ ap (λ ss. driver_refusal q ins ss rest) more)
-    where
-      first : take n (before ++ p ∷ rest) ≡ before
-      first = take-append-le n before (p ∷ rest) (omega (arith, size)) ∙ take_end before n (omega (arith, size))
+  abbrev AreKnown : List Process → Type 0
+  AreKnown ps = (i : ℕ) → Flag (bounded (i + 1) firsts) (λ s. is_driven q (take i ps) s || is_marked given s)
 
+  -- what those before it drive, or a read port gives
+  taken_by : (n : ℕ) (past rest : List Process) → length past ≡ n → AreKnown (past ++ rest) → Flag (bounded (suc n) firsts) (is_among (before ++ driven_by q past))
+  taken_by n past rest size h = record { size = all.size; each = λ s small. all.each s small ∙ ap (λ b. is_driven q past s || b) (fg.each s small) ∙ joined s }
+    where
+      first : take n (past ++ rest) ≡ past
+      first = take-append-le n past rest (omega (arith, size)) ∙ take_end past n (omega (arith, size))
+
+      next : n + 1 ≡ suc n
+      next = omega arith
+
+      all : Flag (bounded (suc n) firsts) (λ s. is_driven q past s || is_marked given s)
+      all = subst (λ m. Flag (bounded m firsts) (λ s. is_driven q past s || is_marked given s)) next (subst (λ ps. Flag (bounded (n + 1) firsts) (λ s. is_driven q ps s || is_marked given s)) first (h n))
+
+      joined : (s : ℕ) → (is_driven q past s || is_among before s) ≡ is_among (before ++ driven_by q past) s
+      joined s =
+          or_either (is_driven q past s) (is_among before s) ∙ ap (λ b. is_among before s || b) (sym (driven_by_is q past s)) ∙ sym (any-append (λ y. y == s) before (driven_by q past))
+
+  refusal_from : (n : ℕ) (past rest : List Process) → length past ≡ n → AreKnown (past ++ rest) → processes_stop stop_at (suc n) rest ≡ driver_refusal q ins (before ++ driven_by q past) rest
+  refusal_from n past [] size h = refl
+  refusal_from n past (p ∷ rest) size h =
+      ap (λ o. first_of o (processes_stop stop_at (suc (suc n)) rest))
+      (stop_same q inputs on_inputs (bounded (suc n) firsts) (bounded (suc n) leasts) ins (before ++ driven_by q past) p.body rules fi (taken_by n past (p ∷ rest) size h) hi (hl (suc n)))
+      ∙ ap (first_of (first_refusal (statement_refusal q ins (before ++ driven_by q past)) (guarded [] p.body)))
+      (refusal_from (suc n) (past ++ p ∷ []) rest (omega (arith, grown past, size)) (subst AreKnown (sym (append_assoc past (p ∷ []) rest)) h) ∙ ap (λ ss. driver_refusal q ins ss rest) more)
+    where
       grown : (xs : List Process) → length (xs ++ p ∷ []) ≡ suc (length xs)
       grown [] = refl
       grown (x ∷ xs) = ap suc (grown xs)
 
-      more : driven_by q (before ++ p ∷ []) ≡ driven_by q before ++ driven q p.body
-      more = flat_map-append (λ (p : Process). driven q p.body) before (p ∷ []) ∙ ap (λ ss. driven_by q before ++ ss) (append-nil (driven q p.body))
+      more : before ++ driven_by q (past ++ p ∷ []) ≡ (before ++ driven_by q past) ++ driven q p.body
+      more =
+          ap (λ ss. before ++ ss) (flat_map-append (λ (p : Process). driven q p.body) past (p ∷ []) ∙ ap (λ ss. driven_by q past ++ ss) (append-nil (driven q p.body)))
+          ∙ sym (append_assoc before (driven_by q past) (driven q p.body))
 
-  pub refusal_same : (ps : List Process) → ((i : ℕ) → Flag (bounded i firsts) (is_driven q (take i ps))) → processes_stop stop_at 0 ps ≡ driver_refusal q ins [] ps
-  refusal_same ps h = refusal_from 0 [] ps refl h
+  pub refusal_same : (ps : List Process) → AreKnown ps → processes_stop stop_at 1 ps ≡ driver_refusal q ins before ps
+  refusal_same ps h = refusal_from 0 [] ps refl h ∙ ap (λ ss. driver_refusal q ins ss ps) (append-nil before)

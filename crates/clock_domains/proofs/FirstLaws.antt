@@ -8,7 +8,7 @@ use Rattle.design_ir.specs.Pools.{Pooled}
 use Rattle.design_ir.specs.Guards.{driven}
 use Rattle.design_ir.specs.Circuits.{is_among}
 use Rattle.clock_domains.specs.Reads.{is_driven}
-use Rattle.clock_domains.specs.Resolved.{first_of, is_clocked, register_path, column_of_register, signal_name}
+use Rattle.clock_domains.specs.Resolved.{first_of, is_clocked, process_path, signal_name}
 use Rattle.clock_domains.specs.Firsts.{AreFirsts, IsPlace, first_clocked, known_column, path_at}
 
 pub first_assoc : {A : Type 0} (a b c : Option A) → first_of (first_of a b) c ≡ first_of a (first_of b c)
@@ -43,22 +43,22 @@ first_is q (p ∷ ps) s = split (is_clocked p) (is_among (driven q p.body) s) �
     filtered true = refl
     filtered false = refl
 
-pub path_is : (q : Pooled) (ps : List Process) (paths : List (List ℕ)) (s : ℕ) → path_at paths (first_clocked q ps s) ≡ register_path q ps paths s
+pub path_is : (q : Pooled) (ps : List Process) (paths : List (Option (List ℕ))) (s : ℕ) → path_at paths (first_clocked q ps s) ≡ process_path q ps paths s
 path_is q [] paths s = refl
 path_is q (p ∷ ps) [] s = nowhere (first_clocked q (p ∷ ps) s)
   where
-    nowhere : (o : Option ℕ) → path_at [] o ≡ []
+    nowhere : (o : Option ℕ) → path_at [] o ≡ None
     nowhere None = refl
     nowhere (Some zero) = refl
     nowhere (Some (suc k)) = refl
 path_is q (p ∷ ps) (path ∷ paths) s = split (is_clocked p && is_among (driven q p.body) s) (first_clocked q ps s) (path_is q ps paths s)
   where
-    split : (b : Bool) (o : Option ℕ) → path_at paths o ≡ register_path q ps paths s → path_at (path ∷ paths) (cond b (Some 0) (option_map (λ (k : ℕ). suc k) o)) ≡ cond b path (register_path q ps paths s)
+    split : (b : Bool) (o : Option ℕ) → path_at paths o ≡ process_path q ps paths s → path_at (path ∷ paths) (cond b (Some 0) (option_map (λ (k : ℕ). suc k) o)) ≡ cond b path (process_path q ps paths s)
     split true o h = refl
     split false None h = h
     split false (Some k) h = h
 
-place_wider : (n : ℕ) (o : Option ℕ) → IsPlace n o → IsPlace (suc n) (option_map (λ (k : ℕ). suc k) o)
+pub place_wider : (n : ℕ) (o : Option ℕ) → IsPlace n o → IsPlace (suc n) (option_map (λ (k : ℕ). suc k) o)
 place_wider n None h = tt
 place_wider n (Some k) h = omega (arith, h)
 
@@ -69,13 +69,3 @@ first_place q (p ∷ ps) s = split (is_clocked p && is_among (driven q p.body) s
     split : (b : Bool) → IsPlace (suc (length ps)) (option_map (λ (k : ℕ). suc k) (first_clocked q ps s)) → IsPlace (suc (length ps)) (cond b (Some 0) (option_map (λ (k : ℕ). suc k) (first_clocked q ps s)))
     split true h = omega arith
     split false h = h
-
--- ---- columns of registers
-
-pub known_is : (q : Pooled) (ps : List Process) (paths : List (List ℕ)) (firsts : List (Option ℕ)) (ss : List ℕ) → AreFirsts q ps firsts → AllByRecursion (λ s. s < 16384) ss → map (known_column q paths firsts) ss ≡ map (column_of_register q ps paths) ss
-known_is q ps paths firsts [] f h = refl
-known_is q ps paths firsts (s ∷ ss) f h =
-    let name : (o : List ℕ) → Column = λ o. record { name = o ++ signal_name q s; sig = record { 0 = s } } in
-    let here : known_column q paths firsts s ≡ column_of_register q ps paths s = ap name (ap (path_at paths) (f.each s h.0) ∙ path_is q ps paths s) in
-    let rest = known_is q ps paths firsts ss f h.1 in
-    cc

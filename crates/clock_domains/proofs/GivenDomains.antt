@@ -1,7 +1,7 @@
 -- The domains of a module with those below it: they are domains of the pool, and no two have a name or a signal in common.
-use Rattle.std.proofs.Common.{◌≡◌, inl, inr, ℕ, zero, suc, ◌+◌, ◌-◌, ◌*◌, ◌<◌, ◌≤◌, ◌==◌, nat_lt, false, not, if◌then◌else◌, List, [], ◌∷◌, ◌++◌, map, length, Option, Some, None, is_some, position, refl, sym, ap, ◌∙◌, subst, arith}
+use Rattle.std.proofs.Common.{◌≡◌, inl, inr, ℕ, zero, suc, ◌+◌, ◌-◌, ◌*◌, ◌<◌, ◌≤◌, ◌==◌, nat_lt, ◌||◌, true, false, not, if◌then◌else◌, List, [], ◌∷◌, ◌++◌, map, length, Option, Some, None, is_some, position, refl, sym, ap, ◌∙◌, subst, arith}
 use Rattle.std.specs.Prelude.{option_map}
-use Rattle.std.specs.List.{AllByRecursion, IsDistinct, flat_map}
+use Rattle.std.specs.List.{AllByRecursion, IsDistinct, cons_option, filter_map, flat_map, list_any}
 use Rattle.std.specs.Option.{option_map_or}
 use Rattle.std.proofs.lemmas.Bool.{false≢true}
 use Rattle.std.proofs.lemmas.Bool.Decides.{nat_tests}
@@ -13,6 +13,9 @@ use Rattle.design_ir.specs.declared.ids.SigId.{SigId}
 use Rattle.design_ir.specs.declared.signal.Sig.{Sig}
 use Rattle.design_ir.specs.declared.domain.Domain.{Domain}
 use Rattle.design_ir.specs.declared.domain.DomainDef.{DomainDef}
+use Rattle.design_ir.specs.declared.memory.MemWrite.{MemWrite}
+use Rattle.design_ir.specs.declared.memory.MemRead.{MemRead}
+use Rattle.design_ir.specs.declared.memory.Memory.{Memory}
 use Rattle.design_ir.specs.declared.process.Side.{Side}
 use Rattle.design_ir.specs.declared.process.Side.TheVariants.{Comb, Clocked}
 use Rattle.design_ir.specs.declared.process.Process.{Process}
@@ -22,11 +25,12 @@ use Rattle.design_ir.specs.Circuits.{is_among}
 use Rattle.design_ir.specs.Designs.{share}
 use Rattle.clock_domains.specs.Resolvable.{IsBit, IsResetOf, IsDomainOf, AreApart, domain_numbers}
 use Rattle.clock_domains.specs.Resolved.{each_once, defined_domain, undefined_names, domain_signals, domain_at, domain_for, number_after, domains_from, with_domains, is_past_limit, domain_number, is_clocked}
-use Rattle.clock_domains.specs.Walks.{side_name}
-use Rattle.clock_domains.specs.Ready.{HasDomain}
-use Rattle.clock_domains.proofs.Lists.{all_both, all_imp, all_mapped, all_unmapped, any_none, or_none}
+use Rattle.clock_domains.specs.Walks.{port_names, side_name}
+use Rattle.clock_domains.specs.Ready.{HasDomain, HasDomains, IsNamedDomain}
+use Rattle.clock_domains.proofs.Lists.{all_both, all_imp, all_left, all_mapped, all_right, all_unmapped, any_none, none_any, or_none}
 use Rattle.clock_domains.proofs.EachOnce.{once_any}
 use Rattle.clock_domains.proofs.MadeDomains.{defined_name, defined_all, length_with, made_any, names_back}
+use Rattle.clock_domains.proofs.Outs.{among_flat}
 use Rattle.clock_domains.proofs.WalkLaws.{HasName}
 use Rattle.clock_domains.proofs.DesignSound.{not_equal, share_flipped}
 
@@ -55,7 +59,7 @@ new_form [] (n ∷ names) (suc (suc s)) k e h = new_form [] names s s (omega ari
 new_form (x ∷ xs) names zero k e h = absurd (omega (arith, e))
 new_form (x ∷ xs) names (suc s) k e h = new_form xs names s k (omega (arith, e)) h
 
-old_form : (xs more : List Sig) (s : ℕ) → s < length xs → signal_form (xs ++ more) s ≡ signal_form xs s
+pub old_form : (xs more : List Sig) (s : ℕ) → s < length xs → signal_form (xs ++ more) s ≡ signal_form xs s
 old_form [] more s h = absurd (omega (arith, h))
 old_form (x ∷ xs) more zero h = refl
 old_form (x ∷ xs) more (suc s) h = old_form xs more s (omega (arith, h))
@@ -193,6 +197,45 @@ domains_known definitions m names ps h = all_imp (λ (p : Process) k. by_side p 
         ∙ once_any names n
         ∙ h n e
         ∙ sym (ap (λ s. is_some (side_name s)) e)
+
+-- ---- each memory port has a domain
+
+abbrev IsNameOf : List (List ℕ) → List ℕ → Type 0
+IsNameOf names n = list_any (λ k. text_eq k n) names ≡ true
+
+named_domain : (definitions : List DomainDef) (m : ℕ) (names : List (List ℕ)) (n : List ℕ) → IsNameOf names n → IsNamedDomain (domains_from definitions m (each_once names)) (Some n)
+named_domain definitions m names n h =
+    made_any definitions m (each_once names) n ∙ once_any names n ∙ h
+
+pub ports_known : (definitions : List DomainDef) (n : ℕ) (names : List (List ℕ)) (m : Memory) → AllByRecursion (IsNameOf names) (port_names m) → HasDomains (domains_from definitions n (each_once names)) m
+ports_known definitions n names m h = record {
+  writes =
+      all_imp (λ (w : MemWrite) k. named_domain definitions n names w.domain k) m.writes
+      (all_unmapped (IsNameOf names) (λ (w : MemWrite). w.domain) m.writes (all_left (IsNameOf names) (map (λ (w : MemWrite). w.domain) m.writes) (filter_map (λ (r : MemRead). r.domain) m.reads) h));
+  reads = each m.reads (all_right (IsNameOf names) (map (λ (w : MemWrite). w.domain) m.writes) (filter_map (λ (r : MemRead). r.domain) m.reads) h);
+}
+  where
+    each : (rs : List MemRead) → AllByRecursion (IsNameOf names) (filter_map (λ (r : MemRead). r.domain) rs) → AllByRecursion (λ (r : MemRead). IsNamedDomain (domains_from definitions n (each_once names)) r.domain) rs
+    each [] k = tt
+    each (r ∷ rs) k = by r.domain k (each rs)
+      where
+        by : (o : Option (List ℕ)) → AllByRecursion (IsNameOf names) (cons_option o (filter_map (λ (r : MemRead). r.domain) rs)) → (AllByRecursion (IsNameOf names) (filter_map (λ (r : MemRead). r.domain) rs) → AllByRecursion (λ (r : MemRead). IsNamedDomain (domains_from definitions n (each_once names)) r.domain) rs)
+            → IsNamedDomain (domains_from definitions n (each_once names)) o × AllByRecursion (λ (r : MemRead). IsNamedDomain (domains_from definitions n (each_once names)) r.domain) rs
+        by None j rest = (tt, rest j)
+        by (Some name) j rest = (named_domain definitions n names name j.0, rest j.1)
+
+-- ---- none of their signals is the data of a read port
+
+-- a signal of the pool that no definition has is in no domain
+pub domains_free : (q : Pooled) (definitions : List DomainDef) (names : List (List ℕ)) (s : ℕ) → s < length q.signals → is_among (flat_map (λ (d : DomainDef). domain_numbers d.domain) definitions) s ≡ false
+    → is_among (flat_map domain_numbers (domains_from definitions (length q.signals) names)) s ≡ false
+domains_free q definitions names s low h =
+    let n = length q.signals in
+    among_flat domain_numbers (domains_from definitions n names) s
+    ∙ any_none (λ (d : Domain). is_among (domain_numbers d) s) (domains_from definitions n names)
+    (domains_all (λ (d : Domain). is_among (domain_numbers d) s ≡ false) any_name definitions n (n + 2 * length (undefined_names definitions names)) names
+    (none_any (λ (d : DomainDef). is_among (domain_numbers d.domain) s) definitions (sym (among_flat (λ (d : DomainDef). domain_numbers d.domain) definitions s) ∙ h))
+    (λ k x from high is. ap (λ b. b || ((suc k == s) || false)) (not_equal k s (λ e. omega (arith, e, low, from))) ∙ ap (λ b. b || false) (not_equal (suc k) s (λ e. omega (arith, e, low, from)))) (all_named names) (omega arith))
 
 -- ---- few domains
 

@@ -8,6 +8,7 @@ pub mod MadeDomains
 pub mod WalkLaws
 pub mod FirstLaws
 pub mod NumberLaws
+pub mod DataLaws
 pub mod DriverLaws
 pub mod ReadLaws
 pub mod PortLaws
@@ -18,6 +19,18 @@ pub mod DesignNames
 pub mod DesignSound
 pub mod DesignFacts
 pub mod DesignParts
+pub mod DesignMemories
 pub mod DesignWhole
+pub mod WalkedParts
 pub mod GivenDomains
 pub mod ReadyLaws
+pub mod ExprLists
+pub mod HolderLaws
+pub mod ResetNames
+pub mod NamesOnce
+pub mod PlacedLaws
+pub mod PlacingLaws
+pub mod HeldSignals
+pub mod PlacedParts
+pub mod SiteLaws
+pub mod PlacedDomains

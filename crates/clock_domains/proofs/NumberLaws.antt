@@ -1,18 +1,18 @@
 -- Numbers below a bound are marks: what is done to the numbers is done to the marks.
-use Rattle.std.proofs.Common.{◌≡◌, ℕ, zero, suc, ◌+◌, ◌<◌, ◌≤◌, nat_lt, Bool, true, false, ◌&&◌, ◌||◌, cond, List, [], ◌∷◌, ◌++◌, length, take, Option, Some, None, slice_get, slice_set, replicate, refl, sym, ap, ◌∙◌, subst, arith}
+use Rattle.std.proofs.Common.{◌≡◌, ℕ, zero, suc, ◌+◌, ◌<◌, ◌≤◌, ◌==◌, nat_lt, Bool, true, false, ◌&&◌, ◌||◌, cond, List, [], ◌∷◌, ◌++◌, length, take, Option, Some, None, slice_get, slice_set, replicate, refl, sym, ap, ◌∙◌, subst, arith}
 use Rattle.std.specs.Prelude.{option_map}
 use Rattle.std.specs.List.{AllByRecursion, filter, list_any}
-use Rattle.std.proofs.lemmas.Bool.{false≢true}
+use Rattle.std.proofs.lemmas.Bool.{false≢true, eqb-true, eq-eqb}
 use Rattle.std.proofs.lemmas.Bool.Decides.{nat_tests}
-use Rattle.std.proofs.lemmas.List.{length-set, take-append-le}
+use Rattle.std.proofs.lemmas.List.{get_or-set_other, get_or-set_same, length-set, take-append-le}
 use Rattle.std.proofs.lemmas.List.Concat.{flat_map-append}
 use Rattle.design_ir.specs.declared.process.Process.{Process}
 use Rattle.design_ir.specs.Pools.{Pooled}
 use Rattle.design_ir.specs.Guards.{driven}
 use Rattle.design_ir.specs.Circuits.{is_among}
-use Rattle.clock_domains.specs.Firsts.{first_at, first_clocked}
+use Rattle.clock_domains.specs.Firsts.{first_at, first_clocked, lesser}
 use Rattle.clock_domains.specs.Marks.{is_marked, marked, comes_out}
-use Rattle.clock_domains.specs.Numbers.{lesser, lowered, is_below, bounded, process_targets}
+use Rattle.clock_domains.specs.Numbers.{lowered, is_below, bounded, process_targets}
 use Rattle.clock_domains.specs.Reads.{block_targets, is_driven}
 use Rattle.clock_domains.specs.Resolved.{is_clocked}
 use Rattle.clock_domains.proofs.Lists.{take-push, take_end, or_false, length_map}
@@ -80,21 +80,88 @@ or_true : (a : Bool) → (a || true) ≡ true
 or_true true = refl
 or_true false = refl
 
+-- numbers that are below the same bounds
+pub below_same : (a b : Option ℕ) → ((i : ℕ) → is_below i a ≡ is_below i b) → a ≡ b
+below_same None None h = refl
+below_same (Some m) None h = absurd (false≢true (sym (h (suc m)) ∙ just_below m))
+  where
+    just_below : (m : ℕ) → nat_lt m (suc m) ≡ true
+    just_below m = grind (arith, nat_tests)
+below_same None (Some n) h = absurd (false≢true (h (suc n) ∙ just_below n))
+  where
+    just_below : (m : ℕ) → nat_lt m (suc m) ≡ true
+    just_below m = grind (arith, nat_tests)
+below_same (Some m) (Some n) h = ap Some (equal m n (h (suc m)) (h (suc n)))
+  where
+    equal : (m n : ℕ) → nat_lt m (suc m) ≡ nat_lt n (suc m) → nat_lt m (suc n) ≡ nat_lt n (suc n) → m ≡ n
+    equal m n a b = grind (arith, nat_tests)
+
+-- a number that is not less changes nothing
+pub lesser_again : (o : Option ℕ) (m n : ℕ) → m ≤ n → lesser (lesser o (Some m)) (Some n) ≡ lesser o (Some m)
+lesser_again o m n le = below_same (lesser (lesser o (Some m)) (Some n)) (lesser o (Some m)) each
+  where
+    joined : (a b c : Bool) → (c ≡ true → b ≡ true) → ((a || b) || c) ≡ (a || b)
+    joined a b false h = or_false (a || b)
+    joined a true true h = or_true (a || true) ∙ sym (or_true a)
+    joined a false true h = absurd (false≢true (h refl))
+
+    less : (m n i : ℕ) → m ≤ n → nat_lt n i ≡ true → nat_lt m i ≡ true
+    less m n i le e = grind (arith, nat_tests)
+
+    each : (i : ℕ) → is_below i (lesser (lesser o (Some m)) (Some n)) ≡ is_below i (lesser o (Some m))
+    each i =
+        below_lesser i (lesser o (Some m)) (Some n)
+        ∙ ap (λ b. b || nat_lt n i) (below_lesser i o (Some m))
+        ∙ joined (is_below i o) (nat_lt m i) (nat_lt n i) (less m n i le)
+        ∙ sym (below_lesser i o (Some m))
+
 -- numbers below the bound are marks, and others are none
-lowered_below : (i n : ℕ) (ks : List ℕ) (firsts : List (Option ℕ)) → nat_lt n i ≡ true → bounded i (lowered ks n firsts) ≡ marked ks (bounded i firsts)
+pub lowered_below : (i n : ℕ) (ks : List ℕ) (firsts : List (Option ℕ)) → nat_lt n i ≡ true → bounded i (lowered ks n firsts) ≡ marked ks (bounded i firsts)
 lowered_below i n [] firsts e = refl
 lowered_below i n (k ∷ ks) firsts e =
     let o = first_at firsts k in
     lowered_below i n ks (slice_set firsts k (lesser o (Some n))) e
     ∙ ap (marked ks) (bounded_set i firsts k (lesser o (Some n)) ∙ ap (slice_set (bounded i firsts) k) (below_lesser i o (Some n) ∙ ap (λ b. is_below i o || b) e ∙ or_true (is_below i o)))
 
-lowered_past : (i n : ℕ) (ks : List ℕ) (firsts : List (Option ℕ)) → nat_lt n i ≡ false → bounded i (lowered ks n firsts) ≡ bounded i firsts
+pub lowered_past : (i n : ℕ) (ks : List ℕ) (firsts : List (Option ℕ)) → nat_lt n i ≡ false → bounded i (lowered ks n firsts) ≡ bounded i firsts
 lowered_past i n [] firsts e = refl
 lowered_past i n (k ∷ ks) firsts e =
     let o = first_at firsts k in
     lowered_past i n ks (slice_set firsts k (lesser o (Some n))) e
     ∙ bounded_set i firsts k (lesser o (Some n))
     ∙ same_set i firsts k (is_below i (lesser o (Some n))) (below_lesser i o (Some n) ∙ ap (λ b. is_below i o || b) e ∙ or_false (is_below i o))
+
+-- ---- one number of a list
+
+pub first_at_set : (firsts : List (Option ℕ)) (k : ℕ) (o : Option ℕ) (s : ℕ) → k < length firsts → first_at (slice_set firsts k o) s ≡ cond (k == s) o (first_at firsts s)
+first_at_set firsts k o s h = split (k == s) refl
+  where
+    split : (b : Bool) → (k == s) ≡ b → first_at (slice_set firsts k o) s ≡ cond b o (first_at firsts s)
+    split true e = ap (first_at (slice_set firsts k o)) (sym (eqb-true k s e)) ∙ get_or-set_same firsts k o None h
+    split false e = get_or-set_other firsts k s o None (λ same. false≢true (sym e ∙ eq-eqb k s (sym same)))
+
+pub lowered_at : (ks : List ℕ) (n : ℕ) (firsts : List (Option ℕ)) (s : ℕ) → AllByRecursion (λ k. k < length firsts) ks → first_at (lowered ks n firsts) s ≡ cond (is_among ks s) (lesser (first_at firsts s) (Some n)) (first_at firsts s)
+lowered_at [] n firsts s h = refl
+lowered_at (k ∷ ks) n firsts s h =
+    lowered_at ks n next s (subst (λ m. AllByRecursion (λ j. j < m) ks) (sym (length-set firsts k (lesser (first_at firsts k) (Some n)))) h.1)
+    ∙ ap (λ o. cond (is_among ks s) (lesser o (Some n)) o) here
+    ∙ split (k == s) (is_among ks s)
+  where
+    next : List (Option ℕ)
+    next = slice_set firsts k (lesser (first_at firsts k) (Some n))
+
+    at_same : (b : Bool) → (k == s) ≡ b → cond b (lesser (first_at firsts k) (Some n)) (first_at firsts s) ≡ cond b (lesser (first_at firsts s) (Some n)) (first_at firsts s)
+    at_same true e = ap (λ j. lesser (first_at firsts j) (Some n)) (eqb-true k s e)
+    at_same false e = refl
+
+    here : first_at next s ≡ cond (k == s) (lesser (first_at firsts s) (Some n)) (first_at firsts s)
+    here = first_at_set firsts k (lesser (first_at firsts k) (Some n)) s h.0 ∙ at_same (k == s) refl
+
+    split : (b c : Bool) → cond c (lesser (cond b (lesser (first_at firsts s) (Some n)) (first_at firsts s)) (Some n)) (cond b (lesser (first_at firsts s) (Some n)) (first_at firsts s)) ≡ cond (b || c) (lesser (first_at firsts s) (Some n)) (first_at firsts s)
+    split true true = lesser_again (first_at firsts s) n n (omega arith)
+    split true false = refl
+    split false true = refl
+    split false false = refl
 
 -- ---- numbers that are handed down
 
@@ -122,10 +189,11 @@ module _ (leads : ℕ → List ℕ) (i k s : ℕ) (targets signals : List (Optio
 
 -- ---- processes in order, each with its number
 
--- one process more, of those that are kept
-pub numbered_turn : (keep : List Process → List Process) (ps : List Process) (j : ℕ) (p : Process) (more : List Process) (old cur new : List (Option ℕ)) → slice_get ps j ≡ Some p → keep (take j ps ++ p ∷ []) ≡ keep (take j ps) ++ more
-    → ((i : ℕ) → bounded i cur ≡ marked (process_targets (keep (take i (take j ps)))) (bounded i old)) → new ≡ lowered (process_targets more) j cur → (i : ℕ) → bounded i new ≡ marked (process_targets (keep (take i (take (j + 1) ps)))) (bounded i old)
-numbered_turn keep ps j p more old cur new at push h k i = ap (bounded i) k ∙ split (nat_lt j i) refl
+-- one process more, of those that are kept, where each has the number that is given for its place
+pub numbered_turn : (up : ℕ → ℕ) → ((j i : ℕ) → nat_lt (up j) (up i) ≡ nat_lt j i) → (keep : List Process → List Process) (ps : List Process) (j : ℕ) (p : Process) (more : List Process) (old cur new : List (Option ℕ)) → slice_get ps j ≡ Some p
+    → keep (take j ps ++ p ∷ []) ≡ keep (take j ps) ++ more → ((i : ℕ) → bounded (up i) cur ≡ marked (process_targets (keep (take i (take j ps)))) (bounded (up i) old)) → new ≡ lowered (process_targets more) (up j) cur → (i : ℕ)
+    → bounded (up i) new ≡ marked (process_targets (keep (take i (take (j + 1) ps)))) (bounded (up i) old)
+numbered_turn up order keep ps j p more old cur new at push h k i = ap (bounded (up i)) k ∙ split (nat_lt j i) refl
   where
     size : length (take j ps) ≡ j
     size = take_length ps j p at
@@ -146,21 +214,33 @@ numbered_turn keep ps j p more old cur new at push h k i = ap (bounded i) k ∙ 
     past : nat_lt j i ≡ false → i ≤ j
     past e = grind (arith, nat_tests)
 
-    split : (b : Bool) → nat_lt j i ≡ b → bounded i (lowered (process_targets more) j cur) ≡ marked (process_targets (keep (take i (take (j + 1) ps)))) (bounded i old)
+    split : (b : Bool) → nat_lt j i ≡ b → bounded (up i) (lowered (process_targets more) (up j) cur) ≡ marked (process_targets (keep (take i (take (j + 1) ps)))) (bounded (up i) old)
     split true e =
         let low = below e in
         let all : take i (take j ps) ≡ take j ps = take_end (take j ps) i (omega (arith, low, size)) in
         let all' : take i (take (j + 1) ps) ≡ take j ps ++ p ∷ [] = take_end (take (j + 1) ps) i (omega (arith, low, size')) ∙ next in
-        lowered_below i j (process_targets more) cur e
-        ∙ ap (marked (process_targets more)) (h i ∙ ap (λ qs. marked (process_targets (keep qs)) (bounded i old)) all)
-        ∙ sym (marked-append (process_targets (keep (take j ps))) (process_targets more) (bounded i old))
-        ∙ ap (λ ts. marked ts (bounded i old))
+        lowered_below (up i) (up j) (process_targets more) cur (order j i ∙ e)
+        ∙ ap (marked (process_targets more)) (h i ∙ ap (λ qs. marked (process_targets (keep qs)) (bounded (up i) old)) all)
+        ∙ sym (marked-append (process_targets (keep (take j ps))) (process_targets more) (bounded (up i) old))
+        ∙ ap (λ ts. marked ts (bounded (up i) old))
         (sym (flat_map-append (λ (p : Process). block_targets p.body) (keep (take j ps)) more) ∙ ap process_targets (sym push) ∙ ap (λ qs. process_targets (keep qs)) (sym all'))
     split false e =
         let low = past e in
-        lowered_past i j (process_targets more) cur e
+        lowered_past (up i) (up j) (process_targets more) cur (order j i ∙ e)
         ∙ h i
-        ∙ ap (λ qs. marked (process_targets (keep qs)) (bounded i old)) (sym (ap (take i) next ∙ take-append-le i (take j ps) (p ∷ []) (omega (arith, low, size))))
+        ∙ ap (λ qs. marked (process_targets (keep qs)) (bounded (up i) old)) (sym (ap (take i) next ∙ take-append-le i (take j ps) (p ∷ []) (omega (arith, low, size))))
+
+-- numbers from 1 on keep their order
+pub next_order : (j i : ℕ) → nat_lt (j + 1) (i + 1) ≡ nat_lt j i
+next_order j i = grind (arith, nat_tests)
+
+-- what has the number 0 is below all of these
+pub given_below : (i : ℕ) (given : Bool) (o : Option ℕ) → is_below (i + 1) (cond given (Some 0) o) ≡ (is_below (i + 1) o || given)
+given_below i true o = one i ∙ sym (or_true (is_below (i + 1) o))
+  where
+    one : (i : ℕ) → nat_lt 0 (i + 1) ≡ true
+    one i = grind (arith, nat_tests)
+given_below i false o = sym (or_false (is_below (i + 1) o))
 
 -- ---- the first clocked process
 
@@ -196,19 +276,3 @@ below_first q (p ∷ ps) s (suc i) =
     filtered : (a : Bool) → ((a && is_among (driven q p.body) s) || is_driven q (filter is_clocked (take i ps)) s) ≡ is_driven q (cond a (p ∷ filter is_clocked (take i ps)) (filter is_clocked (take i ps))) s
     filtered true = refl
     filtered false = refl
-
--- numbers that are below the same bounds
-pub below_same : (a b : Option ℕ) → ((i : ℕ) → is_below i a ≡ is_below i b) → a ≡ b
-below_same None None h = refl
-below_same (Some m) None h = absurd (false≢true (sym (h (suc m)) ∙ just_below m))
-  where
-    just_below : (m : ℕ) → nat_lt m (suc m) ≡ true
-    just_below m = grind (arith, nat_tests)
-below_same None (Some n) h = absurd (false≢true (h (suc n) ∙ just_below n))
-  where
-    just_below : (m : ℕ) → nat_lt m (suc m) ≡ true
-    just_below m = grind (arith, nat_tests)
-below_same (Some m) (Some n) h = ap Some (equal m n (h (suc m)) (h (suc n)))
-  where
-    equal : (m n : ℕ) → nat_lt m (suc m) ≡ nat_lt n (suc m) → nat_lt m (suc n) ≡ nat_lt n (suc n) → m ≡ n
-    equal m n a b = grind (arith, nat_tests)

@@ -5,13 +5,15 @@ use Rattle.std.proofs.lemmas.List.Elements.{filter-append, filter_map-append}
 use Rattle.std.proofs.lemmas.List.Concat.{flat_map-append}
 use Rattle.design_ir.specs.declared.port.Port.{Port}
 use Rattle.design_ir.specs.declared.domain.Domain.{Domain}
+use Rattle.design_ir.specs.declared.memory.Memory.{Memory}
+use Rattle.design_ir.specs.declared.process.Process.{Process}
 use Rattle.design_ir.specs.Pools.{Pooled}
 use Rattle.design_ir.specs.Circuits.{is_among}
 use Rattle.clock_domains.specs.declared.top.TopPorts.{TopPorts}
 use Rattle.clock_domains.specs.declared.top.TopPorts.TheVariants.{Members, Held, Loose}
 use Rattle.clock_domains.specs.Marks.{Flag, is_marked, marked}
-use Rattle.clock_domains.specs.Resolvable.{IsPortOf, ArePorts, AreTopPorts}
-use Rattle.clock_domains.specs.Resolved.{signals_of, domain_ports, ports_of_domain, top_inputs}
+use Rattle.clock_domains.specs.Resolvable.{IsPortOf, ArePorts, AreTopPorts, top_inputs}
+use Rattle.clock_domains.specs.Resolved.{signals_of, domain_ports, ports_of_domain}
 use Rattle.clock_domains.specs.Chosen.{IsSignal}
 use Rattle.clock_domains.proofs.Lists.{all_imp, take-push, map-push, map-append}
 use Rattle.clock_domains.proofs.Markings.{marked-append, marked_at, length_marked}
@@ -107,3 +109,7 @@ pub inputs_low : (q : Pooled) (top : TopPorts) → length q.signals ≤ 16384 �
 inputs_low q (Members ps) le h = small_filtered (λ (p : Port). p.is_input) ps (given_low q 16384 ps le h)
 inputs_low q (Held ps) le h = tt
 inputs_low q Loose le h = tt
+
+-- marks by processes and memories that are the same
+pub flag_same : (marks : List Bool) (test : List Process → List Memory → ℕ → Bool) (ps ps' : List Process) (ms ms' : List Memory) → ps ≡ ps' → ms ≡ ms' → Flag marks (test ps ms) → Flag marks (test ps' ms')
+flag_same marks test ps ps' ms ms' e f h = subst (λ xs. Flag marks (test ps' xs)) f (subst (λ xs. Flag marks (test xs ms)) e h)

@@ -1,10 +1,13 @@
 -- What holds of a module with those below it whose domains were made.
-use Rattle.std.proofs.Common.{◌≡◌, inl, inr, ℕ, suc, ◌+◌, ◌-◌, ◌<◌, ◌≤◌, ◌^◌, Bool, true, false, ◌&&◌, not, List, [], ◌∷◌, ◌++◌, map, length, Option, Some, None, is_some, Result, Ok, refl, sym, ap, ◌∙◌, subst, arith, append-nil}
-use Rattle.std.specs.List.{AllByRecursion, filter, flat_map, range_with_len}
+use Rattle.std.proofs.Common.{◌≡◌, inl, inr, ℕ, suc, ◌+◌, ◌-◌, ◌<◌, ◌≤◌, ◌^◌, ◌==◌, ◌||◌, Bool, true, false, ◌&&◌, if◌then◌else◌, not, List, [], ◌∷◌, ◌++◌, map, length, Option, Some, None, is_some, Result, Ok, refl, sym, ap, ◌∙◌, subst, arith, append-nil}
+use Rattle.std.specs.List.{AllByRecursion, IsDistinct, filter, flat_map, list_any, range_with_len}
 use Rattle.std.proofs.lemmas.Bool.{false≢true, cases_lt}
-use Rattle.std.proofs.lemmas.List.{get_or_past}
+use Rattle.std.proofs.lemmas.List.{get_or_past, length-append}
 use Rattle.std.proofs.lemmas.List.Elements.{filter-append}
 use Rattle.lists.specs.Names.{IsName}
+use Rattle.lists.specs.Texts.{text_eq}
+use Rattle.lists.proofs.TextLaws.{text_eq_same}
+use Rattle.design_ir.specs.declared.ids.ExprId.{ExprId}
 use Rattle.design_ir.specs.declared.ids.SigId.{SigId}
 use Rattle.design_ir.specs.declared.signal.Sig.{Sig}
 use Rattle.design_ir.specs.declared.port.Port.{Port}
@@ -13,54 +16,91 @@ use Rattle.design_ir.specs.declared.domain.Domain.{Domain}
 use Rattle.design_ir.specs.declared.domain.DomainDef.{DomainDef}
 use Rattle.design_ir.specs.declared.process.Process.{Process}
 use Rattle.design_ir.specs.declared.process.DesignProcess.{DesignProcess}
+use Rattle.design_ir.specs.declared.memory.MemRead.{MemRead}
 use Rattle.design_ir.specs.declared.memory.Memory.{Memory}
 use Rattle.design_ir.specs.declared.fragment.Fragment.{Fragment}
+use Rattle.design_ir.specs.Named.{AllBelow}
 use Rattle.design_ir.specs.Pools.{Pooled}
 use Rattle.design_ir.specs.PoolRules.{IsPool}
 use Rattle.design_ir.specs.Circuits.{Circuit, is_among}
+use Rattle.design_ir.specs.Guards.{block_exprs}
 use Rattle.design_ir.specs.Designs.{IsDesign}
 use Rattle.design_ir.specs.Rising.{AllRisingSync}
 use Rattle.clock_domains.specs.declared.top.TopPorts.{TopPorts}
+use Rattle.clock_domains.specs.declared.top.TopPorts.TheVariants.{Members, Held, Loose}
 use Rattle.clock_domains.specs.declared.stop.ResolveStop.{ResolveStop}
 use Rattle.clock_domains.specs.declared.stop.ResolveStop.TheVariants as stop
+use Rattle.clock_domains.specs.Held.{fragment_exprs, held_resets, is_within, memory_exprs}
 use Rattle.clock_domains.specs.Marks.{Flag, is_marked}
-use Rattle.clock_domains.specs.Reads.{is_driven}
-use Rattle.clock_domains.specs.Walks.{all_processes, all_paths, all_definitions, all_names}
-use Rattle.clock_domains.specs.Resolvable.{IsDefinition, IsDomainOf, IsResolvable}
-use Rattle.clock_domains.specs.Resolved.{clash_after, defined_domain, domain_names, domain_signals, made_names, with_domains, domains_from, is_past_limit, limit_where, is_clocked, has_width, signals_of, domain_ports, top_ports, ports_of, named_registers, column_of_port, columns_after, columns_of, ports_named, process_in, circuit_of, driver_refusal, design_inputs, unless, resolved_in, resolved, IsResolveRefusal}
+use Rattle.clock_domains.specs.Reads.{data_signals, is_driven, is_given}
+use Rattle.clock_domains.specs.Walks.{Contents, all_contents, all_definitions, all_memories, all_names, all_paths, all_processes, port_names}
+use Rattle.clock_domains.specs.Resolvable.{IsDefinition, IsDomainOf, IsMemoryOf, IsOpenSide, IsPlain, IsResolvable, IsSideOf, IsTree, domain_numbers, top_inputs}
+use Rattle.clock_domains.specs.Resolved.{clash_after, clocked_data, column_of_port, column_of_register, columns_after, columns_of, circuit_of, defined_domain, domain_names, domain_ports, domain_signals, domain_stop, domains_from, driver_stop, has_width, is_clocked, is_past_limit, limit_where, made_domains, made_names, made_pool, named_registers, ports_named, ports_of, process_in, register_path, reset_refusal, resolved, resolved_in, signals_of, top_ports, unless, whole_pool, with_domains, IsResolveRefusal}
 use Rattle.clock_domains.specs.Chosen.{IsSignal}
-use Rattle.clock_domains.specs.Firsts.{AreFirsts, AreNumbersThere, IsPlace, first_at, first_clocked}
-use Rattle.clock_domains.specs.Ready.{IsReady}
-use Rattle.clock_domains.specs.Made.{AreMade}
+use Rattle.clock_domains.specs.Firsts.{AreNumbersThere, AreSites, IsPlace, column_under, first_at, first_site, known_column, path_at}
+use Rattle.clock_domains.specs.Ready.{AreClocked, AreWalked, IsPlainMemory, IsReady}
 use Rattle.clock_domains.specs.Stops.{IsOwed}
-use Rattle.clock_domains.proofs.Lists.{all_filtered, all_imp, all_joined, all_unmapped}
+use Rattle.clock_domains.proofs.Lists.{all_both, all_filtered, all_imp, all_joined, all_mapped, all_unmapped, any-append, or_none}
 use Rattle.clock_domains.proofs.EachOnce.{once_all, once_distinct}
-use Rattle.clock_domains.proofs.FirstLaws.{first_is, first_place}
-use Rattle.clock_domains.proofs.WalkLaws.{walk_definitions, walk_has, walk_length, walk_named, walk_names, walk_sides}
-use Rattle.clock_domains.proofs.MadeDomains.{domains_length}
-use Rattle.clock_domains.proofs.DriverLaws.{is_driven_none}
+use Rattle.clock_domains.proofs.WalkLaws.{walk_definitions, walk_has, walk_length, walk_memory_length, walk_memory_named, walk_named, walk_names}
+use Rattle.clock_domains.proofs.MadeDomains.{domains_length, length_with}
+use Rattle.clock_domains.proofs.DriverLaws.{is_driven_none, plain_below}
 use Rattle.clock_domains.proofs.ChoiceLaws.{range_all, range_split, domain_there, top_there}
 use Rattle.clock_domains.proofs.DesignNames.{columns_length}
-use Rattle.clock_domains.proofs.DesignSound.{sides_with, top_with}
+use Rattle.clock_domains.proofs.DesignSound.{first_none, top_wider}
 use Rattle.clock_domains.proofs.DesignParts.{domain_signal_names, domains_signal}
 use Rattle.clock_domains.proofs.DesignWhole.{IsApart, design_apart, design_sound}
-use Rattle.clock_domains.proofs.GivenDomains.{domains_apart, domains_known, domains_sound, few_names, names_distinct}
+use Rattle.clock_domains.proofs.GivenDomains.{domains_apart, domains_free, domains_known, domains_sound, few_names, names_distinct, ports_known}
+use Rattle.clock_domains.proofs.HeldSignals.{held_signals}
+use Rattle.clock_domains.proofs.PlacedLaws.{placed_rules, placed_signals}
+use Rattle.clock_domains.proofs.PlacedParts.{IsMoved, all_together, moved_memory, roots_within, whole_domains, whole_memory, whole_side}
+use Rattle.clock_domains.proofs.SiteLaws.{memory_none, site_none, site_path, site_place}
+use Rattle.clock_domains.proofs.WalkedParts.{top_processes, walk_memories, walk_ports, walk_processes}
 
-module _ (q : Pooled) (ds : List Domain) (own ps : List Process) (paths : List (List ℕ)) (top : TopPorts) (h : IsReady q ds own ps paths top) where
+module _ (q : Pooled) (ds : List Domain) (own : List Process) (all : Contents) (top : TopPorts) (h : IsReady q ds own all top) where
   pub ready_domains : AllByRecursion (IsSignal q) ds
   ready_domains = domains_signal q ds h.domains
 
-  pub ready_ports : AllByRecursion (λ (p : Port). p.sig.0 < length q.signals) (ports_of q ds own ps top)
+  pub ready_ports : AllByRecursion (λ (p : Port). p.sig.0 < length q.signals) (ports_of q ds own all top)
   ready_ports =
-      all_joined (λ (p : Port). p.sig.0 < length q.signals) (domain_ports q (is_driven q ps) ds) _ (domain_there q (is_driven q ps) ds ready_domains)
-      (all_filtered (λ (p : Port). p.sig.0 < length q.signals) _ (top_ports q own ps top) (top_there q own ps top h.ports))
+      all_joined (λ (p : Port). p.sig.0 < length q.signals) (domain_ports q (is_given q all.processes all.memories) ds) _ (domain_there q (is_given q all.processes all.memories) ds ready_domains)
+      (all_filtered (λ (p : Port). p.sig.0 < length q.signals) _ (top_ports q own all top) (top_there q own all top h.ports))
 
-  pub ready_design : IsPool q → driver_refusal q (design_inputs ds top) [] ps ≡ None → length ps < 2 ^ 32 → IsDesign (circuit_of q ds ps paths (ports_of q ds own ps top))
-  ready_design rules free few = design_sound q ds own ps paths top h rules free few
+  -- read ports give signals of the pool
+  pub ready_data : AllByRecursion (λ s. s < length q.signals) (data_signals all.memories)
+  ready_data =
+      all_together (λ s. s < length q.signals) (λ (m : Memory). map (λ (r : MemRead). r.word.0) m.reads) all.memories
+      (all_imp (λ (m : Memory) k. all_mapped (λ s. s < length q.signals) (λ (r : MemRead). r.word.0) m.reads (all_imp (λ (r : MemRead) x. x.word.there) m.reads k.memory.reads)) all.memories h.memories)
+
+  pub ready_clocked : AreClocked q all.memories
+  ready_clocked =
+      all_imp (λ (m : Memory) k. all_mapped (λ s. s < length q.signals) (λ (r : MemRead). r.word.0) (filter (λ (r : MemRead). is_some r.domain) m.reads)
+      (all_filtered (λ (r : MemRead). r.word.0 < length q.signals) (λ (r : MemRead). is_some r.domain) m.reads (all_imp (λ (r : MemRead) x. x.word.there) m.reads k.memory.reads))) all.memories h.memories
+
+  -- and their expressions are there
+  pub ready_exprs : AllBelow (length q.exprs) (flat_map memory_exprs all.memories)
+  ready_exprs = plain_below q (flat_map memory_exprs all.memories) (all_together (IsPlain q) memory_exprs all.memories (all_imp (λ (m : Memory) k. k.expressions) all.memories h.memories))
+
+  pub ready_design : IsPool q → driver_stop q ds all top ≡ None → length all.processes < 2 ^ 32 → IsDesign (circuit_of q ds all (ports_of q ds own all top))
+  ready_design rules free few = design_sound q ds own all top h rules free few
 
   -- however many processes there are
-  pub ready_apart : IsPool q → driver_refusal q (design_inputs ds top) [] ps ≡ None → IsApart (circuit_of q ds ps paths (ports_of q ds own ps top))
-  ready_apart rules free = design_apart q ds own ps paths top h rules free
+  pub ready_apart : IsPool q → driver_stop q ds all top ≡ None → IsApart (circuit_of q ds all (ports_of q ds own all top))
+  ready_apart rules free = design_apart q ds own all top h rules free
+
+-- the ports look at processes and memories alone
+module _ (q : Pooled) (ds : List Domain) (own : List Process) where
+  of_both : TopPorts → List Process → List Memory → List Port
+  of_both top ps ms = ports_of q ds own (record { processes = ps; paths = []; memories = ms; memory_paths = [] }) top
+
+  both_alike : (top : TopPorts) (a : Contents) → ports_of q ds own a top ≡ of_both top a.processes a.memories
+  unfolding of_both
+  both_alike (Members given) a = refl
+  both_alike (Held given) a = refl
+  both_alike Loose a = refl
+
+  pub ports_alike : (top : TopPorts) (a b : Contents) → a.processes ≡ b.processes → a.memories ≡ b.memories → ports_of q ds own a top ≡ ports_of q ds own b top
+  ports_alike top a b e f = both_alike top a ∙ ap (λ ps. of_both top ps a.memories) e ∙ ap (of_both top b.processes) f ∙ sym (both_alike top b)
 
 -- ---- named registers
 
@@ -80,45 +120,77 @@ filter_shorter p n m le none =
     ∙ ap (λ xs. filter p (range_with_len 0 n) ++ xs) (filter_none p (range_with_len (0 + n) (m - n)) (range_all (λ s. p s ≡ false) (0 + n) (m - n) (λ s low high. none s (omega (arith, low)))))
     ∙ append-nil (filter p (range_with_len 0 n))
 
-pub registers_same : (q : Pooled) (ps : List Process) (ports : List Port) (firsts : List (Option ℕ)) (is_port : List Bool) → IsPool q → AreFirsts q ps firsts → Flag is_port (is_among (signals_of ports))
-    → filter (λ s. is_some (first_at firsts s) && (not (is_marked is_port s) && has_width q s)) (range_with_len 0 (length firsts)) ≡ named_registers q ps ports
-registers_same q ps ports firsts is_port rules f g =
-    let test : ℕ → Bool = λ s. is_driven q (filter is_clocked ps) s && (not (is_among (signals_of ports) s) && has_width q s) in
-    filter_agree (λ s. is_some (first_at firsts s) && (not (is_marked is_port s) && has_width q s)) test (range_with_len 0 (length firsts))
-    (range_all (λ s. (is_some (first_at firsts s) && (not (is_marked is_port s) && has_width q s)) ≡ (is_driven q (filter is_clocked ps) s && (not (is_among (signals_of ports) s) && has_width q s))) 0 (length firsts)
-    (λ s low high.
-    let small : s < 16384 = omega (arith, high, f.size) in
-    ap (λ b. b && (not (is_marked is_port s) && has_width q s)) (ap is_some (f.each s small) ∙ first_is q ps s) ∙ ap (λ b. is_driven q (filter is_clocked ps) s && (not b && has_width q s)) (g.each s small)))
-    ∙ filter_shorter test (length q.signals) (length firsts) (omega (arith, rules.few_signals, f.size))
-    (λ s le. ap (λ b. b && (not (is_among (signals_of ports) s) && has_width q s)) (is_driven_none q (filter is_clocked ps) s rules le))
+map_on : {A B : Type 0} (f g : A → B) (xs : List A) → AllByRecursion (λ x. f x ≡ g x) xs → map f xs ≡ map g xs
+map_on f g [] h = refl
+map_on f g (x ∷ xs) h = let a = h.0 in let b = map_on f g xs h.1 in cc
 
-pub registers_there : (q : Pooled) (ps : List Process) (ports : List Port) (rs : List SigId) → map (λ (s : SigId). s.0) rs ≡ named_registers q ps ports → AllByRecursion (λ (s : SigId). s.0 < length q.signals) rs
-registers_there q ps ports rs e =
+pub registers_there : (q : Pooled) (all : Contents) (ports : List Port) (rs : List SigId) → map (λ (s : SigId). s.0) rs ≡ named_registers q all ports → AllByRecursion (λ (s : SigId). s.0 < length q.signals) rs
+registers_there q all ports rs e =
     all_unmapped (λ s. s < length q.signals) (λ (s : SigId). s.0) rs
     (subst (AllByRecursion (λ s. s < length q.signals)) (sym e) (all_filtered (λ s. s < length q.signals) _ (range_with_len 0 (length q.signals)) (range_all (λ s. s < length q.signals) 0 (length q.signals) (λ s low high. omega (arith, high)))))
 
-pub registers_small : (q : Pooled) (ps : List Process) (ports : List Port) → IsPool q → AllByRecursion (λ s. s < 16384) (named_registers q ps ports)
-registers_small q ps ports rules =
-    all_filtered (λ s. s < 16384) _ (range_with_len 0 (length q.signals)) (range_all (λ s. s < 16384) 0 (length q.signals) (λ s low high. omega (arith, high, rules.few_signals)))
+module _ (q : Pooled) (all : Contents) (sites : List (Option ℕ)) (rules : IsPool q) (walk : AreWalked all) (clocked : AreClocked q all.memories) (f : AreSites q all.processes all.memories sites) where
+  abbrev paths : List (Option (List ℕ))
+  paths = all.paths ++ all.memory_paths
 
--- only signals of the pool have numbers
-pub clocked_there : (q : Pooled) (ps : List Process) (firsts : List (Option ℕ)) → IsPool q → AreFirsts q ps firsts → AreNumbersThere q firsts
-clocked_there q ps firsts rules f = record { size = f.size; there = λ s is. elim (cases_lt s (length q.signals)) [ inl below ↦ below | inr past ↦ absurd (nowhere s past is) ] }
-  where
-    nowhere : (s : ℕ) → length q.signals ≤ s → is_some (first_at firsts s) ≡ true → ⊥
-    nowhere s past is =
-        elim (cases_lt s 16384) [
-          | inl small ↦ false≢true (sym (ap is_some (f.each s small) ∙ first_is q ps s ∙ is_driven_none q (filter is_clocked ps) s rules past) ∙ is)
-          | inr large ↦ false≢true (sym (ap is_some (get_or_past firsts s None (omega (arith, large, f.size)))) ∙ is)
-        ]
+  -- the path at a signal's number is that of the register
+  path_same : (s : ℕ) → s < 16384 → path_at paths (first_at sites s) ≡ register_path q all s
+  path_same s small = ap (path_at paths) (f.each s small) ∙ site_path q all.processes all.memories all.paths all.memory_paths s walk.size
 
--- each number is one of a process
-pub clocked_places : (q : Pooled) (ps : List Process) (paths : List (List ℕ)) (firsts : List (Option ℕ)) → length paths ≡ length ps → AreFirsts q ps firsts → (s : ℕ) → IsPlace (length paths) (first_at firsts s)
-clocked_places q ps paths firsts size f s =
-    elim (cases_lt s 16384) [
-      | inl small ↦ subst (IsPlace (length paths)) (sym (f.each s small)) (subst (λ n. IsPlace n (first_clocked q ps s)) (sym size) (first_place q ps s))
-      | inr large ↦ subst (IsPlace (length paths)) (sym (get_or_past firsts s None (omega (arith, large, f.size)))) tt
-    ]
+  path_none : (s : ℕ) → length q.signals ≤ s → register_path q all s ≡ None
+  path_none s past = sym (site_path q all.processes all.memories all.paths all.memory_paths s walk.size) ∙ ap (path_at paths) (nowhere s past)
+    where
+      nowhere : (s : ℕ) → length q.signals ≤ s → first_site q all.processes all.memories s ≡ None
+      nowhere s past = site_none q all.processes all.memories s (is_driven_none q (filter is_clocked all.processes) s rules past) (memory_none (length q.signals) all.memories s clocked past)
+
+  pub registers_same : (ports : List Port) (is_port : List Bool) → Flag is_port (is_among (signals_of ports))
+      → filter (λ s. is_some (path_at paths (first_at sites s)) && (not (is_marked is_port s) && has_width q s)) (range_with_len 0 (length sites)) ≡ named_registers q all ports
+  registers_same ports is_port g =
+      let test : ℕ → Bool = λ s. is_some (register_path q all s) && (not (is_among (signals_of ports) s) && has_width q s) in
+      filter_agree (λ s. is_some (path_at paths (first_at sites s)) && (not (is_marked is_port s) && has_width q s)) test (range_with_len 0 (length sites))
+      (range_all (λ s. (is_some (path_at paths (first_at sites s)) && (not (is_marked is_port s) && has_width q s)) ≡ (is_some (register_path q all s) && (not (is_among (signals_of ports) s) && has_width q s))) 0 (length sites)
+      (λ s low high.
+      let small : s < 16384 = omega (arith, high, f.size) in
+      ap (λ o. is_some o && (not (is_marked is_port s) && has_width q s)) (path_same s small) ∙ ap (λ b. is_some (register_path q all s) && (not b && has_width q s)) (g.each s small)))
+      ∙ filter_shorter test (length q.signals) (length sites) (omega (arith, rules.few_signals, f.size))
+      (λ s le. ap (λ o. is_some o && (not (is_among (signals_of ports) s) && has_width q s)) (path_none s le))
+
+  pub columns_same : (ports : List Port) → map (known_column q paths sites) (named_registers q all ports) ≡ map (column_of_register q all) (named_registers q all ports)
+  columns_same ports =
+      map_on (known_column q paths sites) (column_of_register q all) (named_registers q all ports)
+      (all_filtered (λ s. known_column q paths sites s ≡ column_of_register q all s) _ (range_with_len 0 (length q.signals))
+      (range_all (λ s. known_column q paths sites s ≡ column_of_register q all s) 0 (length q.signals) (λ s low high. ap (λ o. column_under q o s) (path_same s (omega (arith, high, rules.few_signals))))))
+
+  -- what is found by paths that are these
+  pub registers_found : (xs : List (Option (List ℕ))) (ports : List Port) (is_port : List Bool) (found : List ℕ) → xs ≡ paths → Flag is_port (is_among (signals_of ports))
+      → found ≡ filter (λ s. is_some (path_at xs (first_at sites s)) && (not (is_marked is_port s) && has_width q s)) (range_with_len 0 (length sites)) → found ≡ named_registers q all ports
+  registers_found xs ports is_port found e g h = h ∙ ap (λ ys. filter (λ s. is_some (path_at ys (first_at sites s)) && (not (is_marked is_port s) && has_width q s)) (range_with_len 0 (length sites))) e ∙ registers_same ports is_port g
+
+  pub columns_found : (ports' ports : List Port) (xs : List (Option (List ℕ))) (found : List ℕ) (named : List Column) → ports' ≡ ports → xs ≡ paths → found ≡ named_registers q all ports → named ≡ map (known_column q xs sites) found
+      → columns_after [] (map column_of_port ports' ++ named) ≡ columns_of q all ports (named_registers q all ports)
+  columns_found ports' ports xs found named a b r e =
+      ap (λ ps. columns_after [] (map column_of_port ps ++ named)) a
+      ∙ ap (λ cs. columns_after [] (map column_of_port ports ++ cs)) (e ∙ ap (λ ys. map (known_column q ys sites) found) b ∙ ap (map (known_column q paths sites)) r ∙ columns_same ports)
+
+  -- only signals of the pool have numbers
+  pub sites_there : AreNumbersThere q sites
+  sites_there = record { size = f.size; there = λ s is. elim (cases_lt s (length q.signals)) [ inl below ↦ below | inr past ↦ absurd (nowhere s past is) ] }
+    where
+      nowhere : (s : ℕ) → length q.signals ≤ s → is_some (first_at sites s) ≡ true → ⊥
+      nowhere s past is =
+          elim (cases_lt s 16384) [
+            | inl small ↦ false≢true (sym (ap is_some (f.each s small ∙ site_none q all.processes all.memories s (is_driven_none q (filter is_clocked all.processes) s rules past) (memory_none (length q.signals) all.memories s clocked past))) ∙ is)
+            | inr large ↦ false≢true (sym (ap is_some (get_or_past sites s None (omega (arith, large, f.size)))) ∙ is)
+          ]
+
+  -- each number is one of a path
+  pub sites_places : (s : ℕ) → IsPlace (length paths) (first_at sites s)
+  sites_places s =
+      elim (cases_lt s 16384) [
+        | inl small ↦ subst (IsPlace (length paths)) (sym (f.each s small))
+            (subst (λ n. IsPlace n (first_site q all.processes all.memories s)) (sym (length-append all.paths all.memory_paths ∙ ap (λ n. n + length all.memory_paths) walk.size ∙ ap (λ n. length all.processes + n) walk.memory_size)) (site_place q all.processes all.memories s))
+        | inr large ↦ subst (IsPlace (length paths)) (sym (get_or_past sites s None (omega (arith, large, f.size)))) tt
+      ]
 
 mapped_length : {A B : Type 0} (f : A → B) (xs : List A) → length (map f xs) ≡ length xs
 mapped_length f [] = refl
@@ -133,25 +205,25 @@ columns_enough ports regs cols e = omega (arith, ap length e, columns_length [] 
 
 -- ---- the whole
 
-pub circuit_parts : (q : Pooled) (ds : List Domain) (ps : List Process) (paths : List (List ℕ)) (ports ports' : List Port) (processes : List DesignProcess) (memories : List Memory) (cols : List Column)
-    → processes ≡ map (process_in ds) ps → memories ≡ [] → cols ≡ columns_of q ps paths ports (named_registers q ps ports) → ports' ≡ ports_named ports cols
-    → ◌≡◌ {A = Circuit} (record { pool = q; processes = processes; memories = memories; domains = ds; ports = ports'; columns = cols }) (circuit_of q ds ps paths ports)
-circuit_parts q ds ps paths ports ports' processes memories cols a b e f =
-    let named : ports' ≡ ports_named ports (columns_of q ps paths ports (named_registers q ps ports)) = f ∙ ap (ports_named ports) e in
-    whole (map (process_in ds) ps) (columns_of q ps paths ports (named_registers q ps ports)) (ports_named ports (columns_of q ps paths ports (named_registers q ps ports))) a b e named
+pub circuit_parts : (q : Pooled) (ds : List Domain) (all : Contents) (ports ports' : List Port) (processes : List DesignProcess) (memories : List Memory) (cols : List Column)
+    → processes ≡ map (process_in ds) all.processes → memories ≡ all.memories → cols ≡ columns_of q all ports (named_registers q all ports) → ports' ≡ ports_named ports cols
+    → ◌≡◌ {A = Circuit} (record { pool = q; processes = processes; memories = memories; domains = ds; ports = ports'; columns = cols }) (circuit_of q ds all ports)
+circuit_parts q ds all ports ports' processes memories cols a b e f =
+    let named : ports' ≡ ports_named ports (columns_of q all ports (named_registers q all ports)) = f ∙ ap (ports_named ports) e in
+    whole (map (process_in ds) all.processes) all.memories (columns_of q all ports (named_registers q all ports)) (ports_named ports (columns_of q all ports (named_registers q all ports))) a b e named
   where
-    whole : (x : List DesignProcess) (y : List Column) (z : List Port) → processes ≡ x → memories ≡ [] → cols ≡ y → ports' ≡ z → ◌≡◌ {A = Circuit} (record { pool = q; processes = processes; memories = memories; domains = ds; ports = ports'; columns = cols }) (record { pool = q; processes = x; memories = []; domains = ds; ports = z; columns = y })
-    whole x y z a b e f = cc
+    whole : (x : List DesignProcess) (u : List Memory) (y : List Column) (z : List Port) → processes ≡ x → memories ≡ u → cols ≡ y → ports' ≡ z → ◌≡◌ {A = Circuit} (record { pool = q; processes = processes; memories = memories; domains = ds; ports = ports'; columns = cols }) (record { pool = q; processes = x; memories = u; domains = ds; ports = z; columns = y })
+    whole x u y z a b e f = cc
 
 -- parts that were made by domains that are these
-pub whole_made : (q : Pooled) (ds ds' : List Domain) (own ps : List Process) (paths : List (List ℕ)) (top : TopPorts) (ports' : List Port) (processes : List DesignProcess) (memories : List Memory) (cols : List Column)
-    → ds' ≡ ds → processes ≡ map (process_in ds') ps → memories ≡ [] → cols ≡ columns_of q ps paths (ports_of q ds' own ps top) (named_registers q ps (ports_of q ds' own ps top)) → ports' ≡ ports_named (ports_of q ds' own ps top) cols
-    → ◌≡◌ {A = Circuit} (record { pool = q; processes = processes; memories = memories; domains = ds; ports = ports'; columns = cols }) (circuit_of q ds ps paths (ports_of q ds own ps top))
-whole_made q ds ds' own ps paths top ports' processes memories cols same a b e f =
-    circuit_parts q ds ps paths (ports_of q ds own ps top) ports' processes memories cols
-    (subst (λ x. processes ≡ map (process_in x) ps) same a) b
-    (subst (λ x. cols ≡ columns_of q ps paths (ports_of q x own ps top) (named_registers q ps (ports_of q x own ps top))) same e)
-    (subst (λ x. ports' ≡ ports_named (ports_of q x own ps top) cols) same f)
+pub whole_made : (q : Pooled) (ds ds' : List Domain) (own : List Process) (all : Contents) (top : TopPorts) (ports' : List Port) (processes : List DesignProcess) (memories : List Memory) (cols : List Column)
+    → ds' ≡ ds → processes ≡ map (process_in ds') all.processes → memories ≡ all.memories → cols ≡ columns_of q all (ports_of q ds' own all top) (named_registers q all (ports_of q ds' own all top)) → ports' ≡ ports_named (ports_of q ds' own all top) cols
+    → ◌≡◌ {A = Circuit} (record { pool = q; processes = processes; memories = memories; domains = ds; ports = ports'; columns = cols }) (circuit_of q ds all (ports_of q ds own all top))
+whole_made q ds ds' own all top ports' processes memories cols same a b e f =
+    circuit_parts q ds all (ports_of q ds own all top) ports' processes memories cols
+    (subst (λ x. processes ≡ map (process_in x) all.processes) same a) b
+    (subst (λ x. cols ≡ columns_of q all (ports_of q x own all top) (named_registers q all (ports_of q x own all top))) same e)
+    (subst (λ x. ports' ≡ ports_named (ports_of q x own all top) cols) same f)
 
 -- ---- what is refused first
 
@@ -167,127 +239,181 @@ pub unless_ok : (o : Option ResolveStop) (r : Result Circuit ResolveStop) (c : C
 unless_ok None r c e = (refl, e)
 unless_ok (Some s) r c e = cc
 
-module _ (q : Pooled) (ds : List Domain) (own ps : List Process) (paths : List (List ℕ)) (top : TopPorts) where
-  pub accepted_in : driver_refusal q (design_inputs ds top) [] ps ≡ None → resolved_in q ds own ps paths top ≡ Ok (circuit_of q ds ps paths (ports_of q ds own ps top))
+module _ (q : Pooled) (ds : List Domain) (own : List Process) (all : Contents) (top : TopPorts) where
+  pub accepted_in : driver_stop q ds all top ≡ None → resolved_in q ds own all top ≡ Ok (circuit_of q ds all (ports_of q ds own all top))
   unfolding resolved_in
-  accepted_in e = ap (λ o. unless o (Ok (circuit_of q ds ps paths (ports_of q ds own ps top)))) e
+  accepted_in e = ap (λ o. unless o (Ok (circuit_of q ds all (ports_of q ds own all top)))) e
 
-  pub refused_in : (s : ResolveStop) → IsOwed (driver_refusal q (design_inputs ds top) [] ps) s → IsResolveRefusal (resolved_in q ds own ps paths top) s
+  pub refused_in : (s : ResolveStop) → IsOwed (driver_stop q ds all top) s → IsResolveRefusal (resolved_in q ds own all top) s
   unfolding resolved_in
-  refused_in s h = unless_owed (driver_refusal q (design_inputs ds top) [] ps) (Ok (circuit_of q ds ps paths (ports_of q ds own ps top))) s h
+  refused_in s h = unless_owed (driver_stop q ds all top) (Ok (circuit_of q ds all (ports_of q ds own all top))) s h
 
   -- the domains of the design are these
-  pub in_domains : (c : Circuit) → resolved_in q ds own ps paths top ≡ Ok c → (driver_refusal q (design_inputs ds top) [] ps ≡ None) × (circuit_of q ds ps paths (ports_of q ds own ps top) ≡ c)
+  pub in_domains : (c : Circuit) → resolved_in q ds own all top ≡ Ok c → (driver_stop q ds all top ≡ None) × (circuit_of q ds all (ports_of q ds own all top) ≡ c)
   unfolding resolved_in
-  in_domains c e = let parts = unless_ok (driver_refusal q (design_inputs ds top) [] ps) (Ok (circuit_of q ds ps paths (ports_of q ds own ps top))) c e in (parts.0, same parts.1)
+  in_domains c e = let parts = unless_ok (driver_stop q ds all top) (Ok (circuit_of q ds all (ports_of q ds own all top))) c e in (parts.0, same parts.1)
     where
-      same : ◌≡◌ {A = Result Circuit ResolveStop} (Ok (circuit_of q ds ps paths (ports_of q ds own ps top))) (Ok c) → circuit_of q ds ps paths (ports_of q ds own ps top) ≡ c
+      same : ◌≡◌ {A = Result Circuit ResolveStop} (Ok (circuit_of q ds all (ports_of q ds own all top))) (Ok c) → circuit_of q ds all (ports_of q ds own all top) ≡ c
       same e = cc
 
 -- ---- a module with those below it
+
+abbrev HasText : List (List ℕ) → List ℕ → Type 0
+HasText names n = list_any (λ m. text_eq m n) names ≡ true
+
+all_texts : (names : List (List ℕ)) → AllByRecursion (HasText names) names
+all_texts [] = tt
+all_texts (n ∷ names) = (
+  ap (λ b. b || list_any (λ m. text_eq m n) names) (text_eq_same n),
+  (let f : (m : List ℕ) → HasText names m → HasText (n ∷ names) m = λ m h. or_true (text_eq n m) (list_any (λ k. text_eq k m) names) h in all_imp f names (all_texts names)),
+)
+  where
+    or_true : (a b : Bool) → b ≡ true → (a || b) ≡ true
+    or_true true b e = refl
+    or_true false b e = e
+
+-- the domains of a tree are domains of the pool in which they are made
+module _ (q : Pooled) (root : Fragment) (tree : IsTree q root) where
+  pub tree_defined : AllByRecursion (IsDefinition q) (all_definitions root)
+  tree_defined = walk_definitions q root tree
+
+  pub tree_named : AllByRecursion IsName (domain_names q root)
+  tree_named = once_all IsName (all_names q root) (walk_names q root tree)
+
+  pub tree_sound : AllByRecursion (IsDomainOf (made_pool q root)) (made_domains q root)
+  tree_sound = domains_sound q (all_definitions root) (domain_names q root) tree_defined tree_named
 
 module _ (q : Pooled) (root : Fragment) (top : TopPorts) where
   abbrev pub definitions : List DomainDef
   definitions = all_definitions root
 
   abbrev pub names : List (List ℕ)
-  names = domain_names root
+  names = domain_names q root
 
-  abbrev pub all : List Process
-  all = all_processes root
+  -- over the pool with the signals of the domains that are made, and with resets as signals
+  abbrev pub made : Pooled
+  made = made_pool q root
 
-  -- over the pool with the signals of the domains that are made
   abbrev pub within : Pooled
-  within = with_domains q (made_names root)
+  within = whole_pool q root
 
   abbrev pub domains : List Domain
-  domains = domains_from definitions (length q.signals) names
+  domains = made_domains q root
 
   abbrev below : Result Circuit ResolveStop
-  below = resolved_in within domains root.processes all (all_paths root) top
+  below = resolved_in within domains root.processes (all_contents root) top
 
-  pub clash_owed : (s : ResolveStop) → IsOwed (clash_after [] definitions) s → IsResolveRefusal (resolved q root top) s
+  pub domain_owed : (s : ResolveStop) → IsOwed (domain_stop q root) s → IsResolveRefusal (resolved q root top) s
   unfolding resolved
-  clash_owed s h = unless_owed (clash_after [] definitions) (unless (limit_where (is_past_limit q definitions names)) below) s h
+  domain_owed s h = unless_owed (domain_stop q root) below s h
 
-  no_clash_is : clash_after [] definitions ≡ None → resolved q root top ≡ unless (limit_where (is_past_limit q definitions names)) below
+  pub resolved_is : domain_stop q root ≡ None → resolved q root top ≡ below
   unfolding resolved
-  no_clash_is e = ap (λ o. unless o (unless (limit_where (is_past_limit q definitions names)) below)) e
-
-  pub limit_owed : (s : ResolveStop) → clash_after [] definitions ≡ None → IsOwed (limit_where (is_past_limit q definitions names)) s → IsResolveRefusal (resolved q root top) s
-  limit_owed s free h = subst (λ r. IsResolveRefusal r s) (sym (no_clash_is free)) (unless_owed (limit_where (is_past_limit q definitions names)) below s h)
-
-  pub resolved_is : clash_after [] definitions ≡ None → is_past_limit q definitions names ≡ false → resolved q root top ≡ below
-  resolved_is free room = no_clash_is free ∙ ap (λ (b : Bool). unless (limit_where b) below) room
+  resolved_is e = ap (λ o. unless o below) e
 
   pub record IsResolved (c : Circuit) : Type 0 where
-    pub no_clash : clash_after [] definitions ≡ None
-    pub room : is_past_limit q definitions names ≡ false
-    pub free : driver_refusal within (design_inputs domains top) [] all ≡ None
-    pub whole : circuit_of within domains all (all_paths root) (ports_of within domains root.processes all top) ≡ c
-
-  not_past : (b : Bool) → limit_where b ≡ None → b ≡ false
-  not_past true e = cc
-  not_past false e = refl
+    pub placed : domain_stop q root ≡ None
+    pub free : driver_stop within domains (all_contents root) top ≡ None
+    pub whole : circuit_of within domains (all_contents root) (ports_of within domains root.processes (all_contents root) top) ≡ c
 
   -- what was refused in no way
   pub resolved_whole : (c : Circuit) → resolved q root top ≡ Ok c → IsResolved c
   unfolding resolved
   resolved_whole c e =
-      let first = unless_ok (clash_after [] definitions) (unless (limit_where (is_past_limit q definitions names)) below) c e in
-      let second = unless_ok (limit_where (is_past_limit q definitions names)) below c first.1 in
-      let third = in_domains within domains root.processes all (all_paths root) top c second.1 in
-      record { no_clash = first.0; room = not_past (is_past_limit q definitions names) second.0; free = third.0; whole = third.1 }
+      let first = unless_ok (domain_stop q root) below c e in
+      let second = in_domains within domains root.processes (all_contents root) top c first.1 in
+      record { placed = first.0; free = second.0; whole = second.1 }
+
+  -- each way in which domains are not refused
+  pub record ArePlaced : Type 0 where
+    pub no_clash : clash_after [] definitions ≡ None
+    pub resets : reset_refusal definitions (held_resets q (fragment_exprs root)) ≡ None
+    pub room : is_past_limit q definitions names ≡ false
+
+  not_past : (b : Bool) → limit_where b ≡ None → b ≡ false
+  not_past true e = cc
+  not_past false e = refl
+
+  pub are_placed : domain_stop q root ≡ None → ArePlaced
+  are_placed e =
+      let first = first_none (clash_after [] definitions) _ e in
+      let second = first_none (reset_refusal definitions (held_resets q (fragment_exprs root))) (limit_where (is_past_limit q definitions names)) first.1 in
+      record { no_clash = first.0; resets = second.0; room = not_past (is_past_limit q definitions names) second.1 }
 
   module _ (given : IsResolvable q root top) where
     defined : AllByRecursion (IsDefinition q) definitions
-    defined = walk_definitions q root given.tree
+    defined = tree_defined q root given.tree
 
     named : AllByRecursion IsName names
-    named = once_all IsName (all_names root) (walk_names q root given.tree)
+    named = tree_named q root given.tree
 
-    sound : AllByRecursion (IsDomainOf within) domains
-    sound = domains_sound q definitions names defined named
+    domains_made_sound : AllByRecursion (IsDomainOf made) domains
+    domains_made_sound = tree_sound q root given.tree
 
     -- every domain rises
     pub resolved_rising : (c : Circuit) → resolved q root top ≡ Ok c → AllRisingSync c
-    resolved_rising c e = subst AllRisingSync (resolved_whole c e).whole (all_imp (λ (d : Domain) h. record { rising = h.rising; sync_reset = h.sync_reset }) domains sound)
+    resolved_rising c e = subst AllRisingSync (resolved_whole c e).whole (all_imp (λ (d : Domain) h. record { rising = h.rising; sync_reset = h.sync_reset }) domains domains_made_sound)
+
+    abbrev IsHeld : ExprId → Type 0
+    IsHeld e = is_within made (fragment_exprs root) e.0 ≡ true
+
+    held : AllByRecursion IsHeld (fragment_exprs root)
+    held = roots_within made (fragment_exprs root)
+
+    longer : (s : ℕ) → s < length q.signals → s < length within.signals
+    longer s low = omega (arith, low, length_with q (made_names q root), ap length (placed_signals domains made (fragment_exprs root)))
+
+    -- no read port gives a signal of a domain, or an input of the top
+    itself : IsMoved q q
+    itself = record { exprs = refl; forms = λ k. refl; more = []; signals = sym (append-nil q.signals) }
+
+    memories_kept : AllByRecursion (IsMemoryOf q) (all_memories root)
+    memories_kept = walk_memories q IsHeld (IsMemoryOf q) (λ name m path h v. moved_memory q q itself name m h) root given.tree held
+
+    data_there : AllByRecursion (λ s. s < length q.signals) (data_signals (all_memories root))
+    data_there =
+        all_together (λ s. s < length q.signals) (λ (m : Memory). map (λ (r : MemRead). r.word.0) m.reads) (all_memories root)
+        (all_imp (λ (m : Memory) k. all_mapped (λ s. s < length q.signals) (λ (r : MemRead). r.word.0) m.reads (all_imp (λ (r : MemRead) x. x.word.there) m.reads k.reads)) (all_memories root) memories_kept)
+
+    free_data : AllByRecursion (λ s. is_among (flat_map domain_numbers domains ++ top_inputs top) s ≡ false) (data_signals (all_memories root))
+    free_data = all_both one (data_signals (all_memories root)) data_there given.free_data
+      where
+        one : (s : ℕ) → s < length q.signals → is_among (flat_map (λ (d : DomainDef). domain_numbers d.domain) definitions ++ top_inputs top) s ≡ false → is_among (flat_map domain_numbers domains ++ top_inputs top) s ≡ false
+        one s low h =
+            let parts = or_none (is_among (flat_map (λ (d : DomainDef). domain_numbers d.domain) definitions) s) (is_among (top_inputs top) s) (sym (any-append (λ x. x == s) (flat_map (λ (d : DomainDef). domain_numbers d.domain) definitions) (top_inputs top)) ∙ h) in
+            any-append (λ x. x == s) (flat_map domain_numbers domains) (top_inputs top)
+            ∙ ap (λ b. b || is_among (top_inputs top) s) (domains_free q definitions names s low parts.0)
+            ∙ parts.1
 
     -- what is asked of a module and of those below it is asked of what was walked
-    pub walked_ready : is_past_limit q definitions names ≡ false → IsReady within domains root.processes all (all_paths root) top
-    walked_ready room = record {
-      walk = record { size = walk_length root; each = walk_named q root given.tree };
-      own_processes = sides_with q (made_names root) root.processes given.tree.own.processes;
-      processes = sides_with q (made_names root) all (walk_sides q root given.tree);
-      names =
-          all_joined (λ (x : Sig). IsName x.name) q.signals (flat_map domain_signals (made_names root)) given.names
-          (domain_signal_names (made_names root) (all_filtered IsName (λ n. not (is_some (defined_domain definitions n))) names named));
-      ports = top_with q (made_names root) top given.ports;
-      few = let e = domains_length definitions (length q.signals) names in let f = few_names q definitions names room in omega (arith, e, f);
-      domains = sound;
-      domain_names = names_distinct q definitions names defined (once_distinct (all_names root));
-      apart = domains_apart q definitions defined given.apart names (once_distinct (all_names root));
-      known = domains_known definitions (length q.signals) (all_names root) all (walk_has root);
-    }
+    module _ (rules : IsPool q) (rules_made : IsPool made) (placed : domain_stop q root ≡ None) where
+      rules_within : IsPool within
+      rules_within = placed_rules domains made (fragment_exprs root) domains_made_sound rules_made
 
--- what was walked, and the pool and the domains that were made, are those
-pub record AreWhole (q : Pooled) (root : Fragment) (q' : Pooled) (ds : List Domain) (own ps : List Process) (paths : List (List ℕ)) : Type 0 where
-  pub top : own ≡ root.processes
-  pub walked : ps ≡ all_processes root
-  pub under : paths ≡ all_paths root
-  pub pool : q' ≡ with_domains q (made_names root)
-  pub given : ds ≡ domains_from (all_definitions root) (length q.signals) (domain_names root)
+      parts : ArePlaced
+      parts = are_placed placed
 
-module _ (q : Pooled) (root : Fragment) (q' : Pooled) (ds : List Domain) (own ps : List Process) (paths : List (List ℕ)) (h : AreWhole q root q' ds own ps paths) where
-  pub by_whole : (P : Pooled → List Domain → List Process → List Process → List (List ℕ) → Type 0)
-      → P (with_domains q (made_names root)) (domains_from (all_definitions root) (length q.signals) (domain_names root)) root.processes (all_processes root) (all_paths root) → P q' ds own ps paths
-  by_whole P k =
-      subst (λ x. P x ds own ps paths) (sym h.pool)
-      (subst (λ x. P (with_domains q (made_names root)) x own ps paths) (sym h.given)
-      (subst (λ x. P (with_domains q (made_names root)) (domains_from (all_definitions root) (length q.signals) (domain_names root)) x ps paths) (sym h.top)
-      (subst (λ x. P (with_domains q (made_names root)) (domains_from (all_definitions root) (length q.signals) (domain_names root)) root.processes x paths) (sym h.walked)
-      (subst (λ x. P (with_domains q (made_names root)) (domains_from (all_definitions root) (length q.signals) (domain_names root)) root.processes (all_processes root) x) (sym h.under) k))))
+      side : (p : Process) → IsOpenSide q p → AllByRecursion IsHeld (block_exprs p.body) → IsSideOf within p
+      side p = whole_side q (made_names q root) domains (fragment_exprs root) rules rules_made rules_within (held_signals q root parts.resets) domains_made_sound p
 
--- the domains of the names that were walked
-pub made_whole : (q q' : Pooled) (root : Fragment) (found : List DomainDef) (said : List (List ℕ)) (ds : List Domain) → found ≡ all_definitions root → said ≡ all_names root → AreMade q found said q' ds → AreMade q (all_definitions root) (all_names root) q' ds
-made_whole q q' root found said ds e f h = subst (λ x. AreMade q x (all_names root) q' ds) e (subst (λ x. AreMade q found x q' ds) f h)
+      pub walked_ready : IsReady within domains root.processes (all_contents root) top
+      walked_ready = record {
+        walk = record { size = walk_length root; each = walk_named q root given.tree; memory_size = walk_memory_length root; memory_each = walk_memory_named q root given.tree };
+        own_processes = top_processes q IsHeld (IsSideOf within) side root given.tree held;
+        processes = walk_processes q IsHeld (IsSideOf within) side root given.tree held;
+        memories =
+            walk_memories q IsHeld (IsPlainMemory within)
+            (λ name m path h v. whole_memory q (made_names q root) domains (fragment_exprs root) rules rules_made rules_within (held_signals q root parts.resets) domains_made_sound name m path h v) root given.tree held;
+        names =
+            subst (AllByRecursion (λ (x : Sig). IsName x.name)) (sym (placed_signals domains made (fragment_exprs root)))
+            (all_joined (λ (x : Sig). IsName x.name) q.signals (flat_map domain_signals (made_names q root)) given.names
+            (domain_signal_names (made_names q root) (all_filtered IsName (λ n. not (is_some (defined_domain definitions n))) names named)));
+        ports = top_wider q within top longer given.ports;
+        few = let e = domains_length definitions (length q.signals) names in let f = few_names q definitions names parts.room in omega (arith, e, f);
+        domains = whole_domains q (made_names q root) domains (fragment_exprs root) domains_made_sound;
+        domain_names = names_distinct q definitions names defined (once_distinct (all_names q root));
+        apart = domains_apart q definitions defined given.apart names (once_distinct (all_names q root));
+        known = domains_known definitions (length q.signals) (all_names q root) (all_processes root) (walk_has q root);
+        ports_known = all_imp (λ (m : Memory) h. ports_known definitions (length q.signals) (all_names q root) m h) (all_memories root) (walk_ports q (HasText (all_names q root)) root (all_texts (all_names q root)));
+        free_data = free_data;
+      }

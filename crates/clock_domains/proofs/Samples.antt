@@ -1,5 +1,5 @@
 -- Small modules and what they come to, by computation.
-use Rattle.std.specs.Prelude.{◌≡◌, refl, ℕ, true, false, List, [], ◌∷◌, ◌++◌, pos, Option, Some, None, Result, Ok, Err, codes}
+use Rattle.std.specs.Prelude.{◌≡◌, refl, ℕ, true, false, List, [], ◌∷◌, ◌++◌, map, pos, Option, Some, None, Result, Ok, Err, codes}
 use Rattle.std.specs.Fmt.{digits}
 use Rattle.shape_rules.specs.Forms.{unsigned}
 use Rattle.amh_host.specs.declared.place.Place.{Place}
@@ -7,7 +7,10 @@ use Rattle.design_ir.specs.declared.ids.SigId.{SigId}
 use Rattle.design_ir.specs.declared.signal.Sig.{Sig}
 use Rattle.design_ir.specs.declared.domain.Domain.{Domain}
 use Rattle.design_ir.specs.declared.domain.DomainDef.{DomainDef}
+use Rattle.design_ir.specs.declared.expr.Expr.{Expr}
 use Rattle.design_ir.specs.declared.expr.Expr.TheVariants as expr
+use Rattle.design_ir.specs.declared.memory.MemRead.{MemRead}
+use Rattle.design_ir.specs.declared.memory.Memory.{Memory}
 use Rattle.design_ir.specs.declared.port.Port.{Port}
 use Rattle.design_ir.specs.declared.port.Column.{Column}
 use Rattle.design_ir.specs.declared.process.Side.{Side}
@@ -21,7 +24,9 @@ use Rattle.design_ir.specs.Targets.{target_signals}
 use Rattle.design_ir.specs.Circuits.{Circuit}
 use Rattle.clock_domains.specs.declared.top.TopPorts.TheVariants.{Members, Loose}
 use Rattle.clock_domains.specs.declared.stop.ResolveStop.{ResolveStop}
-use Rattle.clock_domains.specs.declared.stop.ResolveStop.TheVariants.{DomainClash, DrivenInput, TwoDrivers}
+use Rattle.clock_domains.specs.declared.stop.ResolveStop.TheVariants.{DomainClash, DrivenInput, NoReset, TwoDrivers}
+use Rattle.clock_domains.specs.Held.{held_resets, inside}
+use Rattle.clock_domains.specs.Placed.{placed_pool}
 use Rattle.clock_domains.specs.Reads.{signals_in, offsets_in}
 use Rattle.clock_domains.specs.Resolved.{domain_prefix, domain_names, columns_after, resolved_in, resolved}
 
@@ -66,7 +71,7 @@ unfolding module_of under set place
 registered = module_of (under (Clocked (codes "sync")) (set 5 1 0 ∷ []) ∷ [])
 
 sync_ports : shown (resolved pool registered Loose) ≡ port (codes "clk") 2 ∷ port (codes "rst") 3 ∷ port (codes "a") 0 ∷ record (port (codes "b") 1) { is_input = false } ∷ []
-unfolding resolved_in resolved registered module_of under set place pool one_bit shown port target_signals signals_in offsets_in
+unfolding resolved_in resolved held_resets inside placed_pool registered module_of under set place pool one_bit shown port target_signals signals_in offsets_in
 sync_ports = refl
 
 -- one signal from two domains: the second statement is told
@@ -75,12 +80,12 @@ unfolding module_of under set place
 twice = module_of (under (Clocked (codes "sync")) (set 4 1 0 ∷ []) ∷ under (Clocked (codes "fast")) (set 5 1 0 ∷ []) ∷ [])
 
 two_drivers : resolved pool twice Loose ≡ Err (TwoDrivers (place 5))
-unfolding resolved_in resolved twice module_of under set place pool one_bit target_signals
+unfolding resolved_in resolved held_resets inside placed_pool twice module_of under set place pool one_bit target_signals
 two_drivers = refl
 
 -- the member `b` is an input, so its first statement is told, although a later one drives it from another domain
 driven_input : resolved pool twice (Members (port (codes "b") 1 ∷ [])) ≡ Err (DrivenInput (place 4))
-unfolding resolved_in resolved twice module_of under set place pool one_bit port target_signals
+unfolding resolved_in resolved held_resets inside placed_pool twice module_of under set place pool one_bit port target_signals
 driven_input = refl
 
 -- ---- modules below the top
@@ -99,7 +104,7 @@ one_below = over (leaf (codes "sub") (under (Clocked (codes "sync")) (set 5 1 0 
 
 -- what a submodule alone drives is no port of the top
 below_ports : shown (resolved pool one_below Loose) ≡ port (codes "clk") 2 ∷ port (codes "rst") 3 ∷ port (codes "a") 0 ∷ []
-unfolding resolved_in resolved one_below over leaf under set place pool one_bit shown port target_signals signals_in offsets_in
+unfolding resolved_in resolved held_resets inside placed_pool one_below over leaf under set place pool one_bit shown port target_signals signals_in offsets_in
 below_ports = refl
 
 shown_columns : Result Circuit ResolveStop → List Column
@@ -108,7 +113,7 @@ shown_columns (Err stop) = []
 
 -- a register has the path of the submodule that drives it
 below_columns : shown_columns (resolved pool one_below Loose) ≡ at (codes "clk") 2 ∷ at (codes "rst") 3 ∷ at (codes "a") 0 ∷ at (codes "sub.b") 1 ∷ []
-unfolding resolved_in resolved one_below over leaf under set place pool one_bit shown_columns at target_signals signals_in offsets_in
+unfolding resolved_in resolved held_resets inside placed_pool one_below over leaf under set place pool one_bit shown_columns at target_signals signals_in offsets_in
 below_columns = refl
 
 -- one signal from two modules in one domain: the second statement is told
@@ -117,7 +122,7 @@ unfolding over leaf under set place
 two_below = over (leaf (codes "first") (under (Clocked (codes "sync")) (set 4 1 0 ∷ []) ∷ []) (leaf (codes "second") (under (Clocked (codes "sync")) (set 5 1 0 ∷ []) ∷ []) bare))
 
 two_modules : resolved pool two_below Loose ≡ Err (TwoDrivers (place 5))
-unfolding resolved_in resolved two_below over leaf under set place pool one_bit target_signals
+unfolding resolved_in resolved held_resets inside placed_pool two_below over leaf under set place pool one_bit target_signals
 two_modules = refl
 
 -- ---- domains that modules define
@@ -154,7 +159,7 @@ unfolding defining defining_leaf define with_reset under set place
 used_above = defining [] (under (Clocked (codes "sync")) (set 5 1 0 ∷ []) ∷ []) (defining_leaf (codes "sub") (define 3 (codes "sync") with_reset ∷ []) [])
 
 above_ports : shown (resolved wide_pool used_above Loose) ≡ port (codes "c") 2 ∷ port (codes "r") 3 ∷ port (codes "a") 0 ∷ record (port (codes "b") 1) { is_input = false } ∷ []
-unfolding resolved_in resolved used_above defining defining_leaf define with_reset under set place wide_pool one_bit shown port target_signals signals_in offsets_in
+unfolding resolved_in resolved held_resets inside placed_pool used_above defining defining_leaf define with_reset under set place wide_pool one_bit shown port target_signals signals_in offsets_in
 above_ports = refl
 
 -- one that is reset_less has a clock alone
@@ -163,7 +168,7 @@ unfolding defining define under set place
 without_reset = defining (define 3 (codes "sync") None ∷ []) (under (Clocked (codes "sync")) (set 5 1 0 ∷ []) ∷ []) bare
 
 clock_alone : shown (resolved wide_pool without_reset Loose) ≡ port (codes "c") 2 ∷ port (codes "a") 0 ∷ record (port (codes "b") 1) { is_input = false } ∷ []
-unfolding resolved_in resolved without_reset defining define under set place wide_pool one_bit shown port target_signals signals_in offsets_in
+unfolding resolved_in resolved held_resets inside placed_pool without_reset defining define under set place wide_pool one_bit shown port target_signals signals_in offsets_in
 clock_alone = refl
 
 -- the top drives the reset: it is an output then
@@ -172,7 +177,7 @@ unfolding defining define with_reset under set place
 driving_reset = defining (define 3 (codes "sync") with_reset ∷ []) (under Comb (set 4 3 0 ∷ []) ∷ under (Clocked (codes "sync")) (set 5 1 0 ∷ []) ∷ []) bare
 
 driven_reset : shown (resolved wide_pool driving_reset Loose) ≡ port (codes "c") 2 ∷ port (codes "a") 0 ∷ record (port (codes "b") 1) { is_input = false } ∷ record (port (codes "r") 3) { is_input = false } ∷ []
-unfolding resolved_in resolved driving_reset defining define with_reset under set place wide_pool one_bit shown port target_signals signals_in offsets_in
+unfolding resolved_in resolved held_resets inside placed_pool driving_reset defining define with_reset under set place wide_pool one_bit shown port target_signals signals_in offsets_in
 driven_reset = refl
 
 -- a clock is never driven
@@ -181,7 +186,7 @@ unfolding defining define with_reset under set place
 driving_clock = defining (define 3 (codes "sync") with_reset ∷ []) (under Comb (set 4 2 0 ∷ []) ∷ []) bare
 
 driven_clock : resolved wide_pool driving_clock Loose ≡ Err (DrivenInput (place 4))
-unfolding resolved_in resolved driving_clock defining define with_reset under set place wide_pool one_bit target_signals
+unfolding resolved_in resolved held_resets inside placed_pool driving_clock defining define with_reset under set place wide_pool one_bit target_signals
 driven_clock = refl
 
 -- a name that two modules define is told where it is defined again, and before the clock that is driven
@@ -190,7 +195,7 @@ unfolding defining defining_leaf define with_reset under set place
 twice_defined = defining (define 3 (codes "sync") with_reset ∷ []) (under Comb (set 4 2 0 ∷ []) ∷ []) (defining_leaf (codes "sub") (define 7 (codes "sync") None ∷ []) [])
 
 told_again : resolved wide_pool twice_defined Loose ≡ Err (DomainClash (place 7))
-unfolding resolved twice_defined defining defining_leaf define with_reset under set place
+unfolding resolved held_resets inside twice_defined defining defining_leaf define with_reset under set place
 told_again = refl
 
 -- a module's definitions come before its statements, and these before the modules below it; a name comes once
@@ -198,16 +203,113 @@ in_order : Fragment
 unfolding defining defining_leaf define with_reset under set place
 in_order = defining (define 3 (codes "slow") with_reset ∷ []) (under (Clocked (codes "sync")) (set 4 0 1 ∷ []) ∷ []) (defining_leaf (codes "sub") (define 5 (codes "fast") None ∷ []) (under (Clocked (codes "slow")) (set 6 1 0 ∷ []) ∷ []))
 
-order_names : domain_names in_order ≡ codes "slow" ∷ codes "sync" ∷ codes "fast" ∷ []
-unfolding in_order defining defining_leaf define with_reset under
+order_names : domain_names wide_pool in_order ≡ codes "slow" ∷ codes "sync" ∷ codes "fast" ∷ []
+unfolding held_resets inside in_order defining defining_leaf define with_reset under set place wide_pool one_bit
 order_names = refl
 
 -- the signals of `sync`, which no module defines, are made behind the others
 made_beside : shown_domains (resolved wide_pool in_order Loose)
     ≡ record { name = codes "slow"; clk = record { 0 = 2 }; rst = with_reset; falling = false; async_reset = false } ∷ record { name = codes "sync"; clk = record { 0 = 4 }; rst = Some (record { 0 = 5 }); falling = false; async_reset = false }
     ∷ record { name = codes "fast"; clk = record { 0 = 2 }; rst = None; falling = false; async_reset = false } ∷ []
-unfolding resolved_in resolved in_order defining defining_leaf define with_reset under set place wide_pool one_bit shown_domains target_signals signals_in offsets_in
+unfolding resolved_in resolved held_resets inside placed_pool in_order defining defining_leaf define with_reset under set place wide_pool one_bit shown_domains target_signals signals_in offsets_in
 made_beside = refl
+
+-- ---- resets that modules hold
+
+-- the signals `a` and `b` with their expressions, and `ResetSignal("fast")`
+reset_pool : Pooled
+unfolding one_bit place
+reset_pool = record {
+  signals = one_bit (codes "a") ∷ one_bit (codes "b") ∷ [];
+  exprs = expr.Sig (record { 0 = 0 }) ∷ expr.Sig (record { 0 = 1 }) ∷ expr.Reset (codes "fast") (place 7) ∷ [];
+}
+
+shown_exprs : Result Circuit ResolveStop → List Expr
+shown_exprs (Ok c) = c.pool.exprs
+shown_exprs (Err stop) = []
+
+-- `m.d.sync += b.eq(ResetSignal("fast"))`: the side's domain comes before that of the reset, which is an input
+reading_reset : Fragment
+unfolding module_of under set place
+reading_reset = module_of (under (Clocked (codes "sync")) (set 7 1 2 ∷ []) ∷ [])
+
+reset_ports : shown (resolved reset_pool reading_reset Loose) ≡ port (codes "clk") 2 ∷ port (codes "rst") 3 ∷ port (codes "fast_clk") 4 ∷ port (codes "fast_rst") 5 ∷ record (port (codes "b") 1) { is_input = false } ∷ []
+unfolding resolved_in resolved held_resets inside placed_pool reading_reset module_of under set place reset_pool one_bit shown port target_signals signals_in offsets_in
+reset_ports = refl
+
+-- it is the signal of that reset, in its own place
+reset_is_signal : shown_exprs (resolved reset_pool reading_reset Loose) ≡ expr.Sig (record { 0 = 0 }) ∷ expr.Sig (record { 0 = 1 }) ∷ expr.Sig (record { 0 = 5 }) ∷ []
+unfolding resolved_in resolved held_resets inside placed_pool reading_reset module_of under set place reset_pool one_bit shown_exprs target_signals signals_in offsets_in
+reset_is_signal = refl
+
+-- `m.d.comb += ResetSignal("fast").eq(a)`: what is driven is no input
+writing_reset : Fragment
+unfolding module_of under set place
+writing_reset = module_of (under Comb (set 7 2 0 ∷ []) ∷ [])
+
+written_ports : shown (resolved reset_pool writing_reset Loose) ≡ port (codes "fast_clk") 2 ∷ port (codes "a") 0 ∷ record (port (codes "fast_rst") 3) { is_input = false } ∷ []
+unfolding resolved_in resolved held_resets inside placed_pool writing_reset module_of under set place reset_pool one_bit shown port target_signals signals_in offsets_in
+written_ports = refl
+
+-- one that no module holds uses no domain, and stays as it is
+unheld : Fragment
+unfolding module_of under set place
+unheld = module_of (under Comb (set 5 1 0 ∷ []) ∷ [])
+
+stays_reset : shown_exprs (resolved reset_pool unheld Loose) ≡ expr.Sig (record { 0 = 0 }) ∷ expr.Sig (record { 0 = 1 }) ∷ expr.Reset (codes "fast") (record { line = 7; col = 13 }) ∷ []
+unfolding resolved_in resolved held_resets inside placed_pool unheld module_of under set place reset_pool one_bit shown_exprs target_signals signals_in offsets_in
+stays_reset = refl
+
+-- a domain that is reset_less has none, which is told at the call of `ResetSignal`
+lacking_reset : Fragment
+unfolding defining define under set place
+lacking_reset = defining (define 3 (codes "fast") None ∷ []) (under Comb (set 9 1 2 ∷ []) ∷ []) bare
+
+told_lacking : resolved reset_pool lacking_reset Loose ≡ Err (NoReset (record { line = 7; col = 13 }))
+unfolding resolved held_resets inside lacking_reset defining define under set place reset_pool one_bit
+told_lacking = refl
+
+-- ---- memories
+
+-- two rows of one bit, read at `a`, where `a` is 1, at the edges of `sync`, into `b`
+reading : MemRead
+reading = record { domain = Some (codes "sync"); addr = record { 0 = 0 }; word = record { 0 = 1 }; enable = Some (record { 0 = 0 }); transparent = [] }
+
+two_rows : List MemRead → Memory
+two_rows reads = record { name = []; shape = unsigned 1; depth = 2; rows = pos 0 ∷ pos 1 ∷ []; writes = []; reads = reads }
+
+-- a submodule `mem` that is a memory, under a module with these statements
+with_memory : List MemRead → List Process → Fragment
+unfolding two_rows
+with_memory reads ps = record { name = codes "m"; is_part = false; domains = []; processes = ps; memories = []; submodules = grown (record { name = codes "mem"; is_part = false; domains = []; processes = []; memories = two_rows reads ∷ [] }) bare bare }
+
+shown_memories : Result Circuit ResolveStop → List (List ℕ)
+shown_memories (Ok c) = map (λ (m : Memory). m.name) c.memories
+shown_memories (Err stop) = []
+
+memory_name : shown_memories (resolved pool (with_memory (reading ∷ []) []) Loose) ≡ codes "mem" ∷ []
+unfolding resolved_in resolved held_resets inside placed_pool with_memory two_rows reading pool one_bit shown_memories target_signals signals_in offsets_in
+memory_name = refl
+
+-- its domain is used, `a` is read, and what a clocked port gives is a register under the path of its memory
+memory_columns : shown_columns (resolved pool (with_memory (reading ∷ []) []) Loose) ≡ at (codes "clk") 2 ∷ at (codes "rst") 3 ∷ at (codes "a") 0 ∷ at (codes "mem.b") 1 ∷ []
+unfolding resolved_in resolved held_resets inside placed_pool with_memory two_rows reading pool one_bit shown_columns at target_signals signals_in offsets_in
+memory_columns = refl
+
+-- a statement may not drive it
+memory_driven : resolved pool (with_memory (reading ∷ []) (under Comb (set 5 1 0 ∷ []) ∷ [])) Loose ≡ Err (TwoDrivers (record { line = 5; col = 13 }))
+unfolding resolved_in resolved held_resets inside placed_pool with_memory two_rows reading under set place pool one_bit target_signals
+memory_driven = refl
+
+-- nor may another read port give it, which is told before all statements
+memory_twice : resolved pool (with_memory (reading ∷ reading ∷ []) (under Comb (set 5 1 0 ∷ []) ∷ [])) Loose ≡ Err (TwoDrivers (record { line = 1; col = 1 }))
+unfolding resolved_in resolved held_resets inside placed_pool with_memory two_rows reading under set place pool one_bit target_signals
+memory_twice = refl
+
+-- in a library part a register is not named
+part_columns : shown_columns (resolved pool (over (grown (record { name = codes "sub"; is_part = true; domains = []; processes = under (Clocked (codes "sync")) (set 5 1 0 ∷ []) ∷ []; memories = [] }) bare bare)) Loose) ≡ at (codes "clk") 2 ∷ at (codes "rst") 3 ∷ at (codes "a") 0 ∷ []
+unfolding resolved_in resolved held_resets inside placed_pool over under set place pool one_bit shown_columns at target_signals signals_in offsets_in
+part_columns = refl
 
 -- ---- names
 

@@ -1,12 +1,16 @@
 -- What a tree of modules gives: processes and their paths, definitions and names of domains.
-use Rattle.std.proofs.Common.{◌≡◌, ℕ, ◌+◌, Bool, true, false, ◌&&◌, ◌||◌, cond, List, [], ◌∷◌, ◌++◌, map, length, take, Some, slice_get, codes, refl, sym, ap, ◌∙◌, subst, arith, append_assoc, append-nil}
-use Rattle.std.specs.List.{AllByRecursion, flat_map, filter_map, list_any}
+use Rattle.std.proofs.Common.{◌≡◌, ℕ, ◌+◌, Bool, true, false, ◌&&◌, ◌||◌, cond, List, [], ◌∷◌, ◌++◌, map, length, take, Option, Some, None, slice_get, codes, refl, sym, ap, ◌∙◌, subst, arith, append_assoc, append-nil}
+use Rattle.std.specs.List.{AllByRecursion, cons_option, flat_map, filter_map, list_any}
 use Rattle.std.proofs.lemmas.List.{length-append}
 use Rattle.std.proofs.lemmas.List.Concat.{flat_map-append}
 use Rattle.lists.specs.Names.{IsName}
 use Rattle.lists.specs.Texts.{text_eq}
 use Rattle.lists.proofs.TextLaws.{text_eq_same}
+use Rattle.design_ir.specs.declared.ids.ExprId.{ExprId}
 use Rattle.design_ir.specs.declared.domain.DomainDef.{DomainDef}
+use Rattle.design_ir.specs.declared.memory.MemWrite.{MemWrite}
+use Rattle.design_ir.specs.declared.memory.MemRead.{MemRead}
+use Rattle.design_ir.specs.declared.memory.Memory.{Memory}
 use Rattle.design_ir.specs.declared.process.Side.{Side}
 use Rattle.design_ir.specs.declared.process.Side.TheVariants.{Comb, Clocked}
 use Rattle.design_ir.specs.declared.process.Process.{Process}
@@ -17,11 +21,13 @@ use Rattle.design_ir.specs.Pools.{Pooled}
 use Rattle.design_ir.specs.Guards.{driven}
 use Rattle.design_ir.specs.Circuits.{is_among}
 use Rattle.design_ir.proofs.Lists.{forest_of_snoc}
-use Rattle.clock_domains.specs.Resolvable.{IsDefinition, IsNamedSide, IsSideOf, IsModule, IsTree, AreModules}
-use Rattle.clock_domains.specs.Resolved.{is_clocked, register_path}
-use Rattle.clock_domains.specs.Ready.{IsUnder}
-use Rattle.clock_domains.specs.Walks.{gathered, processes_of, all_processes, path_under, paths_of, all_paths, definitions_of, all_definitions, side_name, own_names, names_of, all_names}
-use Rattle.clock_domains.proofs.Lists.{all_imp, all_joined, all_mapped, any-append, length_map, take-push}
+use Rattle.clock_domains.specs.Held.{ResetCall, held_resets, leaf_exprs}
+use Rattle.clock_domains.specs.Names.{leaves_of}
+use Rattle.clock_domains.specs.Resolvable.{IsClockingOf, IsDefinition, IsMemoryOf, IsNamedSide, IsOpenSide, IsModule, IsReadOf, IsTree, IsWriteOf, AreModules}
+use Rattle.clock_domains.specs.Resolved.{clocked_data, is_clocked, memory_path, process_path}
+use Rattle.clock_domains.specs.Ready.{IsNaming, IsUnder}
+use Rattle.clock_domains.specs.Walks.{gathered, gathered_under, processes_of, all_processes, naming_path, path_under, process_paths, paths_of, all_paths, memory_named, named_memories, memories_of, all_memories, memory_paths, memory_paths_of, all_memory_paths, plain_names, port_names, definitions_of, all_definitions, side_name, own_names, names_of, all_names}
+use Rattle.clock_domains.proofs.Lists.{all_imp, all_joined, all_mapped, any-append, length_map, map-append, take-push}
 
 -- ---- one module more
 
@@ -33,16 +39,14 @@ gathered-push own (grown k b rest) l below =
     ∙ ap (λ xs. own k ++ xs) (sym (append_assoc (gathered own b) (gathered own rest) more))
     ∙ sym (append_assoc (own k) (gathered own b ++ gathered own rest) more)
 
-paths-push : (path : List ℕ) (f : Forest) (l : Leaf) (below : Forest)
-    → paths_of path (forest_and f l below) ≡ paths_of path f ++ (map (λ (p : Process). path_under path l.name) l.processes ++ paths_of (path_under path l.name) below)
-paths-push path bare l below = ap (λ ps. map (λ (p : Process). path_under path l.name) l.processes ++ ps) (append-nil (paths_of (path_under path l.name) below))
-paths-push path (grown k b rest) l below =
-    let own = map (λ (p : Process). path_under path k.name) k.processes in
-    let inner = paths_of (path_under path k.name) b in
-    let more = map (λ (p : Process). path_under path l.name) l.processes ++ paths_of (path_under path l.name) below in
-    ap (λ ps. own ++ (inner ++ ps)) (paths-push path rest l below)
-    ∙ ap (λ ps. own ++ ps) (sym (append_assoc inner (paths_of path rest) more))
-    ∙ sym (append_assoc own (inner ++ paths_of path rest) more)
+under-push : {A : Type 0} (own : List ℕ → Leaf → List A) (path : List ℕ) (f : Forest) (l : Leaf) (below : Forest) → gathered_under own path (forest_and f l below) ≡ gathered_under own path f ++ (own path l ++ gathered_under own (path_under path l.name) below)
+under-push own path bare l below = ap (λ xs. own path l ++ xs) (append-nil (gathered_under own (path_under path l.name) below))
+under-push own path (grown k b rest) l below =
+    let inner = gathered_under own (path_under path k.name) b in
+    let more = own path l ++ gathered_under own (path_under path l.name) below in
+    ap (λ xs. own path k ++ (inner ++ xs)) (under-push own path rest l below)
+    ∙ ap (λ xs. own path k ++ xs) (sym (append_assoc inner (gathered_under own path rest) more))
+    ∙ sym (append_assoc (own path k) (inner ++ gathered_under own path rest) more)
 
 at_more : (fs : List Fragment) (i : ℕ) (f : Fragment) → slice_get fs i ≡ Some f → forest_of (take (i + 1) fs) ≡ forest_and (forest_of (take i fs)) (leaf_of f) f.submodules
 at_more fs i f at = ap forest_of (take-push fs i f at) ∙ forest_of_snoc (take i fs) f
@@ -57,41 +61,59 @@ gathered_turn own fs i f old cur mid new at h k m =
     joined_turn old cur mid new (gathered own (forest_of (take i fs))) (own (leaf_of f)) (gathered own f.submodules) h k m
     ∙ ap (λ xs. old ++ xs) (sym (ap (gathered own) (at_more fs i f at) ∙ gathered-push own (forest_of (take i fs)) (leaf_of f) f.submodules))
 
-pub paths_turn : (path : List ℕ) (fs : List Fragment) (i : ℕ) (f : Fragment) (old cur mid new : List (List ℕ)) → slice_get fs i ≡ Some f → cur ≡ old ++ paths_of path (forest_of (take i fs)) → mid ≡ cur ++ map (λ (p : Process). path_under path f.name) f.processes
-    → new ≡ mid ++ paths_of (path_under path f.name) f.submodules → new ≡ old ++ paths_of path (forest_of (take (i + 1) fs))
-paths_turn path fs i f old cur mid new at h k m =
-    joined_turn old cur mid new (paths_of path (forest_of (take i fs))) (map (λ (p : Process). path_under path f.name) f.processes) (paths_of (path_under path f.name) f.submodules) h k m
-    ∙ ap (λ ps. old ++ ps) (sym (ap (paths_of path) (at_more fs i f at) ∙ paths-push path (forest_of (take i fs)) (leaf_of f) f.submodules))
+pub under_turn : {A : Type 0} (own : List ℕ → Leaf → List A) (path : List ℕ) (fs : List Fragment) (i : ℕ) (f : Fragment) (old cur mid new : List A) → slice_get fs i ≡ Some f → cur ≡ old ++ gathered_under own path (forest_of (take i fs)) → mid ≡ cur ++ own path (leaf_of f)
+    → new ≡ mid ++ gathered_under own (path_under path f.name) f.submodules → new ≡ old ++ gathered_under own path (forest_of (take (i + 1) fs))
+under_turn own path fs i f old cur mid new at h k m =
+    joined_turn old cur mid new (gathered_under own path (forest_of (take i fs))) (own path (leaf_of f)) (gathered_under own (path_under path f.name) f.submodules) h k m
+    ∙ ap (λ xs. old ++ xs) (sym (ap (gathered_under own path) (at_more fs i f at) ∙ under-push own path (forest_of (take i fs)) (leaf_of f) f.submodules))
 
--- ---- as many paths as processes
+-- what is computed of each fragment
+leaves_mapped : {B : Type 0} (g : Leaf → B) (f : Forest) → map g (leaves_of f) ≡ gathered (λ (l : Leaf). g l ∷ []) f
+leaves_mapped g bare = refl
+leaves_mapped g (grown l below rest) =
+    ap (λ xs. g l ∷ xs) (map-append g (leaves_of below) (leaves_of rest) ∙ let a = leaves_mapped g below in let b = leaves_mapped g rest in cc)
+
+pub leaves_turn : {B : Type 0} (g : Leaf → B) (fs : List Fragment) (i : ℕ) (f : Fragment) (old cur mid new : List B) → slice_get fs i ≡ Some f → cur ≡ old ++ map g (leaves_of (forest_of (take i fs))) → mid ≡ cur ++ g (leaf_of f) ∷ [] → new ≡ mid ++ map g (leaves_of f.submodules)
+    → new ≡ old ++ map g (leaves_of (forest_of (take (i + 1) fs)))
+leaves_turn g fs i f old cur mid new at h k m =
+    gathered_turn (λ (l : Leaf). g l ∷ []) fs i f old cur mid new at
+    (h ∙ ap (λ xs. old ++ xs) (leaves_mapped g (forest_of (take i fs)))) k
+    (m ∙ ap (λ xs. mid ++ xs) (leaves_mapped g f.submodules))
+    ∙ ap (λ xs. old ++ xs) (sym (leaves_mapped g (forest_of (take (i + 1) fs))))
+
+-- ---- as many paths as processes, and as memories
+
+length_both : {A B : Type 0} (xs ys : List A) (us vs : List B) → length xs ≡ length us → length ys ≡ length vs → length (xs ++ ys) ≡ length (us ++ vs)
+length_both xs ys us vs h k = omega (arith, length-append xs ys, length-append us vs, h, k)
 
 below_length : (path : List ℕ) (f : Forest) → length (paths_of path f) ≡ length (processes_of f)
 below_length path bare = refl
 below_length path (grown l below rest) =
-    let own = length_map (λ (p : Process). path_under path l.name) l.processes in
-    let a = length-append (map (λ (p : Process). path_under path l.name) l.processes) (paths_of (path_under path l.name) below ++ paths_of path rest) in
-    let b = length-append (paths_of (path_under path l.name) below) (paths_of path rest) in
-    let c = length-append l.processes (processes_of below ++ processes_of rest) in
-    let d = length-append (processes_of below) (processes_of rest) in
-    let e = below_length (path_under path l.name) below in
-    let f = below_length path rest in
-    omega (arith, own, a, b, c, d, e, f)
+    length_both (process_paths path l) (paths_of (path_under path l.name) below ++ paths_of path rest) l.processes (processes_of below ++ processes_of rest)
+    (length_map (λ (p : Process). naming_path l (path_under path l.name)) l.processes)
+    (length_both (paths_of (path_under path l.name) below) (paths_of path rest) (processes_of below) (processes_of rest) (below_length (path_under path l.name) below) (below_length path rest))
 
 pub walk_length : (f : Fragment) → length (all_paths f) ≡ length (all_processes f)
-walk_length f =
-    let none : List ℕ = [] in
-    let own = length_map (λ (p : Process). none) f.processes in
-    let a = length-append (map (λ (p : Process). none) f.processes) (paths_of [] f.submodules) in
-    let b = length-append f.processes (processes_of f.submodules) in
-    let c = below_length [] f.submodules in
-    omega (arith, own, a, b, c)
+walk_length f = length_both (map (λ (p : Process). naming_path (leaf_of f) []) f.processes) (paths_of [] f.submodules) f.processes (processes_of f.submodules) (length_map (λ (p : Process). naming_path (leaf_of f) []) f.processes) (below_length [] f.submodules)
+
+below_memory_length : (path : List ℕ) (f : Forest) → length (memory_paths_of path f) ≡ length (memories_of path f)
+below_memory_length path bare = refl
+below_memory_length path (grown l below rest) =
+    length_both (memory_paths path l) (memory_paths_of (path_under path l.name) below ++ memory_paths_of path rest) (named_memories path l) (memories_of (path_under path l.name) below ++ memories_of path rest)
+    (length_map (λ (m : Memory). naming_path l (path_under path l.name)) l.memories ∙ sym (length_map (memory_named (path ++ l.name)) l.memories))
+    (length_both (memory_paths_of (path_under path l.name) below) (memory_paths_of path rest) (memories_of (path_under path l.name) below) (memories_of path rest) (below_memory_length (path_under path l.name) below) (below_memory_length path rest))
+
+pub walk_memory_length : (f : Fragment) → length (all_memory_paths f) ≡ length (all_memories f)
+walk_memory_length f =
+    length_both (map (λ (m : Memory). naming_path (leaf_of f) []) f.memories) (memory_paths_of [] f.submodules) (map (memory_named (codes "top")) f.memories) (memories_of [] f.submodules)
+    (length_map (λ (m : Memory). naming_path (leaf_of f) []) f.memories ∙ sym (length_map (memory_named (codes "top")) f.memories)) (below_memory_length [] f.submodules)
 
 -- ---- each path is of names
 
 pub top_path : IsUnder []
 top_path = record { names = []; each = tt; whole = refl }
 
-under_more : (path name : List ℕ) → IsUnder path → IsName name → IsUnder (path_under path name)
+pub under_more : (path name : List ℕ) → IsUnder path → IsName name → IsUnder (path_under path name)
 under_more path name h n = record {
   names = h.names ++ name ∷ [];
   each = all_joined IsName h.names (name ∷ []) h.each (n, tt);
@@ -101,31 +123,45 @@ under_more path name h n = record {
       ∙ sym (flat_map-append (λ n. n ++ codes ".") h.names (name ∷ []));
 }
 
-same_path : (path : List ℕ) (ps : List Process) → IsUnder path → AllByRecursion IsUnder (map (λ (p : Process). path) ps)
+naming : (l : Leaf) (path : List ℕ) → IsUnder path → IsNaming (naming_path l path)
+naming l path h = by l.is_part
+  where
+    by : (b : Bool) → IsNaming (cond b None (Some path))
+    by true = tt
+    by false = h
+
+same_path : {X : Type 0} (path : Option (List ℕ)) (xs : List X) → IsNaming path → AllByRecursion IsNaming (map (λ (x : X). path) xs)
 same_path path [] h = tt
-same_path path (p ∷ ps) h = (h, same_path path ps h)
+same_path path (x ∷ xs) h = (h, same_path path xs h)
 
-below_named : (q : Pooled) (path : List ℕ) (f : Forest) → IsUnder path → AreModules q f → AllByRecursion IsUnder (paths_of path f)
-below_named q path bare u h = tt
-below_named q path (grown l below rest) u h =
-    let under = under_more path l.name u h.0 in
-    all_joined IsUnder (map (λ (p : Process). path_under path l.name) l.processes) (paths_of (path_under path l.name) below ++ paths_of path rest) (same_path (path_under path l.name) l.processes under)
-    (all_joined IsUnder (paths_of (path_under path l.name) below) (paths_of path rest) (below_named q (path_under path l.name) below under h.1.1.0) (below_named q path rest u h.1.1.1))
+-- whatever has a path for each of its items
+module _ (q : Pooled) (own : List ℕ → Leaf → List (Option (List ℕ))) (each : (path : List ℕ) (l : Leaf) → IsUnder (path_under path l.name) → AllByRecursion IsNaming (own path l)) where
+  below_named : (path : List ℕ) (f : Forest) → IsUnder path → AreModules q f → AllByRecursion IsNaming (gathered_under own path f)
+  below_named path bare u h = tt
+  below_named path (grown l below rest) u h =
+      let under = under_more path l.name u h.0 in
+      all_joined IsNaming (own path l) (gathered_under own (path_under path l.name) below ++ gathered_under own path rest) (each path l under)
+      (all_joined IsNaming (gathered_under own (path_under path l.name) below) (gathered_under own path rest) (below_named (path_under path l.name) below under h.1.1.0) (below_named path rest u h.1.1.1))
 
-pub walk_named : (q : Pooled) (f : Fragment) → IsTree q f → AllByRecursion IsUnder (all_paths f)
+pub walk_named : (q : Pooled) (f : Fragment) → IsTree q f → AllByRecursion IsNaming (all_paths f)
 walk_named q f h =
-    let none : List ℕ = [] in
-    all_joined IsUnder (map (λ (p : Process). none) f.processes) (paths_of [] f.submodules) (same_path [] f.processes top_path) (below_named q [] f.submodules top_path h.below)
+    all_joined IsNaming (map (λ (p : Process). naming_path (leaf_of f) []) f.processes) (paths_of [] f.submodules) (same_path (naming_path (leaf_of f) []) f.processes (naming (leaf_of f) [] top_path))
+    (below_named q process_paths (λ path l u. same_path (naming_path l (path_under path l.name)) l.processes (naming l (path_under path l.name) u)) [] f.submodules top_path h.below)
+
+pub walk_memory_named : (q : Pooled) (f : Fragment) → IsTree q f → AllByRecursion IsNaming (all_memory_paths f)
+walk_memory_named q f h =
+    all_joined IsNaming (map (λ (m : Memory). naming_path (leaf_of f) []) f.memories) (memory_paths_of [] f.submodules) (same_path (naming_path (leaf_of f) []) f.memories (naming (leaf_of f) [] top_path))
+    (below_named q memory_paths (λ path l u. same_path (naming_path l (path_under path l.name)) l.memories (naming l (path_under path l.name) u)) [] f.submodules top_path h.below)
 
 -- ---- what holds of each process
 
-below_sides : (q : Pooled) (f : Forest) → AreModules q f → AllByRecursion (IsSideOf q) (processes_of f)
+below_sides : (q : Pooled) (f : Forest) → AreModules q f → AllByRecursion (IsOpenSide q) (processes_of f)
 below_sides q bare h = tt
 below_sides q (grown l below rest) h =
-    all_joined (IsSideOf q) l.processes (processes_of below ++ processes_of rest) h.1.0.processes (all_joined (IsSideOf q) (processes_of below) (processes_of rest) (below_sides q below h.1.1.0) (below_sides q rest h.1.1.1))
+    all_joined (IsOpenSide q) l.processes (processes_of below ++ processes_of rest) h.1.0.processes (all_joined (IsOpenSide q) (processes_of below) (processes_of rest) (below_sides q below h.1.1.0) (below_sides q rest h.1.1.1))
 
-pub walk_sides : (q : Pooled) (f : Fragment) → IsTree q f → AllByRecursion (IsSideOf q) (all_processes f)
-walk_sides q f h = all_joined (IsSideOf q) f.processes (processes_of f.submodules) h.own.processes (below_sides q f.submodules h.below)
+pub walk_sides : (q : Pooled) (f : Fragment) → IsTree q f → AllByRecursion (IsOpenSide q) (all_processes f)
+walk_sides q f h = all_joined (IsOpenSide q) f.processes (processes_of f.submodules) h.own.processes (below_sides q f.submodules h.below)
 
 -- ---- what holds of each definition
 
@@ -142,7 +178,7 @@ walk_definitions q f h = all_joined (IsDefinition q) f.domains (definitions_of f
 abbrev clocked_names : List Process → List (List ℕ)
 clocked_names ps = filter_map (λ (p : Process). side_name p.side) ps
 
-clocked_named : (q : Pooled) (ps : List Process) → AllByRecursion (IsSideOf q) ps → AllByRecursion IsName (clocked_names ps)
+clocked_named : (q : Pooled) (ps : List Process) → AllByRecursion (IsOpenSide q) ps → AllByRecursion IsName (clocked_names ps)
 clocked_named q [] h = tt
 clocked_named q (p ∷ ps) h = by_side p.side refl h.0.side (clocked_named q ps h.1)
   where
@@ -150,18 +186,40 @@ clocked_named q (p ∷ ps) h = by_side p.side refl h.0.side (clocked_named q ps 
     by_side Comb e n rest = subst (λ (s : Side). AllByRecursion IsName (clocked_names (record { side = s; body = p.body } ∷ ps))) (sym e) rest
     by_side (Clocked m) e n rest = subst (λ (s : Side). AllByRecursion IsName (clocked_names (record { side = s; body = p.body } ∷ ps))) (sym e) (subst IsNamedSide e n, rest)
 
-own_named : (q : Pooled) (l : Leaf) → IsModule q l → AllByRecursion IsName (own_names l)
-own_named q l h =
-    all_joined IsName (map (λ (d : DomainDef). d.domain.name) l.domains) (clocked_names l.processes)
-    (all_mapped IsName (λ (d : DomainDef). d.domain.name) l.domains (all_imp (λ (d : DomainDef) k. k.name) l.domains h.domains)) (clocked_named q l.processes h.processes)
+clocking_named : (q : Pooled) (d : Option (List ℕ)) (e : Option ExprId) (names : List (List ℕ)) → IsClockingOf q d e → AllByRecursion IsName names → AllByRecursion IsName (cons_option d names)
+clocking_named q None e names h rest = rest
+clocking_named q (Some n) None names h rest = absurd h
+clocking_named q (Some n) (Some e) names h rest = (h.0, rest)
 
-below_names : (q : Pooled) (f : Forest) → AreModules q f → AllByRecursion IsName (names_of f)
+reads_named : (q : Pooled) (m : Memory) (rs : List MemRead) → AllByRecursion (IsReadOf q m) rs → AllByRecursion IsName (filter_map (λ (r : MemRead). r.domain) rs)
+reads_named q m [] h = tt
+reads_named q m (r ∷ rs) h = clocking_named q r.domain r.enable (filter_map (λ (r : MemRead). r.domain) rs) h.0.clocking (reads_named q m rs h.1)
+
+ports_named : (q : Pooled) (m : Memory) → IsMemoryOf q m → AllByRecursion IsName (port_names m)
+ports_named q m h =
+    all_joined IsName (map (λ (w : MemWrite). w.domain) m.writes) (filter_map (λ (r : MemRead). r.domain) m.reads)
+    (all_mapped IsName (λ (w : MemWrite). w.domain) m.writes (all_imp (λ (w : MemWrite) (x : IsWriteOf q m w). x.domain) m.writes h.writes))
+    (reads_named q m m.reads h.reads)
+
+memories_named : (q : Pooled) (ms : List Memory) → AllByRecursion (IsMemoryOf q) ms → AllByRecursion IsName (flat_map port_names ms)
+memories_named q [] h = tt
+memories_named q (m ∷ ms) h = all_joined IsName (port_names m) (flat_map port_names ms) (ports_named q m h.0) (memories_named q ms h.1)
+
+own_named : (q : Pooled) (l : Leaf) → IsModule q l → AllByRecursion IsName (own_names q l)
+own_named q l h =
+    all_joined IsName (plain_names l) (map (λ (r : ResetCall). r.domain) (held_resets q (leaf_exprs l)))
+    (all_joined IsName (map (λ (d : DomainDef). d.domain.name) l.domains) (clocked_names l.processes ++ flat_map port_names l.memories)
+    (all_mapped IsName (λ (d : DomainDef). d.domain.name) l.domains (all_imp (λ (d : DomainDef) (x : IsDefinition q d). x.name) l.domains h.domains))
+    (all_joined IsName (clocked_names l.processes) (flat_map port_names l.memories) (clocked_named q l.processes h.processes) (memories_named q l.memories h.memories)))
+    (all_mapped IsName (λ (r : ResetCall). r.domain) (held_resets q (leaf_exprs l)) h.resets)
+
+below_names : (q : Pooled) (f : Forest) → AreModules q f → AllByRecursion IsName (names_of q f)
 below_names q bare h = tt
 below_names q (grown l below rest) h =
-    all_joined IsName (own_names l) (names_of below ++ names_of rest) (own_named q l h.1.0) (all_joined IsName (names_of below) (names_of rest) (below_names q below h.1.1.0) (below_names q rest h.1.1.1))
+    all_joined IsName (own_names q l) (names_of q below ++ names_of q rest) (own_named q l h.1.0) (all_joined IsName (names_of q below) (names_of q rest) (below_names q below h.1.1.0) (below_names q rest h.1.1.1))
 
-pub walk_names : (q : Pooled) (f : Fragment) → IsTree q f → AllByRecursion IsName (all_names f)
-walk_names q f h = all_joined IsName (own_names (leaf_of f)) (names_of f.submodules) (own_named q (leaf_of f) h.own) (below_names q f.submodules h.below)
+pub walk_names : (q : Pooled) (f : Fragment) → IsTree q f → AllByRecursion IsName (all_names q f)
+walk_names q f h = all_joined IsName (own_names q (leaf_of f)) (names_of q f.submodules) (own_named q (leaf_of f) h.own) (below_names q f.submodules h.below)
 
 -- ---- the names of clocked sides are among them
 
@@ -189,35 +247,44 @@ clocked_has (p ∷ ps) = (
     more Comb n h = h
     more (Clocked m) n h = or_true (text_eq m n) (list_any (λ m. text_eq m n) (clocked_names ps)) h
 
-own_has : (l : Leaf) → AllByRecursion (HasName (own_names l)) l.processes
-own_has l = all_imp (λ (p : Process) h. name_right (map (λ (d : DomainDef). d.domain.name) l.domains) (clocked_names l.processes) p h) l.processes (clocked_has l.processes)
+own_has : (q : Pooled) (l : Leaf) → AllByRecursion (HasName (own_names q l)) l.processes
+own_has q l = all_imp (λ (p : Process) h. name_left (plain_names l) (map (λ (r : ResetCall). r.domain) (held_resets q (leaf_exprs l))) p (name_right (map (λ (d : DomainDef). d.domain.name) l.domains) (clocked_names l.processes ++ flat_map port_names l.memories) p (name_left (clocked_names l.processes) (flat_map port_names l.memories) p h))) l.processes (clocked_has l.processes)
 
-below_has : (f : Forest) → AllByRecursion (HasName (names_of f)) (processes_of f)
-below_has bare = tt
-below_has (grown l below rest) =
-    let own = own_names l in
-    let inner = names_of below in
-    let others = names_of rest in
+below_has : (q : Pooled) (f : Forest) → AllByRecursion (HasName (names_of q f)) (processes_of f)
+below_has q bare = tt
+below_has q (grown l below rest) =
+    let own = own_names q l in
+    let inner = names_of q below in
+    let others = names_of q rest in
     all_joined (HasName (own ++ (inner ++ others))) l.processes (processes_of below ++ processes_of rest)
-    (all_imp (λ (p : Process) h. name_left own (inner ++ others) p h) l.processes (own_has l))
+    (all_imp (λ (p : Process) h. name_left own (inner ++ others) p h) l.processes (own_has q l))
     (all_joined (HasName (own ++ (inner ++ others))) (processes_of below) (processes_of rest)
-    (all_imp (λ (p : Process) h. name_right own (inner ++ others) p (name_left inner others p h)) (processes_of below) (below_has below))
-    (all_imp (λ (p : Process) h. name_right own (inner ++ others) p (name_right inner others p h)) (processes_of rest) (below_has rest)))
+    (all_imp (λ (p : Process) h. name_right own (inner ++ others) p (name_left inner others p h)) (processes_of below) (below_has q below))
+    (all_imp (λ (p : Process) h. name_right own (inner ++ others) p (name_right inner others p h)) (processes_of rest) (below_has q rest)))
 
-pub walk_has : (f : Fragment) → AllByRecursion (HasName (all_names f)) (all_processes f)
-walk_has f =
-    let own = own_names (leaf_of f) in
-    let inner = names_of f.submodules in
-    all_joined (HasName (own ++ inner)) f.processes (processes_of f.submodules) (all_imp (λ (p : Process) h. name_left own inner p h) f.processes (own_has (leaf_of f)))
-    (all_imp (λ (p : Process) h. name_right own inner p h) (processes_of f.submodules) (below_has f.submodules))
+pub walk_has : (q : Pooled) (f : Fragment) → AllByRecursion (HasName (all_names q f)) (all_processes f)
+walk_has q f =
+    let own = own_names q (leaf_of f) in
+    let inner = names_of q f.submodules in
+    all_joined (HasName (own ++ inner)) f.processes (processes_of f.submodules) (all_imp (λ (p : Process) h. name_left own inner p h) f.processes (own_has q (leaf_of f)))
+    (all_imp (λ (p : Process) h. name_right own inner p h) (processes_of f.submodules) (below_has q f.submodules))
 
 -- ---- the path of a register is one of them
 
-pub register_under : (q : Pooled) (ps : List Process) (paths : List (List ℕ)) (s : ℕ) → AllByRecursion IsUnder paths → IsUnder (register_path q ps paths s)
-register_under q [] paths s h = top_path
-register_under q (p ∷ ps) [] s h = top_path
-register_under q (p ∷ ps) (path ∷ paths) s h = split (is_clocked p && is_among (driven q p.body) s) (register_under q ps paths s h.1)
+pub process_naming : (q : Pooled) (ps : List Process) (paths : List (Option (List ℕ))) (s : ℕ) → AllByRecursion IsNaming paths → IsNaming (process_path q ps paths s)
+process_naming q [] paths s h = tt
+process_naming q (p ∷ ps) [] s h = tt
+process_naming q (p ∷ ps) (path ∷ paths) s h = split (is_clocked p && is_among (driven q p.body) s) (process_naming q ps paths s h.1)
   where
-    split : (b : Bool) → IsUnder (register_path q ps paths s) → IsUnder (cond b path (register_path q ps paths s))
+    split : (b : Bool) → IsNaming (process_path q ps paths s) → IsNaming (cond b path (process_path q ps paths s))
+    split true rest = h.0
+    split false rest = rest
+
+pub memory_naming : (ms : List Memory) (paths : List (Option (List ℕ))) (s : ℕ) → AllByRecursion IsNaming paths → IsNaming (memory_path ms paths s)
+memory_naming [] paths s h = tt
+memory_naming (m ∷ ms) [] s h = tt
+memory_naming (m ∷ ms) (path ∷ paths) s h = split (is_among (clocked_data m) s) (memory_naming ms paths s h.1)
+  where
+    split : (b : Bool) → IsNaming (memory_path ms paths s) → IsNaming (cond b path (memory_path ms paths s))
     split true rest = h.0
     split false rest = rest

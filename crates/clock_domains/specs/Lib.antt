@@ -1,4 +1,10 @@
+pub mod Held
+pub mod Placed
+pub mod Holders
+pub mod Placing
+pub mod Data
 pub mod Walks
+pub mod Names
 pub mod Reads
 pub mod Resolvable
 pub mod Resolved
@@ -10,3 +16,4 @@ pub mod Firsts
 pub mod Numbers
 pub mod Tracked
 pub mod Ready
+pub mod Walked

@@ -1,15 +1,9 @@
 -- Numbers of processes that are kept for expressions and for signals, the least for each. Those below a bound are marks.
-use Rattle.std.specs.Prelude.{ℕ, nat_lt, Bool, false, if◌then◌else◌, List, [], ◌∷◌, map, slice_set, Option, Some, None}
+use Rattle.std.specs.Prelude.{ℕ, nat_lt, Bool, false, List, [], ◌∷◌, map, slice_set, Option, Some, None}
 use Rattle.std.specs.List.{flat_map}
 use Rattle.design_ir.specs.declared.process.Process.{Process}
 use Rattle.clock_domains.specs.Reads.{block_targets}
-use Rattle.clock_domains.specs.Firsts.{first_at}
-
--- the lesser of two numbers, where there are any
-abbrev pub lesser : Option ℕ → Option ℕ → Option ℕ
-lesser None b = b
-lesser (Some m) None = Some m
-lesser (Some m) (Some n) = if nat_lt n m then Some n else Some m
+use Rattle.clock_domains.specs.Firsts.{first_at, lesser}
 
 -- these have this number, or keep a lesser one
 abbrev pub lowered : List ℕ → ℕ → List (Option ℕ) → List (Option ℕ)

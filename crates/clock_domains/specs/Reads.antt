@@ -1,7 +1,10 @@
--- What statements read, and what they drive. A target's own signals are not read; its offsets and indices are.
-use Rattle.std.specs.Prelude.{ℕ, Bool, List, [], ◌∷◌, ◌++◌}
+-- What statements and memory ports read, and what they drive. A target's own signals are not read; its offsets and indices are.
+-- (Amaranth guide: Modules; Amaranth standard library reference: Memory arrays.)
+use Rattle.std.specs.Prelude.{ℕ, ◌||◌, Bool, List, [], ◌∷◌, ◌++◌, map}
 use Rattle.std.specs.List.{flat_map, list_any}
 use Rattle.design_ir.specs.declared.ids.ExprId.{ExprId}
+use Rattle.design_ir.specs.declared.memory.MemRead.{MemRead}
+use Rattle.design_ir.specs.declared.memory.Memory.{Memory}
 use Rattle.design_ir.specs.declared.process.Process.{Process}
 use Rattle.design_ir.specs.declared.expr.Expr as expr
 use Rattle.design_ir.specs.declared.expr.Expr.{Expr}
@@ -11,6 +14,8 @@ use Rattle.design_ir.specs.Pools.{Pooled, answer}
 use Rattle.design_ir.specs.Named.{named}
 use Rattle.design_ir.specs.Guards.{driven}
 use Rattle.design_ir.specs.Circuits.{is_among}
+use Rattle.clock_domains.specs.Held.{memory_exprs}
+use Rattle.clock_domains.specs.Marks.{numbers}
 
 -- ---- expressions
 
@@ -88,14 +93,23 @@ abbrev mutual
 
 -- ---- modules
 
--- the expressions that a module reads: right sides and conditions, and offsets and indices of targets
-abbrev pub read_exprs : Pooled → List Process → List ℕ
-read_exprs pool ps = flat_map (λ (p : Process). block_values p.body) ps ++ flat_map (offsets_in pool) (flat_map (λ (p : Process). block_targets p.body) ps)
+-- the data of read ports
+abbrev pub data_signals : List Memory → List ℕ
+data_signals ms = flat_map (λ (m : Memory). map (λ (r : MemRead). r.word.0) m.reads) ms
+
+-- the expressions that a module reads: right sides and conditions, offsets and indices of targets, and those of memory ports
+abbrev pub read_roots : Pooled → List Process → List Memory → List ℕ
+read_roots pool ps ms =
+    flat_map (λ (p : Process). block_values p.body) ps ++ (flat_map (offsets_in pool) (flat_map (λ (p : Process). block_targets p.body) ps) ++ numbers (flat_map memory_exprs ms))
 
 -- a signal is read by a module
-abbrev pub is_read : Pooled → List Process → ℕ → Bool
-is_read pool ps s = is_among (flat_map (signals_in pool) (read_exprs pool ps)) s
+abbrev pub is_read : Pooled → List Process → List Memory → ℕ → Bool
+is_read pool ps ms s = is_among (flat_map (signals_in pool) (read_roots pool ps ms)) s
 
 -- a signal is driven by a process
 abbrev pub is_driven : Pooled → List Process → ℕ → Bool
 is_driven pool ps s = list_any (λ (p : Process). is_among (driven pool p.body) s) ps
+
+-- a process drives it, or it is the data of a read port
+abbrev pub is_given : Pooled → List Process → List Memory → ℕ → Bool
+is_given pool ps ms s = is_driven pool ps s || is_among (data_signals ms) s

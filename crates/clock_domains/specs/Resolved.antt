@@ -1,5 +1,6 @@
 -- The design that a module with those below it stands for, or the refusal of its domains or drivers. (Amaranth guide: Clock domains,
--- Elaboration; what the guide leaves open, as which signals are ports and how they are named, is this project's own.)
+-- Elaboration; Amaranth standard library reference: Memory arrays. What these leave open, as which signals are ports, how they are named
+-- and in which order refusals are told, is this project's own: docs/RULES.md.)
 use Rattle.std.specs.Prelude.{◌≡◌, ℕ, suc, ◌+◌, ◌*◌, nat_lt, nat_le, ◌&&◌, ◌||◌, not, Bool, true, false, if◌then◌else◌, List, [], ◌∷◌, ◌++◌, map, length, slice_index_or, position, pos, Option, Some, None, is_some, option_map, unwrap_or, Result, Ok, Err, codes}
 use Rattle.std.specs.List.{flat_map, filter, filter_map, list_any, find, range_with_len}
 use Rattle.std.specs.Option.{option_map_or}
@@ -12,6 +13,8 @@ use Rattle.design_ir.specs.declared.ids.SigId.{SigId}
 use Rattle.design_ir.specs.declared.signal.Sig.{Sig}
 use Rattle.design_ir.specs.declared.domain.Domain.{Domain}
 use Rattle.design_ir.specs.declared.domain.DomainDef.{DomainDef}
+use Rattle.design_ir.specs.declared.memory.MemRead.{MemRead}
+use Rattle.design_ir.specs.declared.memory.Memory.{Memory}
 use Rattle.design_ir.specs.declared.port.Port.{Port}
 use Rattle.design_ir.specs.declared.port.Column.{Column}
 use Rattle.design_ir.specs.declared.process.Side.{Side}
@@ -30,18 +33,22 @@ use Rattle.clock_domains.specs.declared.top.TopPorts.{TopPorts}
 use Rattle.clock_domains.specs.declared.top.TopPorts.TheVariants.{Members, Held, Loose}
 use Rattle.clock_domains.specs.declared.stop.ResolveStop.{ResolveStop}
 use Rattle.clock_domains.specs.declared.stop.ResolveStop.TheVariants.{DomainClash, NoReset, TwoDrivers, DrivenInput, Limit, NoMemory}
-use Rattle.clock_domains.specs.Reads.{is_read, is_driven}
-use Rattle.clock_domains.specs.Walks.{side_name, all_processes, all_paths, all_definitions, all_names}
+use Rattle.clock_domains.specs.Reads.{data_signals, is_read, is_driven, is_given}
+use Rattle.clock_domains.specs.Held.{ResetCall, fragment_exprs, held_resets}
+use Rattle.clock_domains.specs.Placed.{placed_pool}
+use Rattle.clock_domains.specs.Resolvable.{top_inputs}
+use Rattle.clock_domains.specs.Walks.{Contents, side_name, all_contents, all_definitions, all_names}
 
--- ---- domains: one for each name, in the order of fragments, and in each first of its definitions and then of its clocked sides
+-- ---- domains: one for each name, in the order of fragments, and in each first of its definitions, then of its clocked sides, of its
+-- memory ports and of the resets that it holds
 
 -- each where it comes first
 abbrev pub each_once : List (List ℕ) → List (List ℕ)
 each_once [] = []
 each_once (n ∷ more) = n ∷ filter (λ m. not (text_eq n m)) (each_once more)
 
-abbrev pub domain_names : Fragment → List (List ℕ)
-domain_names root = each_once (all_names root)
+abbrev pub domain_names : Pooled → Fragment → List (List ℕ)
+domain_names q root = each_once (all_names q root)
 
 -- the domain that a fragment defines with a name
 abbrev pub defined_domain : List DomainDef → List ℕ → Option Domain
@@ -51,8 +58,8 @@ defined_domain definitions n = option_map (λ (d : DomainDef). d.domain) (find (
 abbrev pub undefined_names : List DomainDef → List (List ℕ) → List (List ℕ)
 undefined_names definitions names = filter (λ n. not (is_some (defined_domain definitions n))) names
 
-abbrev pub made_names : Fragment → List (List ℕ)
-made_names root = undefined_names (all_definitions root) (domain_names root)
+abbrev pub made_names : Pooled → Fragment → List (List ℕ)
+made_names q root = undefined_names (all_definitions root) (domain_names q root)
 
 -- the signals of domain `sync` are `clk` and `rst`, those of domain `x` are `x_clk` and `x_rst`
 abbrev pub domain_prefix : List ℕ → List ℕ
@@ -101,6 +108,14 @@ clash_after names [] = None
 clash_after names (d ∷ more) =
     first_of (if has_name names d.domain.name then Some (DomainClash d.place) else None) (clash_after (names ++ d.domain.name ∷ []) more)
 
+-- a fragment defines the domain, and it has no reset
+abbrev pub lacks_reset : List DomainDef → List ℕ → Bool
+lacks_reset definitions name = option_map_or (λ (d : Domain). not (is_some d.rst)) (defined_domain definitions name) false
+
+-- that of the first reset whose domain has none
+abbrev pub reset_refusal : List DomainDef → List ResetCall → Option ResolveStop
+reset_refusal definitions calls = option_map (λ (r : ResetCall). NoReset r.place) (find (λ (r : ResetCall). lacks_reset definitions r.domain) calls)
+
 -- more domains than there may be, or too many signals with those that are made, or too many bits
 abbrev pub is_past_limit : Pooled → List DomainDef → List (List ℕ) → Bool
 is_past_limit q definitions names =
@@ -115,13 +130,7 @@ limit_where passed = if passed then Some (Limit file_start) else None
 
 -- ---- drivers
 
--- the inputs among the members of the top
-abbrev pub top_inputs : TopPorts → List ℕ
-top_inputs (Members ps) = map (λ (p : Port). p.sig.0) (filter (λ (p : Port). p.is_input) ps)
-top_inputs (Held ps) = []
-top_inputs Loose = []
-
--- and the clocks of the domains
+-- the clocks of the domains, and the inputs among the members of the top
 abbrev pub design_inputs : List Domain → TopPorts → List ℕ
 design_inputs domains top = map (λ (d : Domain). d.clk.0) domains ++ top_inputs top
 
@@ -134,6 +143,14 @@ statement_refusal q inputs before g =
 abbrev pub first_refusal : (Guarded → Option ResolveStop) → List Guarded → Option ResolveStop
 first_refusal refusal [] = None
 first_refusal refusal (g ∷ more) = first_of (refusal g) (first_refusal refusal more)
+
+-- a signal is the data of two read ports
+abbrev pub has_twice : List ℕ → Bool
+has_twice [] = false
+has_twice (s ∷ more) = is_among more s || has_twice more
+
+abbrev pub data_refusal : List Memory → Option ResolveStop
+data_refusal ms = if has_twice (data_signals ms) then Some (TwoDrivers file_start) else None
 
 -- processes in order, each after what those before it drive
 abbrev pub driver_refusal : Pooled → (inputs before : List ℕ) → List Process → Option ResolveStop
@@ -171,15 +188,15 @@ abbrev pub domain_ports : Pooled → (driven : ℕ → Bool) → List Domain →
 domain_ports q driven domains = flat_map (ports_of_domain q driven) domains
 
 -- what the top's own statements drive is an output, and what is read and driven nowhere an input
-abbrev pub loose_port : Pooled → (own ps : List Process) → ℕ → Option Port
-loose_port q own ps s =
-    if is_driven q own s then Some (port_of q false s) else (if is_read q ps s && not (is_driven q ps s) then Some (port_of q true s) else None)
+abbrev pub loose_port : Pooled → List Process → Contents → ℕ → Option Port
+loose_port q own all s =
+    if is_driven q own s then Some (port_of q false s) else (if is_read q all.processes all.memories s && not (is_given q all.processes all.memories s) then Some (port_of q true s) else None)
 
 -- members as they were given, held signals as inputs where nothing drives them, loose signals in order of making
-abbrev pub top_ports : Pooled → (own ps : List Process) → TopPorts → List Port
-top_ports q own ps (Members given) = given
-top_ports q own ps (Held given) = map (λ (p : Port). record p { is_input = not (is_driven q ps p.sig.0) }) given
-top_ports q own ps Loose = filter_map (loose_port q own ps) (range_with_len 0 (length q.signals))
+abbrev pub top_ports : Pooled → List Process → Contents → TopPorts → List Port
+top_ports q own all (Members given) = given
+top_ports q own all (Held given) = map (λ (p : Port). record p { is_input = not (is_given q all.processes all.memories p.sig.0) }) given
+top_ports q own all Loose = filter_map (loose_port q own all) (range_with_len 0 (length q.signals))
 
 abbrev pub signals_of : List Port → List ℕ
 signals_of ports = map (λ (p : Port). p.sig.0) ports
@@ -188,14 +205,34 @@ signals_of ports = map (λ (p : Port). p.sig.0) ports
 abbrev pub and_new : Pooled → List Port → List Port → List Port
 and_new q before ports = before ++ filter (λ (p : Port). not (is_among (signals_of before) p.sig.0) && has_width q p.sig.0) ports
 
--- ---- columns: the ports, and then the named registers, which are driven from clocked sides
+-- ---- columns: the ports, and then the named registers, which clocked sides drive or clocked read ports give
 
 abbrev pub is_clocked : Process → Bool
 is_clocked p = is_some (side_name p.side)
 
-abbrev pub named_registers : Pooled → List Process → List Port → List ℕ
-named_registers q ps ports =
-    filter (λ s. is_driven q (filter is_clocked ps) s && (not (is_among (signals_of ports) s) && has_width q s)) (range_with_len 0 (length q.signals))
+-- the path of the first clocked process that drives a signal
+abbrev pub process_path : Pooled → List Process → List (Option (List ℕ)) → ℕ → Option (List ℕ)
+process_path q [] paths s = None
+process_path q (p ∷ ps) [] s = None
+process_path q (p ∷ ps) (path ∷ paths) s = if is_clocked p && is_among (driven q p.body) s then path else process_path q ps paths s
+
+abbrev pub clocked_data : Memory → List ℕ
+clocked_data m = map (λ (r : MemRead). r.word.0) (filter (λ (r : MemRead). is_some r.domain) m.reads)
+
+-- the path of the first memory of which it is the data of a clocked read port
+abbrev pub memory_path : List Memory → List (Option (List ℕ)) → ℕ → Option (List ℕ)
+memory_path [] paths s = None
+memory_path (m ∷ ms) [] s = None
+memory_path (m ∷ ms) (path ∷ paths) s = if is_among (clocked_data m) s then path else memory_path ms paths s
+
+-- the path under which a signal is named as a register: of the first that drives it, or else that gives it
+abbrev pub register_path : Pooled → Contents → ℕ → Option (List ℕ)
+register_path q all s =
+    if is_driven q (filter is_clocked all.processes) s then process_path q all.processes all.paths s else memory_path all.memories all.memory_paths s
+
+abbrev pub named_registers : Pooled → Contents → List Port → List ℕ
+named_registers q all ports =
+    filter (λ s. is_some (register_path q all s) && (not (is_among (signals_of ports) s) && has_width q s)) (range_with_len 0 (length q.signals))
 
 abbrev pub numbered_name : List ℕ → ℕ → List ℕ
 numbered_name name k = name ++ (codes "$" ++ decimal k)
@@ -214,18 +251,12 @@ columns_after names (c ∷ more) = record c { name = fresh_name names c.name } �
 abbrev pub column_of_port : Port → Column
 column_of_port p = record { name = p.name; sig = p.sig }
 
--- the path of the first clocked process that drives a signal
-abbrev pub register_path : Pooled → List Process → List (List ℕ) → ℕ → List ℕ
-register_path q [] paths s = []
-register_path q (p ∷ ps) [] s = []
-register_path q (p ∷ ps) (path ∷ paths) s = if is_clocked p && is_among (driven q p.body) s then path else register_path q ps paths s
+-- a register has its own name behind its path
+abbrev pub column_of_register : Pooled → Contents → ℕ → Column
+column_of_register q all s = record { name = unwrap_or (register_path q all s) [] ++ signal_name q s; sig = record { 0 = s } }
 
--- a register has its own name behind the path of what drives it
-abbrev pub column_of_register : Pooled → List Process → List (List ℕ) → ℕ → Column
-column_of_register q ps paths s = record { name = register_path q ps paths s ++ signal_name q s; sig = record { 0 = s } }
-
-abbrev pub columns_of : Pooled → List Process → List (List ℕ) → List Port → List ℕ → List Column
-columns_of q ps paths ports registers = columns_after [] (map column_of_port ports ++ map (column_of_register q ps paths) registers)
+abbrev pub columns_of : Pooled → Contents → List Port → List ℕ → List Column
+columns_of q all ports registers = columns_after [] (map column_of_port ports ++ map (column_of_register q all) registers)
 
 -- a port has the name of its column
 abbrev pub ports_named : List Port → List Column → List Port
@@ -235,33 +266,49 @@ ports_named (p ∷ ports) (c ∷ columns) = record p { name = c.name } ∷ ports
 
 -- ---- the design
 
-abbrev pub ports_of : Pooled → List Domain → (own ps : List Process) → TopPorts → List Port
-ports_of q domains own ps top = and_new q (domain_ports q (is_driven q ps) domains) (top_ports q own ps top)
+abbrev pub ports_of : Pooled → List Domain → List Process → Contents → TopPorts → List Port
+ports_of q domains own all top = and_new q (domain_ports q (is_given q all.processes all.memories) domains) (top_ports q own all top)
 
-abbrev pub circuit_with : Pooled → List Domain → List Process → List Port → List Column → Circuit
-circuit_with q domains ps ports columns = record { pool = q; processes = map (process_in domains) ps; memories = []; domains = domains; ports = ports_named ports columns; columns = columns }
+abbrev pub circuit_with : Pooled → List Domain → Contents → List Port → List Column → Circuit
+circuit_with q domains all ports columns = record { pool = q; processes = map (process_in domains) all.processes; memories = all.memories; domains = domains; ports = ports_named ports columns; columns = columns }
 
-abbrev pub circuit_of : Pooled → List Domain → List Process → List (List ℕ) → List Port → Circuit
-circuit_of q domains ps paths ports = circuit_with q domains ps ports (columns_of q ps paths ports (named_registers q ps ports))
+abbrev pub circuit_of : Pooled → List Domain → Contents → List Port → Circuit
+circuit_of q domains all ports = circuit_with q domains all ports (columns_of q all ports (named_registers q all ports))
 
 -- a refusal comes before what would be there
 abbrev pub unless : Option ResolveStop → Result Circuit ResolveStop → Result Circuit ResolveStop
 unless None r = r
 unless (Some stop) r = Err stop
 
--- over the pool with the domains' signals, the drivers are told before there is a design
-unfoldable pub resolved_in : Pooled → List Domain → (own ps : List Process) → List (List ℕ) → TopPorts → Result Circuit ResolveStop
-resolved_in q domains own ps paths top =
-    unless (driver_refusal q (design_inputs domains top) [] ps) (Ok (circuit_of q domains ps paths (ports_of q domains own ps top)))
+-- what is told of drivers: two read ports before all statements, and a statement that drives what a read port gives like one that drives
+-- what an earlier one does
+abbrev pub driver_stop : Pooled → List Domain → Contents → TopPorts → Option ResolveStop
+driver_stop q domains all top = first_of (data_refusal all.memories) (driver_refusal q (design_inputs domains top) (data_signals all.memories) all.processes)
 
--- a clash is told before the limits, and these before the drivers
-unfoldable pub resolved : Pooled → Fragment → TopPorts → Result Circuit ResolveStop
-resolved q root top =
+-- over the pool in which resets are signals, the drivers are told before there is a design
+unfoldable pub resolved_in : Pooled → List Domain → List Process → Contents → TopPorts → Result Circuit ResolveStop
+resolved_in q domains own all top = unless (driver_stop q domains all top) (Ok (circuit_of q domains all (ports_of q domains own all top)))
+
+-- the pool with the signals of the domains that are made
+abbrev pub made_pool : Pooled → Fragment → Pooled
+made_pool q root = with_domains q (made_names q root)
+
+abbrev pub made_domains : Pooled → Fragment → List Domain
+made_domains q root = domains_from (all_definitions root) (length q.signals) (domain_names q root)
+
+-- and with each reset that a fragment holds as the signal of its domain's reset
+abbrev pub whole_pool : Pooled → Fragment → Pooled
+whole_pool q root = placed_pool (made_domains q root) (made_pool q root) (fragment_exprs root)
+
+-- what is told of domains: a clash before a reset that there is none of, and this before the limits
+abbrev pub domain_stop : Pooled → Fragment → Option ResolveStop
+domain_stop q root =
     let definitions = all_definitions root in
-    let names = domain_names root in
-    unless (clash_after [] definitions)
-    (unless (limit_where (is_past_limit q definitions names))
-    (resolved_in (with_domains q (made_names root)) (domains_from definitions (length q.signals) names) root.processes (all_processes root) (all_paths root) top))
+    first_of (clash_after [] definitions) (first_of (reset_refusal definitions (held_resets q (fragment_exprs root))) (limit_where (is_past_limit q definitions (domain_names q root))))
+
+-- the domains are told before the drivers
+unfoldable pub resolved : Pooled → Fragment → TopPorts → Result Circuit ResolveStop
+resolved q root top = unless (domain_stop q root) (resolved_in (whole_pool q root) (made_domains q root) root.processes (all_contents root) top)
 
 -- ---- refusals
 

@@ -1,5 +1,5 @@
 // The columns of a design, and their names.
-ghost use Rattle.std.specs.Prelude.{◌≡◌, ℕ, ◌<◌, ◌≤◌, ◌&&◌, ◌++◌, ◌∷◌, [], true, false, not, map, length, Some, is_some, IfOk, OnOk};
+ghost use Rattle.std.specs.Prelude.{◌≡◌, ℕ, ◌<◌, ◌≤◌, ◌&&◌, ◌++◌, ◌∷◌, [], true, false, not, map, length, Some, is_some, unwrap_or, IfOk, OnOk};
 ghost use Rattle.std.specs.List.{AllByRecursion, filter, range_with_len};
 ghost use Rattle.std.specs.BTreeMap.{get_by_text};
 ghost use Rattle.clock_domains.specs.Marks.{is_marked};
@@ -169,13 +169,27 @@ pub fn columns_of(alloc: Global, ports: &[Port], registers: &[Column]) -> Result
     Ok(columns)
 }
 
-// The path of a process, where there is one.
-fn path_of(paths: &[Text], number: Option<usize>) -> &str
+// Whether the process or the memory with a number names registers.
+fn is_naming(paths: &[Option<Text>], number: Option<usize>) -> bool
     requires { IsPlace (length paths.now) number }
-    ensures { result.now ≡ path_at paths.now number }
+    ensures { result ≡ is_some (path_at paths.now number) }
 {
     match number {
-        Some(number) => paths[number].as_str(),
+        Some(number) => paths[number].is_some(),
+        None => false,
+    }
+}
+
+// The path under which it names them, or the empty one.
+fn path_of(paths: &[Option<Text>], number: Option<usize>) -> &str
+    requires { IsPlace (length paths.now) number }
+    ensures { result.now ≡ unwrap_or (path_at paths.now number) [] }
+{
+    let Some(number) = number else {
+        return "";
+    };
+    match &paths[number] {
+        Some(path) => path.as_str(),
         None => "",
     }
 }
@@ -183,70 +197,72 @@ fn path_of(paths: &[Text], number: Option<usize>) -> &str
 // A register under its own name behind a path.
 fn register_column(alloc: Global, pool: &Pool, path: &str, sig: SigId) -> Result<Column, NoMemory>
     requires { sig.0 < length pool.now.signals }
-    ensures { IfOk result (λ c. c ≡ column_under pool.now path.now sig.0) }
+    ensures { IfOk result (λ c. c ≡ column_under pool.now (Some path.now) sig.0) }
 {
     let mut name = copied(alloc, path)?;
     name.push(pool.sig_at(sig).name.as_str())?;
     Ok(Column { name, sig })
 }
 
-/// Registers under their names behind the paths of the processes that drive them.
+/// Registers under their names behind the paths of what gives them.
 pub fn register_columns(
     alloc: Global,
     pool: &Pool,
-    paths: &[Text],
-    clocked: &[Option<usize>],
+    paths: &[Option<Text>],
+    sites: &[Option<usize>],
     registers: &[SigId],
 ) -> Result<Columns, NoMemory>
     requires there { AllByRecursion (λ s. s.0 < length pool.now.signals) registers.now }
-    requires size { length clocked.now ≡ 16384 }
-    requires paths { (s : ℕ) → IsPlace (length paths.now) (first_at clocked.now s) }
-    ensures { IfOk result (λ cs. cs ≡ map (known_column pool.now paths.now clocked.now) (map (λ s. s.0) registers.now)) }
+    requires size { length sites.now ≡ 16384 }
+    requires paths { (s : ℕ) → IsPlace (length paths.now) (first_at sites.now s) }
+    ensures { IfOk result (λ cs. cs ≡ map (known_column pool.now paths.now sites.now) (map (λ s. s.0) registers.now)) }
 {
     let _ = pool.count();
     let mut columns = Items::new(alloc);
     for s in registers {
-        let path = path_of(paths, clocked[s.0 as usize]);
+        let path = path_of(paths, sites[s.0 as usize]);
         columns.push(register_column(alloc, pool, path, *s)?)?;
     }
     Ok(columns)
 }
 
-// A signal more, where it is driven from a clocked side, is no port, and has bits.
+// A signal more, where it is named as a register, is no port, and has bits.
 fn add_register(
     pool: &Pool,
     registers: &mut Vec<SigId>,
-    is_clocked: bool,
+    is_register: bool,
     is_port: bool,
     s: SigId,
 ) -> Result<(), NoMemory>
-    requires { is_clocked ≡ true → s.0 < length pool.now.signals }
-    ensures { OnOk result (map (λ x. x.0) registers.new.items ≡ map (λ x. x.0) registers.old.items ++ filter (λ x. is_clocked && (not is_port && has_width pool.now x)) (s.0 ∷ [])) }
+    requires { is_register ≡ true → s.0 < length pool.now.signals }
+    ensures { OnOk result (map (λ x. x.0) registers.new.items ≡ map (λ x. x.0) registers.old.items ++ filter (λ x. is_register && (not is_port && has_width pool.now x)) (s.0 ∷ [])) }
 {
-    if !is_clocked || is_port || !has_width(pool, s) {
+    if !is_register || is_port || !has_width(pool, s) {
         return Ok(());
     }
     registers.push(s)?;
     Ok(())
 }
 
-/// The signals that are driven from clocked sides and are no ports, in order of making.
+/// The signals that are named as registers and are no ports, in order of making.
 pub fn named_registers(
     alloc: Global,
     pool: &Pool,
-    clocked: &[Option<usize>],
+    paths: &[Option<Text>],
+    sites: &[Option<usize>],
     is_port: &[bool],
 ) -> Result<Vec<SigId>, NoMemory>
-    requires there { AreNumbersThere pool.now clocked.now }
+    requires there { AreNumbersThere pool.now sites.now }
+    requires paths { (s : ℕ) → IsPlace (length paths.now) (first_at sites.now s) }
     requires size { length is_port.now ≡ 16384 }
-    ensures { IfOk result (λ v. map (λ s. s.0) v.items ≡ filter (λ s. is_some (first_at clocked.now s) && (not (is_marked is_port.now s) && has_width pool.now s)) (range_with_len 0 (length clocked.now))) }
+    ensures { IfOk result (λ v. map (λ s. s.0) v.items ≡ filter (λ s. is_some (path_at paths.now (first_at sites.now s)) && (not (is_marked is_port.now s) && has_width pool.now s)) (range_with_len 0 (length sites.now))) }
 {
     let mut registers = Vec::new(alloc);
-    for s in 0..clocked.len() {
+    for s in 0..sites.len() {
         add_register(
             pool,
             &mut registers,
-            clocked[s].is_some(),
+            is_naming(paths, sites[s]),
             is_port[s],
             SigId(s as u32),
         )?;

@@ -1,10 +1,14 @@
-// Copies of processes and of domains.
+// Copies of processes, of domains and of memories.
 ghost use Rattle.std.specs.Prelude.{◌≡◌, IfOk};
 ghost use Rattle.design_ir.specs.Statements.{statement_of};
+ghost use Rattle.clock_domains.specs.Walks.{memory_named};
 
 use crate::domains::copied;
-use amh_host::NoMemory;
-use design_ir::{Arm, Arms, Domain, DomainDef, Process, Side, Stmt, Stmts};
+use amh_host::{Items, NoMemory, Text};
+use design_ir::{
+    Arm, Arms, Domain, DomainDef, MemRead, MemReads, MemWrite, MemWrites, Memory, Process, Side,
+    Stmt, Stmts,
+};
 use std::alloc::Global;
 
 /// The same domain once more.
@@ -90,4 +94,85 @@ fn copied_arms(alloc: Global, arms: &Arms) -> Result<Arms, NoMemory>
         })?;
     }
     Ok(copy)
+}
+
+// ---- memories
+
+// The same elements once more.
+fn copied_items<T: Copy + Drop>(alloc: Global, items: &Items<T>) -> Result<Items<T>, NoMemory>
+    ensures { IfOk result (λ copy. copy ≡ items.now) }
+{
+    let mut copy = Items::new(alloc);
+    for x in items.as_slice() {
+        copy.push(*x)?;
+    }
+    Ok(copy)
+}
+
+fn copied_write(alloc: Global, write: &MemWrite) -> Result<MemWrite, NoMemory>
+    ensures { IfOk result (λ copy. copy ≡ write.now) }
+{
+    Ok(MemWrite {
+        domain: copied(alloc, write.domain.as_str())?,
+        addr: write.addr,
+        word: write.word,
+        enable: write.enable,
+        granularity: write.granularity,
+    })
+}
+
+/// The same name once more, where there is one.
+pub fn copied_name(alloc: Global, name: &Option<Text>) -> Result<Option<Text>, NoMemory>
+    ensures { IfOk result (λ copy. copy ≡ name.now) }
+{
+    match name {
+        Some(name) => Ok(Some(copied(alloc, name.as_str())?)),
+        None => Ok(None),
+    }
+}
+
+fn copied_read(alloc: Global, read: &MemRead) -> Result<MemRead, NoMemory>
+    ensures { IfOk result (λ copy. copy ≡ read.now) }
+{
+    Ok(MemRead {
+        domain: copied_name(alloc, &read.domain)?,
+        addr: read.addr,
+        word: read.word,
+        enable: read.enable,
+        transparent: copied_items(alloc, &read.transparent)?,
+    })
+}
+
+fn copied_writes(alloc: Global, writes: &[MemWrite]) -> Result<MemWrites, NoMemory>
+    ensures { IfOk result (λ copy. copy ≡ writes.now) }
+{
+    let mut copy = Items::new(alloc);
+    for write in writes {
+        copy.push(copied_write(alloc, write)?)?;
+    }
+    Ok(copy)
+}
+
+fn copied_reads(alloc: Global, reads: &[MemRead]) -> Result<MemReads, NoMemory>
+    ensures { IfOk result (λ copy. copy ≡ reads.now) }
+{
+    let mut copy = Items::new(alloc);
+    for read in reads {
+        copy.push(copied_read(alloc, read)?)?;
+    }
+    Ok(copy)
+}
+
+/// The same memory once more, under a name.
+pub fn memory_named(alloc: Global, name: &str, memory: &Memory) -> Result<Memory, NoMemory>
+    ensures { IfOk result (λ copy. copy ≡ memory_named name.now memory.now) }
+{
+    Ok(Memory {
+        name: copied(alloc, name)?,
+        shape: memory.shape,
+        depth: memory.depth,
+        rows: copied_items(alloc, &memory.rows)?,
+        writes: copied_writes(alloc, memory.writes.as_slice())?,
+        reads: copied_reads(alloc, memory.reads.as_slice())?,
+    })
 }

@@ -17,7 +17,8 @@ use design_ir::{
 use shape_rules::Shape;
 use std::alloc::Global;
 
-fn file_start() -> Place
+/// The place of a refusal that is told at no statement.
+pub fn file_start() -> Place
     ensures { result ≡ file_start }
 {
     Place { line: 1, col: 1 }
@@ -96,8 +97,8 @@ fn domain_made(alloc: Global, pool: &mut Pool, name: &Text) -> Result<Domain, Re
     })
 }
 
-// The number of the domain with a name, where one has it.
-fn position_named(domains: &[Domain], name: &str) -> Option<usize>
+/// The number of the domain with a name, where one has it.
+pub fn position_named(domains: &[Domain], name: &str) -> Option<usize>
     ensures { result ≡ position (λ d. text_eq d.name name.now) domains.now }
 {
     domains.iter().position(|d| d.name.is(name))

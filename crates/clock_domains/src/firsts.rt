@@ -1,33 +1,34 @@
 // The first process that drives each signal, by its number.
-ghost use Rattle.std.specs.Prelude.{◌≡◌, ◌<◌, ◌+◌, ◌∷◌, [], ℕ, length, take, IfOk};
+ghost use Rattle.std.specs.Prelude.{◌≡◌, ◌<◌, ◌+◌, ◌^◌, ◌||◌, ◌∷◌, [], ℕ, length, take, IfOk};
 ghost use Rattle.std.specs.List.{AllByRecursion, filter};
 ghost use Rattle.design_ir.specs.Guards.{block_exprs};
 ghost use Rattle.design_ir.specs.Named.{AllBelow as AreBelow, named};
 ghost use Rattle.design_ir.specs.PoolRules.{IsPool};
 ghost use Rattle.design_ir.specs.Targets.{target_signals};
-ghost use Rattle.clock_domains.specs.Firsts.{AreFirsts};
+ghost use Rattle.clock_domains.specs.Firsts.{AreFirsts, AreSites};
 ghost use Rattle.clock_domains.specs.Marks.{AllBelow, Flag, comes_out, is_marked, marked, numbers, target_parts};
 ghost use Rattle.clock_domains.specs.Numbers.{bounded, lowered, process_targets};
-ghost use Rattle.clock_domains.specs.Reads.{is_driven, own_signals};
+ghost use Rattle.clock_domains.specs.Reads.{data_signals, is_driven, own_signals};
 ghost use Rattle.clock_domains.specs.Resolvable.{IsSideOf};
 ghost use Rattle.clock_domains.specs.Resolved.{is_clocked};
 
 use crate::marks::SIGNALS;
 use crate::numbers::{lower, lower_all, lower_block, unnumbered};
+use crate::read_data::{number_data, number_memories};
 use amh_host::NoMemory;
-use design_ir::{Expr, ExprId, Exprs, Pool, Process, Side};
+use design_ir::{Expr, ExprId, Exprs, Memory, Pool, Process, Side};
 use std::alloc::Global;
 
-// Each process numbers its targets.
+// Each process numbers its targets, from 1 on: what read ports give has the number 0.
 fn number_targets(pool: &Pool, processes: &[Process], targets: &mut Vec<Option<usize>>)
     requires sides { AllByRecursion (IsSideOf pool.now) processes.now }
     requires size { length targets.old.items ≡ length pool.now.exprs }
     ensures size { length targets.new.items ≡ length targets.old.items }
-    ensures each { (i : ℕ) → bounded i targets.new.items ≡ marked (process_targets (take i processes.now)) (bounded i targets.old.items) }
+    ensures each { (i : ℕ) → bounded (i + 1) targets.new.items ≡ marked (process_targets (take i processes.now)) (bounded (i + 1) targets.old.items) }
 {
     let _ = pool;
     for (number, process) in processes.iter().enumerate() {
-        lower_block(targets, number, &process.body);
+        lower_block(targets, number + 1, &process.body);
     }
 }
 
@@ -117,24 +118,27 @@ fn hand_all_down(pool: &Pool, targets: &mut Vec<Option<usize>>, signals: &mut Ve
     }
 }
 
-/// For each signal the number of the first process that drives it.
+/// For each signal the number of the first process that drives it, from 1 on, or 0 where a read port gives it.
 pub fn first_drivers(
     alloc: Global,
     pool: &Pool,
     processes: &[Process],
+    given: &[bool],
 ) -> Result<Vec<Option<usize>>, NoMemory>
-    requires { AllByRecursion (IsSideOf pool.now) processes.now }
-    ensures { IfOk result (λ v. (i : ℕ) → Flag (bounded i v.items) (is_driven pool.now (take i processes.now))) }
+    requires sides { AllByRecursion (IsSideOf pool.now) processes.now }
+    requires given { length given.now ≡ 16384 }
+    ensures { IfOk result (λ v. (i : ℕ) → Flag (bounded (i + 1) v.items) (λ s. is_driven pool.now (take i processes.now) s || is_marked given.now s)) }
 {
     let mut targets = unnumbered(alloc, pool.count() as usize)?;
     number_targets(pool, processes, &mut targets);
     let mut signals = unnumbered(alloc, SIGNALS)?;
     hand_all_down(pool, &mut targets, &mut signals);
+    number_data(given, &mut signals);
     Ok(signals)
 }
 
-/// For each signal the number of the first clocked process that drives it.
-pub fn first_clocked(
+// For each signal the number of the first clocked process that drives it.
+fn first_clocked(
     alloc: Global,
     pool: &Pool,
     processes: &[Process],
@@ -147,4 +151,22 @@ pub fn first_clocked(
     let mut signals = unnumbered(alloc, SIGNALS)?;
     hand_all_down(pool, &mut targets, &mut signals);
     Ok(signals)
+}
+
+/// For each signal the number of the first clocked process that drives it, else of the first memory of which it is the data of
+/// a clocked read port, behind all processes.
+pub fn first_sites(
+    alloc: Global,
+    pool: &Pool,
+    processes: &[Process],
+    memories: &[Memory],
+) -> Result<Vec<Option<usize>>, NoMemory>
+    requires sides { AllByRecursion (IsSideOf pool.now) processes.now }
+    requires there { AllByRecursion (λ s. s < 16384) (data_signals memories.now) }
+    requires few { length processes.now + length memories.now < 2 ^ 64 }
+    ensures { IfOk result (λ v. AreSites pool.now processes.now memories.now v.items) }
+{
+    let mut sites = first_clocked(alloc, pool, processes)?;
+    number_memories(processes.len(), memories, &mut sites);
+    Ok(sites)
 }

@@ -1,9 +1,12 @@
 //! From a module with those below it to a design: its clock domains, who drives what, its ports and the columns of its trace.
 //!
 //! `resolve` gives exactly the design, or the first refusal, of specs/Resolved.antt. It walks the tree of modules into one
-//! list of processes, each with the path of its module, one of definitions and one of the names of domains (walk.rt). It
-//! looks for a name that is defined twice (clashes.rt), takes the domains that are defined and makes the others with their
-//! signals (domains.rt), seeks the first statement that drives what it must not (drivers.rt), and chooses ports (ports.rt)
+//! list of processes and one of memories, each with the path of its module, one of definitions, and for each module the names
+//! of domains and the expressions that stand in it (walk.rt). It numbers each expression by the first module that holds it
+//! (holders.rt), by which the names of resets come behind those of their modules (names.rt). It looks for a name that is
+//! defined twice (clashes.rt) and for a reset whose domain has none, takes the domains that are defined and makes the others
+//! with their signals (domains.rt), and puts signals in the places of resets (placing.rt). It seeks a signal that two read
+//! ports give (read_data.rt) and the first statement that drives what it must not (drivers.rt), and chooses ports (ports.rt)
 //! and columns (columns.rt) by what is driven and what is read (reads.rt).
 //!
 //! A design has many processes over one pool, and statements share its expressions, so neither is gone through once for each
@@ -18,12 +21,17 @@ mod columns;
 mod copies;
 mod domains;
 mod drivers;
+mod exprs;
 mod firsts;
 mod hits;
+mod holders;
 mod leasts;
 mod marks;
+mod names;
 mod numbers;
+mod placing;
 mod ports;
+mod read_data;
 mod reads;
 mod resolving;
 mod spread;

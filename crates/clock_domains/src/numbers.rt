@@ -4,7 +4,8 @@ ghost use Rattle.design_ir.specs.Guards.{statement_exprs, choices_exprs, block_e
 ghost use Rattle.design_ir.specs.Named.{AllBelow};
 ghost use Rattle.design_ir.specs.Statements.{statement_of};
 ghost use Rattle.clock_domains.specs.Marks.{numbers};
-ghost use Rattle.clock_domains.specs.Numbers.{lesser, lowered};
+ghost use Rattle.clock_domains.specs.Firsts.{lesser};
+ghost use Rattle.clock_domains.specs.Numbers.{lowered};
 ghost use Rattle.clock_domains.specs.Reads.{statement_targets, choices_targets, block_targets};
 
 use amh_host::NoMemory;

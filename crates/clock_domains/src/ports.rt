@@ -1,11 +1,14 @@
 // The ports of a design.
 ghost use Rattle.std.specs.Prelude.{◌≡◌, ◌<◌, ◌&&◌, ◌++◌, ◌∷◌, [], not, map, length, IfOk, OnOk};
-ghost use Rattle.std.specs.List.{AllByRecursion, filter, filter_map, range_with_len};
+ghost use Rattle.std.specs.List.{AllByRecursion, filter, filter_map, flat_map, range_with_len};
+ghost use Rattle.design_ir.specs.Named.{AllBelow};
 ghost use Rattle.design_ir.specs.Circuits.{is_among};
 ghost use Rattle.clock_domains.specs.Marks.{Flag, is_marked, marked};
-ghost use Rattle.clock_domains.specs.Reads.{is_driven};
-ghost use Rattle.clock_domains.specs.Resolvable.{AreTopPorts, IsSideOf};
-ghost use Rattle.clock_domains.specs.Resolved.{design_inputs, domain_ports, has_width, port_of, ports_of, ports_of_domain, reset_port, signals_of, top_inputs};
+ghost use Rattle.clock_domains.specs.Held.{memory_exprs};
+ghost use Rattle.clock_domains.specs.Reads.{is_given};
+ghost use Rattle.clock_domains.specs.Walks.{Contents};
+ghost use Rattle.clock_domains.specs.Resolvable.{AreTopPorts, IsSideOf, top_inputs};
+ghost use Rattle.clock_domains.specs.Resolved.{design_inputs, domain_ports, has_width, port_of, ports_of, ports_of_domain, reset_port, signals_of};
 ghost use Rattle.clock_domains.specs.Chosen.{AreThere, IsKnown, IsSignal, held_port, is_new, known_port, known_ports, known_side};
 
 use crate::domains::copied;
@@ -14,7 +17,7 @@ use crate::marks::{SIGNALS, mark, unmarked};
 use crate::reads::reads;
 use crate::top::TopPorts;
 use amh_host::{Items, NoMemory};
-use design_ir::{Domain, Exprs, Pool, Port, Ports, Process, SigId};
+use design_ir::{Domain, Exprs, Memory, Pool, Port, Ports, Process, SigId};
 use std::alloc::Global;
 
 /// Marks the signals of ports.
@@ -319,22 +322,28 @@ fn add_top(
     }
 }
 
-/// The ports of a design, under the names that they are to have: by the processes of the top itself, and by all of them.
+/// The ports of a design, under the names that they are to have: by the processes of the top itself, and by all that modules
+/// hold.
 pub fn ports_of(
     alloc: Global,
     pool: &Pool,
     domains: &[Domain],
     own: &[Process],
     processes: &[Process],
+    memories: &[Memory],
     driven: Vec<bool>,
     top: &TopPorts,
 ) -> Result<Ports, NoMemory>
+    ghost all: { Contents }
+    requires processes { processes.now ≡ all.processes }
+    requires memories { memories.now ≡ all.memories }
     requires domains { AllByRecursion (IsSignal pool.now) domains.now }
     requires own { AllByRecursion (IsSideOf pool.now) own.now }
     requires sides { AllByRecursion (IsSideOf pool.now) processes.now }
+    requires ports { AllBelow (length pool.now.exprs) (flat_map memory_exprs memories.now) }
     requires top { AreTopPorts pool.now top.now }
-    requires driven { Flag driven.items (is_driven pool.now processes.now) }
-    ensures { IfOk result (λ ps. ps ≡ ports_of pool.now domains.now own.now processes.now top.now) }
+    requires driven { Flag driven.items (is_given pool.now processes.now memories.now) }
+    ensures { IfOk result (λ ps. ps ≡ ports_of pool.now domains.now own.now all top.now) }
 {
     let _ = pool.count();
     let mut ports = domain_ports(alloc, pool, driven.as_slice(), domains)?;
@@ -342,7 +351,7 @@ pub fn ports_of(
         is_port: mark_ports(alloc, ports.as_slice())?,
         own: driven_by(alloc, pool, own)?,
         driven,
-        read: reads(alloc, pool, processes)?,
+        read: reads(alloc, pool, processes, memories)?,
     };
     add_top(alloc, pool, &known, top, &mut ports)?;
     Ok(ports)

@@ -2,14 +2,13 @@
 ghost use Rattle.comb_graph.specs.Rankings.{IsRanking};
 
 use crate::events::played;
-use crate::lines::{split_first, words_of};
 use crate::numbers::small;
 use crate::reader::{Case, read_case};
-use crate::stop::Stop;
 use amh_host::Place;
 use comb_graph::{GraphStop, RankedBit, Ranks, rank};
 use design_ir::{Design, ExprId, SigId};
 use std::alloc::Global;
+use table_text::{Stop, split_first, words_of};
 
 /// The name of a design and the answer for it.
 pub fn answer(alloc: Global, lines: &[String]) -> Result<String, Stop> {

@@ -3,7 +3,8 @@ ghost use Rattle.std.specs.Prelude.{◌≡◌, map};
 ghost use Rattle.design_ir.specs.Statements.{statement_of, block_of, choices_of};
 ghost use Rattle.design_table.specs.Tests.{is_at, statement_fits, block_fits, choices_fit};
 
-use design_ir::{Arm, ExprId, Stmt};
+use crate::tables::is_at;
+use design_ir::{Arm, Stmt};
 
 /// Whether statements have targets that are marked, and name no expression past these.
 #[cycle(fits)]
@@ -22,7 +23,7 @@ fn statement_fits(marks: &[bool], count: u32, s: &Stmt) -> bool
 {
     match s {
         Stmt::Assign { target, value, .. } => {
-            is_marked(marks, *target) && target.0 < count && value.0 < count
+            is_at(marks, target.0) && target.0 < count && value.0 < count
         }
         Stmt::Choose(arms) => choices_fit(marks, count, arms.as_slice()),
     }
@@ -40,11 +41,4 @@ fn choices_fit(marks: &[bool], count: u32, arms: &[Arm]) -> bool
                 && choices_fit(marks, count, rest)
         }
     }
-}
-
-fn is_marked(marks: &[bool], e: ExprId) -> bool
-    ensures { result ≡ is_at marks.now e.0 }
-{
-    let k = e.0 as usize;
-    k < marks.len() && marks[k]
 }

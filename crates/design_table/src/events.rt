@@ -5,9 +5,6 @@ ghost use Rattle.comb_graph.specs.Rankings.{IsRanking};
 ghost use Rattle.delta_sim.specs.Standing.{IsSimOf};
 
 use crate::answer::signal_named;
-use crate::lines::words_of;
-use crate::numbers::integer;
-use crate::stop::Stop;
 use amh_host::{Items, NoMemory, Steps};
 use comb_graph::Ranks;
 use delta_sim::Sim;
@@ -15,6 +12,7 @@ use design_ir::{Design, DomainId, Event, ExprId, Exprs, SigId};
 use std::alloc::Global;
 use std::marker::Brand;
 use std::sync::ledger::{Blank, Ledger};
+use table_text::{Stop, integer, words_of};
 
 /// What each line asks for, behind the events of the lines before it.
 pub fn played(

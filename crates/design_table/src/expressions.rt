@@ -1,12 +1,12 @@
 // Expressions of the table, each operator before its operands.
 
 use crate::form;
-use crate::numbers::{integer, natural, shape, small};
+use crate::numbers::{shape, small};
 use crate::signals::Signals;
-use crate::stop::Stop;
 use amh_host::Items;
 use design_ir::{ExprId, Ids};
 use std::alloc::Global;
+use table_text::{Stop, integer, natural};
 
 /// The expressions that words stand for, the first of them last: the words are read from the last to the first, so that
 /// the operands of an operator are there when it is read.

@@ -4,12 +4,12 @@ ghost use Rattle.design_ir.specs.Named.{AllBelow};
 ghost use Rattle.shape_rules.specs.Rows.{operand_count};
 
 use crate::pool::Sheet;
-use crate::stop::Stop;
 use amh_bits::Int;
 use amh_host::Items;
 use design_ir::{Expr, ExprId, Ids, Pattern, SigId};
 use shape_rules::{Op, Shape};
 use std::alloc::Global;
+use table_text::Stop;
 
 /// The operator of one operand that a word names.
 pub fn unary_op(word: &str) -> Option<Op>

@@ -59,7 +59,6 @@ mod reads;
 mod shown;
 mod signals;
 mod sound;
-mod stop;
 mod tables;
 mod texts;
 
@@ -67,7 +66,7 @@ use answer::answer;
 use std::alloc::Global;
 use std::env::Env;
 use std::io;
-use stop::Stop;
+use table_text::answered;
 use texts::text;
 
 fn main(rt: HostRuntime) -> io::Result<()> {
@@ -99,9 +98,5 @@ fn said_of(alloc: Global, wants_texts: bool, lines: &[String]) -> io::Result<Str
     } else {
         answer(alloc, lines)
     };
-    match said {
-        Ok(said) => Ok(said),
-        Err(Stop::NoCase) => Ok(String::from_str(alloc, "no case")?),
-        Err(Stop::NoMemory) => Err(io::ErrorKind::OutOfMemory.into()),
-    }
+    answered(alloc, said)
 }

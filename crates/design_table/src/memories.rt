@@ -1,13 +1,13 @@
 // The memories of a design of the table.
 
 use crate::expressions::{expression, expressions};
-use crate::numbers::{integer, natural, shape, small};
+use crate::numbers::{shape, small};
 use crate::signals::{Signals, copied};
-use crate::stop::Stop;
 use amh_bits::Int;
 use amh_host::{Items, Numbers, Text};
 use design_ir::{Ints, MemRead, MemWrite, Memories, Memory, SigId};
 use std::alloc::Global;
+use table_text::{Stop, integer, natural};
 
 /// The memories whose lines are read, and the one that the next ports are of.
 #[derive(Drop)]
@@ -48,7 +48,7 @@ impl Bank {
         self.add_read(MemRead {
             domain: None,
             addr,
-            word: named(signals, word)?,
+            word: signals.known(word)?,
             enable: None,
             transparent: Items::new(alloc),
         })
@@ -69,7 +69,7 @@ impl Bank {
             return Err(Stop::NoCase);
         };
         let (enable, addr) = (*enable, *addr);
-        let word = named(signals, word)?;
+        let word = signals.known(word)?;
         self.add_read(MemRead {
             domain: Some(domain_of(alloc, signals, word)?),
             addr,
@@ -172,14 +172,6 @@ fn ports_of(alloc: Global, word: &str) -> Result<Numbers, Stop> {
         ports.push(small(number)? as u32)?;
     }
     Ok(ports)
-}
-
-// The signal of a name.
-fn named(signals: &Signals, word: &str) -> Result<SigId, Stop> {
-    match signals.named(word) {
-        Some(s) => Ok(s),
-        None => Err(Stop::NoCase),
-    }
 }
 
 // The name of the domain in which a signal is driven.

@@ -5,10 +5,10 @@ ghost use Rattle.design_ir.specs.PoolRules.{IsAskable};
 ghost use Rattle.design_ir.specs.Values.{form, signal_form};
 ghost use Rattle.design_table.specs.Tests.{is_reset, no_resets};
 
-use crate::stop::Stop;
-use design_ir::{Expr, ExprId, Exprs, Pool, Sig, SigId};
+use design_ir::{Expr, ExprId, Exprs, Pool, PoolStop, Sig, SigId};
 use shape_rules::Shape;
 use std::alloc::Global;
+use table_text::Stop;
 
 /// A pool, and how many signals it has at least.
 #[derive(Drop)]
@@ -17,6 +17,14 @@ pub struct Sheet {
     pub signals: u64,
     ghost counted: { signals ≡ length pool.signals },
     ghost clear: { no_resets pool.exprs ≡ true },
+}
+
+// Why a pool takes no more, as the table tells it.
+fn told(stop: PoolStop) -> Stop {
+    match stop {
+        PoolStop::NoMemory => Stop::NoMemory,
+        PoolStop::Width | PoolStop::BadOperand | PoolStop::Limit => Stop::NoCase,
+    }
 }
 
 impl Sheet {
@@ -34,9 +42,13 @@ impl Sheet {
         if s.init.wrap(s.shape.width, s.shape.signed) != s.init {
             return Err(Stop::NoCase);
         }
-        let id = self.pool.sig(s)?;
-        self.signals = id.0 as u64 + 1;
-        Ok(id)
+        match self.pool.sig(s) {
+            Ok(id) => {
+                self.signals = id.0 as u64 + 1;
+                Ok(id)
+            }
+            Err(stop) => Err(told(stop)),
+        }
     }
 
     /// One expression more.
@@ -45,7 +57,10 @@ impl Sheet {
         requires askable { IsAskable self.old.pool e }
         requires no_reset { is_reset e ≡ false }
     {
-        Ok(self.pool.expr(e)?)
+        match self.pool.expr(e) {
+            Ok(id) => Ok(id),
+            Err(stop) => Err(told(stop)),
+        }
     }
 
     /// Whether an expression is there.

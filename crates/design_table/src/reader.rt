@@ -1,14 +1,14 @@
 // A design of the table from its lines.
 
 use crate::expressions::{expression, expressions};
-use crate::lines::{place_of, split_first, words_of};
+use crate::lines::place_of;
 use crate::memories::Bank;
 use crate::signals::Signals;
 use crate::sound::design_of;
-use crate::stop::Stop;
 use amh_host::{Items, Place};
 use design_ir::{Arm, Arms, Design, DesignProcess, DesignProcesses, DomainId, ExprId, Stmt, Stmts};
 use std::alloc::Global;
+use table_text::{Stop, split_first, words_of};
 
 // A choice that is open: the arms that are whole, and the one that is read.
 #[derive(Drop)]

@@ -2,14 +2,14 @@
 ghost use Rattle.std.specs.Prelude.{◌≡◌, IfOk};
 
 use crate::form::signal;
-use crate::numbers::{integer, shape};
+use crate::numbers::shape;
 use crate::pool::Sheet;
-use crate::stop::Stop;
 use amh_bits::Int;
 use amh_host::{Items, NoMemory, Text};
 use design_ir::{Domain, Domains, ExprId, Port, Ports, Sig, SigId};
 use shape_rules::Shape;
 use std::alloc::Global;
+use table_text::{Stop, integer};
 
 /// Signals with their expressions so far. Each signal is a port of its name. Its side is 0 where combinational statements
 /// drive it, and behind that come the domains in order.
@@ -127,16 +127,16 @@ impl Signals {
         }
     }
 
-    // The signal of a name that is there.
-    fn known(&self, name: &str) -> Result<SigId, Stop> {
+    /// The signal of a name that is there.
+    pub fn known(&self, name: &str) -> Result<SigId, Stop> {
         match self.named(name) {
             Some(s) => Ok(s),
             None => Err(Stop::NoCase),
         }
     }
 
-    /// The signal of a name.
-    pub fn named(&self, name: &str) -> Option<SigId> {
+    // The signal of a name.
+    fn named(&self, name: &str) -> Option<SigId> {
         self.ports
             .as_slice()
             .iter()
@@ -146,9 +146,7 @@ impl Signals {
 
     /// The expression that is the signal of a name.
     pub fn of_name(&mut self, name: &str) -> Result<ExprId, Stop> {
-        let Some(s) = self.named(name) else {
-            return Err(Stop::NoCase);
-        };
+        let s = self.known(name)?;
         signal(&mut self.sheet, s)
     }
 }

@@ -10,7 +10,6 @@ use crate::memory_rules::are_memories;
 use crate::reads::{are_distinct, are_no_inputs, given_ports};
 use crate::shown::{are_apart, are_shown};
 use crate::signals::{Signals, copied};
-use crate::stop::Stop;
 use crate::tables::side_targets;
 use amh_host::{Items, NoMemory};
 use design_ir::{
@@ -18,6 +17,7 @@ use design_ir::{
     Port, Ports, Stmts,
 };
 use std::alloc::Global;
+use table_text::Stop;
 
 // Whether the signals keep the rules: ports apart and shown.
 fn are_signals(signals: &Signals) -> bool

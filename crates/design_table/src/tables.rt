@@ -8,8 +8,8 @@ use amh_host::NoMemory;
 use design_ir::{Expr, ExprId, Exprs, Pool, Port, SigId};
 use std::alloc::Global;
 
-// Whether a number is marked.
-fn is_at(marks: &[bool], k: u32) -> bool
+/// Whether a number is marked.
+pub fn is_at(marks: &[bool], k: u32) -> bool
     ensures { result ≡ is_at marks.now k }
 {
     let k = k as usize;

@@ -3,7 +3,6 @@ ghost use Rattle.comb_graph.specs.Rankings.{IsRanking};
 
 use crate::answer::name_of;
 use crate::reader::read_case;
-use crate::stop::Stop;
 use amh_host::{HostStop, MemoryHost};
 use comb_graph::{GraphStop, Ranks, rank};
 use design_ir::Design;
@@ -11,6 +10,7 @@ use netlist::lower;
 use rtlil_text::write;
 use std::alloc::Global;
 use std::str;
+use table_text::Stop;
 
 /// The name of a design, and its RTLIL text where it is accepted.
 pub fn text(alloc: Global, lines: &[String]) -> Result<String, Stop> {

@@ -1,5 +1,5 @@
 -- The design of what is held, by the tree of its modules.
-use Rattle.std.proofs.Common.{◌≡◌, refl, ap, sym, ◌∙◌, subst, List, Bool, true, false, Option, Some, None, Result, Ok, Err}
+use Rattle.std.proofs.Common.{◌≡◌, refl, ap, sym, ◌∙◌, subst, List, [], Bool, true, false, Option, Some, None, Result, Ok, Err}
 use Rattle.std.specs.Prelude.{◌||◌, if◌then◌else◌}
 use Rattle.std.specs.List.{AllByRecursion, list_any}
 use Rattle.amh_host.specs.declared.place.Kind.TheVariants.{Raised}
@@ -7,12 +7,14 @@ use Rattle.py_values.specs.Heaps.{Made, seen, nothing}
 use Rattle.design_ir.specs.declared.domain.DomainDef.{DomainDef}
 use Rattle.design_ir.specs.declared.fragment.Fragment.{Fragment}
 use Rattle.module_dsl.specs.Builders.{Built}
-use Rattle.design_ir.specs.Circuits.{Circuit}
+use Rattle.design_ir.specs.declared.memory.Memory.{Memory}
+use Rattle.design_ir.specs.Circuits.{Circuit, is_among}
 use Rattle.clock_domains.specs.declared.top.TopPorts.{TopPorts}
 use Rattle.clock_domains.specs.declared.stop.ResolveStop.{ResolveStop}
 use Rattle.clock_domains.specs.declared.stop.ResolveStop.TheVariants as unresolved
-use Rattle.clock_domains.specs.Resolvable.{IsTree, AreApart}
-use Rattle.clock_domains.specs.Walks.{all_definitions}
+use Rattle.clock_domains.specs.Reads.{data_signals}
+use Rattle.clock_domains.specs.Resolvable.{IsTree, AreApart, outer_signals}
+use Rattle.clock_domains.specs.Walks.{all_definitions, all_memories}
 use Rattle.clock_domains.specs.Resolved.{IsResolveRefusal, resolved, file_start}
 use Rattle.elab_store.specs.Stores.{Stored, Held}
 use Rattle.elab_store.specs.Sound.{IsNoReset, IsSound, is_reset}
@@ -20,7 +22,7 @@ use Rattle.elab_eval.specs.declared.refusal.ElabStop.{ElabStop}
 use Rattle.elab_eval.specs.declared.refusal.ElabStop.TheVariants as stops
 use Rattle.elab_eval.specs.Elaborates.{Found, IsFound, is_open, is_open_at, root_module, top_ports, tree_of, found_by, found_with, module_found, design_of, unresolved_stop, without_modules}
 use Rattle.elab_eval.specs.Trees.{unless_open, tree_found, IsGot}
-use Rattle.elab_eval.proofs.Modules.{root_built, tree_stands}
+use Rattle.elab_eval.proofs.Modules.{root_built, tree_stands, no_memories}
 use Rattle.elab_eval.proofs.DefinitionLaws.{definitions_apart}
 
 abbrev is_any_open : Stored → Built → Bool
@@ -101,6 +103,13 @@ pub tree_resolvable : (h : Held) (f : Fragment) → AllByRecursion IsNoReset h.p
 tree_resolvable h f plain sound e =
     let made = tree_made h.store (root_module h.store) f e in
     subst (IsTree h.pool) (sym made.tree) (tree_stands h.pool plain h.store made.built (root_built h.pool h.store made.built sound.modules made.is) sound.modules sound.clock_domains sound.additions)
+
+-- no read port of it gives anything
+pub tree_free : (h : Held) (f : Fragment) (ports : TopPorts) → tree_found h.store (root_module h.store) ≡ Ok f → AllByRecursion (λ k. is_among (outer_signals f ports) k ≡ false) (data_signals (all_memories f))
+tree_free h f ports e =
+    let made = tree_made h.store (root_module h.store) f e in
+    let none : all_memories f ≡ [] = ap all_memories made.tree ∙ no_memories h.store made.built in
+    subst (λ (ms : List Memory). AllByRecursion (λ k. is_among (outer_signals f ports) k ≡ false) (data_signals ms)) (sym none) tt
 
 -- its definitions are of one domain each, or have no signal in common
 pub tree_apart : (h : Held) (f : Fragment) → IsSound h → tree_found h.store (root_module h.store) ≡ Ok f → AllByRecursion (λ (d : DomainDef). AllByRecursion (AreApart d) (all_definitions f)) (all_definitions f)

@@ -1,30 +1,33 @@
 -- A tree of modules whose statements stand is one that can be resolved.
-use Rattle.std.specs.Prelude.{IsTrue, ◌≡◌, refl, ℕ, ◌<◌, not, List, [], ◌∷◌, length, slice_get, slice_index_or, Option, Some, None, zero, suc, codes}
+use Rattle.std.specs.Prelude.{IsTrue, ◌≡◌, refl, ℕ, not, List, [], ◌∷◌, ◌++◌, map, slice_get, slice_index_or, Option, Some, None, zero, suc, codes}
 use Rattle.std.specs.Option.{option_map_or}
 use Rattle.std.specs.List.{AllByRecursion}
-use Rattle.std.proofs.Common.{subst}
+use Rattle.std.proofs.Common.{ap, ◌∙◌, subst}
 use Rattle.std.proofs.lemmas.List.Elements.{All-nil}
 use Rattle.lists.specs.Names.{IsName, continues_name}
-use Rattle.design_ir.specs.declared.ids.ExprId.{ExprId}
 use Rattle.design_ir.specs.declared.domain.DomainDef.{DomainDef}
 use Rattle.design_ir.specs.declared.process.Side.{Side}
+use Rattle.design_ir.specs.declared.memory.Memory.{Memory}
 use Rattle.design_ir.specs.Forests.{Forest, bare, grown}
 use Rattle.design_ir.specs.Fragments.{leaf_of}
+use Rattle.design_ir.specs.Guards.{Guarded, guarded}
 use Rattle.design_ir.specs.Pools.{Pooled}
+use Rattle.design_ir.specs.Targets.{is_target}
 use Rattle.module_dsl.specs.Sided as dsl
 use Rattle.module_dsl.specs.Sided.{givens, sides_of, process_of, processes_of}
 use Rattle.module_dsl.specs.Blocks.{Given, Entries, entries_of}
 use Rattle.module_dsl.specs.Builders.{Built, built_blocks, fragment_of}
-use Rattle.clock_domains.specs.Resolvable.{IsNamedSide, IsPlain, IsSideOf, IsDefinition, IsModule, AreModules, IsTree}
+use Rattle.clock_domains.specs.Resolvable.{IsNamedSide, IsThere, IsOpenSide, IsDefinition, IsModule, AreModules, IsTree, is_open_target}
+use Rattle.clock_domains.specs.Walks.{path_under, memory_named, memories_of, all_memories}
 use Rattle.elab_store.specs.Sound.{IsNoReset, IsBuilt, AreClockDomains}
 use Rattle.elab_store.specs.ClockDomains.{ClockDomains, defined_by}
 use Rattle.elab_store.specs.declared.hierarchy.Addition.{Addition}
 use Rattle.elab_store.specs.declared.hierarchy.Node.{Node}
 use Rattle.elab_store.specs.Stores.{Stored}
 use Rattle.elab_eval.specs.Elaborates.{module_in, root_module, node_name, first_trees, other_trees, forest_of_nodes, root_domains, tree_of}
-use Rattle.elab_store.proofs.Pools.{no_resets}
 use Rattle.elab_acts.proofs.EachLaws.{all_map, all_filter, all_each}
 use Rattle.elab_eval.proofs.DefinitionLaws.{definitions_stand, root_definitions_stand}
+use Rattle.elab_eval.proofs.NoResets.{resets_named, target_opened}
 use Rattle.elab_store.proofs.Standing.{IsGiven, Stand, entries_stand, blocks_stand, givens_stand, targets_stand, exprs_stand}
 
 -- ---- sides
@@ -58,32 +61,31 @@ node_named additions x g = name_at additions x.addition g
 -- ---- statements
 
 module _ (q : Pooled) (plain : AllByRecursion IsNoReset q.exprs) where
-  plain_at : (e : ExprId) → e.0 < length q.exprs → IsPlain q e
-  plain_at e h = record { there = h; resolved = no_resets q e.0 plain }
-
-  side_stands : (es : Entries) (side : Side) → Stand q es → IsNamedSide side → IsSideOf q (process_of es side)
-  side_stands es side h named = record {
-    side = named;
-    expressions = exprs_stand q (IsPlain q) plain_at side es h;
-    targets = targets_stand q side [] es h;
-  }
+  side_stands : (es : Entries) (side : Side) → Stand q es → IsNamedSide side → IsOpenSide q (process_of es side)
+  side_stands es side h named =
+      let p = process_of es side in
+      record {
+        side = named;
+        expressions = exprs_stand q (IsThere q) (λ e there. there) side es h;
+        targets = all_each (λ (g : Guarded). IsTrue (is_target q g.target.0)) (λ (g : Guarded). IsTrue (is_open_target q g.target.0)) (guarded [] p.body) (λ g is. target_opened q g.target.0 plain is) (targets_stand q side [] es h);
+      }
 
   -- the sides of a module are named, and its statements stand
-  sides_stand : (b : Built) → IsBuilt q b → AllByRecursion (IsSideOf q) (processes_of (entries_of (built_blocks b)))
+  sides_stand : (b : Built) → IsBuilt q b → AllByRecursion (IsOpenSide q) (processes_of (entries_of (built_blocks b)))
   sides_stand b h =
       let es : Entries = entries_of (built_blocks b) in
       let stand : Stand q (entries_of (built_blocks b)) = entries_stand q (built_blocks b) (blocks_stand q b.steps h.steps) in
-      all_map (IsSideOf q) (process_of es) (sides_of (givens es))
-      (all_each IsNamedSide (λ s. IsSideOf q (process_of es s)) (sides_of (givens es)) (λ s named. side_stands es s stand named) (sides_named q (givens es) (givens_stand q es stand)))
+      all_map (IsOpenSide q) (process_of es) (sides_of (givens es))
+      (all_each IsNamedSide (λ s. IsOpenSide q (process_of es s)) (sides_of (givens es)) (λ s named. side_stands es s stand named) (sides_named q (givens es) (givens_stand q es stand)))
 
   -- under whatever name it stands
   module_stands : (b : Built) (name : List ℕ) (ds : List DomainDef) → IsBuilt q b → AllByRecursion (IsDefinition q) ds → IsModule q (record (leaf_of (fragment_of b)) { name = name; domains = ds })
   unfolding fragment_of
-  module_stands b name ds h defined = record { domains = defined; memories = refl; processes = sides_stand b h }
+  module_stands b name ds h defined = record { domains = defined; memories = tt; processes = sides_stand b h; resets = resets_named q _ plain }
 
   root_stands : (b : Built) (ds : List DomainDef) → IsBuilt q b → AllByRecursion (IsDefinition q) ds → IsModule q (record (leaf_of (fragment_of b)) { domains = ds })
   unfolding fragment_of
-  root_stands b ds h defined = record { domains = defined; memories = refl; processes = sides_stand b h }
+  root_stands b ds h defined = record { domains = defined; memories = tt; processes = sides_stand b h; resets = resets_named q _ plain }
 
   -- ---- the tree: each module below the top stands under the name of its addition
 
@@ -114,6 +116,39 @@ module _ (q : Pooled) (plain : AllByRecursion IsNoReset q.exprs) where
     own = root_stands b (root_domains s) h (root_definitions_stand q s clocked);
     below = nodes_stand s.modules s.clock_domains s.hierarchy.additions s.hierarchy.nodes all clocked named;
   }
+
+-- ---- no module of a tree has memories
+
+abbrev HaveNone : Forest → Type 0
+HaveNone bare = Unit {0}
+HaveNone (grown l below rest) = (l.memories ≡ []) × (HaveNone below × HaveNone rest)
+
+first_none : (n : ℕ) (f : Forest) → HaveNone f → HaveNone (first_trees n f)
+first_none zero f h = tt
+first_none (suc n) bare h = tt
+first_none (suc n) (grown l below rest) h = (h.0, (h.1.0, first_none n rest h.1.1))
+
+others_none : (n : ℕ) (f : Forest) → HaveNone f → HaveNone (other_trees n f)
+others_none zero f h = h
+others_none (suc n) bare h = tt
+others_none (suc n) (grown l below rest) h = others_none n rest h.1.1
+
+nodes_none : (bs : List Built) (t : ClockDomains) (additions : List Addition) (xs : List Node) → HaveNone (forest_of_nodes bs t additions xs)
+unfolding fragment_of
+nodes_none bs t additions [] = tt
+nodes_none bs t additions (x ∷ xs) = let behind = nodes_none bs t additions xs in (refl, (first_none x.below _ behind, others_none x.below _ behind))
+
+none_gathered : (path : List ℕ) (f : Forest) → HaveNone f → memories_of path f ≡ []
+none_gathered path bare h = refl
+none_gathered path (grown l below rest) h =
+    let under = path_under path l.name in
+    ap (λ (ms : List Memory). map (memory_named (path ++ l.name)) ms ++ (memories_of under below ++ memories_of path rest)) h.0
+    ∙ ap (λ (ms : List Memory). ms ++ memories_of path rest) (none_gathered under below h.1.0)
+    ∙ none_gathered path rest h.1.1
+
+pub no_memories : (s : Stored) (b : Built) → all_memories (tree_of s b) ≡ []
+unfolding fragment_of
+no_memories s b = none_gathered [] (forest_of_nodes s.modules s.clock_domains s.hierarchy.additions s.hierarchy.nodes) (nodes_none s.modules s.clock_domains s.hierarchy.additions s.hierarchy.nodes)
 
 -- the module of a number is as sound as all of them
 pub built_at : (q : Pooled) (bs : List Built) (m : Option ℕ) (b : Built) → AllByRecursion (IsBuilt q) bs → module_in bs m ≡ Some b → IsBuilt q b

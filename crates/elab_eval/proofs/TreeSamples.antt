@@ -112,7 +112,7 @@ definitions_are : all_definitions (tree_of store (told Comb 10)) ≡ defined 1 2
 unfolding e told process sync modules addition additions nodes made defined clock_domains store fragment_of blocks_of
 definitions_are = refl
 
-paths_are : all_paths (tree_of store (told Comb 10)) ≡ [] ∷ codes "a." ∷ codes "a.x." ∷ codes "u1." ∷ []
+paths_are : all_paths (tree_of store (told Comb 10)) ≡ Some [] ∷ Some (codes "a.") ∷ Some (codes "a.x.") ∷ Some (codes "u1.") ∷ []
 unfolding e told process sync modules addition additions nodes store fragment_of blocks_of
 paths_are = refl
 

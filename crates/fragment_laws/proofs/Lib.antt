@@ -11,6 +11,8 @@ pub mod RootNumbers
 pub mod RootHistories
 pub mod RootLaws
 pub mod PlainPools
+pub mod WholePools
+pub mod NamedMemories
 pub mod ResolvedLaws
 pub mod GrowthLaws
 pub mod GrowthNeeds

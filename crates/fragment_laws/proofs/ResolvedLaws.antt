@@ -1,66 +1,71 @@
 -- The design that `resolve` gives means what the module with those below it does.
-use Rattle.std.specs.Prelude.{◌≡◌, refl, ℕ, true, false, is_some, IsSome, List, [], ◌∷◌, ◌++◌, map, length, position, slice_get, Option, Some, None, option_map}
-use Rattle.std.specs.List.{AllByRecursion}
-use Rattle.std.proofs.Common.{sym, ◌∙◌, ap, subst}
+use Rattle.std.specs.Prelude.{◌≡◌, refl, ℕ, true, is_some, IsSome, List, [], ◌∷◌, map, position, slice_get, Option, Some, None, option_map}
+use Rattle.std.specs.List.{AllByRecursion, flat_map}
+use Rattle.std.proofs.Common.{sym, subst}
 use Rattle.std.proofs.lemmas.Bool.{false≢true}
 use Rattle.lists.specs.Texts.{text_eq}
 use Rattle.design_ir.specs.declared.ids.ExprId.{ExprId}
 use Rattle.design_ir.specs.declared.ids.DomainId.{DomainId}
 use Rattle.design_ir.specs.declared.domain.Domain.{Domain}
+use Rattle.design_ir.specs.declared.memory.MemWrite.{MemWrite}
+use Rattle.design_ir.specs.declared.memory.MemRead.{MemRead}
+use Rattle.design_ir.specs.declared.memory.Memory.{Memory}
 use Rattle.design_ir.specs.declared.process.Side.{Side}
 use Rattle.design_ir.specs.declared.process.Side.TheVariants.{Comb, Clocked}
 use Rattle.design_ir.specs.declared.process.Process.{Process}
 use Rattle.design_ir.specs.declared.process.DesignProcess.{DesignProcess}
 use Rattle.design_ir.specs.declared.fragment.Fragment.{Fragment}
-use Rattle.design_ir.specs.Forests.{Forest, bare, grown}
 use Rattle.design_ir.specs.Trees.{done}
 use Rattle.design_ir.specs.Pools.{Pooled}
 use Rattle.design_ir.specs.PoolRules.{IsPool}
 use Rattle.design_ir.specs.Guards.{block_exprs}
 use Rattle.design_ir.specs.Circuits.{Circuit}
 use Rattle.clock_domains.specs.declared.top.TopPorts.{TopPorts}
-use Rattle.clock_domains.specs.Resolvable.{IsResolvable, IsSideOf, IsPlain, IsTree, AreModules}
-use Rattle.clock_domains.specs.Resolved.{domain_names, made_names, with_domains, domains_from, is_past_limit, driver_refusal, design_inputs, domain_number, process_in, is_clocked, ports_of, circuit_of}
-use Rattle.clock_domains.specs.Ready.{IsReady}
+use Rattle.clock_domains.specs.Held.{fragment_exprs, read_exprs, write_exprs}
+use Rattle.clock_domains.specs.Resolvable.{IsResolvable, IsSideOf, IsPlain}
+use Rattle.clock_domains.specs.Resolved.{circuit_of, domain_number, domain_stop, driver_stop, is_clocked, made_domains, made_names, made_pool, ports_of, process_in, whole_pool}
+use Rattle.clock_domains.specs.Ready.{IsPlainMemory, IsReady}
+use Rattle.clock_domains.specs.Walks.{Contents, all_contents}
+use Rattle.clock_domains.proofs.Lists.{all_left, all_right}
+use Rattle.clock_domains.proofs.DesignMemories.{all_parted}
+use Rattle.clock_domains.proofs.PlacedLaws.{placed_signals}
 use Rattle.clock_domains.proofs.ReadyLaws.{ready_apart, resolved_whole, walked_ready}
-use Rattle.clock_domains.specs.Walks.{all_processes, all_paths, all_definitions}
-use Rattle.fragment_laws.specs.Parts.{unnamed, all_memories, memories_of}
 use Rattle.fragment_laws.specs.Surroundings.{domain_of, pool_in}
-use Rattle.fragment_laws.specs.SamePools.{AllSame}
-use Rattle.fragment_laws.proofs.Twins.{all_imp}
+use Rattle.fragment_laws.specs.SamePools.{AllSame, AreSameIn, IsSameMemory}
 use Rattle.fragment_laws.specs.Roots.{IsSideNamed, IsRoot, MeansItsRoot, ResolvedMeansItsRoot}
+use Rattle.fragment_laws.proofs.Twins.{all_imp}
 use Rattle.fragment_laws.proofs.Naming.{find_placed, placed_below, none_past}
 use Rattle.fragment_laws.proofs.PlainPools.{plain_same}
+use Rattle.fragment_laws.proofs.WholePools.{placed_read, rules_with}
+use Rattle.fragment_laws.proofs.NamedMemories.{unnamed_all}
 use Rattle.fragment_laws.proofs.RootLaws.{means}
 
 all_mapped : {A B : Type 0} (P : B → Type 0) (f : A → B) (xs : List A) → AllByRecursion (λ x. P (f x)) xs → AllByRecursion P (map f xs)
 all_mapped P f [] h = tt
 all_mapped P f (x ∷ xs) h = (h.0, all_mapped P f xs h.1)
 
--- ---- modules have no memories
+module _ (q : Pooled) (f : Fragment) (top : TopPorts) (given : IsResolvable q f top) (rules : IsPool q) (whole : IsPool (whole_pool q f)) (placed : domain_stop q f ≡ None) where
+  abbrev all : Contents
+  all = all_contents f
 
-no_memories_below : (q : Pooled) (f : Forest) → AreModules q f → memories_of f ≡ []
-no_memories_below q bare h = refl
-no_memories_below q (grown l below rest) h = ap (λ ms. ms ++ (memories_of below ++ memories_of rest)) h.1.0.memories ∙ ap (λ ms. ms ++ memories_of rest) (no_memories_below q below h.1.1.0) ∙ no_memories_below q rest h.1.1.1
-
-no_memories : (q : Pooled) (f : Fragment) → IsTree q f → all_memories f ≡ []
-no_memories q f h = ap (λ ms. map unnamed (ms ++ memories_of f.submodules)) h.own.memories ∙ ap (map unnamed) (no_memories_below q f.submodules h.below)
-
-module _ (q : Pooled) (f : Fragment) (top : TopPorts) (given : IsResolvable q f top) (room : is_past_limit q (all_definitions f) (domain_names f) ≡ false) where
-  abbrev ps : List Process
-  ps = all_processes f
-
+  -- with the signals of the domains that are made, and then with resets as signals
   abbrev w : Pooled
-  w = with_domains q (made_names f)
+  w = made_pool q f
+
+  abbrev v : Pooled
+  v = whole_pool q f
 
   abbrev ds : List Domain
-  ds = domains_from (all_definitions f) (length q.signals) (domain_names f)
+  ds = made_domains q f
 
   abbrev made : Circuit
-  made = circuit_of w ds ps (all_paths f) (ports_of w ds f.processes ps top)
+  made = circuit_of v ds all (ports_of v ds f.processes all top)
 
-  ready : IsReady w ds f.processes ps (all_paths f) top
-  ready = walked_ready q f top given room
+  signals_are : v.signals ≡ w.signals
+  signals_are = placed_signals ds w (fragment_exprs f)
+
+  ready : IsReady v ds f.processes all top
+  ready = walked_ready q f top given rules (rules_with q (made_names q f) v rules whole signals_are) placed
 
   -- ---- each clocked side has a domain
 
@@ -76,30 +81,49 @@ module _ (q : Pooled) (f : Fragment) (top : TopPorts) (given : IsResolvable q f 
   by_side Comb h = tt
   by_side (Clocked n) h = is_found n (position (λ (d : Domain). text_eq d.name n) ds) refl h
 
-  named : AllByRecursion (λ (p : Process). IsSideNamed ds p.side) ps
-  named = all_imp (λ (p : Process) (h : is_some (domain_number ds p.side) ≡ is_clocked p). by_side p.side h) ps ready.known
+  named : AllByRecursion (λ (p : Process). IsSideNamed ds p.side) all.processes
+  named = all_imp (λ (p : Process) (h : is_some (domain_number ds p.side) ≡ is_clocked p). by_side p.side h) all.processes ready.known
 
-  -- ---- its expressions
+  -- ---- its expressions: over the pool in which resets are signals none is plain, and the domains read both pools alike
 
-  body_same : IsPool w → (p : Process) → IsSideOf w p → AllSame (pool_in ds w) w (block_exprs p.body)
-  body_same whole p h = all_imp (λ (e : ExprId) (k : IsPlain w e). plain_same ds w whole e.0 k.there k.resolved) (block_exprs p.body) h.expressions
+  abbrev r : Pooled
+  r = pool_in ds v
 
-  is_root : IsPool w → IsRoot w f made
-  is_root whole = record {
-    pool = record {
-      signals = refl;
-      processes = all_mapped (λ (x : DesignProcess). AllSame (pool_in ds w) w (block_exprs x.body)) (process_in ds) ps (all_imp (body_same whole) ps ready.processes);
-      memories = tt;
-    };
-    processes = refl;
-    named = named;
-    memories = sym (no_memories q f given.tree);
+  plain : (es : List ExprId) → AllByRecursion (IsPlain v) es → AllSame r v es
+  plain es h = all_imp (λ (e : ExprId) (k : IsPlain v e). plain_same ds v whole e.0 k.there k.resolved) es h
+
+  body_same : (p : Process) → IsSideOf v p → AllSame r v (block_exprs p.body)
+  body_same p h = plain (block_exprs p.body) h.expressions
+
+  memory_same : (m : Memory) → IsPlainMemory v m → IsSameMemory r v m
+  memory_same m h = record {
+    writes =
+        all_imp (λ (x : MemWrite) k. plain (write_exprs x) k) m.writes
+        (all_parted (IsPlain v) write_exprs m.writes (all_left (IsPlain v) (flat_map write_exprs m.writes) (flat_map read_exprs m.reads) h.expressions));
+    reads =
+        all_imp (λ (x : MemRead) k. plain (read_exprs x) k) m.reads
+        (all_parted (IsPlain v) read_exprs m.reads (all_right (IsPlain v) (flat_map write_exprs m.writes) (flat_map read_exprs m.reads) h.expressions));
   }
 
-  pub made_means : IsPool w → driver_refusal w (design_inputs ds top) [] ps ≡ None → MeansItsRoot w f made
-  made_means whole free = means w f made (ready_apart w ds f.processes ps (all_paths f) top ready whole free) (is_root whole)
+  same : AreSameIn r v made
+  same = record {
+    signals = refl;
+    processes = all_mapped (λ (x : DesignProcess). AllSame r v (block_exprs x.body)) (process_in ds) all.processes (all_imp body_same all.processes ready.processes);
+    memories = all_imp memory_same all.memories ready.memories;
+  }
+
+  is_root : IsRoot w f made
+  is_root = record {
+    pool = subst (λ (p : Pooled). AreSameIn p v made) (placed_read ds w (fragment_exprs f)) same;
+    processes = refl;
+    named = named;
+    memories = unnamed_all f;
+  }
+
+  pub made_means : driver_stop v ds all top ≡ None → MeansItsRoot w f made
+  made_means free = means w f made (ready_apart v ds f.processes all top ready whole free) is_root
 
 pub resolved_means_its_root : ResolvedMeansItsRoot
 resolved_means_its_root q f top c rules whole given e =
     let a = resolved_whole q f top c e in
-    subst (MeansItsRoot (with_domains q (made_names f)) f) a.whole (made_means q f top given a.room (subst (λ (x : Circuit). IsPool x.pool) (sym a.whole) whole) a.free)
+    subst (MeansItsRoot (made_pool q f) f) a.whole (made_means q f top given rules (subst (λ (x : Circuit). IsPool x.pool) (sym a.whole) whole) a.placed a.free)

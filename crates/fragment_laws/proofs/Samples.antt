@@ -1,5 +1,5 @@
 -- A small fragment and what it does, by computation.
-use Rattle.std.specs.Prelude.{◌≡◌, refl, ℕ, Bool, false, List, [], ◌∷◌, ℤ, pos, None, codes}
+use Rattle.std.specs.Prelude.{◌≡◌, refl, ℕ, Bool, false, List, [], ◌∷◌, slice_get, ℤ, pos, Some, None, codes}
 use Rattle.shape_rules.specs.Forms.{unsigned}
 use Rattle.shape_rules.specs.declared.op.Op.TheVariants.{Add}
 use Rattle.design_ir.specs.declared.domain.Domain.{Domain}
@@ -16,7 +16,10 @@ use Rattle.design_ir.specs.Values.{form, num}
 use Rattle.design_ir.specs.Targets.{target_bits, target_signals}
 use Rattle.design_ir.specs.Circuits.{is_among}
 use Rattle.design_ir.proofs.SanityParts.{signal, e, s, set, here, domain, falling_domain, async_domain}
-use Rattle.fragment_laws.specs.Surroundings.{Surroundings}
+use Rattle.clock_domains.specs.Held.{fragment_exprs, inside}
+use Rattle.clock_domains.specs.Placed.{placed_pool}
+use Rattle.clock_domains.specs.Walks.{all_memories}
+use Rattle.fragment_laws.specs.Surroundings.{Surroundings, pool_in}
 use Rattle.fragment_laws.specs.Stepping.{Happening, given, toggled, step}
 use Rattle.fragment_laws.specs.Lives.{History}
 
@@ -91,3 +94,17 @@ nothing_acts : step pool top (record { domains = []; outside = from_outside }) (
     ≡ record { held = shown 0 0 0 0 5 2 7 0 0; rows = (pos 7 ∷ pos 9 ∷ []) ∷ [] }
 unfolding pool top below side memory from_outside both shown form num target_bits target_signals
 nothing_acts = refl
+
+-- `resolve` puts in the place of the reset that the top holds what its domain's name reads there
+reads_reset : slice_get (pool_in (around (domain (codes "fast") 2 3)).domains pool).exprs 6 ≡ Some (s 1)
+unfolding pool around
+reads_reset = refl
+
+places_reset : slice_get (placed_pool (around (domain (codes "fast") 2 3)).domains pool (fragment_exprs top)).exprs 6 ≡ Some (s 1)
+unfolding pool around top below side memory placed_pool inside
+places_reset = refl
+
+-- and gives the memory the path of its module as its name
+names_memory : all_memories top ≡ record memory { name = codes "below" } ∷ []
+unfolding top below memory
+names_memory = refl

@@ -18,7 +18,7 @@ use Rattle.design_ir.specs.Steps as design
 use Rattle.design_ir.specs.Histories as design_history
 use Rattle.clock_domains.specs.declared.top.TopPorts.{TopPorts}
 use Rattle.clock_domains.specs.Resolvable.{IsResolvable}
-use Rattle.clock_domains.specs.Resolved.{made_names, with_domains, process_in, resolved}
+use Rattle.clock_domains.specs.Resolved.{made_pool, process_in, resolved}
 use Rattle.clock_domains.specs.Walks.{all_processes}
 use Rattle.fragment_laws.specs.Parts.{unnamed, all_memories}
 use Rattle.fragment_laws.specs.Surroundings.{Surroundings, domain_of, pool_in}
@@ -76,7 +76,8 @@ pub record MeansItsRoot (q : Pooled) (f : Fragment) (c : Circuit) : Type 0 where
 abbrev pub DesignsMeanTheirRoots : Type 0
 DesignsMeanTheirRoots = (q : Pooled) (f : Fragment) (c : Circuit) → IsDesign c → IsRoot q f c → MeansItsRoot q f c
 
--- so it is where `resolve` gives the design, over the pool with the signals of the domains that it makes
+-- so it is where `resolve` gives the design, over the pool with the signals of the domains that it makes, in which resets are still
+-- resets
 abbrev pub ResolvedMeansItsRoot : Type 0
 ResolvedMeansItsRoot =
-    (q : Pooled) (f : Fragment) (top : TopPorts) (c : Circuit) → IsPool q → IsPool c.pool → IsResolvable q f top → resolved q f top ≡ Ok c → MeansItsRoot (with_domains q (made_names f)) f c
+    (q : Pooled) (f : Fragment) (top : TopPorts) (c : Circuit) → IsPool q → IsPool c.pool → IsResolvable q f top → resolved q f top ≡ Ok c → MeansItsRoot (made_pool q f) f c

@@ -1,7 +1,6 @@
 -- Pools in which the expressions of a design mean the same.
-use Rattle.std.specs.Prelude.{◌≡◌, ℕ, List, [], ◌∷◌, ℤ}
+use Rattle.std.specs.Prelude.{◌≡◌, ℕ, List, ℤ}
 use Rattle.std.specs.List.{AllByRecursion}
-use Rattle.std.specs.Option.{option_map_or}
 use Rattle.design_ir.specs.declared.ids.ExprId.{ExprId}
 use Rattle.design_ir.specs.declared.memory.MemWrite.{MemWrite}
 use Rattle.design_ir.specs.declared.memory.MemRead.{MemRead}
@@ -12,6 +11,7 @@ use Rattle.design_ir.specs.Values.{num}
 use Rattle.design_ir.specs.Targets.{target_bits, target_signals}
 use Rattle.design_ir.specs.Guards.{block_exprs}
 use Rattle.design_ir.specs.Circuits.{Circuit}
+use Rattle.clock_domains.specs.Held.{read_exprs, write_exprs}
 
 -- an expression has the same integer, and as a target it stands for the same bits, of the same signals
 pub record IsSame (p q : Pooled) (k : ℕ) : Type 0 where
@@ -21,12 +21,6 @@ pub record IsSame (p q : Pooled) (k : ℕ) : Type 0 where
 
 abbrev pub AllSame : Pooled → Pooled → List ExprId → Type 0
 AllSame p q es = AllByRecursion (λ (e : ExprId). IsSame p q e.0) es
-
-abbrev pub write_exprs : MemWrite → List ExprId
-write_exprs w = w.addr ∷ w.word ∷ w.enable ∷ []
-
-abbrev pub read_exprs : MemRead → List ExprId
-read_exprs r = r.addr ∷ option_map_or (λ (e : ExprId). e ∷ []) r.enable []
 
 pub record IsSameMemory (p q : Pooled) (m : Memory) : Type 0 where
   pub writes : AllByRecursion (λ (w : MemWrite). AllSame p q (write_exprs w)) m.writes

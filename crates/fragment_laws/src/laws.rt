@@ -9,7 +9,7 @@ pub fn designs_mean_their_roots()
 {}
 
 /// So it is where `resolve` of clock_domains gives the design of a module with those below it, over the pool with the
-/// signals of the domains that no module defines.
+/// signals of the domains that no module defines, in which resets are still resets.
 pub fn resolved_means_its_root()
     ensures { ResolvedMeansItsRoot }
 {}

@@ -1,47 +1,22 @@
-use Rattle.std.proofs.Common.{◌≡◌, ◌∙◌, ℕ, Bool, List, [], Option, length, take, sym, ap}
-use Rattle.std.specs.List.{list_any}
-use Rattle.design_ir.specs.declared.process.Process.{Process}
-use Rattle.design_ir.specs.Pools.{Pooled}
-use Rattle.design_ir.specs.PoolRules.{IsPool}
-use Rattle.design_ir.specs.Targets.{target_signals}
+use Rattle.std.proofs.Common.{◌∙◌, ℕ, List, Err, IfErr, sym, ap, subst}
+use Rattle.std.proofs.lemmas.Result.{err_from_is_err_and}
 use Rattle.design_ir.specs.Circuits.{is_among}
-use Rattle.clock_domains.specs.declared.stop.ResolveStop.{ResolveStop}
-use Rattle.clock_domains.specs.Marks.{Flag, is_marked}
-use Rattle.clock_domains.specs.Numbers.{bounded, is_below}
-use Rattle.clock_domains.specs.Reads.{is_driven}
-use Rattle.clock_domains.specs.Resolved.{driver_refusal}
-use Rattle.clock_domains.specs.Stops.{processes_stop, target_stop}
-use Rattle.clock_domains.proofs.Lists.{length_map}
-use Rattle.clock_domains.proofs.DriverLaws.{owed_itself, refusal_same}
+use Rattle.clock_domains.specs.Marks.{Flag}
+use Rattle.clock_domains.specs.Reads.{data_signals}
+use Rattle.clock_domains.specs.Resolved.{data_refusal, driver_refusal, first_of}
+use Rattle.clock_domains.specs.Stops.{IsOwed}
 use Rattle.clock_domains.proofs.drivers.drivers_of.Goals as goal
 
-pub leasts_of-requires : goal.leasts_of-requires
-leasts_of-requires c =
-    let firsts = c.in_ok-firsts.firsts.items in
-    ap length c.as_slice.ensures.value ∙ sym (length_map (is_below 0) firsts) ∙ (c.in_ok-firsts.ensures 0).size
-
--- what was found of the slices is what is owed
-found : (q : Pooled) (inputs on_inputs on : List Bool) (firsts fs leasts ls : List (Option ℕ)) (ps : List Process) (o : Option ResolveStop) → IsPool q → on ≡ on_inputs → fs ≡ firsts → ls ≡ leasts → ((k : ℕ) → is_marked on_inputs k ≡ list_any (is_marked inputs) (target_signals q k))
-    → ((i k : ℕ) → is_marked (bounded i leasts) k ≡ list_any (is_marked (bounded i fs)) (target_signals q k)) → ((i : ℕ) → Flag (bounded i firsts) (is_driven q (take i ps))) → o ≡ processes_stop (λ i. target_stop on (bounded i ls)) 0 ps → (ins : List ℕ) → Flag inputs (is_among ins)
-    → driver_refusal q ins [] ps ≡ o
-found q inputs on_inputs on firsts fs leasts ls ps o rules one two three hi hl hf is ins f =
-    sym
-    (is
-    ∙ ap (λ (ms : List Bool). processes_stop (λ i. target_stop ms (bounded i ls)) 0 ps) one
-    ∙ ap (λ (xs : List (Option ℕ)). processes_stop (λ i. target_stop on_inputs (bounded i xs)) 0 ps) three
-    ∙ refusal_same q inputs on_inputs firsts leasts ins rules f hi (λ i k. hl i k ∙ ap (λ (xs : List (Option ℕ)). list_any (is_marked (bounded i xs)) (target_signals q k)) two) ps hf)
-
-pub returns-in-Some-clause-refused : goal.returns-in-Some-clause-refused
-returns-in-Some-clause-refused c ins f =
+pub returns-in_err-no_bad_driver-clause-refused : goal.returns-in_err-no_bad_driver-clause-refused
+returns-in_err-no_bad_driver-clause-refused c =
     let q = c.args.pool.now in
-    owed_itself (driver_refusal q ins [] c.args.processes.now) c.in-Some.stop
-    (found q c.args.inputs.now c.in_ok-on_inputs.on_inputs.items c.as_slice-2.result.now c.in_ok-firsts.firsts.items c.as_slice.result.now c.in_ok-leasts.leasts.items c.as_slice-3.result.now c.args.processes.now c.first_stop.result c.count.ensures.rules
-    c.as_slice-2.ensures.value c.as_slice.ensures.value c.as_slice-3.ensures.value c.in_ok-on_inputs.ensures.value c.in_ok-leasts.ensures.value c.in_ok-firsts.ensures c.first_stop.ensures ins f
-    ∙ c.in-Some.is)
-
-pub returns-clause-accepted : goal.returns-clause-accepted
-returns-clause-accepted c ins f =
-    let q = c.args.pool.now in
-    found q c.args.inputs.now c.in_ok-on_inputs.on_inputs.items c.as_slice-2.result.now c.in_ok-firsts.firsts.items c.as_slice.result.now c.in_ok-leasts.leasts.items c.as_slice-3.result.now c.args.processes.now c.first_stop.result c.count.ensures.rules
-    c.as_slice-2.ensures.value c.as_slice.ensures.value c.as_slice-3.ensures.value c.in_ok-on_inputs.ensures.value c.in_ok-leasts.ensures.value c.in_ok-firsts.ensures c.first_stop.ensures ins f
-    ∙ c.in-None.is
+    let ps = c.args.processes.now in
+    let ms = c.args.memories.now in
+    let ss = data_signals ms in
+    let given = c.in_ok-given.ensures.accepted in
+    let p = err_from_is_err_and c.from_residual-in_err-no_bad_driver.result c.from_residual-in_err-no_bad_driver.ensures.1 in
+    let owed : (ins : List ℕ) → Flag c.args.inputs.now (is_among ins) → IsOwed (first_of (data_refusal ms) (driver_refusal q ins ss ps)) c.in_err-no_bad_driver.field-0.0 =
+    λ ins f.
+    subst (λ o. IsOwed (first_of o (driver_refusal q ins ss ps)) c.in_err-no_bad_driver.field-0.0) (sym given.0)
+    (c.in_err-no_bad_driver.ensures.refused ins ss f (subst (λ gs. Flag gs (is_among ss)) (sym c.as_slice.ensures.value) given.1)) in
+    subst (λ r. IfErr r (λ stop. (ins : List ℕ) → Flag c.args.inputs.now (is_among ins) → IsOwed (first_of (data_refusal ms) (driver_refusal q ins ss ps)) stop)) (sym (p.1 ∙ ap Err p.2)) owed

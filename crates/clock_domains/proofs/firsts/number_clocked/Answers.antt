@@ -32,7 +32,7 @@ loop-number-preserved c =
     record {
       size = ap length c.lower_clocked.ensures ∙ length_lowered (process_targets (filter is_clocked (p ∷ []))) i cur ∙ c.loop-number.invariant.size;
       each =
-          numbered_turn (filter is_clocked) ps i p (filter is_clocked (p ∷ [])) c.args.targets.now.items cur c.lower_clocked.new.targets.items at (filter-append is_clocked (take i ps) (p ∷ [])) c.loop-number.invariant.each c.lower_clocked.ensures;
+          numbered_turn (λ k. k) (λ j i. refl) (filter is_clocked) ps i p (filter is_clocked (p ∷ [])) c.args.targets.now.items cur c.lower_clocked.new.targets.items at (filter-append is_clocked (take i ps) (p ∷ [])) c.loop-number.invariant.each c.lower_clocked.ensures;
     }
 
 pub returns-clause-each : goal.returns-clause-each

@@ -1,4 +1,4 @@
-use Rattle.std.proofs.Common.{◌≡◌, ◌∙◌, ◌∷◌, [], List, length, take, Some, slice_get, refl, sym, ap, subst, append-nil}
+use Rattle.std.proofs.Common.{◌≡◌, ◌∙◌, ◌+◌, ◌∷◌, [], List, length, take, Some, slice_get, refl, sym, ap, subst, append-nil}
 use Rattle.std.proofs.lemmas.Option.{slice_get_read}
 use Rattle.design_ir.specs.declared.process.Process.{Process}
 use Rattle.design_ir.specs.Named.{AllBelow}
@@ -9,7 +9,7 @@ use Rattle.clock_domains.specs.Reads.{block_targets}
 use Rattle.clock_domains.specs.Resolvable.{IsSideOf}
 use Rattle.clock_domains.proofs.Lists.{all_at, take_end}
 use Rattle.clock_domains.proofs.DriverLaws.{plain_below}
-use Rattle.clock_domains.proofs.NumberLaws.{length_lowered, numbered_turn}
+use Rattle.clock_domains.proofs.NumberLaws.{length_lowered, next_order, numbered_turn}
 use Rattle.clock_domains.proofs.firsts.number_targets.Goals as goal
 
 pub lower_block-requires : goal.lower_block-requires
@@ -28,15 +28,15 @@ loop-number-preserved c =
     let at : slice_get ps i ≡ Some p = slice_get_read ps (length ps) i p refl c.loop-number-test.true c.index-processes-number.is in
     let cur = c.loop-number.targets.items in
     record {
-      size = ap length c.lower_block.ensures ∙ length_lowered (block_targets p.body) i cur ∙ c.loop-number.invariant.size;
+      size = ap length c.lower_block.ensures ∙ length_lowered (block_targets p.body) (i + 1) cur ∙ c.loop-number.invariant.size;
       each =
-          numbered_turn (λ qs. qs) ps i p (p ∷ []) c.args.targets.now.items cur c.lower_block.new.targets.items at refl c.loop-number.invariant.each (c.lower_block.ensures ∙ ap (λ ts. lowered ts i cur) (sym (append-nil (block_targets p.body))));
+          numbered_turn (λ k. k + 1) next_order (λ qs. qs) ps i p (p ∷ []) c.args.targets.now.items cur c.lower_block.new.targets.items at refl c.loop-number.invariant.each (c.lower_block.ensures ∙ ap (λ ts. lowered ts (i + 1) cur) (sym (append-nil (block_targets p.body))));
     }
 
 pub returns-clause-each : goal.returns-clause-each
 returns-clause-each c i =
     c.loop-number.invariant.each i
-    ∙ ap (λ (qs : List Process). marked (process_targets (take i qs)) (bounded i c.args.targets.now.items)) (take_end c.args.processes.now c.loop-number.number c.loop-number-test.false)
+    ∙ ap (λ (qs : List Process). marked (process_targets (take i qs)) (bounded (i + 1) c.args.targets.now.items)) (take_end c.args.processes.now c.loop-number.number c.loop-number-test.false)
 
 pub returns-clause-size : goal.returns-clause-size
 returns-clause-size c = c.loop-number.invariant.size ∙ sym c.requires.size

@@ -1,5 +1,5 @@
 use Rattle.std.proofs.Common.{◌<◌, ◌++◌, ◌∙◌, length, ap}
-use Rattle.clock_domains.specs.Resolved.{top_inputs}
+use Rattle.clock_domains.specs.Resolvable.{top_inputs}
 use Rattle.clock_domains.proofs.Lists.{all_joined}
 use Rattle.clock_domains.proofs.Markings.{length_marked}
 use Rattle.clock_domains.proofs.PortLaws.{clocks_low, clocks_of, inputs_low, marking_both, marking_flag, small_clocks}

@@ -9,7 +9,7 @@ use Rattle.elab_store.specs.Simulations.{Simulation}
 use Rattle.elab_store.specs.Stores.{Stored}
 use Rattle.elab_eval.specs.Elaborates.{top_ports}
 use Rattle.elab_eval.proofs.ClockLaws.{checked_design}
-use Rattle.elab_eval.proofs.DesignLaws.{parted, got_of, tree_resolvable, tree_apart, refused_design, made_design, unresolved_design}
+use Rattle.elab_eval.proofs.DesignLaws.{parted, got_of, tree_resolvable, tree_free, tree_apart, refused_design, made_design, unresolved_design}
 use Rattle.elab_eval.proofs.ObjectLaws.{top_stands}
 use Rattle.elab_eval.proofs.finish.finish.Goals as goal
 
@@ -20,6 +20,7 @@ resolve-requires c =
     let whole = parted h.store c.part-modules.result.1 c.part-modules.result.0.items c.part-modules.ensures.modules c.part-modules.ensures.rest in
     record {
       tree = tree_resolvable h c.in-Ok-tree.root plain c.requires.sound (got_of h.store _ (Ok c.in-Ok-tree.root) whole c.in-Ok-tree.ensures);
+      free_data = tree_free h c.in-Ok-tree.root c.in-Some.ports (got_of h.store _ (Ok c.in-Ok-tree.root) whole c.in-Ok-tree.ensures);
       apart = tree_apart h c.in-Ok-tree.root c.requires.sound (got_of h.store _ (Ok c.in-Ok-tree.root) whole c.in-Ok-tree.ensures);
       names = c.requires.sound.names;
       ports = top_stands (seen c.args.frozen.now c.args.machine.going.state.heap) h h.store.top.object c.in-Some.ports c.requires.sound c.known.ensures (sym c.in-Ok.ensures ∙ c.in-Some.is);

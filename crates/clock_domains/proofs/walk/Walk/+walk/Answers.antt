@@ -1,9 +1,12 @@
-use Rattle.std.proofs.Common.{◌≡◌, ◌∙◌, ◌++◌, ℕ, List, length, map, Some, slice_get, refl, ap}
+use Rattle.std.proofs.Common.{◌≡◌, ◌∙◌, ◌++◌, length, map, Some, slice_get, refl, ap}
 use Rattle.std.proofs.lemmas.Option.{slice_get_read}
+use Rattle.design_ir.specs.declared.memory.Memory.{Memory}
 use Rattle.design_ir.specs.declared.process.Process.{Process}
 use Rattle.design_ir.specs.Forests.{Leaf}
-use Rattle.clock_domains.specs.Walks.{own_names, path_under, paths_of}
-use Rattle.clock_domains.proofs.WalkLaws.{gathered_turn, paths_turn}
+use Rattle.design_ir.specs.Fragments.{leaf_of}
+use Rattle.clock_domains.specs.Held.{leaf_exprs}
+use Rattle.clock_domains.specs.Walks.{memory_named, memory_paths, memory_paths_of, memories_of, named_memories, naming_path, path_under, paths_of, plain_names, process_paths}
+use Rattle.clock_domains.proofs.WalkLaws.{gathered_turn, leaves_turn, under_turn}
 use Rattle.clock_domains.proofs.walk.Walk.+walk.Goals as goal
 
 pub loop-module-preserved : goal.loop-module-preserved
@@ -17,17 +20,29 @@ loop-module-preserved t c =
     let cur = c.loop-module.self in
     let mid = c.add.new.self in
     let new = c.add_all.new.self in
-    let under : c.as_str-in-loop-module.result.now ≡ path_under path item.name = c.as_str-in-loop-module.ensures ∙ c.in_ok-under.ensures ∙ ap (path_under path) c.as_str.ensures in
-    let under' : c.as_str-in-loop-module-2.result.now ≡ path_under path item.name = c.as_str-in-loop-module-2.ensures ∙ c.in_ok-under.ensures ∙ ap (path_under path) c.as_str.ensures in
-    let each : List ℕ → List (List ℕ) = λ x. map (λ (p : Process). x) item.processes in
+    let site = c.in_ok-site.site in
+    let name : site.name ≡ path ++ item.name = c.in_ok-site.ensures.name ∙ ap (λ n. path ++ n) c.as_str.ensures in
+    let inner : site.path ≡ path_under path item.name = c.in_ok-site.ensures.path ∙ ap (path_under path) c.as_str.ensures in
+    let under : c.as_str-in-loop-module.result.now ≡ path_under path item.name = c.as_str-in-loop-module.ensures ∙ inner in
+    let leaf = leaf_of item in
     let one = c.in_ok-add.ensures in
     let below = c.in_ok-add_all.ensures in
     let before = c.loop-module.invariant in
     record {
       processes = gathered_turn (λ (l : Leaf). l.processes) items i item old.processes.items cur.processes.items mid.processes.items new.processes.items at before.processes one.processes below.processes;
       paths =
-          paths_turn path items i item old.paths cur.paths mid.paths new.paths at before.paths (one.paths ∙ ap (λ x. cur.paths ++ each x) under)
-          (below.paths ∙ ap (λ x. mid.paths ++ paths_of x item.submodules) under');
+          under_turn process_paths path items i item old.paths cur.paths mid.paths new.paths at before.paths
+          (one.paths ∙ ap (λ x. cur.paths ++ map (λ (p : Process). naming_path leaf x) item.processes) inner)
+          (below.paths ∙ ap (λ x. mid.paths ++ paths_of x item.submodules) under);
+      memories =
+          under_turn named_memories path items i item old.memories cur.memories mid.memories new.memories at before.memories
+          (one.memories ∙ ap (λ x. cur.memories ++ map (memory_named x) item.memories) name)
+          (below.memories ∙ ap (λ x. mid.memories ++ memories_of x item.submodules) under);
+      memory_paths =
+          under_turn memory_paths path items i item old.memory_paths cur.memory_paths mid.memory_paths new.memory_paths at before.memory_paths
+          (one.memory_paths ∙ ap (λ x. cur.memory_paths ++ map (λ (m : Memory). naming_path leaf x) item.memories) inner)
+          (below.memory_paths ∙ ap (λ x. mid.memory_paths ++ memory_paths_of x item.submodules) under);
       definitions = gathered_turn (λ (l : Leaf). l.domains) items i item old.definitions cur.definitions mid.definitions new.definitions at before.definitions one.definitions below.definitions;
-      names = gathered_turn own_names items i item old.names cur.names mid.names new.names at before.names one.names below.names;
+      names = leaves_turn plain_names items i item old.names.items cur.names.items mid.names.items new.names.items at before.names one.names below.names;
+      roots = leaves_turn leaf_exprs items i item old.roots cur.roots mid.roots new.roots at before.roots one.roots below.roots;
     }

@@ -1,11 +1,8 @@
-use Rattle.std.proofs.Common.{◌≡◌, ◌++◌, map, take}
-use Rattle.design_ir.specs.declared.domain.DomainDef.{DomainDef}
+use Rattle.std.proofs.Common.{◌≡◌, ◌++◌, take}
 use Rattle.clock_domains.proofs.walk.Walk.add_definitions.Given as goal
 
 abbrev pub invariant-loop-definition : goal.invariant-loop-definition
 invariant-loop-definition l = record {
   definitions : l.self.definitions ≡ l.fn.self.definitions ++ take l.definition-index l.definitions;
-  names : l.self.names ≡ l.fn.self.names ++ map (λ (d : DomainDef). d.domain.name) (take l.definition-index l.definitions);
-  processes : l.self.processes.items ≡ l.fn.self.processes.items;
-  paths : l.self.paths ≡ l.fn.self.paths;
+  rest : (l.self.processes.items ≡ l.fn.self.processes.items) × (l.self.paths ≡ l.fn.self.paths) × (l.self.memories ≡ l.fn.self.memories) × (l.self.memory_paths ≡ l.fn.self.memory_paths) × (l.self.names.items ≡ l.fn.self.names.items) × (l.self.roots ≡ l.fn.self.roots);
 }

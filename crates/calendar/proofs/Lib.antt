@@ -1,0 +1,4 @@
+pub mod Turns
+pub mod Nexts
+pub mod DueLaws
+pub mod Samples

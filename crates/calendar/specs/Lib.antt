@@ -1,0 +1,4 @@
+pub mod Moments
+pub mod Due
+pub mod Laws
+pub mod Steps
