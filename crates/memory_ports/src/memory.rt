@@ -143,7 +143,7 @@ impl MemorySpec {
         Ok(made.port)
     }
 
-    /// The memory as far as it is made.
+    /// The memory as far as it is made, without a name.
     pub fn so_far(&self) -> &Memory
         ensures { result.now ≡ self.now }
     {
