@@ -15,14 +15,12 @@ use Rattle.elab_store.specs.declared.hierarchy.Addition.{Addition}
 use Rattle.elab_store.specs.declared.hierarchy.Node.{Node}
 use Rattle.elab_store.specs.declared.hierarchy.NodeOf.TheVariants as node
 use Rattle.elab_store.specs.declared.memories.OwnMemory.{OwnMemory}
-use Rattle.design_ir.specs.declared.process.Process.{Process}
-use Rattle.design_ir.specs.declared.memory.Memory.{Memory}
-use Rattle.elab_store.specs.ClockDomains.{ClockDomains, no_clock_domains, defined_by}
+use Rattle.elab_store.specs.ClockDomains.{ClockDomains, defined_by}
 use Rattle.elab_store.specs.Stores.{Stored}
 use Rattle.lists.specs.declared.items.NoMemory.{NoMemory}
 use Rattle.elab_eval.specs.declared.refusal.ElabStop.{ElabStop}
 use Rattle.elab_eval.specs.declared.refusal.ElabStop.TheVariants as stops
-use Rattle.elab_eval.specs.Elaborates.{is_open, is_open_in, is_open_at, fragment_at, spec_of, leaf_in, leaf_at, first_trees, other_trees, forest_of_nodes, root_domains, tree_of}
+use Rattle.elab_eval.specs.Elaborates.{is_open, is_open_in, is_open_at, fragment_at, node_name, spec_of, leaf_in, leaf_at, first_trees, other_trees, forest_of_nodes, root_domains, tree_of}
 use Rattle.elab_eval.specs.Trees.{finished, fragment_with, unless_open, rooted, tree_found, IsGot}
 
 -- ---- one tree more
@@ -75,43 +73,32 @@ found_at (b ∷ bs) zero f at = by_test (is_open b) refl at
 found_at (b ∷ bs) (suc m) f at = found_at bs m f at
 
 -- no block is open of a module that is done with, and what it is made of stands under the name
-leaf_found : (bs : List Built) (t : ClockDomains) (name : List ℕ) (m : ℕ) (f : Fragment) → fragment_at bs m ≡ f → leaf_in bs [] t name (node.Module m) ≡ leaf_of (fragment_with name (defined_by m t) f.processes [] bare)
+leaf_found : (bs : List Built) (ms : List OwnMemory) (t : ClockDomains) (name : List ℕ) (m : ℕ) (f : Fragment) → fragment_at bs m ≡ f → leaf_in bs ms t name (node.Module m) ≡ leaf_of (fragment_with name (defined_by m t) f.processes [] bare)
 unfolding fragment_of
-leaf_found bs t name m f is = ap (λ (g : Fragment). leaf_of (fragment_with name (defined_by m t) g.processes [] bare)) is
+leaf_found bs ms t name m f is = ap (λ (g : Fragment). leaf_of (fragment_with name (defined_by m t) g.processes [] bare)) is
 
-pub module_grown : (bs : List Built) (t : ClockDomains) (name : List ℕ) (m : ℕ) (f : Fragment) (ds : List DomainDef) (ps : List Process) (ms : List Memory) (below rest trees : Forest)
-    → slice_get (map finished bs) m ≡ Some (Some f) → ds ≡ defined_by m t → ps ≡ f.processes → ms ≡ []
-    → trees ≡ grown (leaf_of (fragment_with name ds ps ms bare)) below rest → unless_open (is_open_in bs [] (node.Module m)) (grown (leaf_in bs [] t name (node.Module m)) below rest) ≡ Ok trees
-module_grown bs t name m f ds ps ms below rest trees at defined same none made =
+pub module_grown : (bs : List Built) (ms : List OwnMemory) (t : ClockDomains) (additions : List Addition) (x : Node) (m : ℕ) (f : Fragment) (name : List ℕ) (below rest trees : Forest)
+    → x.of ≡ node.Module m → slice_get (map finished bs) m ≡ Some (Some f) → name ≡ node_name additions x
+    → trees ≡ grown (leaf_of (fragment_with name (defined_by m t) f.processes [] bare)) below rest → unless_open (is_open_at bs ms x) (grown (leaf_at bs ms t additions x) below rest) ≡ Ok trees
+module_grown bs ms t additions x m f name below rest trees is at named made =
     let found = found_at bs m f at in
-    ap (λ o. unless_open o (grown (leaf_in bs [] t name (node.Module m)) below rest)) found.0
-    ∙ ap Ok (
-    ap (λ l. grown l below rest) (
-    leaf_found bs t name m f found.1
-    ∙ ap (λ es. leaf_of (fragment_with name es f.processes [] bare)) (sym defined)
-    ∙ ap (λ qs. leaf_of (fragment_with name ds qs [] bare)) (sym same)
-    ∙ ap (λ xs. leaf_of (fragment_with name ds ps xs bare)) (sym none)
-    )
-    ∙ sym made
-    )
+    ap (λ o. unless_open (is_open_in bs ms o) (grown (leaf_in bs ms t (node_name additions x) o) below rest)) is
+    ∙ ap (λ o. unless_open o (grown (leaf_in bs ms t (node_name additions x) (node.Module m)) below rest)) found.0
+    ∙ ap (λ l. Ok (grown l below rest)) (leaf_found bs ms t (node_name additions x) m f found.1 ∙ ap (λ n. leaf_of (fragment_with n (defined_by m t) f.processes [] bare)) (sym named))
+    ∙ ap Ok (sym made)
 
 -- a memory alone
 abbrev alone : List ℕ → Option OwnMemory → Leaf
 alone name o = record { name = name; is_part = false; domains = []; processes = []; memories = spec_of o }
 
-pub memory_grown : (own : List OwnMemory) (name : List ℕ) (k : ℕ) (x : OwnMemory) (ds : List DomainDef) (ps : List Process) (ms : List Memory) (below rest trees : Forest)
-    → slice_get own k ≡ Some x → ds ≡ [] → ps ≡ [] → ms ≡ x.spec ∷ []
-    → trees ≡ grown (leaf_of (fragment_with name ds ps ms bare)) below rest → unless_open (is_open_in [] own (node.Memory k)) (grown (leaf_in [] own no_clock_domains name (node.Memory k)) below rest) ≡ Ok trees
-memory_grown own name k x ds ps ms below rest trees at none no_process one made =
-    ap (λ o. unless_open (option_map_or (λ (y : OwnMemory). false) o true) (grown (alone name o) below rest)) at
-    ∙ ap Ok (
-    ap (λ l. grown l below rest) (
-    ap (λ xs. leaf_of (fragment_with name [] [] xs bare)) (sym one)
-    ∙ ap (λ es. leaf_of (fragment_with name es [] ms bare)) (sym none)
-    ∙ ap (λ qs. leaf_of (fragment_with name ds qs ms bare)) (sym no_process)
-    )
-    ∙ sym made
-    )
+pub memory_grown : (bs : List Built) (ms : List OwnMemory) (t : ClockDomains) (additions : List Addition) (x : Node) (k : ℕ) (own : OwnMemory) (name : List ℕ) (below rest trees : Forest)
+    → x.of ≡ node.Memory k → slice_get ms k ≡ Some own → name ≡ node_name additions x
+    → trees ≡ grown (leaf_of (fragment_with name [] [] (own.spec ∷ []) bare)) below rest → unless_open (is_open_at bs ms x) (grown (leaf_at bs ms t additions x) below rest) ≡ Ok trees
+memory_grown bs ms t additions x k own name below rest trees is at named made =
+    ap (λ o. unless_open (is_open_in bs ms o) (grown (leaf_in bs ms t (node_name additions x) o) below rest)) is
+    ∙ ap (λ o. unless_open (option_map_or (λ (y : OwnMemory). false) o true) (grown (alone (node_name additions x) o) below rest)) at
+    ∙ ap (λ n. Ok (grown (alone n (Some own)) below rest)) (sym named)
+    ∙ ap Ok (sym made)
 
 -- ---- refusals
 

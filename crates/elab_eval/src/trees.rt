@@ -7,9 +7,8 @@ ghost use Rattle.design_ir.specs.Fragments.{leaf_of};
 ghost use Rattle.module_dsl.specs.Builders.{Built};
 ghost use Rattle.clock_domains.specs.Resolved.{file_start};
 ghost use Rattle.elab_eval.specs.declared.refusal.ElabStop.TheVariants.{Refused};
-ghost use Rattle.elab_store.specs.ClockDomains.{no_clock_domains};
-ghost use Rattle.elab_store.specs.declared.hierarchy.NodeOf.TheVariants as node_of;
-ghost use Rattle.elab_eval.specs.Elaborates.{module_in, root_module, is_open_in, is_open_at, node_name, leaf_in, leaf_at, first_trees, other_trees, forest_of_nodes, root_domains};
+ghost use Rattle.elab_store.specs.ClockDomains.{defined_by};
+ghost use Rattle.elab_eval.specs.Elaborates.{module_in, root_module, is_open_at, node_name, leaf_at, first_trees, other_trees, forest_of_nodes, root_domains};
 ghost use Rattle.elab_eval.specs.Trees.{finished, fragment_with, unless_open, rooted, tree_found, IsGot};
 
 use crate::refusal::ElabStop;
@@ -263,65 +262,58 @@ fn grown(
     let name = node_name(additions, node);
     match node.of {
         NodeOf::Module(m) => {
-            grown_module(alloc, modules, clock_domains, m, name, node.below, behind)
+            let Some(Some(fragment)) = modules.get(m as usize) else {
+                return Err(raised());
+            };
+            match with_module(alloc, fragment, clock_domains, m, name, node.below, behind) {
+                Ok(trees) => Ok(trees),
+                Err(_) => Err(ElabStop::NoMemory),
+            }
         }
-        NodeOf::Memory(k) => grown_memory(alloc, memories, k, name, node.below, behind),
+        NodeOf::Memory(k) => {
+            let Some(memory) = memories.get(k as usize) else {
+                return Err(raised());
+            };
+            match with_memory(alloc, memory, name, node.below, behind) {
+                Ok(trees) => Ok(trees),
+                Err(_) => Err(ElabStop::NoMemory),
+            }
+        }
     }
 }
 
-// A module under a name.
-fn grown_module(
+// A module under a name, with the domains that it defines.
+fn with_module(
     alloc: Global,
-    modules: &[Option<Fragment>],
+    fragment: &Fragment,
     clock_domains: &ClockDomains,
     m: u32,
     name: &str,
     below: u32,
     behind: Trees,
-) -> Result<Trees, ElabStop>
-    ghost built: { List Built }
-    requires { modules.now ≡ map finished built }
-    ensures { IsGot result (unless_open (is_open_in built [] (node_of.Module m)) (grown (leaf_in built [] clock_domains.now name.now (node_of.Module m)) (first_trees below behind) (other_trees below behind))) }
+) -> Result<Trees, NoMemory>
+    ensures { IfOk result (λ ts. ts ≡ grown (leaf_of (fragment_with name.now (defined_by m clock_domains.now) fragment.now.processes [] bare)) (first_trees below behind) (other_trees below behind)) }
 {
-    let Some(Some(fragment)) = modules.get(m as usize) else {
-        return Err(raised());
-    };
-    let Ok(domains) = clock_domains.defined_by(alloc, m) else {
-        return Err(ElabStop::NoMemory);
-    };
-    let Ok(processes) = copied_processes(alloc, fragment.processes.as_slice()) else {
-        return Err(ElabStop::NoMemory);
-    };
-    let memories = Items::new(alloc);
-    match with_node(alloc, name, domains, processes, memories, below, behind) {
-        Ok(trees) => Ok(trees),
-        Err(_) => Err(ElabStop::NoMemory),
-    }
+    let domains = clock_domains.defined_by(alloc, m)?;
+    let processes = copied_processes(alloc, fragment.processes.as_slice())?;
+    let none = Memories::new(alloc);
+    with_node(alloc, name, domains, processes, none, below, behind)
 }
 
 // A memory under a name, which is all that its fragment has.
-fn grown_memory(
+fn with_memory(
     alloc: Global,
-    memories: &[OwnMemory],
-    k: u32,
+    memory: &OwnMemory,
     name: &str,
     below: u32,
     behind: Trees,
-) -> Result<Trees, ElabStop>
-    ensures { IsGot result (unless_open (is_open_in [] memories.now (node_of.Memory k)) (grown (leaf_in [] memories.now no_clock_domains name.now (node_of.Memory k)) (first_trees below behind) (other_trees below behind))) }
+) -> Result<Trees, NoMemory>
+    ensures { IfOk result (λ ts. ts ≡ grown (leaf_of (fragment_with name.now [] [] (memory.now.spec ∷ []) bare)) (first_trees below behind) (other_trees below behind)) }
 {
-    let Some(memory) = memories.get(k as usize) else {
-        return Err(raised());
-    };
-    let Ok(own) = only_memory(alloc, memory) else {
-        return Err(ElabStop::NoMemory);
-    };
+    let own = only_memory(alloc, memory)?;
     let domains = DomainDefs::new(alloc);
     let processes = Processes::new(alloc);
-    match with_node(alloc, name, domains, processes, own, below, behind) {
-        Ok(trees) => Ok(trees),
-        Err(_) => Err(ElabStop::NoMemory),
-    }
+    with_node(alloc, name, domains, processes, own, below, behind)
 }
 
 // One memory, as far as it is made.
