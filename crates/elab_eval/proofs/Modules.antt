@@ -2,7 +2,7 @@
 use Rattle.std.specs.Prelude.{IsTrue, ◌≡◌, refl, ℕ, not, List, [], ◌∷◌, slice_get, slice_index_or, Option, Some, None, zero, suc, codes}
 use Rattle.std.specs.Option.{option_map_or}
 use Rattle.std.specs.List.{AllByRecursion}
-use Rattle.std.proofs.Common.{subst}
+use Rattle.std.proofs.Common.{sym, subst}
 use Rattle.std.proofs.lemmas.List.Elements.{All-nil}
 use Rattle.lists.specs.Names.{IsName, continues_name}
 use Rattle.design_ir.specs.declared.domain.DomainDef.{DomainDef}
@@ -60,6 +60,10 @@ name_at (a ∷ additions) (suc k) g = name_at additions k g.1
 node_named : (additions : List Addition) (x : Node) → AllByRecursion (λ (a : Addition). IsName a.name) additions → IsName (node_name additions x)
 node_named additions x g = name_at additions x.addition g
 
+leaf_named : (bs : List Built) (ms : List OwnMemory) (t : ClockDomains) (name : List ℕ) (o : NodeOf) → (leaf_in bs ms t name o).name ≡ name
+leaf_named bs ms t name (node.Module m) = refl
+leaf_named bs ms t name (node.Memory k) = refl
+
 -- ---- statements
 
 module _ (q : Pooled) (plain : AllByRecursion IsNoReset q.exprs) where
@@ -111,7 +115,7 @@ module _ (q : Pooled) (plain : AllByRecursion IsNoReset q.exprs) where
   nodes_stand bs ms t additions [] h own clocked g = tt
   nodes_stand bs ms t additions (x ∷ xs) h own clocked g =
       let behind = nodes_stand bs ms t additions xs h own clocked g in
-      (node_named additions x g, (leaf_stands bs ms t (node_name additions x) x.of h own clocked, (first_stand x.below _ behind, others_stand x.below _ behind)))
+      (subst IsName (sym (leaf_named bs ms t (node_name additions x) x.of)) (node_named additions x g), (leaf_stands bs ms t (node_name additions x) x.of h own clocked, (first_stand x.below _ behind, others_stand x.below _ behind)))
 
   pub tree_stands : (s : Stored) (b : Built) → IsBuilt q b → AllByRecursion (IsBuilt q) s.modules → AllByRecursion (λ (x : OwnMemory). IsMemoryOf q x.spec) s.memories → AreClockDomains q s.clock_domains.made → AllByRecursion (λ (a : Addition). IsName a.name) s.hierarchy.additions
       → IsTree q (tree_of s b)
