@@ -1,7 +1,7 @@
 -- Memories of a program are what is asked of memories before domains are known, and no one else gives their data.
-use Rattle.std.proofs.Common.{◌≡◌, ◌≤◌, ℕ, zero, suc, ◌==◌, refl, ap, ◌∙◌, sym, subst, not, cond, Bool, true, false, List, [], ◌∷◌, ◌++◌, map, Option, Some, None, true≢false, is_some}
+use Rattle.std.proofs.Common.{◌≡◌, ◌≤◌, ℕ, zero, suc, ◌==◌, refl, ap, ◌∙◌, sym, subst, cond, Bool, true, false, List, [], ◌∷◌, ◌++◌, map, Option, Some, None, true≢false, is_some}
 use Rattle.std.specs.Prelude.{◌||◌, slice_get, IfSome, option_map, unwrap_or}
-use Rattle.std.specs.List.{AllByRecursion, filter, flat_map, list_any}
+use Rattle.std.specs.List.{AllByRecursion, filter, flat_map}
 use Rattle.lists.specs.Names.{IsName}
 use Rattle.shape_rules.specs.Forms.{Form, unsigned}
 use Rattle.py_values.specs.declared.val.ObjId.{ObjId}
@@ -12,7 +12,6 @@ use Rattle.design_ir.specs.declared.ids.SigId.{SigId}
 use Rattle.design_ir.specs.declared.signal.Sig.{Sig}
 use Rattle.design_ir.specs.declared.domain.DomainDef.{DomainDef}
 use Rattle.design_ir.specs.declared.domain.Domain.{Domain}
-use Rattle.design_ir.specs.declared.fragment.Fragment.{Fragment}
 use Rattle.design_ir.specs.declared.port.Port.{Port}
 use Rattle.design_ir.specs.declared.memory.MemWrite.{MemWrite}
 use Rattle.design_ir.specs.declared.memory.MemRead.{MemRead}
@@ -45,7 +44,7 @@ use Rattle.elab_store.specs.Components.{object_at, ports_at}
 use Rattle.elab_store.specs.Sound.{HasNoClock, HasNoPort, IsOwnData, IsNamedRead, IsOwnMemory, IsSound}
 use Rattle.elab_store.specs.Stores.{Stored, Held}
 use Rattle.elab_components.specs.Interfaces.{component_class}
-use Rattle.elab_acts.proofs.EachLaws.{all_map, all_filter, all_each}
+use Rattle.elab_acts.proofs.EachLaws.{all_map, all_each}
 use Rattle.elab_acts.proofs.GrownLaws.{all_and}
 use Rattle.elab_acts.proofs.PortLaws.{all_found}
 use Rattle.elab_eval.specs.ComponentTops.{made_ports, component_ports}

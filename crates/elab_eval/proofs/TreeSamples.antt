@@ -25,7 +25,7 @@ use Rattle.elab_store.specs.Components.{no_components}
 use Rattle.elab_store.specs.declared.domains.ClockDomain.{ClockDomain}
 use Rattle.elab_store.specs.ClockDomains.{ClockDomains}
 use Rattle.elab_store.specs.Simulations.{no_simulation}
-use Rattle.elab_store.specs.Stores.{Stored, no_top}
+use Rattle.elab_store.specs.Stores.{Stored}
 use Rattle.elab_eval.specs.Elaborates.{is_open_at, forest_of_nodes, tree_of}
 
 e : ℕ → ExprId
