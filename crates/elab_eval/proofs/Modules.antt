@@ -17,8 +17,8 @@ use Rattle.module_dsl.specs.Sided as dsl
 use Rattle.module_dsl.specs.Sided.{givens, sides_of, process_of, processes_of}
 use Rattle.module_dsl.specs.Blocks.{Given, Entries, entries_of}
 use Rattle.module_dsl.specs.Builders.{Built, built_blocks, fragment_of}
+use Rattle.fragment_walks.specs.Walks.{path_under, memory_named, memories_of, all_memories}
 use Rattle.clock_domains.specs.Resolvable.{IsNamedSide, IsThere, IsOpenSide, IsDefinition, IsModule, AreModules, IsTree, is_open_target}
-use Rattle.clock_domains.specs.Walks.{path_under, memory_named, memories_of, all_memories}
 use Rattle.elab_store.specs.Sound.{IsNoReset, IsBuilt, AreClockDomains}
 use Rattle.elab_store.specs.ClockDomains.{ClockDomains, defined_by}
 use Rattle.elab_store.specs.declared.hierarchy.Addition.{Addition}

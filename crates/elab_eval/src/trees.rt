@@ -12,11 +12,11 @@ ghost use Rattle.elab_eval.specs.Trees.{finished, fragment_with, unless_open, ro
 
 use crate::refusal::ElabStop;
 use amh_host::{Items, Kind, Place, Text};
-use clock_domains::copied_process;
 use design_ir::{DomainDefs, Fragment, Fragments, Process, Processes};
 use elab_store::domains::ClockDomains;
 use elab_store::hierarchy::{Addition, Node};
 use elab_store::store::Store;
+use fragment_walks::copies::copied_process;
 use lists::NoMemory;
 use module_dsl::{BuildStop, Builder};
 use std::alloc::Global;
