@@ -1,10 +1,9 @@
 -- Small modules and what they give, by computation.
-use Rattle.std.specs.Prelude.{◌≡◌, refl, ℕ, true, false, List, [], ◌∷◌, map, pos, Option, Some, None, codes}
+use Rattle.std.specs.Prelude.{◌≡◌, refl, ℕ, false, List, [], ◌∷◌, map, pos, Some, None, codes}
 use Rattle.shape_rules.specs.Forms.{unsigned}
 use Rattle.amh_host.specs.declared.place.Place.{Place}
 use Rattle.design_ir.specs.declared.signal.Sig.{Sig}
 use Rattle.design_ir.specs.declared.expr.Expr.TheVariants as expr
-use Rattle.design_ir.specs.declared.memory.MemRead.{MemRead}
 use Rattle.design_ir.specs.declared.memory.Memory.{Memory}
 use Rattle.design_ir.specs.declared.process.Side.TheVariants.{Comb, Clocked}
 use Rattle.design_ir.specs.declared.process.Process.{Process}

@@ -1,6 +1,6 @@
 -- The names of domains as they are found: in each fragment those of the resets of which it is the first that holds them. (Internal:
 -- no rule of the language.)
-use Rattle.std.specs.Prelude.{ℕ, suc, ◌==◌, Bool, false, List, [], ◌∷◌, ◌++◌, map, length, slice_get, slice_index_or, slice_set, Option, Some, None, option_and_then}
+use Rattle.std.specs.Prelude.{ℕ, suc, ◌==◌, Bool, false, List, [], ◌∷◌, ◌++◌, map, slice_get, slice_index_or, slice_set, Option, Some, None, option_and_then}
 use Rattle.std.specs.List.{filter, filter_map, range_with_len}
 use Rattle.design_ir.specs.declared.expr.Expr.{Expr}
 use Rattle.design_ir.specs.declared.fragment.Fragment.{Fragment}

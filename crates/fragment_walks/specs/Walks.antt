@@ -1,7 +1,7 @@
 -- What a fragment and those below it give: a fragment's own, and then those of each that stands below it, in their order. (Amaranth
 -- guide: Submodules, Elaboration, Clock domains; the order of the names of domains, the path that is a memory's name, and that a
 -- library part names no register, are this project's own rules: docs/RULES.md.)
-use Rattle.std.specs.Prelude.{ℕ, if◌then◌else◌, List, [], ◌∷◌, ◌++◌, map, codes, Option, Some, None}
+use Rattle.std.specs.Prelude.{ℕ, if◌then◌else◌, List, [], ◌++◌, map, codes, Option, Some, None}
 use Rattle.std.specs.List.{filter_map, flat_map}
 use Rattle.design_ir.specs.declared.memory.MemWrite.{MemWrite}
 use Rattle.design_ir.specs.declared.memory.MemRead.{MemRead}
