@@ -12,9 +12,9 @@ use Rattle.design_ir.specs.Pools.{Pooled}
 use Rattle.design_ir.specs.Circuits.{is_among}
 use Rattle.design_ir.specs.Designs.{share}
 use Rattle.module_dsl.specs.Builders.{Built}
+use Rattle.fragment_walks.specs.Walks.{definitions_of, all_definitions}
 use Rattle.clock_domains.specs.Resolvable.{IsDomainOf, IsDefinition, IsResetOf, AreApart, domain_numbers}
 use Rattle.clock_domains.specs.Resolvable as resolvable
-use Rattle.clock_domains.specs.Walks.{definitions_of, all_definitions}
 use Rattle.elab_store.specs.declared.domains.ClockDomain.{ClockDomain}
 use Rattle.elab_store.specs.declared.domains.Definition.{Definition}
 use Rattle.elab_store.specs.declared.hierarchy.Addition.{Addition}

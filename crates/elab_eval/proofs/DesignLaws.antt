@@ -12,9 +12,9 @@ use Rattle.design_ir.specs.Circuits.{Circuit, is_among}
 use Rattle.clock_domains.specs.declared.top.TopPorts.{TopPorts}
 use Rattle.clock_domains.specs.declared.stop.ResolveStop.{ResolveStop}
 use Rattle.clock_domains.specs.declared.stop.ResolveStop.TheVariants as unresolved
-use Rattle.clock_domains.specs.Reads.{data_signals}
+use Rattle.fragment_walks.specs.Reads.{data_signals}
 use Rattle.clock_domains.specs.Resolvable.{IsMemoryOf, IsTree, AreApart, outer_signals}
-use Rattle.clock_domains.specs.Walks.{all_definitions, all_memories}
+use Rattle.fragment_walks.specs.Walks.{all_definitions, all_memories}
 use Rattle.clock_domains.specs.Resolved.{IsResolveRefusal, resolved, file_start}
 use Rattle.elab_store.specs.Stores.{Stored, Held}
 use Rattle.elab_store.specs.declared.memories.OwnMemory.{OwnMemory}

@@ -29,9 +29,9 @@ use Rattle.memory_ports.proofs.MemoryLaws.{granularity, ports_fit}
 use Rattle.module_dsl.specs.Builders.{Built, fragment_of}
 use Rattle.clock_domains.specs.declared.top.TopPorts.{TopPorts}
 use Rattle.clock_domains.specs.declared.top.TopPorts.TheVariants as ports
-use Rattle.clock_domains.specs.Reads.{data_signals}
+use Rattle.fragment_walks.specs.Reads.{data_signals}
 use Rattle.clock_domains.specs.Resolvable.{domain_numbers, IsShaped, IsAddressOf, IsWriteOf, IsClockingOf, IsDataOf, IsReadOf, IsMemoryOf, top_inputs, outer_signals}
-use Rattle.clock_domains.specs.Walks.{path_under, memory_named, memories_of, all_memories, all_definitions}
+use Rattle.fragment_walks.specs.Walks.{path_under, memory_named, memories_of, all_memories, all_definitions}
 use Rattle.elab_store.specs.declared.domains.ClockDomain.{ClockDomain}
 use Rattle.elab_store.specs.declared.faces.ComponentObject.{ComponentObject}
 use Rattle.elab_store.specs.declared.hierarchy.Addition.{Addition}

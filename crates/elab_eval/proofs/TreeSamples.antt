@@ -13,7 +13,7 @@ use Rattle.module_dsl.specs.declared.step.Step.TheVariants.{Assign, Enter}
 use Rattle.module_dsl.specs.declared.step.Opening.TheVariants.{If}
 use Rattle.module_dsl.specs.Blocks.{blocks_of}
 use Rattle.module_dsl.specs.Builders.{Built, fragment_of}
-use Rattle.clock_domains.specs.Walks.{all_processes, all_paths, all_definitions}
+use Rattle.fragment_walks.specs.Walks.{all_processes, all_paths, all_definitions}
 use Rattle.elab_store.specs.declared.hierarchy.Addition.{Addition}
 use Rattle.elab_store.specs.declared.hierarchy.Node.{Node}
 use Rattle.elab_store.specs.declared.hierarchy.NodeOf.TheVariants as node

@@ -13,7 +13,7 @@ ghost use Rattle.elab_eval.specs.Trees.{finished, fragment_with, unless_open, ro
 
 use crate::refusal::ElabStop;
 use amh_host::{Items, Kind, Place, Text};
-use clock_domains::copied_process;
+use fragment_walks::copies::copied_process;
 use design_ir::{DomainDefs, Fragment, Fragments, Memories, Process, Processes};
 use elab_store::domains::ClockDomains;
 use elab_store::hierarchy::{Addition, Node, NodeOf};
