@@ -10,7 +10,7 @@ use Rattle.identifiers.specs.Identifiers.{is_identifier}
 use Rattle.identifiers.proofs.NameLaws.{identifier_is_name}
 use Rattle.py_values.specs.declared.val.Val.{Val}
 use Rattle.py_values.specs.declared.val.Val.TheVariants as val
-use Rattle.py_values.specs.Heaps.{Seen, text_at}
+use Rattle.py_heap.specs.Heaps.{Seen, text_at}
 use Rattle.design_ir.specs.declared.ids.SigId.{SigId}
 use Rattle.design_ir.specs.Pools.{Pooled}
 use Rattle.clock_domains.specs.Resolved.{bit_signal, domain_prefix}

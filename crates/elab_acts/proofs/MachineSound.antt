@@ -10,7 +10,7 @@ use Rattle.shape_rules.specs.Forms.{Form, unsigned}
 use Rattle.py_frames.specs.declared.request.Cause.TheVariants.{Raised}
 use Rattle.py_values.specs.declared.val.StrId.{StrId}
 use Rattle.py_values.specs.declared.val.Val.{Val}
-use Rattle.py_values.specs.Heaps.{Seen, text_at}
+use Rattle.py_heap.specs.Heaps.{Seen, text_at}
 use Rattle.design_ir.specs.declared.signal.Sig.{Sig}
 use Rattle.design_ir.specs.declared.ids.ExprId.{ExprId}
 use Rattle.design_ir.specs.declared.ids.SigId.{SigId}

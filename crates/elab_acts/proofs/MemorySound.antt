@@ -7,7 +7,7 @@ use Rattle.lists.specs.Texts.{text_eq}
 use Rattle.amh_bits.specs.Patterns.{IsOf}
 use Rattle.amh_bits.proofs.Wraps.{wrap_is_of}
 use Rattle.shape_rules.specs.Forms.{Form}
-use Rattle.py_values.specs.Heaps.{Seen}
+use Rattle.py_heap.specs.Heaps.{Seen}
 use Rattle.py_frames.specs.declared.request.Cause.{Cause}
 use Rattle.py_frames.specs.declared.request.Cause.TheVariants as cause
 use Rattle.design_ir.specs.declared.ids.ExprId.{ExprId}

@@ -4,7 +4,7 @@ use Rattle.std.specs.Prelude.{option_and_then, slice_index_or, slice_get}
 use Rattle.std.specs.List.{AllByRecursion}
 use Rattle.std.proofs.Math.Seq.{drop-cons}
 use Rattle.py_values.specs.declared.val.Val.{Val}
-use Rattle.py_values.specs.Heaps.{Seen}
+use Rattle.py_heap.specs.Heaps.{Seen}
 use Rattle.elab_store.specs.declared.kept.Equation.{Equation}
 use Rattle.design_ir.specs.Pools.{Pooled}
 use Rattle.amh_things.specs.Things.{thing_of, kept_number}

@@ -5,7 +5,7 @@ use Rattle.amh_host.specs.declared.place.Place.{Place}
 use Rattle.py_values.specs.declared.val.FuncId.{FuncId}
 use Rattle.py_values.specs.declared.val.Val.{Val}
 use Rattle.py_values.specs.declared.val.Val.TheVariants as val
-use Rattle.py_values.specs.Heaps.{Seen}
+use Rattle.py_heap.specs.Heaps.{Seen}
 use Rattle.elab_store.specs.declared.kept.SimulatorPart.{SimulatorPart}
 use Rattle.elab_store.specs.declared.kept.SimulatorPart.TheVariants as part
 use Rattle.elab_store.specs.declared.kept.Kept.TheVariants as kept

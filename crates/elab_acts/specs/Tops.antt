@@ -9,10 +9,10 @@ use Rattle.py_values.specs.declared.val.ObjId.{ObjId}
 use Rattle.py_values.specs.declared.func.Func.{Func}
 use Rattle.py_values.specs.declared.func.Code.{Code}
 use Rattle.py_values.specs.declared.func.Code.TheVariants as code
-use Rattle.py_values.specs.declared.objects.Inherited.{Inherited}
-use Rattle.py_values.specs.declared.objects.Inherited.TheVariants.{Found, Thing, Nowhere}
-use Rattle.py_values.specs.Heaps.{Seen, row_at, func_at}
-use Rattle.py_values.specs.Objects.{attributes, attribute_in, inherited, first_in}
+use Rattle.py_heap.specs.declared.objects.Inherited.{Inherited}
+use Rattle.py_heap.specs.declared.objects.Inherited.TheVariants.{Found, Thing, Nowhere}
+use Rattle.py_heap.specs.Heaps.{Seen, row_at, func_at}
+use Rattle.py_heap.specs.Objects.{attributes, attribute_in, inherited, first_in}
 use Rattle.py_frames.specs.declared.request.Answer.TheVariants as answer
 use Rattle.py_frames.specs.declared.request.Cause.TheVariants.{Raised, Limit}
 use Rattle.elab_acts.specs.declared.tops.Calling.{Calling}

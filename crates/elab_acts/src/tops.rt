@@ -2,8 +2,8 @@
 ghost use Rattle.std.specs.Prelude.{◌≡◌, map, string_bytes, Some, None, IfOk, option_map};
 ghost use Rattle.std.specs.Option.{option_copied};
 ghost use Rattle.py_values.specs.declared.val.Val.TheVariants as val;
-ghost use Rattle.py_values.specs.Heaps.{seen, func_at};
-ghost use Rattle.py_values.specs.Objects.{first_in};
+ghost use Rattle.py_heap.specs.Heaps.{seen, func_at};
+ghost use Rattle.py_heap.specs.Objects.{first_in};
 ghost use Rattle.elab_acts.specs.Tops.{is_unbound, is_method, method_calling, found_calling, class_calling, object_calling, elaborate_of, global, top_called, below_called, node_or_called, walk, elaborated, top_of, named_top, body_taken, body_ended, ended_by, elaborate_ended, call_args};
 ghost use Rattle.elab_store.specs.Stores.{object_in, first_object, kept_of, module_of, node_in};
 ghost use Rattle.elab_store.specs.Held.{held_of, Gives};
@@ -13,7 +13,8 @@ use elab_store::names::is_text;
 use elab_store::store::Elaboration;
 use lists::NoMemory;
 use py_frames::request::{Answer, Cause, Request};
-use py_values::{Code, Frozen, FuncId, Heap, Inherited, ObjId, Val, Vals};
+use py_heap::{Frozen, Heap, Inherited};
+use py_values::{Code, FuncId, ObjId, Val, Vals};
 use std::alloc::Global;
 
 /// A design has so many submodules at most.

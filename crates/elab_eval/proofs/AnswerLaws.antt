@@ -2,7 +2,7 @@
 use Rattle.std.proofs.Common.{◌≡◌, ℕ, refl, ap, ◌∙◌, sym, subst, List, [], ◌++◌, length, Option, Some, None, Result, Ok, Err, append-nil}
 use Rattle.std.specs.Prelude.{OnOk}
 use Rattle.lists.specs.declared.items.NoMemory.{NoMemory}
-use Rattle.py_values.specs.Heaps.{Seen}
+use Rattle.py_heap.specs.Heaps.{Seen}
 use Rattle.py_frames.specs.declared.request.Answer.{Answer}
 use Rattle.py_frames.specs.declared.request.Answer.TheVariants as answer
 use Rattle.py_frames.specs.declared.request.Cause.{Cause}

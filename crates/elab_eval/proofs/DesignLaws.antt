@@ -3,7 +3,7 @@ use Rattle.std.proofs.Common.{◌≡◌, refl, ap, sym, ◌∙◌, subst, List, 
 use Rattle.std.specs.Prelude.{◌||◌, if◌then◌else◌}
 use Rattle.std.specs.List.{AllByRecursion, list_any}
 use Rattle.amh_host.specs.declared.place.Kind.TheVariants.{Raised}
-use Rattle.py_values.specs.Heaps.{Made, Seen, seen, nothing}
+use Rattle.py_heap.specs.Heaps.{Made, Seen, seen, nothing}
 use Rattle.design_ir.specs.declared.domain.DomainDef.{DomainDef}
 use Rattle.design_ir.specs.declared.fragment.Fragment.{Fragment}
 use Rattle.module_dsl.specs.Builders.{Built}

@@ -5,8 +5,8 @@ use Rattle.std.specs.List.{AllByRecursion, filter, flat_map}
 use Rattle.lists.specs.Names.{IsName}
 use Rattle.shape_rules.specs.Forms.{Form, unsigned}
 use Rattle.py_values.specs.declared.val.ObjId.{ObjId}
-use Rattle.py_values.specs.Heaps.{Seen, row_at}
-use Rattle.py_values.specs.Objects.{first_in}
+use Rattle.py_heap.specs.Heaps.{Seen, row_at}
+use Rattle.py_heap.specs.Objects.{first_in}
 use Rattle.design_ir.specs.declared.ids.ExprId.{ExprId}
 use Rattle.design_ir.specs.declared.ids.SigId.{SigId}
 use Rattle.design_ir.specs.declared.signal.Sig.{Sig}

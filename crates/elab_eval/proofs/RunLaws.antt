@@ -2,7 +2,7 @@
 use Rattle.std.proofs.Common.{◌≡◌, ℕ, ◌+◌, ◌-◌, ◌<◌, refl, ap, ◌∙◌, sym, subst, List, [], ◌∷◌, ◌++◌, length, Option, Some, Result, Ok, Err, inl, inr, arith}
 use Rattle.py_tree.specs.Steps.{Steps}
 use Rattle.py_values.specs.declared.val.Val.{Val}
-use Rattle.py_values.specs.Heaps.{seen, nothing}
+use Rattle.py_heap.specs.Heaps.{seen, nothing}
 use Rattle.py_frames.specs.declared.request.Answer.{Answer}
 use Rattle.py_frames.specs.declared.request.Answer.TheVariants as answer
 use Rattle.py_frames.specs.declared.request.Request.{Request}

@@ -1,7 +1,7 @@
 // What a request is answered where the table of shapes and values leaves it open: which act of the crates below it asks for.
 ghost use Rattle.std.specs.Prelude.{◌≡◌, ◌<◌, length};
 ghost use Rattle.std.specs.Option.{option_copied};
-ghost use Rattle.py_values.specs.Heaps.{seen};
+ghost use Rattle.py_heap.specs.Heaps.{seen};
 ghost use Rattle.elab_store.specs.Calls.{called};
 ghost use Rattle.amh_things.specs.Things.{thing_of};
 ghost use Rattle.elab_eval.specs.Table.{equated_by, call_answered, attribute_answered, store_answered, index_answered, index_store_answered, operator_answered, kept_entered, kept_left, enter_answered, leave_answered, own_answered, name_called, placed_called, kept_called, only, name_attribute, attribute_of, attribute_by, attribute_stored, module_stored, added, signed};
@@ -47,7 +47,8 @@ use elab_wiring::faces::{flip, interface_attribute};
 use elab_wiring::signature_classes::{answer_class, init_object, object_attribute};
 use lists::NoMemory;
 use py_frames::request::{Act, Answer, Cause, Request};
-use py_values::{Frozen, Heap, Val};
+use py_heap::{Frozen, Heap};
+use py_values::Val;
 
 // The call of a name.
 fn call_name(

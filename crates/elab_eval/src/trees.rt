@@ -13,12 +13,12 @@ ghost use Rattle.elab_eval.specs.Trees.{finished, fragment_with, unless_open, ro
 
 use crate::refusal::ElabStop;
 use amh_host::{Items, Kind, Place, Text};
-use fragment_walks::copies::copied_process;
 use design_ir::{DomainDefs, Fragment, Fragments, Memories, Process, Processes};
 use elab_store::domains::ClockDomains;
 use elab_store::hierarchy::{Addition, Node, NodeOf};
 use elab_store::memories::OwnMemory;
 use elab_store::store::Store;
+use fragment_walks::copies::copied_process;
 use lists::NoMemory;
 use memory_ports::copied_memory;
 use module_dsl::{BuildStop, Builder};

@@ -9,8 +9,8 @@ use Rattle.py_values.specs.declared.val.Val.{Val}
 use Rattle.py_values.specs.declared.val.Val.TheVariants as val
 use Rattle.py_values.specs.declared.val.ValueStop.{ValueStop}
 use Rattle.py_values.specs.declared.val.ValueStop.TheVariants as stop
-use Rattle.py_values.specs.Heaps.{Seen}
-use Rattle.py_values.specs.Elements.{elements}
+use Rattle.py_heap.specs.Heaps.{Seen}
+use Rattle.py_operators.specs.Elements.{elements}
 use Rattle.py_frames.specs.declared.request.Cause.{Cause}
 use Rattle.py_frames.specs.declared.request.Cause.TheVariants.{Raised, Limit}
 use Rattle.amh_things.specs.declared.thing.Thing.{Thing}

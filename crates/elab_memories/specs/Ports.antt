@@ -5,7 +5,7 @@ use Rattle.lists.specs.Texts.{text_eq}
 use Rattle.identifiers.specs.Identifiers.{is_identifier}
 use Rattle.py_values.specs.declared.val.Val.{Val}
 use Rattle.py_values.specs.declared.val.Val.TheVariants as val
-use Rattle.py_values.specs.Heaps.{Seen, text_at, row_at}
+use Rattle.py_heap.specs.Heaps.{Seen, text_at, row_at}
 use Rattle.py_values.specs.Numbers.{number_of}
 use Rattle.py_frames.specs.declared.request.Cause.{Cause}
 use Rattle.py_frames.specs.declared.request.Cause.TheVariants.{Raised, Limit}

@@ -2,8 +2,8 @@
 ghost use Rattle.std.specs.Prelude.{◌≡◌, ◌≤◌, ◌∷◌, [], length, map, drop, string_bytes, false, nat_lt, IfOk, None, Some, Err};
 ghost use Rattle.std.specs.List.{AllByRecursion};
 ghost use Rattle.amh_bits.specs.Patterns.{IsOf};
-ghost use Rattle.py_values.specs.Heaps.{seen};
-ghost use Rattle.py_values.specs.Elements.{elements};
+ghost use Rattle.py_heap.specs.Heaps.{seen};
+ghost use Rattle.py_operators.specs.Elements.{elements};
 ghost use Rattle.py_frames.specs.declared.request.Cause.TheVariants.{Limit};
 ghost use Rattle.memory_ports.specs.Calls.{new_refusal};
 ghost use Rattle.elab_store.specs.Seen.{called_of};
@@ -21,7 +21,8 @@ use elab_store::store::{Elaboration, Store};
 use lists::NoMemory;
 use memory_ports::{MemStop, MemorySpec};
 use py_frames::request::{Answer, Cause};
-use py_values::{Frozen, Heap, Val, ValueStop};
+use py_heap::{Frozen, Heap};
+use py_values::{Val, ValueStop};
 use shape_rules::Shape;
 use std::alloc::Global;
 

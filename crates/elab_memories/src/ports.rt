@@ -1,7 +1,7 @@
 // Ports of memories that are made.
 ghost use Rattle.std.specs.Prelude.{◌≡◌, ◌≢◌, ◌≤◌, ◌<◌, ◌+◌, ◌^◌, ◌∷◌, [], length, map, drop, string_bytes, slice_get, IfOk, None, Some, codes};
 ghost use Rattle.std.specs.Option.{option_copied};
-ghost use Rattle.py_values.specs.Heaps.{seen};
+ghost use Rattle.py_heap.specs.Heaps.{seen};
 ghost use Rattle.elab_store.specs.Seen.{called_of};
 ghost use Rattle.memory_ports.specs.Calls.{where_clocked};
 ghost use Rattle.elab_store.specs.Held.{held_of, Gives};
@@ -20,7 +20,8 @@ use identifiers::is_identifier;
 use lists::NoMemory;
 use memory_ports::{MemStop, MemorySpec};
 use py_frames::request::{Answer, Cause};
-use py_values::{Frozen, Heap, Val};
+use py_heap::{Frozen, Heap};
+use py_values::Val;
 use std::alloc::Global;
 
 /// The arguments of a port, where they are given: the domain, and `granularity` of a write port or `transparent_for` of a read port.

@@ -1,7 +1,7 @@
 // What elaboration holds beside the heap of a program.
 ghost use Rattle.std.specs.Prelude.{◌≡◌, ◌++◌, ◌∷◌, [], length, IfOk, OnOk, OnErr, Some, None, IsSome, option_map, slice_get};
 ghost use Rattle.std.specs.Option.{option_copied};
-ghost use Rattle.py_values.specs.Heaps.{seen};
+ghost use Rattle.py_heap.specs.Heaps.{seen};
 ghost use Rattle.py_values.specs.declared.val.Val.TheVariants as val;
 ghost use Rattle.amh_things.specs.declared.thing.Thing.TheVariants as thing;
 ghost use Rattle.amh_things.specs.Things.{name_called, thing_of, base_called, layout_named, read_as};
@@ -39,7 +39,8 @@ use design_ir::{ExprId, Patterns, Pool, Side};
 use lists::NoMemory;
 use module_dsl::Builder;
 use py_frames::request::{Answer, Cause};
-use py_values::{Frozen, Heap, Val};
+use py_heap::{Frozen, Heap};
+use py_values::Val;
 use shape_rules::Shape;
 use std::alloc::Global;
 use std::marker::Model;

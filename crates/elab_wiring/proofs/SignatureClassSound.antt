@@ -6,7 +6,7 @@ use Rattle.lists.specs.Names.{IsName}
 use Rattle.py_values.specs.declared.val.Val.{Val}
 use Rattle.py_values.specs.declared.val.Val.TheVariants as val
 use Rattle.py_values.specs.declared.val.ObjId.{ObjId}
-use Rattle.py_values.specs.Heaps.{Seen, row_at}
+use Rattle.py_heap.specs.Heaps.{Seen, row_at}
 use Rattle.py_frames.specs.declared.request.Answer.TheVariants as answer
 use Rattle.py_frames.specs.declared.request.Cause.TheVariants.{Raised}
 use Rattle.elab_store.specs.declared.members.NamedMember.{NamedMember}

@@ -1,6 +1,6 @@
 use Rattle.std.proofs.Common.{◌≡◌, ◌∙◌, ◌-◌, ◌+◌, suc, sym, ap, subst, true, false, None, Some, nat_lt, arith}
 use Rattle.std.proofs.lemmas.Bool.{lt-ltb, le-ltb}
-use Rattle.py_values.specs.Heaps.{seen}
+use Rattle.py_heap.specs.Heaps.{seen}
 use Rattle.elab_store.specs.Hierarchies.{first_waiting, thing_waiting}
 use Rattle.elab_store.specs.Stores.{Stored, kept_of, node_in}
 use Rattle.elab_store.specs.Held.{held_of, Gives}

@@ -1,6 +1,6 @@
 use Rattle.std.proofs.Common.{sym, ◌∙◌, ap, Some, Ok, Err}
 use Rattle.std.specs.List.{AllByRecursion}
-use Rattle.py_values.specs.Heaps.{seen}
+use Rattle.py_heap.specs.Heaps.{seen}
 use Rattle.clock_domains.specs.Resolved.{resolved}
 use Rattle.elab_store.specs.Sound.{IsNoReset}
 use Rattle.elab_store.specs.Held.{held_of}
