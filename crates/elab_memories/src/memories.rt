@@ -22,6 +22,7 @@ use lists::NoMemory;
 use memory_ports::{MemStop, MemorySpec};
 use py_frames::request::{Answer, Cause};
 use py_heap::{Frozen, Heap};
+use py_operators::elements;
 use py_values::{Val, ValueStop};
 use shape_rules::Shape;
 use std::alloc::Global;
@@ -167,7 +168,7 @@ fn listed_rows(
 ) -> Result<Result<Ints, Cause>, NoMemory>
     ensures { IfOk result (λ rows. rows ≡ listed_rows store.now.things (elements (seen frozen.now heap.now) v)) }
 {
-    match heap.elements(frozen, v) {
+    match elements(heap, frozen, v) {
         Ok(vals) => match all_counted(store, alloc, vals.as_slice())? {
             Some(numbers) => Ok(Ok(numbers)),
             None => Ok(Err(Cause::Raised)),
