@@ -6,7 +6,7 @@ use Rattle.std.proofs.lemmas.Bool.Decides.{nat_tests}
 use Rattle.amh_bits.specs.Integers.{IsKept}
 use Rattle.amh_bits.specs.Patterns.{IsOf}
 use Rattle.shape_rules.specs.Forms.{IsForm}
-use Rattle.py_values.specs.Scalars.{first_from, bit_length}
+use Rattle.py_builtins.specs.Scalars.{first_from, bit_length}
 use Rattle.amh_things.specs.Operands.{constant_form}
 
 below : (n m : ℕ) → nat_lt n m ≡ true → n < m

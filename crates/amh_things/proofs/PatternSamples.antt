@@ -3,7 +3,7 @@ use Rattle.std.specs.Prelude.{◌≡◌, refl, ℕ, true, false, [], ◌∷◌, 
 use Rattle.shape_rules.specs.Forms.{unsigned, signed_form}
 use Rattle.py_values.specs.declared.val.Val.{Val}
 use Rattle.py_values.specs.declared.val.Val.TheVariants as val
-use Rattle.py_values.specs.Heaps.{Seen, seen, nothing}
+use Rattle.py_heap.specs.Heaps.{Seen, seen, nothing}
 use Rattle.amh_things.specs.Patterns.{is_text_pattern, text_pattern, patterns_meant}
 
 -- the leftmost sign is for the highest bit, and blanks are nothing

@@ -11,10 +11,10 @@ use Rattle.std.proofs.lemmas.Nat.{div-add-mod', mod-mul-add}
 use Rattle.amh_bits.specs.Integers.{sign_of}
 use Rattle.shape_rules.specs.Forms.{Form}
 use Rattle.py_values.specs.Ranges.{comes_before}
-use Rattle.py_values.specs.Scalars.{bit_length, first_from}
-use Rattle.py_values.specs.Spans.{stepped, way, span_count, numbers_from, span_numbers}
-use Rattle.py_values.proofs.SpanLaws.{div_ceil_is}
-use Rattle.py_values.proofs.StepLaws.{before_counted, counted_before}
+use Rattle.py_builtins.specs.Scalars.{bit_length, first_from}
+use Rattle.py_operators.specs.Spans.{stepped, way, span_count, numbers_from, span_numbers}
+use Rattle.py_operators.proofs.SpanLaws.{div_ceil_is}
+use Rattle.py_operators.proofs.StepLaws.{before_counted, counted_before}
 use Rattle.amh_things.specs.Ranges.{magnitude, width_for, width_for_all, form_for_all}
 
 -- ---- the last element

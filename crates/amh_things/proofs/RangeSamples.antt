@@ -2,9 +2,9 @@
 use Rattle.std.specs.Prelude.{◌≡◌, refl, [], ◌∷◌, ℤ, pos, negsuc, Result, Ok, Err}
 use Rattle.shape_rules.specs.Forms.{Form, unsigned, signed_form}
 use Rattle.py_values.specs.declared.val.Val.TheVariants as val
-use Rattle.py_values.specs.Heaps.{Seen, seen, nothing}
-use Rattle.py_values.specs.Scalars.{first_from}
-use Rattle.py_values.specs.Spans.{numbers_from}
+use Rattle.py_heap.specs.Heaps.{Seen, seen, nothing}
+use Rattle.py_builtins.specs.Scalars.{first_from}
+use Rattle.py_operators.specs.Spans.{numbers_from}
 use Rattle.py_frames.specs.declared.request.Cause.{Cause}
 use Rattle.py_frames.specs.declared.request.Cause.TheVariants as cause
 use Rattle.amh_things.specs.Ranges.{range_shape}

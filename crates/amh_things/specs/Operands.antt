@@ -12,7 +12,7 @@ use Rattle.design_ir.specs.Values.{form}
 use Rattle.py_values.specs.declared.val.Val.{Val}
 use Rattle.py_values.specs.declared.val.Val.TheVariants as val
 use Rattle.py_values.specs.Numbers.{number_of}
-use Rattle.py_values.specs.Scalars.{width_of}
+use Rattle.py_builtins.specs.Scalars.{width_of}
 use Rattle.amh_things.specs.declared.thing.Member.{Member}
 use Rattle.amh_things.specs.declared.thing.Thing.{Thing}
 use Rattle.amh_things.specs.declared.operand.Operand.{Operand}

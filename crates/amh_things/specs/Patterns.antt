@@ -9,7 +9,7 @@ use Rattle.shape_rules.specs.Forms.{Form}
 use Rattle.design_ir.specs.declared.expr.Pattern.{Pattern}
 use Rattle.py_values.specs.declared.val.Val.{Val}
 use Rattle.py_values.specs.declared.val.Val.TheVariants as val
-use Rattle.py_values.specs.Heaps.{Seen, text_at}
+use Rattle.py_heap.specs.Heaps.{Seen, text_at}
 use Rattle.py_values.specs.Numbers.{number_of}
 
 -- ---- texts

@@ -5,10 +5,10 @@ use Rattle.std.specs.List.{list_any}
 use Rattle.amh_bits.specs.Integers.{sign_of}
 use Rattle.shape_rules.specs.Forms.{Form}
 use Rattle.py_values.specs.declared.val.ObjId.{ObjId}
-use Rattle.py_values.specs.Heaps.{Seen, row_at}
+use Rattle.py_heap.specs.Heaps.{Seen, row_at}
 use Rattle.py_values.specs.Ranges.{span_of}
-use Rattle.py_values.specs.Scalars.{bit_length}
-use Rattle.py_values.specs.Spans.{span_numbers}
+use Rattle.py_builtins.specs.Scalars.{bit_length}
+use Rattle.py_operators.specs.Spans.{span_numbers}
 use Rattle.py_frames.specs.declared.request.Cause.{Cause}
 use Rattle.py_frames.specs.declared.request.Cause.TheVariants.{Width}
 

@@ -1,6 +1,6 @@
 // What a value of the program stands for where a shape or a value is wanted.
 ghost use Rattle.std.specs.Prelude.{◌≡◌, ◌<◌, ◌+◌, ◌≤◌, length, slice_get, Some};
-ghost use Rattle.py_values.specs.Heaps.{seen};
+ghost use Rattle.py_heap.specs.Heaps.{seen};
 ghost use Rattle.amh_things.specs.Meant.{number_shape, thing_shape, shape_meant, form_meant, operand_meant, expr_meant, Gives};
 ghost use Rattle.amh_things.specs.Operands.{IsOperand, operand_constants, operand_id};
 ghost use Rattle.amh_things.specs.Plans.{AreDrafted, grown_by};
@@ -16,7 +16,8 @@ use crate::values::Values;
 use amh_bits::Int;
 use design_ir::{ExprId, Exprs};
 use py_frames::request::Cause;
-use py_values::{Frozen, Heap, Hw, Val};
+use py_heap::{Frozen, Heap};
+use py_values::{Hw, Val};
 use shape_rules::Shape;
 use std::alloc::Global;
 

@@ -5,7 +5,7 @@ ghost use Rattle.amh_bits.specs.Patterns.{IsOf, wrap};
 ghost use Rattle.shape_rules.specs.Forms.{IsForm};
 ghost use Rattle.py_values.specs.declared.val.Val.TheVariants as val;
 ghost use Rattle.py_values.specs.Numbers.{number_of, bit_number};
-ghost use Rattle.py_values.specs.Scalars.{bit_length, width_of};
+ghost use Rattle.py_builtins.specs.Scalars.{bit_length, width_of};
 ghost use Rattle.amh_things.specs.Operands.{constant_form, operand_form, operand_constants, operand_id, operand_of, held_operand, member_operand, number_operand, IsOperand};
 ghost use Rattle.amh_things.specs.Held.{AreHeld};
 ghost use Rattle.amh_things.specs.Plans.{IsPlanned};

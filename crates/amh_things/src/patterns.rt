@@ -3,14 +3,15 @@ ghost use Rattle.std.specs.Prelude.{◌≡◌, ◌+◌, ◌-◌, ◌*◌, ◌^�
 ghost use Rattle.std.specs.Option.{option_to_list};
 ghost use Rattle.std.specs.List.{flat_map, list_all};
 ghost use Rattle.amh_bits.specs.Patterns.{wrap, pattern};
-ghost use Rattle.py_values.specs.Heaps.{seen};
+ghost use Rattle.py_heap.specs.Heaps.{seen};
 ghost use Rattle.amh_things.specs.Patterns.{is_blank, is_sign, is_any_sign, is_one_sign, is_text_pattern, text_pattern, is_held, number_patterns, is_pattern, patterns_of, patterns_meant, IsWithin, AreWithin};
 
 use crate::operand::{number_of, wrapped};
 use amh_bits::Int;
 use design_ir::{Pattern, Patterns};
 use lists::NoMemory;
-use py_values::{Frozen, Heap, Val};
+use py_heap::{Frozen, Heap};
+use py_values::Val;
 use shape_rules::Shape;
 use std::alloc::Global;
 

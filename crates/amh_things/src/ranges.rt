@@ -2,15 +2,16 @@
 ghost use Rattle.std.specs.Prelude.{◌≡◌, ◌+◌, ◌-◌, ◌%◌, ◌<◌, ◌≤◌, ◌<ℤ◌, IsTrue, int_lt, max, slice_get, unsigned_abs, ◌∷◌, [], true, false};
 ghost use Rattle.std.specs.Int.{int_gap};
 ghost use Rattle.amh_bits.specs.Integers.{sign_of};
-ghost use Rattle.py_values.specs.Heaps.{seen};
+ghost use Rattle.py_heap.specs.Heaps.{seen};
 ghost use Rattle.py_values.specs.Ranges.{number_in, span_of, comes_before};
-ghost use Rattle.py_values.specs.Spans.{span_count, span_numbers, stepped};
+ghost use Rattle.py_operators.specs.Spans.{span_count, span_numbers, stepped};
 ghost use Rattle.amh_things.specs.Ranges.{magnitude, width_for, form_for_all, form_within, range_shape};
 
 use crate::operand::{bit_length, note_kept, number_of};
 use amh_bits::Int;
 use py_frames::request::Cause;
-use py_values::{Frozen, Heap, ObjId, Val};
+use py_heap::{Frozen, Heap};
+use py_values::{ObjId, Val};
 use shape_rules::Shape;
 
 // ---- the last element

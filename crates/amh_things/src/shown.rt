@@ -1,6 +1,6 @@
 // What a machine shows of the program's strings and lists.
 
-use py_values::{Frozen, Heap};
+use py_heap::{Frozen, Heap};
 
 /// The heap of a machine, and what stands before it.
 #[derive(Clone, Copy, Drop)]

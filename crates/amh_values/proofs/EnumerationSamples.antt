@@ -7,8 +7,8 @@ use Rattle.data_layouts.specs.Enumerations.{is_of}
 use Rattle.design_ir.specs.declared.expr.Expr.TheVariants as expr
 use Rattle.design_ir.specs.Pools.{Pooled}
 use Rattle.design_ir.specs.Values.{form}
-use Rattle.py_values.specs.Heaps.{Seen, seen, nothing}
-use Rattle.py_values.specs.Scalars.{first_from}
+use Rattle.py_heap.specs.Heaps.{Seen, seen, nothing}
+use Rattle.py_builtins.specs.Scalars.{first_from}
 use Rattle.py_values.specs.declared.val.Val.{Val}
 use Rattle.py_values.specs.declared.val.Val.TheVariants as val
 use Rattle.py_frames.specs.declared.request.Answer.TheVariants as answer

@@ -15,17 +15,17 @@ use Rattle.amh_things.specs.declared.thing.Thing.TheVariants as thing
 use Rattle.amh_things.specs.declared.thing.Method.TheVariants as method
 use Rattle.design_ir.specs.Values.{form}
 use Rattle.amh_things.specs.Operands.{constant_form}
-use Rattle.py_values.specs.Scalars.{first_from}
+use Rattle.py_builtins.specs.Scalars.{first_from}
 use Rattle.value_acts.specs.Operators.{binary_operator, unary_operator, operated}
 use Rattle.amh_values.specs.Attributes.{attributed}
 use Rattle.amh_things.specs.Arguments.{Arguments, fits}
 use Rattle.value_acts.specs.Names.{constant_called, mux_called}
 use Rattle.value_acts.specs.Joins.{cat_called}
 use Rattle.value_acts.specs.Arrays.{array_called}
-use Rattle.py_values.specs.Heaps.{Seen, seen, nothing}
+use Rattle.py_heap.specs.Heaps.{Seen, seen, nothing}
 use Rattle.value_acts.specs.Selections.{replicate_called, select_called}
 use Rattle.value_acts.specs.Indices.{indexed, measured}
-use Rattle.py_values.specs.Spans.{numbers_from}
+use Rattle.py_operators.specs.Spans.{numbers_from}
 use Rattle.amh_things.specs.Meant.{shape_meant}
 use Rattle.amh_values.specs.Acts.{is_other}
 

@@ -1,6 +1,6 @@
 // What the store answers to a request.
 ghost use Rattle.std.specs.Prelude.{length, IfOk, OnOk};
-ghost use Rattle.py_values.specs.Heaps.{seen};
+ghost use Rattle.py_heap.specs.Heaps.{seen};
 ghost use Rattle.amh_values.specs.Acts.{acted, Acts};
 ghost use Rattle.amh_things.specs.Held.{AreHeld};
 
@@ -10,8 +10,8 @@ use amh_things::values::Values;
 use design_ir::Exprs;
 use lists::NoMemory;
 use py_frames::request::{Answer, Request};
+use py_heap::Frozen;
 use py_machine::Machine;
-use py_values::Frozen;
 use std::alloc::Global;
 
 /// What a request comes to.

@@ -1,6 +1,6 @@
 // The table of acts.
 ghost use Rattle.std.specs.Prelude.{◌≡◌, ◌++◌, ◌+◌, ◌≤◌, length, map, IfOk, OnOk, string_bytes, nat_lt, Err, None, Some};
-ghost use Rattle.py_values.specs.Heaps.{seen};
+ghost use Rattle.py_heap.specs.Heaps.{seen};
 ghost use Rattle.amh_things.specs.declared.plan.Plan.{Plan};
 ghost use Rattle.amh_values.specs.Acts.{first_name, planned, acted, Acts};
 ghost use Rattle.amh_things.specs.Held.{AreHeld};

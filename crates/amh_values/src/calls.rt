@@ -2,7 +2,7 @@
 ghost use Rattle.std.specs.Prelude.{◌≡◌, ◌<◌, length, drop, map, slice_get, string_bytes, IfOk};
 ghost use Rattle.shape_rules.specs.Forms.{unsigned};
 ghost use Rattle.design_ir.specs.Values.{form};
-ghost use Rattle.py_values.specs.Heaps.{seen};
+ghost use Rattle.py_heap.specs.Heaps.{seen};
 ghost use Rattle.amh_values.specs.Calls.{signed_made, method_plan, plain_called, method_called, any_name_called, thing_called, numbered, own_numbering, any_called, called};
 ghost use Rattle.amh_things.specs.Plans.{ends_of, value_made, IsPlanned, IsDrafted};
 ghost use Rattle.amh_things.specs.Held.{AreHeld};

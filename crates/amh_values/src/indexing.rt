@@ -1,6 +1,6 @@
 // An index of a thing.
 ghost use Rattle.std.specs.Prelude.{◌≡◌, length, slice_get, IfOk};
-ghost use Rattle.py_values.specs.Heaps.{seen};
+ghost use Rattle.py_heap.specs.Heaps.{seen};
 ghost use Rattle.amh_values.specs.Indexing.{any_indexed};
 ghost use Rattle.amh_things.specs.Held.{AreHeld};
 ghost use Rattle.amh_things.specs.Plans.{ends_of, IsPlanned, IsDrafted};

@@ -12,15 +12,15 @@ use Rattle.design_ir.specs.declared.process.Process.{Process}
 use Rattle.design_ir.specs.Pools.{Pooled}
 use Rattle.design_ir.specs.PoolRules.{IsPool}
 use Rattle.design_ir.specs.Circuits.{is_among}
+use Rattle.fragment_walks.specs.Marks.{Flag, is_marked}
+use Rattle.fragment_walks.specs.Reads.{is_driven, is_given, is_read, read_roots}
+use Rattle.fragment_walks.specs.Walks.{Contents}
+use Rattle.fragment_walks.proofs.Lists.{all_imp, all_joined, all_mapped}
 use Rattle.clock_domains.specs.declared.top.TopPorts.{TopPorts}
 use Rattle.clock_domains.specs.declared.top.TopPorts.TheVariants.{Members, Held, Loose}
-use Rattle.clock_domains.specs.Marks.{Flag, is_marked}
-use Rattle.clock_domains.specs.Reads.{is_driven, is_given, is_read, read_roots}
-use Rattle.clock_domains.specs.Walks.{Contents}
 use Rattle.clock_domains.specs.Resolvable.{AreTopPorts}
 use Rattle.clock_domains.specs.Resolved.{has_width, loose_port, port_of, top_ports, signals_of, reset_port, domain_ports, ports_of_domain, ports_of, and_new}
 use Rattle.clock_domains.specs.Chosen.{is_new, held_port, known_port, known_ports, IsKnown, IsSignal, IsResetThere}
-use Rattle.clock_domains.proofs.Lists.{all_imp, all_joined, all_mapped}
 use Rattle.clock_domains.proofs.DriverLaws.{is_driven_none, read_none}
 
 -- ---- what is marked is a signal of the pool

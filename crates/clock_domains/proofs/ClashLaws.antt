@@ -1,11 +1,11 @@
 -- Names that are defined twice, one definition after another.
 use Rattle.std.proofs.Common.{◌≡◌, ℕ, ◌+◌, Bool, true, false, if◌then◌else◌, List, [], ◌∷◌, ◌++◌, map, take, drop, Option, Some, None, is_some, slice_get, refl, sym, ap, ◌∙◌, subst, append_assoc, append-nil}
 use Rattle.design_ir.specs.declared.domain.DomainDef.{DomainDef}
+use Rattle.fragment_walks.proofs.Lists.{map-push, take-push, take_and_drop}
 use Rattle.clock_domains.specs.declared.stop.ResolveStop.{ResolveStop}
 use Rattle.clock_domains.specs.declared.stop.ResolveStop.TheVariants.{DomainClash}
 use Rattle.clock_domains.specs.Resolved.{first_of, has_name, clash_after}
 use Rattle.clock_domains.specs.Tracked.{IsPut}
-use Rattle.clock_domains.proofs.Lists.{map-push, take-push, take_and_drop}
 use Rattle.clock_domains.proofs.NameLaws.{has_put}
 
 abbrev pub names_of : List DomainDef → List (List ℕ)

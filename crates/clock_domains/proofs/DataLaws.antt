@@ -10,16 +10,16 @@ use Rattle.std.proofs.lemmas.List.Elements.{filter-append}
 use Rattle.design_ir.specs.declared.memory.MemRead.{MemRead}
 use Rattle.design_ir.specs.declared.memory.Memory.{Memory}
 use Rattle.design_ir.specs.Circuits.{is_among}
+use Rattle.fragment_walks.specs.Marks.{is_marked, marked}
+use Rattle.fragment_walks.specs.Numbers.{lowered, first_at, lesser}
+use Rattle.fragment_walks.specs.Reads.{data_signals}
+use Rattle.fragment_walks.proofs.Lists.{all_filtered, all_left, all_mapped, all_right, all_unmapped, map-append, or_assoc, take-push, take_and_drop, take_length}
+use Rattle.fragment_walks.proofs.Markings.{length_marked, marked-append, marked_set}
+use Rattle.fragment_walks.proofs.NumberLaws.{lesser_again, lowered_at}
 use Rattle.clock_domains.specs.Data.{is_taken, words}
-use Rattle.clock_domains.specs.Firsts.{IsPlace, first_at, first_memory, lesser}
-use Rattle.clock_domains.specs.Marks.{is_marked, marked}
-use Rattle.clock_domains.specs.Numbers.{lowered}
-use Rattle.clock_domains.specs.Reads.{data_signals}
+use Rattle.clock_domains.specs.Firsts.{IsPlace, first_memory}
 use Rattle.clock_domains.specs.Resolved.{clocked_data, first_of, has_twice}
-use Rattle.clock_domains.proofs.FirstLaws.{place_wider, take_length}
-use Rattle.clock_domains.proofs.Lists.{all_filtered, all_left, all_mapped, all_right, all_unmapped, map-append, or_assoc, take-push, take_and_drop}
-use Rattle.clock_domains.proofs.Markings.{length_marked, marked-append, marked_set}
-use Rattle.clock_domains.proofs.NumberLaws.{lesser_again, lowered_at}
+use Rattle.clock_domains.proofs.FirstLaws.{place_wider}
 
 -- ---- what is marked, or stands twice
 

@@ -9,9 +9,9 @@ use Rattle.design_ir.specs.declared.port.Port.{Port}
 use Rattle.design_ir.specs.Pools.{Pooled}
 use Rattle.design_ir.specs.Circuits.{is_among, option_test}
 use Rattle.design_ir.specs.Designs.{reset_number, share}
+use Rattle.fragment_walks.proofs.Lists.{all_imp, all_joined, all_mapped, all_unmapped, any-append, any_none, map-append, none_any, or_none}
 use Rattle.clock_domains.specs.Resolvable.{IsDomainOf, IsResetOf, domain_numbers}
 use Rattle.clock_domains.specs.Resolved.{port_of, reset_port, ports_of_domain, domain_ports, signals_of}
-use Rattle.clock_domains.proofs.Lists.{all_imp, all_joined, all_mapped, all_unmapped, any-append, any_none, map-append, none_any, or_none}
 use Rattle.clock_domains.proofs.DesignSound.{distinct_joined, not_flipped, share_flipped}
 
 abbrev pub Apart : Domain → Domain → Type 0

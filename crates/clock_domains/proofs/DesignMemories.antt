@@ -10,12 +10,12 @@ use Rattle.design_ir.specs.declared.memory.Memory.{Memory}
 use Rattle.design_ir.specs.Circuits.{Circuit, is_among}
 use Rattle.design_ir.specs.Rows.{granules}
 use Rattle.design_ir.specs.Designs.{IsUsable, IsUsableOf, IsAddress, IsWritePort, IsReadPort, IsClocking, IsMemory, share}
-use Rattle.clock_domains.specs.Held.{memory_exprs, read_exprs, write_exprs}
-use Rattle.clock_domains.specs.Reads.{data_signals}
+use Rattle.fragment_walks.specs.Held.{memory_exprs, read_exprs, write_exprs}
+use Rattle.fragment_walks.specs.Reads.{data_signals}
+use Rattle.fragment_walks.proofs.Lists.{all_both, all_imp, all_joined, all_left, all_mapped, all_right, any_all, any_map, map-append, map_map, none_any, or_false, or_none}
 use Rattle.clock_domains.specs.Resolvable.{IsPlain, IsShaped, IsAddressOf, IsWriteOf, IsReadOf, IsClockingOf}
 use Rattle.clock_domains.specs.Resolved.{has_twice}
 use Rattle.clock_domains.specs.Ready.{HasDomains, IsNamedDomain, IsPlainMemory}
-use Rattle.clock_domains.proofs.Lists.{all_both, all_imp, all_joined, all_left, all_mapped, all_right, any_all, any_map, map-append, map_map, none_any, or_false, or_none}
 use Rattle.clock_domains.proofs.DesignSound.{share_flipped}
 
 -- ---- what read ports give

@@ -8,10 +8,10 @@ use Rattle.std.proofs.lemmas.Map.Keys.{IsDistinct-push}
 use Rattle.lists.specs.Texts.{text_eq}
 use Rattle.lists.specs.Names.{IsName, IsPath, IsSuffix, IsPublicName, dotted}
 use Rattle.design_ir.specs.declared.port.Column.{Column}
+use Rattle.fragment_walks.proofs.Lists.{all_index, all_joined}
 use Rattle.clock_domains.specs.Resolved.{has_name, numbered_name, fresh_name, columns_after}
 use Rattle.clock_domains.specs.Tracked.{names_of}
 use Rattle.clock_domains.specs.Ready.{IsUnder}
-use Rattle.clock_domains.proofs.Lists.{all_index, all_joined}
 use Rattle.clock_domains.proofs.NameLaws.{text_laws, not_all_taken}
 
 -- ---- a fresh name is new

@@ -19,12 +19,12 @@ use Rattle.design_ir.specs.declared.process.DesignProcess.{DesignProcess}
 use Rattle.design_ir.specs.Pools.{Pooled}
 use Rattle.design_ir.specs.Guards.{driven}
 use Rattle.design_ir.specs.Circuits.{is_among}
-use Rattle.clock_domains.specs.Reads.{is_driven}
+use Rattle.fragment_walks.specs.Reads.{is_driven}
+use Rattle.fragment_walks.proofs.Lists.{all_imp}
 use Rattle.clock_domains.specs.Resolvable.{IsDomainOf, IsResetOf}
 use Rattle.clock_domains.specs.Resolved.{domain_prefix, domain_signals, clocked_data, process_in, is_clocked, memory_path, signals_of, ports_named}
 use Rattle.clock_domains.specs.Chosen.{IsSignal, IsResetThere}
 use Rattle.clock_domains.specs.Ready.{HasDomain}
-use Rattle.clock_domains.proofs.Lists.{all_imp}
 
 pub or_true : (a b : Bool) → b ≡ true → (a || b) ≡ true
 or_true true b e = refl

@@ -19,13 +19,13 @@ use Rattle.design_ir.specs.Targets.{is_target, target_signals}
 use Rattle.design_ir.specs.Guards.{Guarded, guarded, driven, block_exprs}
 use Rattle.design_ir.specs.Circuits.{is_among}
 use Rattle.design_ir.specs.Designs.{share}
+use Rattle.fragment_walks.specs.Reads.{is_driven, is_given, is_read}
+use Rattle.fragment_walks.specs.Walks.{Contents}
+use Rattle.fragment_walks.proofs.Lists.{all_filtered, all_imp, all_joined, all_mapped, all_unmapped, any-append, any_none, none_any, or_none, map_map}
 use Rattle.clock_domains.specs.declared.top.TopPorts.{TopPorts}
 use Rattle.clock_domains.specs.declared.top.TopPorts.TheVariants.{Members, Held, Loose}
-use Rattle.clock_domains.specs.Reads.{is_driven, is_given, is_read}
-use Rattle.clock_domains.specs.Walks.{Contents}
 use Rattle.clock_domains.specs.Resolvable.{IsPlain, IsSideOf, AreTopPorts}
 use Rattle.clock_domains.specs.Resolved.{domain_number, port_of, top_ports, signals_of, driver_refusal, loose_port, first_of, first_refusal, statement_refusal}
-use Rattle.clock_domains.proofs.Lists.{all_filtered, all_imp, all_joined, all_mapped, all_unmapped, any-append, any_none, none_any, or_none, map_map}
 use Rattle.clock_domains.proofs.ChoiceLaws.{range_all}
 
 -- ---- a pool with more signals

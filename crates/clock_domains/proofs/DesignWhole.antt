@@ -24,18 +24,18 @@ use Rattle.design_ir.specs.Guards.{driven, block_exprs}
 use Rattle.design_ir.specs.Circuits.{Circuit, is_among, is_register}
 use Rattle.design_ir.specs.Designs.{IsDomain, IsProcess, IsSignalOf, IsReset, IsClockDomain, AreColumns, IsDesign, share, drivers, port_signals}
 use Rattle.design_ir.proofs.Counts.{few_below}
+use Rattle.fragment_walks.specs.Reads.{data_signals, is_driven, is_given, is_read}
+use Rattle.fragment_walks.specs.Walks.{Contents}
+use Rattle.fragment_walks.proofs.Lists.{all_filtered, passes, not_true, all_imp, all_both, all_joined, all_mapped, any-append, any_map, any_none, map-append, map_map, length_map}
 use Rattle.clock_domains.specs.declared.top.TopPorts.{TopPorts}
 use Rattle.clock_domains.specs.declared.top.TopPorts.TheVariants.{Members, Held, Loose}
-use Rattle.clock_domains.specs.Reads.{data_signals, is_driven, is_given, is_read}
-use Rattle.clock_domains.specs.Walks.{Contents}
 use Rattle.clock_domains.specs.Resolvable.{IsBit, IsResetOf, IsDomainOf, domain_numbers, top_inputs, AreTopPorts}
 use Rattle.clock_domains.specs.Resolved.{bit_signal, reset_port, ports_of_domain, domain_number, process_in, is_clocked, has_width, signal_name, port_of, domain_ports, top_ports, signals_of, ports_of, named_registers, column_of_port, column_of_register, register_path, columns_of, circuit_of, data_refusal, driver_refusal, driver_stop, has_twice, design_inputs, loose_port, process_path, memory_path}
 use Rattle.clock_domains.specs.Chosen.{IsSignal, IsResetThere}
 use Rattle.clock_domains.specs.Ready.{IsNaming, IsReady, IsUnder}
-use Rattle.clock_domains.proofs.Lists.{all_filtered, passes, not_true, all_imp, all_both, all_joined, all_mapped, any-append, any_map, any_none, map-append, map_map, length_map}
 use Rattle.clock_domains.proofs.DesignFacts.{Apart, pairs, clocks_distinct, resets_distinct, clock_no_reset, all_ports, domain_ports_distinct, clock_among}
 use Rattle.clock_domains.proofs.DesignNames.{columns_distinct, columns_public, columns_signals, columns_length, columns_keep, name_path, under_path}
-use Rattle.clock_domains.proofs.WalkLaws.{memory_naming, process_naming, top_path}
+use Rattle.clock_domains.proofs.WalkedNames.{memory_naming, process_naming, top_path}
 use Rattle.clock_domains.proofs.ChoiceLaws.{range_all, top_there}
 use Rattle.clock_domains.proofs.ChoiceLaws as choice
 use Rattle.clock_domains.proofs.DesignParts.{clocked_any, named_signals, named_any, named_all, wide_enough, or_true, domains_signal, memory_data}

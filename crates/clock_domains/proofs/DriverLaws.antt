@@ -17,19 +17,19 @@ use Rattle.design_ir.specs.Targets.{target_signals}
 use Rattle.design_ir.specs.Guards.{Guard, Guarded, guarded, guarded_in, guarded_arms, driven, block_exprs, statement_exprs, choices_exprs}
 use Rattle.design_ir.specs.Circuits.{is_among}
 use Rattle.design_ir.specs.Designs.{share}
+use Rattle.fragment_walks.specs.Marks.{Flag, is_marked, marked, numbers, comes_out, target_parts}
+use Rattle.fragment_walks.specs.Reads.{own_signals, statement_targets, choices_targets, block_targets, statement_values, choices_values, block_values, is_driven, signals_in}
+use Rattle.fragment_walks.specs.Numbers.{bounded, process_targets}
+use Rattle.fragment_walks.proofs.Lists.{take_end, all_imp, all_joined, any_agree, any-append, or_false, below_split}
+use Rattle.fragment_walks.proofs.NumberLaws.{bounded_none}
+use Rattle.fragment_walks.proofs.Markings.{fresh_marks, more_below, none_below}
+use Rattle.fragment_walks.proofs.Outs.{among_flat, signals_lead, reads_lead, own_below, parts_there, named_there, target_signals_past, signals_in_past}
 use Rattle.clock_domains.specs.declared.stop.ResolveStop.{ResolveStop}
 use Rattle.clock_domains.specs.declared.stop.ResolveStop.TheVariants as stop
-use Rattle.clock_domains.specs.Marks.{Flag, is_marked, marked, numbers, comes_out, target_parts}
-use Rattle.clock_domains.specs.Reads.{own_signals, statement_targets, choices_targets, block_targets, statement_values, choices_values, block_values, is_driven, signals_in}
 use Rattle.clock_domains.specs.Resolvable.{IsPlain, IsSideOf}
 use Rattle.clock_domains.specs.Resolved.{statement_refusal, first_of, first_refusal, driver_refusal}
-use Rattle.clock_domains.specs.Numbers.{bounded, process_targets}
 use Rattle.clock_domains.specs.Stops.{statement_stop, choices_stop, block_stop, processes_stop, target_stop, IsOwed}
-use Rattle.clock_domains.proofs.Lists.{take_end, all_imp, all_joined, any_agree, any-append, or_false, below_split}
 use Rattle.clock_domains.proofs.FirstLaws.{first_assoc, first_one}
-use Rattle.clock_domains.proofs.NumberLaws.{bounded_none}
-use Rattle.clock_domains.proofs.Markings.{fresh_marks, more_below, none_below}
-use Rattle.clock_domains.proofs.Outs.{among_flat, signals_lead, reads_lead, own_below, parts_there, named_there, target_signals_past, signals_in_past}
 
 -- ---- expressions of statements
 

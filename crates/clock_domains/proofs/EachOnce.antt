@@ -8,8 +8,8 @@ use Rattle.std.proofs.lemmas.List.Elements.{filter-append}
 use Rattle.std.proofs.lemmas.List.Folds.{find_at}
 use Rattle.lists.specs.Texts.{text_eq}
 use Rattle.lists.proofs.TextLaws.{text_eq_true}
+use Rattle.fragment_walks.proofs.Lists.{all_filtered, all_imp, distinct_filter, not_true, passes}
 use Rattle.clock_domains.specs.Resolved.{each_once}
-use Rattle.clock_domains.proofs.Lists.{all_filtered, all_imp, distinct_filter, not_true, passes}
 
 -- ---- one text more
 

@@ -1,15 +1,14 @@
 -- The first clocked process that drives a signal, by its number.
-use Rattle.std.proofs.Common.{◌≡◌, ℕ, zero, suc, ◌<◌, Bool, true, false, ◌&&◌, ◌||◌, cond, List, [], ◌∷◌, ◌++◌, map, length, take, Option, Some, None, slice_get, is_some, refl, ap, ◌∙◌, arith}
+use Rattle.std.proofs.Common.{◌≡◌, ℕ, zero, suc, Bool, true, false, ◌&&◌, ◌||◌, cond, List, [], ◌∷◌, length, Option, Some, None, is_some, refl, ap, ◌∙◌, arith}
 use Rattle.std.specs.Prelude.{option_map}
-use Rattle.std.specs.List.{AllByRecursion, filter}
-use Rattle.design_ir.specs.declared.port.Column.{Column}
+use Rattle.std.specs.List.{filter}
 use Rattle.design_ir.specs.declared.process.Process.{Process}
 use Rattle.design_ir.specs.Pools.{Pooled}
 use Rattle.design_ir.specs.Guards.{driven}
 use Rattle.design_ir.specs.Circuits.{is_among}
-use Rattle.clock_domains.specs.Reads.{is_driven}
-use Rattle.clock_domains.specs.Resolved.{first_of, is_clocked, process_path, signal_name}
-use Rattle.clock_domains.specs.Firsts.{AreFirsts, IsPlace, first_clocked, known_column, path_at}
+use Rattle.fragment_walks.specs.Reads.{is_driven}
+use Rattle.clock_domains.specs.Resolved.{first_of, is_clocked, process_path}
+use Rattle.clock_domains.specs.Firsts.{IsPlace, first_clocked, path_at}
 
 pub first_assoc : {A : Type 0} (a b c : Option A) → first_of (first_of a b) c ≡ first_of a (first_of b c)
 first_assoc None b c = refl
@@ -18,11 +17,6 @@ first_assoc (Some x) b c = refl
 pub first_one : {A : Type 0} (a : Option A) → first_of a None ≡ a
 first_one None = refl
 first_one (Some x) = refl
-
-pub take_length : {X : Type 0} (xs : List X) (i : ℕ) (x : X) → slice_get xs i ≡ Some x → length (take i xs) ≡ i
-take_length [] i x e = cc
-take_length (y ∷ xs) zero x e = refl
-take_length (y ∷ xs) (suc i) x e = ap suc (take_length xs i x e)
 
 -- ---- what the numbers say
 

@@ -23,15 +23,15 @@ use Rattle.design_ir.specs.Pools.{Pooled}
 use Rattle.design_ir.specs.Values.{signal_form}
 use Rattle.design_ir.specs.Circuits.{is_among}
 use Rattle.design_ir.specs.Designs.{share}
+use Rattle.fragment_walks.specs.Walks.{port_names, side_name}
+use Rattle.fragment_walks.proofs.Lists.{all_both, all_imp, all_left, all_mapped, all_right, all_unmapped, any_none, none_any, or_none}
+use Rattle.fragment_walks.proofs.Outs.{among_flat}
+use Rattle.fragment_walks.proofs.WalkLaws.{HasName}
 use Rattle.clock_domains.specs.Resolvable.{IsBit, IsResetOf, IsDomainOf, AreApart, domain_numbers}
 use Rattle.clock_domains.specs.Resolved.{each_once, defined_domain, undefined_names, domain_signals, domain_at, domain_for, number_after, domains_from, with_domains, is_past_limit, domain_number, is_clocked}
-use Rattle.clock_domains.specs.Walks.{port_names, side_name}
 use Rattle.clock_domains.specs.Ready.{HasDomain, HasDomains, IsNamedDomain}
-use Rattle.clock_domains.proofs.Lists.{all_both, all_imp, all_left, all_mapped, all_right, all_unmapped, any_none, none_any, or_none}
 use Rattle.clock_domains.proofs.EachOnce.{once_any}
 use Rattle.clock_domains.proofs.MadeDomains.{defined_name, defined_all, length_with, made_any, names_back}
-use Rattle.clock_domains.proofs.Outs.{among_flat}
-use Rattle.clock_domains.proofs.WalkLaws.{HasName}
 use Rattle.clock_domains.proofs.DesignSound.{not_equal, share_flipped}
 
 -- ---- what holds of all of them: of those that are defined, and of those that are made

@@ -16,14 +16,14 @@ use Rattle.design_ir.specs.declared.expr.Expr.TheVariants.{Const, Unary, Binary,
 use Rattle.design_ir.specs.declared.fragment.Fragment.{Fragment}
 use Rattle.design_ir.specs.Pools.{Pooled}
 use Rattle.design_ir.proofs.Equations.{place_below}
+use Rattle.fragment_walks.specs.Numbers.{first_at}
+use Rattle.fragment_walks.specs.Held.{ResetCall, fragment_exprs, held_resets, inside, is_within, leaf_exprs, reset_call}
+use Rattle.fragment_walks.specs.Holders.{AreHolders, first_roots}
+use Rattle.fragment_walks.specs.Names.{all_leaves}
+use Rattle.fragment_walks.specs.Walks.{all_definitions, all_names}
 use Rattle.clock_domains.specs.declared.stop.ResolveStop.TheVariants.{NoReset}
-use Rattle.clock_domains.specs.Firsts.{first_at}
-use Rattle.clock_domains.specs.Held.{ResetCall, fragment_exprs, held_resets, inside, is_within, leaf_exprs, reset_call}
-use Rattle.clock_domains.specs.Holders.{AreHolders, first_roots}
-use Rattle.clock_domains.specs.Names.{all_leaves}
 use Rattle.clock_domains.specs.Placed.{placed_from, placed_pool, reset_of}
 use Rattle.clock_domains.specs.Resolved.{defined_domain, domain_for, domain_names, domains_from, lacks_reset, made_domains, made_pool, number_after, reset_refusal}
-use Rattle.clock_domains.specs.Walks.{all_definitions, all_names}
 use Rattle.clock_domains.proofs.EachOnce.{once_any}
 use Rattle.clock_domains.proofs.MadeDomains.{defined_name}
 use Rattle.clock_domains.proofs.NamesOnce.{all_exprs_are, all_roots_are, found_any, held_there, is_there, names_flat, range_among}

@@ -1,13 +1,9 @@
 pub mod Samples
-pub mod Lists
-pub mod Markings
-pub mod Trees
-pub mod Outs
 pub mod EachOnce
 pub mod MadeDomains
-pub mod WalkLaws
+pub mod WalkedNames
 pub mod FirstLaws
-pub mod NumberLaws
+pub mod ProcessNumbers
 pub mod DataLaws
 pub mod DriverLaws
 pub mod ReadLaws
@@ -24,9 +20,6 @@ pub mod DesignWhole
 pub mod WalkedParts
 pub mod GivenDomains
 pub mod ReadyLaws
-pub mod ExprLists
-pub mod HolderLaws
-pub mod ResetNames
 pub mod NamesOnce
 pub mod PlacedLaws
 pub mod PlacingLaws

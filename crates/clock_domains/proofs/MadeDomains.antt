@@ -17,12 +17,12 @@ use Rattle.design_ir.specs.declared.refusal.PoolStop.TheVariants as pool
 use Rattle.design_ir.specs.Pools.{Pooled}
 use Rattle.design_ir.specs.PoolRules as rules
 use Rattle.design_ir.specs.PoolRules.{IsPool, IsRefusal, signal_bits, signal_added, signal_refusal}
+use Rattle.fragment_walks.proofs.Lists.{any_map, or_none, take-push, take_and_drop}
 use Rattle.clock_domains.specs.declared.stop.ResolveStop.{ResolveStop}
 use Rattle.clock_domains.specs.declared.stop.ResolveStop.TheVariants as stop
 use Rattle.clock_domains.specs.Resolved.{each_once, defined_domain, undefined_names, bit_signal, domain_signals, domain_at, domain_for, number_after, with_domains, domains_from, is_past_limit, limit_where}
 use Rattle.clock_domains.specs.Made.{limit, stop_of, with_domain, is_tight, pool_for, is_tight_for, is_full, is_made, IsNameMade, IsNameOwed, AreMade}
 use Rattle.clock_domains.specs.Stops.{IsOwed}
-use Rattle.clock_domains.proofs.Lists.{any_map, or_none, take-push, take_and_drop}
 use Rattle.clock_domains.proofs.EachOnce.{once-push, once_any, once_grows, position_any, find_placed, find_nowhere}
 
 pub signal_owed : (owed : Option PoolStop) (stop : PoolStop) → IsRefusal owed stop → IsOwed (option_map limit owed) (stop_of stop)

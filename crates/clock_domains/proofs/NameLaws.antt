@@ -14,9 +14,9 @@ use Rattle.lists.specs.Texts.{text_eq}
 use Rattle.lists.proofs.TextLaws.{text_eq_true, text_eq_same}
 use Rattle.design_ir.specs.declared.port.Port.{Port}
 use Rattle.design_ir.specs.declared.port.Column.{Column}
+use Rattle.fragment_walks.proofs.Lists.{any-append, or_false, map-push, map-append, take_end, take-push}
 use Rattle.clock_domains.specs.Resolved.{has_name, numbered_name, fresh_name, columns_after, ports_named}
 use Rattle.clock_domains.specs.Tracked.{names_of, AreTaken, Tracks, IsFree, IsPut}
-use Rattle.clock_domains.proofs.Lists.{any-append, or_false, map-push, map-append, take_end, take-push}
 use Rattle.clock_domains.proofs.PortLaws.{range-push}
 
 -- ---- texts

@@ -13,17 +13,16 @@ use Rattle.design_ir.specs.Circuits.{is_among}
 use Rattle.design_ir.specs.Forests.{Leaf, Forest, bare, grown}
 use Rattle.design_ir.specs.Fragments.{leaf_of}
 use Rattle.design_ir.specs.Pools.{Pooled}
-use Rattle.clock_domains.specs.Firsts.{first_at}
-use Rattle.clock_domains.specs.Held.{ResetCall, forest_exprs, fragment_exprs, held_resets, inside, is_within, leaf_exprs, reset_call}
-use Rattle.clock_domains.specs.Holders.{AreHolders, all_roots, first_roots}
-use Rattle.clock_domains.specs.Marks.{numbers}
-use Rattle.clock_domains.specs.Names.{all_leaves, is_number, leaves_of, new_resets, with_resets}
-use Rattle.clock_domains.specs.Numbers.{is_below}
+use Rattle.fragment_walks.specs.Held.{ResetCall, forest_exprs, fragment_exprs, held_resets, inside, is_within, leaf_exprs, reset_call}
+use Rattle.fragment_walks.specs.Holders.{AreHolders, all_roots, first_roots}
+use Rattle.fragment_walks.specs.Marks.{numbers}
+use Rattle.fragment_walks.specs.Names.{all_leaves, is_number, leaves_of, new_resets, with_resets}
+use Rattle.fragment_walks.specs.Numbers.{is_below, first_at}
+use Rattle.fragment_walks.specs.Walks.{all_names, gathered, own_names, plain_names}
+use Rattle.fragment_walks.proofs.Lists.{all_both, all_filtered, all_imp, any-append, map-append, passes}
+use Rattle.fragment_walks.proofs.NumberLaws.{bounded_at}
 use Rattle.clock_domains.specs.Resolved.{each_once}
-use Rattle.clock_domains.specs.Walks.{all_names, gathered, own_names, plain_names}
 use Rattle.clock_domains.proofs.EachOnce.{once-push, once_any}
-use Rattle.clock_domains.proofs.Lists.{all_both, all_filtered, all_imp, any-append, map-append, passes}
-use Rattle.clock_domains.proofs.NumberLaws.{bounded_at}
 
 abbrev pub is_there : List (List ℕ) → List ℕ → Bool
 is_there ns n = list_any (λ m. text_eq m n) ns

@@ -15,24 +15,23 @@ use Rattle.design_ir.specs.Fragments.{leaf_of}
 use Rattle.design_ir.specs.Guards.{block_exprs}
 use Rattle.design_ir.specs.Named.{AllBelow}
 use Rattle.design_ir.specs.Pools.{Pooled}
+use Rattle.fragment_walks.specs.Held.{fragment_exprs, held_resets, is_within, leaf_exprs, memory_exprs}
+use Rattle.fragment_walks.specs.Holders.{AreHolders, first_roots}
+use Rattle.fragment_walks.specs.Marks.{is_marked}
+use Rattle.fragment_walks.specs.Names.{all_leaves, leaves_of, with_resets}
+use Rattle.fragment_walks.specs.Numbers.{bounded, is_below, first_at}
+use Rattle.fragment_walks.specs.Walks.{all_definitions, all_names, plain_names}
+use Rattle.fragment_walks.proofs.Lists.{all_imp, all_joined, all_mapped, take_end}
+use Rattle.fragment_walks.proofs.NumberLaws.{bounded_at}
 use Rattle.clock_domains.specs.declared.stop.ResolveStop.{ResolveStop}
 use Rattle.clock_domains.specs.declared.stop.ResolveStop.TheVariants as stop
-use Rattle.clock_domains.specs.Firsts.{first_at}
-use Rattle.clock_domains.specs.Held.{fragment_exprs, held_resets, is_within, leaf_exprs, memory_exprs}
-use Rattle.clock_domains.specs.Holders.{AreHolders, first_roots}
 use Rattle.clock_domains.specs.Made.{AreMade}
-use Rattle.clock_domains.specs.Marks.{is_marked}
-use Rattle.clock_domains.specs.Names.{all_leaves, leaves_of, with_resets}
-use Rattle.clock_domains.specs.Numbers.{bounded, is_below}
 use Rattle.clock_domains.specs.Placed.{placed_from}
 use Rattle.clock_domains.specs.Resolvable.{AreModules, IsModule, IsOpenSide, IsThere, IsTree}
 use Rattle.clock_domains.specs.Resolved.{clash_after, domain_names, domain_stop, domains_from, each_once, first_of, is_past_limit, limit_where, made_domains, made_pool, reset_refusal, undefined_names, whole_pool, with_domains}
 use Rattle.clock_domains.specs.Stops.{IsOwed}
-use Rattle.clock_domains.specs.Walks.{all_definitions, all_names, plain_names}
 use Rattle.clock_domains.proofs.HeldSignals.{placed_root}
-use Rattle.clock_domains.proofs.Lists.{all_imp, all_joined, all_mapped, take_end}
 use Rattle.clock_domains.proofs.NamesOnce.{once_resets}
-use Rattle.clock_domains.proofs.NumberLaws.{bounded_at}
 use Rattle.clock_domains.proofs.PlacedParts.{all_together, memory_there}
 
 -- ---- what stands in fragments is there

@@ -24,13 +24,13 @@ use Rattle.design_ir.proofs.Answers.{answer_past}
 use Rattle.design_ir.proofs.Congruence.{AreSame, same_below}
 use Rattle.design_ir.proofs.Equations.{answer_at, standing}
 use Rattle.design_ir.proofs.TargetLaws.{is_target_is}
-use Rattle.clock_domains.specs.Held.{inside, inside_step, is_within}
-use Rattle.clock_domains.specs.Marks.{numbers}
+use Rattle.fragment_walks.specs.Held.{inside, inside_step, is_within}
+use Rattle.fragment_walks.specs.Marks.{numbers}
+use Rattle.fragment_walks.proofs.HolderLaws.{inside_lead}
+use Rattle.fragment_walks.proofs.Lists.{any-append, any_none}
+use Rattle.fragment_walks.proofs.Outs.{among_flat}
 use Rattle.clock_domains.specs.Placed.{or_signal, placed_expr, placed_from, placed_pool, reset_of}
 use Rattle.clock_domains.specs.Resolvable.{IsBit, IsDomainOf, IsResetOf, is_open_target, open_target_test}
-use Rattle.clock_domains.proofs.HolderLaws.{inside_lead}
-use Rattle.clock_domains.proofs.Lists.{any-append, any_none}
-use Rattle.clock_domains.proofs.Outs.{among_flat}
 
 -- ---- past the end
 

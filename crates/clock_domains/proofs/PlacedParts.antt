@@ -26,14 +26,14 @@ use Rattle.design_ir.specs.Guards.{Guarded, guarded, block_exprs}
 use Rattle.design_ir.specs.Circuits.{is_among}
 use Rattle.design_ir.specs.Designs.{IsGranularity}
 use Rattle.design_ir.proofs.Growth.{exprs_more, forms_more}
-use Rattle.clock_domains.specs.Held.{inside, is_within, memory_exprs, read_exprs, write_exprs}
-use Rattle.clock_domains.specs.Marks.{numbers}
+use Rattle.fragment_walks.specs.Held.{inside, is_within, memory_exprs, read_exprs, write_exprs}
+use Rattle.fragment_walks.specs.Marks.{numbers}
+use Rattle.fragment_walks.specs.Walks.{memory_named}
+use Rattle.fragment_walks.proofs.Lists.{all_both, all_imp, all_joined, any-append}
 use Rattle.clock_domains.specs.Placed.{or_signal, placed_expr, placed_from, placed_pool, reset_of}
 use Rattle.clock_domains.specs.Ready.{IsPlainMemory}
 use Rattle.clock_domains.specs.Resolvable.{AreTopPorts, IsAddressOf, IsBit, IsClockingOf, IsDataOf, IsDomainOf, IsMemoryOf, IsOpenSide, IsPlain, IsPortOf, IsReadOf, IsResetOf, IsShaped, IsSideOf, IsThere, IsWriteOf, is_open_target}
 use Rattle.clock_domains.specs.Resolved.{domain_signals, with_domains}
-use Rattle.clock_domains.specs.Walks.{memory_named}
-use Rattle.clock_domains.proofs.Lists.{all_both, all_imp, all_joined, any-append}
 use Rattle.clock_domains.proofs.GivenDomains.{old_form}
 use Rattle.clock_domains.proofs.MadeDomains.{length_with}
 use Rattle.clock_domains.proofs.PlacedLaws.{AreSignals, placed_count, placed_form, placed_plain, placed_signals, placed_target}

@@ -19,12 +19,14 @@ use Rattle.design_ir.specs.declared.expr.Expr as expr
 use Rattle.design_ir.specs.declared.expr.Expr.{Expr}
 use Rattle.design_ir.specs.declared.expr.Expr.TheVariants.{Const, Unary, Binary, Mux, Slice, Cat, Part, Pick, Cast, Matches, Reset}
 use Rattle.design_ir.specs.Pools.{Pooled}
+use Rattle.fragment_walks.specs.Held.{ResetCall, held_resets, is_within, reset_call}
+use Rattle.fragment_walks.specs.Holders.{AreHolders, all_roots}
+use Rattle.fragment_walks.specs.Numbers.{is_below, first_at}
+use Rattle.fragment_walks.proofs.Lists.{or_false, take_end, take-push}
+use Rattle.fragment_walks.proofs.NumberLaws.{bounded_at}
+use Rattle.fragment_walks.proofs.ResetNames.{numbers-push, range_parted}
 use Rattle.clock_domains.specs.declared.stop.ResolveStop.{ResolveStop}
 use Rattle.clock_domains.specs.declared.stop.ResolveStop.TheVariants.{DomainClash, NoReset}
-use Rattle.clock_domains.specs.Firsts.{first_at}
-use Rattle.clock_domains.specs.Held.{ResetCall, held_resets, is_within, reset_call}
-use Rattle.clock_domains.specs.Holders.{AreHolders, all_roots}
-use Rattle.clock_domains.specs.Numbers.{is_below}
 use Rattle.clock_domains.specs.Placed.{or_signal, placed_expr, placed_from, placed_pool, reset_of}
 use Rattle.clock_domains.specs.Placing.{IsLacking, IsLackingPut, place_stop, placed_signal, signal_for}
 use Rattle.clock_domains.specs.Resolved.{clash_after, first_of, has_name, lacks_reset, reset_refusal}
@@ -32,9 +34,6 @@ use Rattle.clock_domains.specs.Stops.{IsOwed}
 use Rattle.clock_domains.specs.Tracked.{IsPut}
 use Rattle.clock_domains.proofs.ClashLaws.{clash_told, names_of}
 use Rattle.clock_domains.proofs.EachOnce.{find_nowhere, find_placed}
-use Rattle.clock_domains.proofs.Lists.{or_false, take_end, take-push}
-use Rattle.clock_domains.proofs.NumberLaws.{bounded_at}
-use Rattle.clock_domains.proofs.ResetNames.{numbers-push, range_parted}
 
 -- ---- what is held
 

@@ -9,14 +9,14 @@ use Rattle.design_ir.specs.declared.memory.Memory.{Memory}
 use Rattle.design_ir.specs.declared.process.Process.{Process}
 use Rattle.design_ir.specs.Pools.{Pooled}
 use Rattle.design_ir.specs.Circuits.{is_among}
+use Rattle.fragment_walks.specs.Marks.{Flag, is_marked, marked}
+use Rattle.fragment_walks.proofs.Lists.{all_imp, take-push, map-push, map-append}
+use Rattle.fragment_walks.proofs.Markings.{marked-append, marked_at, length_marked}
 use Rattle.clock_domains.specs.declared.top.TopPorts.{TopPorts}
 use Rattle.clock_domains.specs.declared.top.TopPorts.TheVariants.{Members, Held, Loose}
-use Rattle.clock_domains.specs.Marks.{Flag, is_marked, marked}
 use Rattle.clock_domains.specs.Resolvable.{IsPortOf, ArePorts, AreTopPorts, top_inputs}
 use Rattle.clock_domains.specs.Resolved.{signals_of, domain_ports, ports_of_domain}
 use Rattle.clock_domains.specs.Chosen.{IsSignal}
-use Rattle.clock_domains.proofs.Lists.{all_imp, take-push, map-push, map-append}
-use Rattle.clock_domains.proofs.Markings.{marked-append, marked_at, length_marked}
 
 abbrev pub clocks_of : List Domain → List ℕ
 clocks_of ds = map (λ (d : Domain). d.clk.0) ds

@@ -11,13 +11,13 @@ use Rattle.design_ir.specs.Pools.{Pooled}
 use Rattle.design_ir.specs.PoolRules.{IsPool}
 use Rattle.design_ir.specs.Guards.{block_exprs}
 use Rattle.design_ir.specs.Circuits.{is_among}
-use Rattle.clock_domains.specs.Held.{memory_exprs}
-use Rattle.clock_domains.specs.Marks.{is_marked, marked, any_below, comes_out, numbers, target_parts, own_offsets}
-use Rattle.clock_domains.specs.Reads.{block_targets, block_values, offsets_in, signals_in, read_roots, is_read}
+use Rattle.fragment_walks.specs.Held.{memory_exprs}
+use Rattle.fragment_walks.specs.Marks.{is_marked, marked, any_below, comes_out, numbers, target_parts, own_offsets}
+use Rattle.fragment_walks.specs.Reads.{block_targets, block_values, offsets_in, signals_in, read_roots, is_read}
+use Rattle.fragment_walks.proofs.Lists.{take-push, all_joined, any-append, below_all, or_assoc, or_false}
+use Rattle.fragment_walks.proofs.Markings.{marked-append, marked_at, fresh_marks, more_below, none_below}
+use Rattle.fragment_walks.proofs.Outs.{among_flat, offsets_lead, offsets_there, parts_there, offsets_in_past}
 use Rattle.clock_domains.specs.Resolvable.{IsSideOf}
-use Rattle.clock_domains.proofs.Lists.{take-push, all_joined, any-append, below_all, or_assoc, or_false}
-use Rattle.clock_domains.proofs.Markings.{marked-append, marked_at, fresh_marks, more_below, none_below}
-use Rattle.clock_domains.proofs.Outs.{among_flat, offsets_lead, offsets_there, parts_there, offsets_in_past}
 use Rattle.clock_domains.proofs.DriverLaws.{plain_below, values_below, flat_below, sides_targets, leads_none, small_all}
 
 pub processes_turn : (f : Block → List ℕ) (ps : List Process) (i : ℕ) (p : Process) (old cur new : List Bool) → slice_get ps i ≡ Some p → cur ≡ marked (flat_map (λ (p : Process). f p.body) (take i ps)) old → new ≡ marked (f p.body) cur → new ≡ marked (flat_map (λ (p : Process). f p.body) (take (i + 1) ps)) old

@@ -26,23 +26,25 @@ use Rattle.design_ir.specs.Circuits.{Circuit, is_among}
 use Rattle.design_ir.specs.Guards.{block_exprs}
 use Rattle.design_ir.specs.Designs.{IsDesign}
 use Rattle.design_ir.specs.Rising.{AllRisingSync}
+use Rattle.fragment_walks.specs.Held.{fragment_exprs, held_resets, is_within, memory_exprs}
+use Rattle.fragment_walks.specs.Marks.{Flag, is_marked}
+use Rattle.fragment_walks.specs.Reads.{data_signals, is_driven, is_given}
+use Rattle.fragment_walks.specs.Walks.{Contents, all_contents, all_definitions, all_memories, all_names, all_paths, all_processes, port_names}
+use Rattle.fragment_walks.specs.Numbers.{first_at}
+use Rattle.fragment_walks.proofs.Lists.{all_both, all_filtered, all_imp, all_joined, all_mapped, all_unmapped, any-append, or_none}
+use Rattle.fragment_walks.proofs.WalkLaws.{walk_has, walk_length, walk_memory_length}
 use Rattle.clock_domains.specs.declared.top.TopPorts.{TopPorts}
 use Rattle.clock_domains.specs.declared.top.TopPorts.TheVariants.{Members, Held, Loose}
 use Rattle.clock_domains.specs.declared.stop.ResolveStop.{ResolveStop}
 use Rattle.clock_domains.specs.declared.stop.ResolveStop.TheVariants as stop
-use Rattle.clock_domains.specs.Held.{fragment_exprs, held_resets, is_within, memory_exprs}
-use Rattle.clock_domains.specs.Marks.{Flag, is_marked}
-use Rattle.clock_domains.specs.Reads.{data_signals, is_driven, is_given}
-use Rattle.clock_domains.specs.Walks.{Contents, all_contents, all_definitions, all_memories, all_names, all_paths, all_processes, port_names}
 use Rattle.clock_domains.specs.Resolvable.{IsDefinition, IsDomainOf, IsMemoryOf, IsOpenSide, IsPlain, IsResolvable, IsSideOf, IsTree, domain_numbers, top_inputs}
 use Rattle.clock_domains.specs.Resolved.{clash_after, clocked_data, column_of_port, column_of_register, columns_after, columns_of, circuit_of, defined_domain, domain_names, domain_ports, domain_signals, domain_stop, domains_from, driver_stop, has_width, is_clocked, is_past_limit, limit_where, made_domains, made_names, made_pool, named_registers, ports_named, ports_of, process_in, register_path, reset_refusal, resolved, resolved_in, signals_of, top_ports, unless, whole_pool, with_domains, IsResolveRefusal}
 use Rattle.clock_domains.specs.Chosen.{IsSignal}
-use Rattle.clock_domains.specs.Firsts.{AreNumbersThere, AreSites, IsPlace, column_under, first_at, first_site, known_column, path_at}
+use Rattle.clock_domains.specs.Firsts.{AreNumbersThere, AreSites, IsPlace, column_under, first_site, known_column, path_at}
 use Rattle.clock_domains.specs.Ready.{AreClocked, AreWalked, IsPlainMemory, IsReady}
 use Rattle.clock_domains.specs.Stops.{IsOwed}
-use Rattle.clock_domains.proofs.Lists.{all_both, all_filtered, all_imp, all_joined, all_mapped, all_unmapped, any-append, or_none}
 use Rattle.clock_domains.proofs.EachOnce.{once_all, once_distinct}
-use Rattle.clock_domains.proofs.WalkLaws.{walk_definitions, walk_has, walk_length, walk_memory_length, walk_memory_named, walk_named, walk_names}
+use Rattle.clock_domains.proofs.WalkedNames.{walk_definitions, walk_memory_named, walk_named, walk_names}
 use Rattle.clock_domains.proofs.MadeDomains.{domains_length, length_with}
 use Rattle.clock_domains.proofs.DriverLaws.{is_driven_none, plain_below}
 use Rattle.clock_domains.proofs.ChoiceLaws.{range_all, range_split, domain_there, top_there}

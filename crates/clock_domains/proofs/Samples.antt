@@ -22,12 +22,12 @@ use Rattle.design_ir.specs.Trees.{Block, done, next, Statement, assign}
 use Rattle.design_ir.specs.Pools.{Pooled}
 use Rattle.design_ir.specs.Targets.{target_signals}
 use Rattle.design_ir.specs.Circuits.{Circuit}
+use Rattle.fragment_walks.specs.Held.{held_resets, inside}
+use Rattle.fragment_walks.specs.Reads.{signals_in, offsets_in}
 use Rattle.clock_domains.specs.declared.top.TopPorts.TheVariants.{Members, Loose}
 use Rattle.clock_domains.specs.declared.stop.ResolveStop.{ResolveStop}
 use Rattle.clock_domains.specs.declared.stop.ResolveStop.TheVariants.{DomainClash, DrivenInput, NoReset, TwoDrivers}
-use Rattle.clock_domains.specs.Held.{held_resets, inside}
 use Rattle.clock_domains.specs.Placed.{placed_pool}
-use Rattle.clock_domains.specs.Reads.{signals_in, offsets_in}
 use Rattle.clock_domains.specs.Resolved.{domain_prefix, domain_names, columns_after, resolved_in, resolved}
 
 place : ℕ → Place

@@ -9,10 +9,11 @@ use Rattle.design_ir.specs.declared.memory.Memory.{Memory}
 use Rattle.design_ir.specs.declared.process.Process.{Process}
 use Rattle.design_ir.specs.Pools.{Pooled}
 use Rattle.design_ir.specs.Circuits.{is_among}
-use Rattle.clock_domains.specs.Reads.{is_driven}
+use Rattle.fragment_walks.specs.Reads.{is_driven}
+use Rattle.fragment_walks.specs.Numbers.{lesser}
+use Rattle.fragment_walks.proofs.Lists.{any_none, all_imp}
 use Rattle.clock_domains.specs.Resolved.{clocked_data, is_clocked, memory_path, process_path}
-use Rattle.clock_domains.specs.Firsts.{IsPlace, first_clocked, first_memory, first_site, lesser, path_at}
-use Rattle.clock_domains.proofs.Lists.{any_none, all_imp}
+use Rattle.clock_domains.specs.Firsts.{IsPlace, first_clocked, first_memory, first_site, path_at}
 use Rattle.clock_domains.proofs.DesignSound.{not_equal}
 use Rattle.clock_domains.proofs.FirstLaws.{first_is, first_place, path_is}
 

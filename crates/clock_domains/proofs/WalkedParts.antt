@@ -16,15 +16,15 @@ use Rattle.design_ir.specs.Fragments.{leaf_of}
 use Rattle.design_ir.specs.Trees.{Statement, assign, choose, Choices, none, arm, Block, done, next}
 use Rattle.design_ir.specs.Guards.{Guard, Guarded, guarded, guarded_in, guarded_arms, statement_exprs, choices_exprs, block_exprs}
 use Rattle.design_ir.specs.Pools.{Pooled}
-use Rattle.clock_domains.specs.Held.{ResetCall, forest_exprs, fragment_exprs, held_resets, leaf_exprs, memory_exprs}
-use Rattle.clock_domains.specs.Reads.{data_signals}
+use Rattle.fragment_walks.specs.Held.{ResetCall, forest_exprs, fragment_exprs, held_resets, leaf_exprs, memory_exprs}
+use Rattle.fragment_walks.specs.Reads.{data_signals}
+use Rattle.fragment_walks.specs.Walks.{all_memories, all_names, all_processes, memories_of, memory_named, named_memories, names_of, own_names, path_under, plain_names, port_names, processes_of, side_name}
+use Rattle.fragment_walks.proofs.Lists.{all_both, all_imp, all_joined, all_left, all_mapped, all_right}
 use Rattle.clock_domains.specs.Ready.{IsUnder}
 use Rattle.clock_domains.specs.Resolvable.{AreModules, IsMemoryOf, IsModule, IsOpenSide, IsReadOf, IsTree}
-use Rattle.clock_domains.specs.Walks.{all_memories, all_names, all_processes, memories_of, memory_named, named_memories, names_of, own_names, path_under, plain_names, port_names, processes_of, side_name}
-use Rattle.clock_domains.proofs.Lists.{all_both, all_imp, all_joined, all_left, all_mapped, all_right}
 use Rattle.clock_domains.proofs.DesignMemories.{all_parted}
 use Rattle.clock_domains.proofs.DesignNames.{name_path, under_path}
-use Rattle.clock_domains.proofs.WalkLaws.{top_path, under_more}
+use Rattle.clock_domains.proofs.WalkedNames.{top_path, under_more}
 
 -- ---- memories under their names, by what stands in them
 

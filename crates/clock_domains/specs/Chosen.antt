@@ -5,9 +5,9 @@ use Rattle.design_ir.specs.declared.ids.SigId.{SigId}
 use Rattle.design_ir.specs.declared.port.Port.{Port}
 use Rattle.design_ir.specs.declared.domain.Domain.{Domain}
 use Rattle.design_ir.specs.Pools.{Pooled}
+use Rattle.fragment_walks.specs.Marks.{is_marked}
 use Rattle.clock_domains.specs.declared.top.TopPorts.{TopPorts}
 use Rattle.clock_domains.specs.declared.top.TopPorts.TheVariants.{Members, Held, Loose}
-use Rattle.clock_domains.specs.Marks.{is_marked}
 use Rattle.clock_domains.specs.Resolved.{has_width, port_of}
 
 -- a signal that is not taken, and that has bits

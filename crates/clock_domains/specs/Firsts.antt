@@ -1,28 +1,18 @@
 -- The first clocked process that drives a signal, and the first memory whose clocked read port gives it, by their numbers. (Internal:
 -- no rule of the language.)
-use Rattle.std.specs.Prelude.{◌≡◌, ℕ, suc, ◌+◌, ◌<◌, nat_lt, ◌&&◌, ◌++◌, ⊤, true, if◌then◌else◌, List, [], ◌∷◌, length, slice_index_or, Option, Some, None, is_some, option_map, unwrap_or}
+use Rattle.std.specs.Prelude.{◌≡◌, ℕ, suc, ◌+◌, ◌<◌, ◌&&◌, ◌++◌, ⊤, true, if◌then◌else◌, List, [], ◌∷◌, length, slice_index_or, Option, Some, None, is_some, option_map, unwrap_or}
 use Rattle.design_ir.specs.declared.memory.Memory.{Memory}
 use Rattle.design_ir.specs.declared.process.Process.{Process}
 use Rattle.design_ir.specs.declared.port.Column.{Column}
 use Rattle.design_ir.specs.Pools.{Pooled}
 use Rattle.design_ir.specs.Guards.{driven}
 use Rattle.design_ir.specs.Circuits.{is_among}
+use Rattle.fragment_walks.specs.Numbers.{first_at, lesser}
 use Rattle.clock_domains.specs.Resolved.{clocked_data, is_clocked, signal_name}
 
 abbrev pub first_clocked : Pooled → List Process → ℕ → Option ℕ
 first_clocked q [] s = None
 first_clocked q (p ∷ ps) s = if is_clocked p && is_among (driven q p.body) s then Some 0 else option_map (λ (k : ℕ). suc k) (first_clocked q ps s)
-
--- ---- numbers that are kept for signals
-
--- the lesser of two numbers, where there are any
-abbrev pub lesser : Option ℕ → Option ℕ → Option ℕ
-lesser None b = b
-lesser (Some m) None = Some m
-lesser (Some m) (Some n) = if nat_lt n m then Some n else Some m
-
-abbrev pub first_at : List (Option ℕ) → ℕ → Option ℕ
-first_at firsts s = slice_index_or firsts s None
 
 -- as many signals as a pool may have: each with the first clocked process that drives it
 pub record AreFirsts (q : Pooled) (ps : List Process) (firsts : List (Option ℕ)) : Type 0 where

@@ -11,7 +11,7 @@ use Rattle.design_ir.specs.declared.expr.Expr as expr
 use Rattle.design_ir.specs.declared.expr.Expr.{Expr}
 use Rattle.design_ir.specs.declared.expr.Expr.TheVariants.{Reset}
 use Rattle.design_ir.specs.Pools.{Pooled}
-use Rattle.clock_domains.specs.Held.{is_within}
+use Rattle.fragment_walks.specs.Held.{is_within}
 
 -- the signal of the reset of the domain with a name, where there is such a domain and it has a reset
 abbrev pub reset_of : List Domain → List ℕ → Option SigId

@@ -12,10 +12,10 @@ use Rattle.design_ir.specs.declared.process.Process.{Process}
 use Rattle.design_ir.specs.Pools.{Pooled}
 use Rattle.design_ir.specs.Circuits.{is_among}
 use Rattle.design_ir.specs.Designs.{share}
+use Rattle.fragment_walks.specs.Held.{memory_exprs}
+use Rattle.fragment_walks.specs.Reads.{data_signals}
+use Rattle.fragment_walks.specs.Walks.{Contents}
 use Rattle.clock_domains.specs.declared.top.TopPorts.{TopPorts}
-use Rattle.clock_domains.specs.Held.{memory_exprs}
-use Rattle.clock_domains.specs.Reads.{data_signals}
-use Rattle.clock_domains.specs.Walks.{Contents}
 use Rattle.clock_domains.specs.Resolvable.{IsPlain, IsSideOf, IsMemoryOf, AreTopPorts, IsDomainOf, domain_numbers, top_inputs}
 use Rattle.clock_domains.specs.Resolved.{clocked_data, domain_number, is_clocked}
 

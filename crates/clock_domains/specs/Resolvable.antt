@@ -30,11 +30,11 @@ use Rattle.design_ir.specs.Guards.{Guarded, guarded, block_exprs}
 use Rattle.design_ir.specs.Rows.{granules}
 use Rattle.design_ir.specs.Circuits.{is_among}
 use Rattle.design_ir.specs.Designs.{IsAddressWidth, IsGranularity, IsTransparent, holds_reset, share}
+use Rattle.fragment_walks.specs.Held.{ResetCall, held_resets, leaf_exprs}
+use Rattle.fragment_walks.specs.Reads.{data_signals}
+use Rattle.fragment_walks.specs.Walks.{all_definitions, all_memories}
 use Rattle.clock_domains.specs.declared.top.TopPorts.{TopPorts}
 use Rattle.clock_domains.specs.declared.top.TopPorts.TheVariants.{Members, Held, Loose}
-use Rattle.clock_domains.specs.Held.{ResetCall, held_resets, leaf_exprs}
-use Rattle.clock_domains.specs.Reads.{data_signals}
-use Rattle.clock_domains.specs.Walks.{all_definitions, all_memories}
 
 -- ---- domains
 

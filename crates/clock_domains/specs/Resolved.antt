@@ -29,15 +29,15 @@ use Rattle.design_ir.specs.Targets.{target_signals}
 use Rattle.design_ir.specs.Guards.{Guarded, guarded, driven}
 use Rattle.design_ir.specs.Circuits.{Circuit, is_among}
 use Rattle.design_ir.specs.Designs.{share}
+use Rattle.fragment_walks.specs.Reads.{data_signals, is_read, is_driven, is_given}
+use Rattle.fragment_walks.specs.Held.{ResetCall, fragment_exprs, held_resets}
+use Rattle.fragment_walks.specs.Walks.{Contents, side_name, all_contents, all_definitions, all_names}
 use Rattle.clock_domains.specs.declared.top.TopPorts.{TopPorts}
 use Rattle.clock_domains.specs.declared.top.TopPorts.TheVariants.{Members, Held, Loose}
 use Rattle.clock_domains.specs.declared.stop.ResolveStop.{ResolveStop}
 use Rattle.clock_domains.specs.declared.stop.ResolveStop.TheVariants.{DomainClash, NoReset, TwoDrivers, DrivenInput, Limit, NoMemory}
-use Rattle.clock_domains.specs.Reads.{data_signals, is_read, is_driven, is_given}
-use Rattle.clock_domains.specs.Held.{ResetCall, fragment_exprs, held_resets}
 use Rattle.clock_domains.specs.Placed.{placed_pool}
 use Rattle.clock_domains.specs.Resolvable.{top_inputs}
-use Rattle.clock_domains.specs.Walks.{Contents, side_name, all_contents, all_definitions, all_names}
 
 -- ---- domains: one for each name, in the order of fragments, and in each first of its definitions, then of its clocked sides, of its
 -- memory ports and of the resets that it holds

@@ -3,9 +3,9 @@ use Rattle.std.specs.Prelude.{◌≡◌, ℕ, suc, Bool, if◌then◌else◌, Li
 use Rattle.amh_host.specs.declared.place.Place.{Place}
 use Rattle.design_ir.specs.Trees.{Statement, assign, choose, Choices, none, arm, Block, done, next}
 use Rattle.design_ir.specs.declared.process.Process.{Process}
+use Rattle.fragment_walks.specs.Marks.{is_marked}
 use Rattle.clock_domains.specs.declared.stop.ResolveStop.{ResolveStop}
 use Rattle.clock_domains.specs.declared.stop.ResolveStop.TheVariants.{DomainClash, NoReset, TwoDrivers, DrivenInput, Limit, NoMemory}
-use Rattle.clock_domains.specs.Marks.{is_marked}
 use Rattle.clock_domains.specs.Resolved.{first_of}
 
 abbrev mutual

@@ -2,15 +2,16 @@
 ghost use Rattle.std.specs.Prelude.{◌≡◌, ℕ, ◌<◌, ◌≤◌, ◌&&◌, ◌++◌, ◌∷◌, [], true, false, not, map, length, Some, is_some, unwrap_or, IfOk, OnOk};
 ghost use Rattle.std.specs.List.{AllByRecursion, filter, range_with_len};
 ghost use Rattle.std.specs.BTreeMap.{get_by_text};
-ghost use Rattle.clock_domains.specs.Marks.{is_marked};
+ghost use Rattle.fragment_walks.specs.Marks.{is_marked};
+ghost use Rattle.fragment_walks.specs.Numbers.{first_at};
 ghost use Rattle.clock_domains.specs.Tracked.{AreTaken, IsFree, IsPut, IsTracked, names_of};
-ghost use Rattle.clock_domains.specs.Firsts.{AreNumbersThere, IsPlace, column_under, first_at, known_column, path_at};
+ghost use Rattle.clock_domains.specs.Firsts.{AreNumbersThere, IsPlace, column_under, known_column, path_at};
 ghost use Rattle.clock_domains.specs.Resolved.{column_of_port, columns_after, fresh_name, has_name, has_width, numbered_name, ports_named};
 
-use crate::domains::copied;
 use crate::ports::has_width;
 use amh_host::{Items, NoMemory, Text};
 use design_ir::{Column, Columns, Exprs, Pool, Port, Ports, SigId};
+use fragment_walks::copies::copied;
 use std::alloc::Global;
 use std::collections::BTreeMap;
 

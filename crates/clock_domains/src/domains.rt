@@ -6,7 +6,6 @@ ghost use Rattle.clock_domains.specs.Resolved.{defined_domain, domain_at, domain
 ghost use Rattle.clock_domains.specs.Made.{AreMade, IsMade, IsNameMade, IsNameOwed, is_made, is_tight, is_tight_for, limit, pool_for, stop_of, with_domain};
 ghost use Rattle.clock_domains.specs.Stops.{IsOwed};
 
-use crate::copies::copied_domain;
 use crate::stop::ResolveStop;
 use amh_bits::Int;
 use amh_host::{Items, NoMemory, Place, Text};
@@ -14,6 +13,7 @@ use design_ir::{
     DesignProcess, DesignProcesses, Domain, DomainDef, DomainId, Domains, Exprs, Pool, PoolStop,
     Process, Side, Sig, SigId,
 };
+use fragment_walks::copies::{copied, copied_domain};
 use shape_rules::Shape;
 use std::alloc::Global;
 
@@ -22,15 +22,6 @@ pub fn file_start() -> Place
     ensures { result ≡ file_start }
 {
     Place { line: 1, col: 1 }
-}
-
-/// A text of its own.
-pub fn copied(alloc: Global, text: &str) -> Result<Text, NoMemory>
-    ensures { IfOk result (λ t. t ≡ text.now) }
-{
-    let mut copy = Text::new(alloc);
-    copy.push(text)?;
-    Ok(copy)
 }
 
 // The name of a domain's signal.

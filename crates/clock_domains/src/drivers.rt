@@ -2,10 +2,10 @@
 ghost use Rattle.std.specs.Prelude.{◌≡◌, ◌<◌, ◌+◌, ◌^◌, ℕ, List, None, length, IfOk, IfErr};
 ghost use Rattle.std.specs.List.{AllByRecursion};
 ghost use Rattle.design_ir.specs.Circuits.{is_among};
+ghost use Rattle.fragment_walks.specs.Marks.{Flag};
+ghost use Rattle.fragment_walks.specs.Numbers.{bounded};
+ghost use Rattle.fragment_walks.specs.Reads.{data_signals, is_driven, is_given};
 ghost use Rattle.clock_domains.specs.Firsts.{AreSites};
-ghost use Rattle.clock_domains.specs.Marks.{Flag};
-ghost use Rattle.clock_domains.specs.Numbers.{bounded};
-ghost use Rattle.clock_domains.specs.Reads.{data_signals, is_driven, is_given};
 ghost use Rattle.clock_domains.specs.Resolvable.{IsSideOf};
 ghost use Rattle.clock_domains.specs.Resolved.{data_refusal, driver_refusal, first_of};
 ghost use Rattle.clock_domains.specs.Stops.{processes_stop, target_stop, IsOwed};
@@ -13,13 +13,14 @@ ghost use Rattle.clock_domains.specs.Stops.{processes_stop, target_stop, IsOwed}
 use crate::firsts::{first_drivers, first_sites};
 use crate::hits::hitting;
 use crate::leasts::leasts_of;
-use crate::marks::{Roots, SIGNALS, mark_processes, unmarked};
 use crate::read_data::{data_marks, mark_data};
-use crate::spread::spread_targets;
+use crate::reads::mark_processes;
 use crate::stop::ResolveStop;
 use crate::stops::block_stop;
 use amh_host::NoMemory;
 use design_ir::{Exprs, Memory, Pool, Process};
+use fragment_walks::marks::{Roots, SIGNALS, unmarked};
+use fragment_walks::spread::spread_targets;
 use std::alloc::Global;
 
 /// For each signal whether it is driven, by a statement or a read port, and the number of the first clocked process or memory

@@ -5,18 +5,18 @@ ghost use Rattle.design_ir.specs.Guards.{block_exprs};
 ghost use Rattle.design_ir.specs.Named.{AllBelow as AreBelow, named};
 ghost use Rattle.design_ir.specs.PoolRules.{IsPool};
 ghost use Rattle.design_ir.specs.Targets.{target_signals};
+ghost use Rattle.fragment_walks.specs.Marks.{AllBelow, Flag, comes_out, is_marked, marked, numbers, target_parts};
+ghost use Rattle.fragment_walks.specs.Numbers.{bounded, lowered, process_targets};
+ghost use Rattle.fragment_walks.specs.Reads.{data_signals, is_driven, own_signals};
 ghost use Rattle.clock_domains.specs.Firsts.{AreFirsts, AreSites};
-ghost use Rattle.clock_domains.specs.Marks.{AllBelow, Flag, comes_out, is_marked, marked, numbers, target_parts};
-ghost use Rattle.clock_domains.specs.Numbers.{bounded, lowered, process_targets};
-ghost use Rattle.clock_domains.specs.Reads.{data_signals, is_driven, own_signals};
 ghost use Rattle.clock_domains.specs.Resolvable.{IsSideOf};
 ghost use Rattle.clock_domains.specs.Resolved.{is_clocked};
 
-use crate::marks::SIGNALS;
-use crate::numbers::{lower, lower_all, lower_block, unnumbered};
 use crate::read_data::{number_data, number_memories};
 use amh_host::NoMemory;
 use design_ir::{Expr, ExprId, Exprs, Memory, Pool, Process, Side};
+use fragment_walks::marks::SIGNALS;
+use fragment_walks::numbers::{lower, lower_all, lower_block, unnumbered};
 use std::alloc::Global;
 
 // Each process numbers its targets, from 1 on: what read ports give has the number 0.

@@ -3,8 +3,8 @@ ghost use Rattle.std.specs.Prelude.{◌≡◌, ◌<◌, ℕ, length, IfOk};
 ghost use Rattle.std.specs.List.{list_any};
 ghost use Rattle.design_ir.specs.Named.{AllBelow as AreBelow, named};
 ghost use Rattle.design_ir.specs.Targets.{target_signals};
-ghost use Rattle.clock_domains.specs.Marks.{AllBelow, is_marked, hit_step};
-ghost use Rattle.clock_domains.specs.Reads.{own_signals};
+ghost use Rattle.fragment_walks.specs.Marks.{AllBelow, is_marked, hit_step};
+ghost use Rattle.fragment_walks.specs.Reads.{own_signals};
 
 use amh_host::NoMemory;
 use design_ir::{Expr, ExprId, Exprs, Pool};

@@ -3,13 +3,13 @@ ghost use Rattle.std.specs.Prelude.{◌≡◌, ◌<◌, ℕ, length, IfOk};
 ghost use Rattle.std.specs.List.{list_any};
 ghost use Rattle.design_ir.specs.Named.{AllBelow as AreBelow, named};
 ghost use Rattle.design_ir.specs.Targets.{target_signals};
-ghost use Rattle.clock_domains.specs.Marks.{AllBelow, is_marked, hit_step};
-ghost use Rattle.clock_domains.specs.Numbers.{bounded, is_below};
-ghost use Rattle.clock_domains.specs.Reads.{own_signals};
+ghost use Rattle.fragment_walks.specs.Marks.{AllBelow, is_marked, hit_step};
+ghost use Rattle.fragment_walks.specs.Numbers.{bounded, is_below};
+ghost use Rattle.fragment_walks.specs.Reads.{own_signals};
 
-use crate::numbers::lesser;
 use amh_host::NoMemory;
 use design_ir::{Expr, ExprId, Exprs, Pool};
+use fragment_walks::numbers::lesser;
 use std::alloc::Global;
 
 /// For each expression the least number of the signals that it stands for where it is a target.

@@ -3,9 +3,9 @@ ghost use Rattle.std.specs.Prelude.{◌≡◌, ◌<◌, List, [], length, None, 
 ghost use Rattle.std.specs.BTreeMap.{get_by_text};
 ghost use Rattle.std.specs.List.{AllByRecursion};
 ghost use Rattle.design_ir.specs.declared.ids.ExprId.{ExprId};
-ghost use Rattle.clock_domains.specs.Firsts.{first_at};
-ghost use Rattle.clock_domains.specs.Held.{held_resets};
-ghost use Rattle.clock_domains.specs.Holders.{AreHolders, all_roots};
+ghost use Rattle.fragment_walks.specs.Numbers.{first_at};
+ghost use Rattle.fragment_walks.specs.Held.{held_resets};
+ghost use Rattle.fragment_walks.specs.Holders.{AreHolders, all_roots};
 ghost use Rattle.clock_domains.specs.Placed.{placed_from};
 ghost use Rattle.clock_domains.specs.Placing.{IsLacking, IsLackingPut, place_stop, placed_signal};
 ghost use Rattle.clock_domains.specs.Resolvable.{IsDomainOf};

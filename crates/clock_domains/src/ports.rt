@@ -3,21 +3,21 @@ ghost use Rattle.std.specs.Prelude.{◌≡◌, ◌<◌, ◌&&◌, ◌++◌, ◌�
 ghost use Rattle.std.specs.List.{AllByRecursion, filter, filter_map, flat_map, range_with_len};
 ghost use Rattle.design_ir.specs.Named.{AllBelow};
 ghost use Rattle.design_ir.specs.Circuits.{is_among};
-ghost use Rattle.clock_domains.specs.Marks.{Flag, is_marked, marked};
-ghost use Rattle.clock_domains.specs.Held.{memory_exprs};
-ghost use Rattle.clock_domains.specs.Reads.{is_given};
-ghost use Rattle.clock_domains.specs.Walks.{Contents};
+ghost use Rattle.fragment_walks.specs.Marks.{Flag, is_marked, marked};
+ghost use Rattle.fragment_walks.specs.Held.{memory_exprs};
+ghost use Rattle.fragment_walks.specs.Reads.{is_given};
+ghost use Rattle.fragment_walks.specs.Walks.{Contents};
 ghost use Rattle.clock_domains.specs.Resolvable.{AreTopPorts, IsSideOf, top_inputs};
 ghost use Rattle.clock_domains.specs.Resolved.{design_inputs, domain_ports, has_width, port_of, ports_of, ports_of_domain, reset_port, signals_of};
 ghost use Rattle.clock_domains.specs.Chosen.{AreThere, IsKnown, IsSignal, held_port, is_new, known_port, known_ports, known_side};
 
-use crate::domains::copied;
 use crate::drivers::driven_by;
-use crate::marks::{SIGNALS, mark, unmarked};
 use crate::reads::reads;
 use crate::top::TopPorts;
 use amh_host::{Items, NoMemory};
 use design_ir::{Domain, Exprs, Memory, Pool, Port, Ports, Process, SigId};
+use fragment_walks::copies::copied;
+use fragment_walks::marks::{SIGNALS, mark, unmarked};
 use std::alloc::Global;
 
 /// Marks the signals of ports.

@@ -3,19 +3,19 @@ ghost use Rattle.std.specs.Prelude.{◌≡◌, ◌<◌, ◌+◌, ◌^◌, ◌||�
 ghost use Rattle.std.specs.List.{AllByRecursion, filter};
 ghost use Rattle.design_ir.specs.declared.memory.MemRead.{MemRead};
 ghost use Rattle.design_ir.specs.Circuits.{is_among};
-ghost use Rattle.clock_domains.specs.Firsts.{first_at, first_memory, lesser};
-ghost use Rattle.clock_domains.specs.Marks.{Flag, is_marked, marked};
-ghost use Rattle.clock_domains.specs.Reads.{data_signals};
+ghost use Rattle.fragment_walks.specs.Marks.{Flag, is_marked, marked};
+ghost use Rattle.fragment_walks.specs.Reads.{data_signals};
+ghost use Rattle.fragment_walks.specs.Numbers.{lowered, first_at, lesser};
+ghost use Rattle.clock_domains.specs.Firsts.{first_memory};
 ghost use Rattle.clock_domains.specs.Data.{is_taken, words};
 ghost use Rattle.clock_domains.specs.Resolved.{data_refusal};
-ghost use Rattle.clock_domains.specs.Numbers.{lowered};
 ghost use Rattle.clock_domains.specs.Stops.{IsOwed};
 
 use crate::domains::file_start;
-use crate::marks::{SIGNALS, mark, unmarked};
-use crate::numbers::lower;
 use crate::stop::ResolveStop;
 use design_ir::{MemRead, Memory};
+use fragment_walks::marks::{SIGNALS, mark, unmarked};
+use fragment_walks::numbers::lower;
 use std::alloc::Global;
 
 // Marks the data of these read ports, unless one is marked already.

@@ -4,34 +4,34 @@ ghost use Rattle.std.specs.List.{AllByRecursion};
 ghost use Rattle.design_ir.specs.PoolRules.{IsPool};
 ghost use Rattle.design_ir.specs.Rising.{AllRisingSync};
 ghost use Rattle.design_ir.specs.declared.ids.ExprId.{ExprId};
+ghost use Rattle.fragment_walks.specs.Marks.{Flag};
+ghost use Rattle.fragment_walks.specs.Reads.{is_given};
+ghost use Rattle.fragment_walks.specs.Held.{leaf_exprs};
+ghost use Rattle.fragment_walks.specs.Names.{all_leaves};
+ghost use Rattle.fragment_walks.specs.Walks.{Contents, all_contents, all_memories, all_memory_paths, all_paths, all_processes};
 ghost use Rattle.clock_domains.specs.Firsts.{AreSites};
-ghost use Rattle.clock_domains.specs.Marks.{Flag};
-ghost use Rattle.clock_domains.specs.Reads.{is_given};
 ghost use Rattle.clock_domains.specs.Ready.{AreClocked, AreWalked, IsReady};
-ghost use Rattle.clock_domains.specs.Held.{leaf_exprs};
-ghost use Rattle.clock_domains.specs.Names.{all_leaves};
 ghost use Rattle.clock_domains.specs.Resolvable.{IsResolvable, IsTree};
 ghost use Rattle.clock_domains.specs.Resolved.{IsResolveRefusal, columns_of, domain_stop, made_domains, made_pool, named_registers, ports_named, ports_of, process_in, resolved, resolved_in, whole_pool};
 ghost use Rattle.clock_domains.specs.Stops.{IsOwed};
-ghost use Rattle.clock_domains.specs.Walks.{Contents, all_contents, all_memories, all_memory_paths, all_paths, all_processes};
 
 use crate::clashes::no_clash;
 use crate::columns::{columns_of, named_registers, ports_named, register_columns};
-use crate::copies::copied_name;
 use crate::domains::{domains_made, processes_made};
 use crate::drivers::{Drivers, drivers_of};
-use crate::holders::first_holders;
-use crate::names::{add_resets, joined_names};
 use crate::placing::{no_missing_reset, place_resets};
 use crate::ports::{mark_design_inputs, mark_ports, ports_of};
 use crate::stop::ResolveStop;
 use crate::top::TopPorts;
-use crate::walk::{Walk, walked};
 use amh_host::{Items, NoMemory, Text};
 use design_ir::{
     Columns, Design, DesignProcesses, Domain, Domains, Exprs, Fragment, Memories, Pool, Ports,
     Process,
 };
+use fragment_walks::copies::copied_name;
+use fragment_walks::holders::first_holders;
+use fragment_walks::names::{add_resets, joined_names};
+use fragment_walks::walk::{Walk, walked};
 use std::alloc::Global;
 
 // What modules hold: processes and memories, each with the path under which its registers are named.

@@ -3,7 +3,7 @@ ghost use Rattle.std.specs.Prelude.{◌≡◌, ◌<◌, length};
 ghost use Rattle.design_ir.specs.Guards.{statement_exprs, choices_exprs, block_exprs};
 ghost use Rattle.design_ir.specs.Named.{AllBelow};
 ghost use Rattle.design_ir.specs.Statements.{statement_of};
-ghost use Rattle.clock_domains.specs.Numbers.{bounded, is_below};
+ghost use Rattle.fragment_walks.specs.Numbers.{bounded, is_below};
 ghost use Rattle.clock_domains.specs.Stops.{statement_stop, choices_stop, block_stop, target_stop};
 
 use crate::stop::ResolveStop;

@@ -20,14 +20,14 @@ use Rattle.design_ir.specs.Circuits.{is_among}
 use Rattle.design_ir.proofs.Equations.{standing, form_is}
 use Rattle.flat_design.specs.Growing.{IsMore}
 use Rattle.flat_design.proofs.Growing.{form_more, more_added, get_kept}
-use Rattle.clock_domains.proofs.Lists.{all_filtered}
+use Rattle.fragment_walks.specs.Marks.{is_marked}
+use Rattle.fragment_walks.proofs.Lists.{all_filtered}
 use Rattle.clock_domains.proofs.PortLaws.{range-push}
 use Rattle.domain_transforms.specs.declared.controls.NamePair.{NamePair}
 use Rattle.domain_transforms.specs.Anew.{AreAnew}
 use Rattle.domain_transforms.specs.Changes.{id_of}
 use Rattle.std.proofs.Math.Path.{fun_ext}
 use Rattle.std.proofs.lemmas.List.{get_or_past}
-use Rattle.clock_domains.specs.Marks.{is_marked}
 use Rattle.domain_transforms.specs.Renamed.{anew, holds_renamed, is_within, new_exprs, remade, renamed_expr, renamed_pool}
 use Rattle.domain_transforms.proofs.GateLaws.{get_last}
 use Rattle.domain_transforms.proofs.PlaceLaws.{filter_map-push}

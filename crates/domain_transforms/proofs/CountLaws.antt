@@ -7,7 +7,7 @@ use Rattle.design_ir.specs.declared.process.Process.{Process}
 use Rattle.design_ir.specs.declared.fragment.Fragment.{Fragment}
 use Rattle.design_ir.specs.Statements.{statement_of, block_of, choices_of}
 use Rattle.design_ir.specs.Fragments.{forest_of}
-use Rattle.clock_domains.proofs.Lists.{take-push}
+use Rattle.fragment_walks.proofs.Lists.{take-push}
 use Rattle.domain_transforms.specs.Counted.{block_count, choices_count, forest_count, processes_count, statement_count}
 
 block-push : (ss : List Stmt) (s : Stmt) → block_count (block_of (ss ++ s ∷ [])) ≡ block_count (block_of ss) + statement_count (statement_of s)

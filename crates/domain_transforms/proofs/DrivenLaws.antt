@@ -13,12 +13,12 @@ use Rattle.design_ir.specs.PoolRules.{IsPool}
 use Rattle.design_ir.specs.Named.{named, AllBelow}
 use Rattle.design_ir.specs.Statements.{statement_of, block_of, choices_of}
 use Rattle.design_ir.specs.Targets.{target_signals, signals_step}
-use Rattle.clock_domains.specs.Marks.{marked}
-use Rattle.clock_domains.specs.Reads.{block_targets, choices_targets, statement_targets}
-use Rattle.clock_domains.proofs.Lists.{take-push, all_joined}
+use Rattle.fragment_walks.specs.Marks.{marked}
+use Rattle.fragment_walks.specs.Reads.{block_targets, choices_targets, statement_targets}
+use Rattle.fragment_walks.proofs.Lists.{take-push, all_joined}
+use Rattle.fragment_walks.proofs.Markings.{length_marked, marked-append}
+use Rattle.fragment_walks.proofs.Trees.{targets-push, arm_targets-push}
 use Rattle.clock_domains.proofs.DriverLaws.{small_all, target_none}
-use Rattle.clock_domains.proofs.Markings.{length_marked, marked-append}
-use Rattle.clock_domains.proofs.Trees.{targets-push, arm_targets-push}
 
 pub size_after : (ns : List ℕ) (old cur : List Bool) → cur ≡ marked ns old → length old ≡ 16384 → length cur ≡ 16384
 size_after ns old cur h size = ap length h ∙ length_marked ns old ∙ size

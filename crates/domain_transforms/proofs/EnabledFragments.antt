@@ -12,9 +12,9 @@ use Rattle.design_ir.specs.Pools.{Pooled}
 use Rattle.design_ir.specs.Guards.{driven}
 use Rattle.design_ir.specs.Targets.{target_signals}
 use Rattle.design_ir.specs.Circuits.{is_among}
-use Rattle.clock_domains.specs.Reads.{block_targets}
-use Rattle.clock_domains.specs.Walks.{all_processes, processes_of}
-use Rattle.clock_domains.proofs.Lists.{map-append}
+use Rattle.fragment_walks.specs.Reads.{block_targets}
+use Rattle.fragment_walks.specs.Walks.{all_processes, processes_of}
+use Rattle.fragment_walks.proofs.Lists.{map-append}
 use Rattle.clock_domains.proofs.DriverLaws.{driven_flat}
 use Rattle.fragment_laws.specs.Parts.{all_memories}
 use Rattle.fragment_laws.specs.Givers.{ReadPort, giver, giver_among, ports_from, statements}

@@ -6,7 +6,7 @@ use Rattle.design_ir.specs.Fragments.{leaf_of, forest_of}
 use Rattle.design_ir.proofs.Lists.{forest_of_snoc}
 use Rattle.design_ir.specs.Pools.{Pooled}
 use Rattle.domain_transforms.specs.Making.{each_in, forest_in, fragment_in}
-use Rattle.clock_domains.proofs.Lists.{take-push}
+use Rattle.fragment_walks.proofs.Lists.{take-push}
 
 module _ {A B : Type 0} (make : Pooled → A → B × Pooled) where
   pub each_in-push : (q : Pooled) (xs : List A) (x : A) → each_in make q (xs ++ x ∷ []) ≡ ((each_in make q xs).0 ++ (make (each_in make q xs).1 x).0 ∷ [], (make (each_in make q xs).1 x).1)

@@ -8,7 +8,7 @@ use Rattle.design_ir.specs.declared.ids.ExprId.{ExprId}
 use Rattle.design_ir.specs.declared.fragment.Fragment.{Fragment}
 use Rattle.design_ir.specs.Fragments.{leaf_of, forest_of}
 use Rattle.design_ir.specs.Named.{AllBelow}
-use Rattle.clock_domains.proofs.Lists.{below_split, below_wider}
+use Rattle.fragment_walks.proofs.Lists.{below_split, below_wider}
 use Rattle.domain_transforms.specs.declared.controls.Control.{Control}
 use Rattle.design_ir.specs.Pools.{Pooled}
 use Rattle.domain_transforms.specs.declared.fragments.Change.{Change}

@@ -16,7 +16,7 @@ use Rattle.design_ir.specs.Pools.{Pooled}
 use Rattle.design_ir.specs.PoolRules.{IsPool, HasInit}
 use Rattle.design_ir.specs.Guards.{driven}
 use Rattle.design_ir.specs.Circuits.{is_among}
-use Rattle.clock_domains.proofs.Lists.{take-push, all_at}
+use Rattle.fragment_walks.proofs.Lists.{take-push, all_at}
 use Rattle.clock_domains.proofs.PortLaws.{range-push}
 use Rattle.domain_transforms.specs.declared.resetting.Register.{Register}
 use Rattle.domain_transforms.specs.Making.{each_in}

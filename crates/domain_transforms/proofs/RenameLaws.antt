@@ -12,7 +12,7 @@ use Rattle.design_ir.specs.declared.process.Side.TheVariants.{Comb, Clocked}
 use Rattle.design_ir.specs.declared.process.Process.{Process}
 use Rattle.design_ir.specs.Statements.{statement_of, block_of, choices_of}
 use Rattle.design_ir.specs.Trees.{Statement, Block, done, next, Choices, arm, block_and, choices_and}
-use Rattle.clock_domains.proofs.Lists.{take-push, map-push}
+use Rattle.fragment_walks.proofs.Lists.{take-push, map-push}
 use Rattle.domain_transforms.specs.declared.controls.NamePair.{NamePair}
 use Rattle.domain_transforms.specs.Renamed.{block_append, renamed_block, renamed_choices, renamed_side, renamed_sides, renamed_statement, side_eq, side_statements, sides_once}
 

@@ -28,11 +28,11 @@ use Rattle.design_ir.proofs.Equations.{answer_at, form_is, num_is, place_below, 
 use Rattle.design_ir.proofs.NumbersFit.{element}
 use Rattle.design_ir.proofs.TargetLaws.{target_is}
 use Rattle.flat_design.proofs.Growing.{get_kept}
-use Rattle.clock_domains.specs.Marks.{numbers}
-use Rattle.clock_domains.proofs.Lists.{all_imp, all_left, all_right, any-append, below_all, or_none}
-use Rattle.clock_domains.specs.Reads.{block_targets, choices_targets, statement_targets}
+use Rattle.fragment_walks.specs.Marks.{numbers}
+use Rattle.fragment_walks.specs.Reads.{block_targets, choices_targets, statement_targets}
+use Rattle.fragment_walks.proofs.Lists.{all_imp, all_left, all_right, any-append, below_all, or_none}
+use Rattle.fragment_walks.proofs.Outs.{among_flat, target_signals_is}
 use Rattle.clock_domains.proofs.DriverLaws.{driven_flat}
-use Rattle.clock_domains.proofs.Outs.{among_flat, target_signals_is}
 use Rattle.fragment_laws.specs.Surroundings.{or_signal, pool_in, read_in, reset_of}
 use Rattle.domain_transforms.specs.declared.controls.NamePair.{NamePair}
 use Rattle.domain_transforms.specs.Controlled.{is_renamed, name_after, pair_of}

@@ -25,11 +25,11 @@ use Rattle.design_ir.specs.Circuits.{at, is_among}
 use Rattle.flat_design.specs.Growing.{IsMore}
 use Rattle.flat_design.proofs.Growing.{get_kept, more_added, more_refl, more_trans, signals_more}
 use Rattle.design_ir.proofs.Equations.{place_below}
-use Rattle.clock_domains.specs.Reads.{block_targets, choices_targets, statement_targets}
-use Rattle.clock_domains.specs.Walks.{all_processes, processes_of}
-use Rattle.clock_domains.proofs.Lists.{all_imp, all_joined, any-append, below_split}
+use Rattle.fragment_walks.specs.Reads.{block_targets, choices_targets, statement_targets}
+use Rattle.fragment_walks.specs.Walks.{all_processes, processes_of}
+use Rattle.fragment_walks.proofs.Lists.{all_imp, all_joined, any-append, below_split}
+use Rattle.fragment_walks.proofs.Outs.{target_signals_is}
 use Rattle.clock_domains.proofs.DriverLaws.{driven_flat, driven_none}
-use Rattle.clock_domains.proofs.Outs.{target_signals_is}
 use Rattle.fragment_laws.specs.Parts.{all_memories}
 use Rattle.fragment_laws.specs.Givers.{ReadPort, giver_among, ports_from}
 use Rattle.fragment_laws.specs.Stepping.{register_number, taken_number, toggle_by}

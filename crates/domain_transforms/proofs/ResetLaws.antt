@@ -32,10 +32,10 @@ use Rattle.design_ir.proofs.TargetLaws.{target_is}
 use Rattle.design_ir.proofs.Whole.{put_whole}
 use Rattle.comb_graph.proofs.PutFits.{put_fits}
 use Rattle.flat_design.proofs.Growing.{get_kept}
-use Rattle.clock_domains.specs.Marks.{hit_step}
-use Rattle.clock_domains.specs.Reads.{block_targets}
-use Rattle.clock_domains.proofs.Lists.{all_at, any_none}
-use Rattle.clock_domains.proofs.Outs.{among_flat, hits_is}
+use Rattle.fragment_walks.specs.Marks.{hit_step}
+use Rattle.fragment_walks.specs.Reads.{block_targets}
+use Rattle.fragment_walks.proofs.Lists.{all_at, any_none}
+use Rattle.fragment_walks.proofs.Outs.{among_flat, hits_is}
 use Rattle.clock_domains.proofs.DriverLaws.{driven_flat, driven_none}
 use Rattle.fragment_laws.specs.Stepping.{register_number}
 use Rattle.domain_transforms.specs.declared.controls.Control.{Control}

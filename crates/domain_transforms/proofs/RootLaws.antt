@@ -17,10 +17,10 @@ use Rattle.design_ir.specs.PoolRules.{IsPool}
 use Rattle.design_ir.specs.Circuits.{is_among}
 use Rattle.design_ir.proofs.Congruence.{AreSame, same_below}
 use Rattle.design_ir.proofs.Equations.{standing, answer_at}
-use Rattle.clock_domains.specs.Marks.{any_below, comes_out, is_marked, marked, numbers}
-use Rattle.clock_domains.proofs.Lists.{any-append, below_all, map-append, or_false}
-use Rattle.clock_domains.proofs.Markings.{fresh_marks, length_marked, marked-append, marked_at, more_below, none_below}
-use Rattle.clock_domains.proofs.Outs.{among_flat}
+use Rattle.fragment_walks.specs.Marks.{any_below, comes_out, is_marked, marked, numbers}
+use Rattle.fragment_walks.proofs.Lists.{any-append, below_all, map-append, or_false}
+use Rattle.fragment_walks.proofs.Markings.{fresh_marks, length_marked, marked-append, marked_at, more_below, none_below}
+use Rattle.fragment_walks.proofs.Outs.{among_flat}
 use Rattle.domain_transforms.specs.Placed.{forest_exprs, fragment_exprs, leaf_exprs}
 use Rattle.domain_transforms.specs.Renamed.{inside, inside_step, is_within}
 use Rattle.domain_transforms.proofs.DrivenLaws.{turn}

@@ -21,7 +21,7 @@ use Rattle.design_ir.specs.Trees.{Statement, assign, choose, Choices, none, arm,
 use Rattle.design_ir.specs.Pools.{Pooled, answer}
 use Rattle.design_ir.specs.Named.{named}
 use Rattle.design_ir.specs.Circuits.{is_among}
-use Rattle.clock_domains.specs.Marks.{numbers}
+use Rattle.fragment_walks.specs.Marks.{numbers}
 use Rattle.domain_transforms.specs.declared.controls.NamePair.{NamePair}
 use Rattle.domain_transforms.specs.Controlled.{is_renamed, name_after}
 use Rattle.domain_transforms.specs.Making.{fragment_in}

@@ -3,8 +3,8 @@ ghost use Rattle.std.specs.Prelude.{◌≡◌, IfOk};
 
 use crate::controls::{Control, Controls, NamePair, NamePairs};
 use amh_host::{Items, NoMemory, Text};
-use clock_domains::copied_definition;
 use design_ir::{DomainDefs, MemRead, MemReads, MemWrite, MemWrites, Memories, Memory};
+use fragment_walks::copies::copied_definition;
 use std::alloc::Global;
 
 /// The same text once more.

@@ -6,8 +6,8 @@ ghost use Rattle.design_ir.specs.Guards.{block_exprs, driven, choices_exprs, sta
 ghost use Rattle.design_ir.specs.Named.{AllBelow};
 ghost use Rattle.design_ir.specs.Statements.{statement_of};
 ghost use Rattle.design_ir.specs.Targets.{target_signals};
-ghost use Rattle.clock_domains.specs.Marks.{is_marked, marked};
-ghost use Rattle.clock_domains.specs.Reads.{block_targets, choices_targets, statement_targets};
+ghost use Rattle.fragment_walks.specs.Marks.{is_marked, marked};
+ghost use Rattle.fragment_walks.specs.Reads.{block_targets, choices_targets, statement_targets};
 
 use amh_host::NoMemory;
 use design_ir::{Arms, Expr, ExprId, Exprs, Pool, Stmt, Stmts};

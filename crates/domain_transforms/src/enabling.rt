@@ -11,11 +11,11 @@ use crate::controls::{Controls, control_of, side_control};
 use crate::copies::{copied_items, copied_text};
 use amh_bits::Int;
 use amh_host::{Items, NoMemory};
-use clock_domains::copied_process;
 use design_ir::{
     Arm, Arms, Expr, ExprId, Exprs, MemRead, MemReads, MemWrite, MemWrites, Memories, Memory, Pool,
     Process, Processes, Stmt, Stmts,
 };
+use fragment_walks::copies::copied_process;
 use std::alloc::Global;
 
 // Statements that are carried out where a condition is not 0.

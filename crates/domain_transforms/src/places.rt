@@ -1,8 +1,8 @@
 // The first expression of a pool that is a signal, for each signal.
 ghost use Rattle.std.specs.Prelude.{◌≡◌, ◌++◌, ◌∷◌, [], ◌<◌, ℕ, List, None, Some, length, slice_get, IfOk};
 ghost use Rattle.design_ir.specs.declared.expr.Expr.{Expr};
-ghost use Rattle.clock_domains.specs.Marks.{AllBelow};
-ghost use Rattle.clock_domains.specs.Reads.{own_signals};
+ghost use Rattle.fragment_walks.specs.Marks.{AllBelow};
+ghost use Rattle.fragment_walks.specs.Reads.{own_signals};
 ghost use Rattle.domain_transforms.specs.Placed.{ArePlaces};
 
 use crate::driven::SIGNALS;

@@ -4,7 +4,7 @@ ghost use Rattle.std.specs.List.{list_any};
 ghost use Rattle.design_ir.specs.declared.ids.ExprId.{ExprId};
 ghost use Rattle.design_ir.specs.Named.{AllBelow, named};
 ghost use Rattle.design_ir.specs.Pools.{Pooled};
-ghost use Rattle.clock_domains.specs.Marks.{is_marked};
+ghost use Rattle.fragment_walks.specs.Marks.{is_marked};
 ghost use Rattle.domain_transforms.specs.Anew.{AreAnew, IsNext};
 ghost use Rattle.domain_transforms.specs.Changes.{id_of};
 ghost use Rattle.domain_transforms.specs.Placed.{fragment_exprs};

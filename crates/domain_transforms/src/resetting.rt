@@ -14,8 +14,8 @@ use crate::controls::{Controls, side_control};
 use crate::driven::{SIGNALS, driven_marks};
 use amh_bits::Int;
 use amh_host::{Items, NoMemory, Place};
-use clock_domains::copied_process;
 use design_ir::{Arm, Arms, Expr, ExprId, Exprs, Pool, Process, Processes, SigId, Stmt, Stmts};
+use fragment_walks::copies::copied_process;
 use shape_rules::Shape;
 use std::alloc::Global;
 

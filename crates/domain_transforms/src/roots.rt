@@ -7,7 +7,7 @@ ghost use Rattle.design_ir.specs.Guards.{block_exprs, choices_exprs, statement_e
 ghost use Rattle.design_ir.specs.Named.{AllBelow, named};
 ghost use Rattle.design_ir.specs.PoolRules.{IsPool};
 ghost use Rattle.design_ir.specs.Statements.{statement_of};
-ghost use Rattle.clock_domains.specs.Marks.{comes_out, is_marked, marked, numbers};
+ghost use Rattle.fragment_walks.specs.Marks.{comes_out, is_marked, marked, numbers};
 ghost use Rattle.domain_transforms.specs.Placed.{forest_exprs, fragment_exprs, leaf_exprs, memory_exprs, read_exprs, write_exprs};
 ghost use Rattle.domain_transforms.specs.Renamed.{inside, is_within};
 

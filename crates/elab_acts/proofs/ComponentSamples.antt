@@ -11,7 +11,7 @@ use Rattle.shape_rules.specs.Forms.{unsigned}
 use Rattle.identifiers.proofs.Computing.{identifiers}
 use Rattle.py_values.specs.declared.val.Val.{Val}
 use Rattle.py_values.specs.declared.val.Val.TheVariants as val
-use Rattle.py_values.specs.Heaps.{Seen, nothing, seen}
+use Rattle.py_heap.specs.Heaps.{Seen, nothing, seen}
 use Rattle.py_frames.specs.declared.request.Answer.TheVariants as answer
 use Rattle.py_frames.specs.declared.request.Cause.TheVariants.{Raised, Width}
 use Rattle.py_frames.specs.declared.request.NamedVal.{NamedVal}

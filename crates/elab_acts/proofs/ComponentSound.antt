@@ -7,8 +7,8 @@ use Rattle.lists.specs.Texts.{text_eq}
 use Rattle.py_values.specs.declared.val.Val.{Val}
 use Rattle.py_values.specs.declared.val.Val.TheVariants as val
 use Rattle.py_values.specs.declared.val.ObjId.{ObjId}
-use Rattle.py_values.specs.Heaps.{Seen, row_at}
-use Rattle.py_values.specs.Objects.{first_in}
+use Rattle.py_heap.specs.Heaps.{Seen, row_at}
+use Rattle.py_heap.specs.Objects.{first_in}
 use Rattle.py_frames.specs.declared.request.Cause.{Cause}
 use Rattle.py_frames.specs.declared.request.Cause.TheVariants.{Raised}
 use Rattle.py_frames.specs.declared.request.NamedVal.{NamedVal}
@@ -16,8 +16,6 @@ use Rattle.design_ir.specs.declared.port.Port.{Port}
 use Rattle.design_ir.specs.Pools.{Pooled}
 use Rattle.clock_domains.specs.Resolvable.{ArePorts}
 use Rattle.amh_things.specs.declared.thing.Thing.TheVariants as thing
-use Rattle.amh_things.specs.declared.thing.Reading.{Reading}
-use Rattle.amh_things.specs.Things.{read_as}
 use Rattle.elab_store.specs.declared.shapes.Shaped.{Shaped}
 use Rattle.elab_store.specs.declared.kept.HdlName.{HdlName}
 use Rattle.elab_store.specs.declared.kept.Kept.TheVariants as kept
@@ -30,7 +28,7 @@ use Rattle.elab_store.specs.declared.leaves.Leaf.{Leaf}
 use Rattle.elab_store.specs.Components.{Components}
 use Rattle.elab_store.specs.Leaves.{leaves, leaf_count}
 use Rattle.elab_store.specs.Faces.{IsFace, face_members}
-use Rattle.elab_store.specs.Stores.{Held, Answered, refused, signature_of}
+use Rattle.elab_store.specs.Stores.{Held, refused, signature_of}
 use Rattle.elab_components.specs.Libraries.{library_given}
 use Rattle.elab_components.specs.Members.{member_shaped, member_said, nested_said, member_meant, member_placed, member_called}
 use Rattle.elab_components.specs.ComponentClasses.{component_made, component_base, annotated, class_over, class_answered}
@@ -38,8 +36,17 @@ use Rattle.elab_components.specs.Classes.{class_made, base_called}
 use Rattle.elab_components.specs.Faces.{leaf_ports, signing, leaves_made, face_behind, face_made}
 use Rattle.elab_components.specs.Interfaces.{are_named, are_members, names_bound, interface_bound, interface_of, ports_of, interface_made, interface_given, members_given, component_called, component_class, init_as, init_of, init_answered, signature_name}
 use Rattle.elab_components.proofs.FaceLaws.{face_stands, with_held}
-use Rattle.elab_store.specs.Sound.{IsObject, IsSound}
-use Rattle.elab_acts.proofs.FaceSound.{IsPrefix, leaves_named, leaves_sound, signing_sound, IsBound, names_sound, face_parts_sound}
+use Rattle.elab_store.specs.Sound.{IsObject, IsOwnData, IsOwnMemory, IsSound}
+use Rattle.elab_store.specs.declared.memories.OwnMemory.{OwnMemory}
+use Rattle.elab_store.specs.declared.domains.ClockDomain.{ClockDomain}
+use Rattle.elab_store.specs.declared.faces.ComponentObject.{ComponentObject}
+use Rattle.elab_store.proofs.MemoryLaws.{HasFreeData, all_both}
+use Rattle.design_ir.specs.declared.memory.MemRead.{MemRead}
+use Rattle.design_ir.specs.Circuits.{is_among}
+use Rattle.std.specs.BTreeMap.{insert_entry}
+use Rattle.std.specs.Ordering.{nat_cmp}
+use Rattle.std.specs.Prelude.{map}
+use Rattle.elab_acts.proofs.FaceSound.{IsPrefix, leaves_named, leaves_sound, signing_sound, IsBound, names_sound, face_parts_sound, leaves_free}
 use Rattle.elab_acts.proofs.GrownLaws.{IsKeptIn, all_and, keeping_sound}
 use Rattle.elab_acts.proofs.PortLaws.{and_split, all_put}
 
@@ -76,7 +83,7 @@ member_sound s is_out c h t = placed_sound s is_out c.placed c.keywords c.keywor
 -- ---- classes: no act on one changes what is kept of pools, things or modules
 
 made_sound : (class : Val) (base : Option ObjId) (ms : Option (List NamedMember)) (h : Held) → IsSound h → IsSound (component_made class base ms h).held
-made_sound (val.Class c) base (Some ms) h s = record { names = s.names; things = s.things; kept = s.kept; modules = s.modules; components = record { names = s.components.names; ends = s.components.ends; objects = s.components.objects }; machines = s.machines; domains = s.domains; additions = s.additions; clock_domains = s.clock_domains }
+made_sound (val.Class c) base (Some ms) h s = record { names = s.names; things = s.things; kept = s.kept; modules = s.modules; components = record { names = s.components.names; ends = s.components.ends; objects = s.components.objects }; machines = s.machines; domains = s.domains; additions = s.additions; clock_domains = s.clock_domains; memories = s.memories; registers = s.registers }
 made_sound (val.Class c) base None h s = s
 made_sound val.None base ms h s = s
 made_sound (val.Bool b) base ms h s = s
@@ -123,6 +130,7 @@ pub record IsFaceMade (k : ℕ) (ls : List Leaf) (f : Face) (h : Held) : Type 0 
   pub sound : IsSound h
   pub face : IsFace h.store.components.signatures h.store.components.ends f
   pub ports : ArePorts h.pool (leaf_ports k ls)
+  pub free : AllByRecursion (HasFreeData (leaf_ports k ls)) h.store.memories
 
 abbrev pub IsMadeOr : ℕ → List Leaf → Option Face × Held → Type 0
 IsMadeOr k ls (None, h) = IsSound h
@@ -138,24 +146,35 @@ face_sound n prefix h s p there = by_face (face_made n prefix h) refl
     made : (IsSound (leaves_made ls h).1) × ((leaves_made ls h).0 ≡ true → ArePorts (leaves_made ls h).1.pool ([] ++ leaf_ports (length h.pool.signals) ls))
     made = leaves_sound ls h [] s (leaves_named (suc n) h.store.components.signatures s.components.names false prefix n p) (no_ports h)
 
-    by_behind : (x : Bool × Held) → IsSound x.1 → (x.0 ≡ true → ArePorts x.1.pool (leaf_ports (length h.pool.signals) ls)) → (y : Option Face × Held) → y ≡ face_behind n h x → ((f : Face) (g : Held) → y ≡ with_held (Some f) g → IsFace g.store.components.signatures g.store.components.ends f)
+    by_behind : (x : Bool × Held) → IsSound x.1 → (x.0 ≡ true → ArePorts x.1.pool (leaf_ports (length h.pool.signals) ls)) → AllByRecursion (HasFreeData (leaf_ports (length h.pool.signals) ls)) x.1.store.memories → (y : Option Face × Held) → y ≡ face_behind n h x → ((f : Face) (g : Held) → y ≡ with_held (Some f) g → IsFace g.store.components.signatures g.store.components.ends f)
         → IsMadeOr (length h.pool.signals) ls y
-    by_behind (true, g) t ports y e stands =
-        subst (IsMadeOr (length h.pool.signals) ls) (sym e) (record { sound = t; face = stands (record { signature = n; turned = false; first = length h.store.components.ends }) g e; ports = ports refl })
-    by_behind (false, g) t ports y e stands = subst (IsMadeOr (length h.pool.signals) ls) (sym e) t
+    by_behind (true, g) t ports free y e stands =
+        subst (IsMadeOr (length h.pool.signals) ls) (sym e) (record { sound = t; face = stands (record { signature = n; turned = false; first = length h.store.components.ends }) g e; ports = ports refl; free = free })
+    by_behind (false, g) t ports free y e stands = subst (IsMadeOr (length h.pool.signals) ls) (sym e) t
 
     by_count : (b : Bool) (y : Option Face × Held) → y ≡ cond b (face_behind n h (leaves_made ls h)) (None, h) → ((f : Face) (g : Held) → y ≡ with_held (Some f) g → IsFace g.store.components.signatures g.store.components.ends f)
         → IsMadeOr (length h.pool.signals) ls y
-    by_count true y e stands = by_behind (leaves_made ls h) made.0 made.1 y e stands
+    by_count true y e stands = by_behind (leaves_made ls h) made.0 made.1 (leaves_free ls h s) y e stands
     by_count false y e stands = subst (IsMadeOr (length h.pool.signals) ls) (sym e) s
 
     by_face : (y : Option Face × Held) → y ≡ face_made n prefix h → IsMadeOr (length h.pool.signals) ls (face_made n prefix h)
     by_face y e = by_count (nat_le (leaf_count h.store.components.signatures n) 16384) (face_made n prefix h) refl (λ f g is. face_stands n prefix h g f (sym is) there)
 
+-- a memory keeps its data where an object has such ports
+memory_bound : (q : Pooled) (made : List ClockDomain) (objects : List (ℕ × ComponentObject)) (o : ℕ) (c : ComponentObject) (x : OwnMemory) → IsOwnMemory q made objects x → HasFreeData c.ports x → IsOwnMemory q made (insert_entry nat_cmp objects o c) x
+memory_bound q made objects o c x h free = record {
+  spec = h.spec;
+  ports = h.ports;
+  write_names = h.write_names;
+  read_names = h.read_names;
+  own_data = all_both (IsOwnData made objects) (λ (r : MemRead). is_among (map (λ (p : Port). p.sig.0) c.ports) r.word.0 ≡ false) (IsOwnData made (insert_entry nat_cmp objects o c)) x.spec.reads
+      (λ r own no. record { clocks = own.clocks; ports = all_put (λ (y : ComponentObject). is_among (map (λ (p : Port). p.sig.0) y.ports) r.word.0 ≡ false) objects o c own.ports no }) h.own_data free;
+}
+
 -- the object gets them
-bound_sound : (o : ObjId) (f : Face) (ports : List Port) (names : Option (List NamedVal)) (h : Held) → IsSound h → IsFace h.store.components.signatures h.store.components.ends f → ArePorts h.pool ports → IsSound (interface_bound o f ports (names, h)).held
-bound_sound o f ports None h s face are = s
-bound_sound o f ports (Some names) h s face are = record {
+bound_sound : (o : ObjId) (f : Face) (ports : List Port) (names : Option (List NamedVal)) (h : Held) → IsSound h → IsFace h.store.components.signatures h.store.components.ends f → ArePorts h.pool ports → AllByRecursion (HasFreeData ports) h.store.memories → IsSound (interface_bound o f ports (names, h)).held
+bound_sound o f ports None h s face are free = s
+bound_sound o f ports (Some names) h s face are free = record {
   names = s.names;
   things = all_and _ h.store.things (thing.Kept (length h.store.kept) ∷ []) s.things (tt, tt);
   kept = all_and (IsKeptIn h) h.store.kept (kept.Signature f.signature ∷ []) s.kept (tt, tt);
@@ -164,6 +183,9 @@ bound_sound o f ports (Some names) h s face are = record {
   domains = s.domains;
   additions = s.additions;
   clock_domains = s.clock_domains;
+  memories = all_both (IsOwnMemory h.pool h.store.clock_domains.made h.store.components.objects) (HasFreeData ports) (IsOwnMemory h.pool h.store.clock_domains.made (insert_entry nat_cmp h.store.components.objects o.0 (record { face = f; ports = ports }))) h.store.memories
+      (memory_bound h.pool h.store.clock_domains.made h.store.components.objects o.0 (record { face = f; ports = ports })) s.memories free;
+  registers = s.registers;
   components = record {
     names = s.components.names;
     ends = s.components.ends;
@@ -171,9 +193,9 @@ bound_sound o f ports (Some names) h s face are = record {
   };
 }
 
-names_bound_sound : (o : ObjId) (f : Face) (ports : List Port) (h : Held) (x : Option (List NamedVal) × Held) → IsBound h x.1 → IsFace h.store.components.signatures h.store.components.ends f → ArePorts h.pool ports → IsSound (interface_bound o f ports x).held
-names_bound_sound o f ports h (names, g) b face are =
-    bound_sound o f ports names g b.sound (subst (λ (cs : Components). IsFace cs.signatures cs.ends f) (sym b.components) face) (subst (λ (q : Pooled). ArePorts q ports) (sym b.pool) are)
+names_bound_sound : (o : ObjId) (f : Face) (ports : List Port) (h : Held) (x : Option (List NamedVal) × Held) → IsBound h x.1 → IsFace h.store.components.signatures h.store.components.ends f → ArePorts h.pool ports → AllByRecursion (HasFreeData ports) h.store.memories → IsSound (interface_bound o f ports x).held
+names_bound_sound o f ports h (names, g) b face are free =
+    bound_sound o f ports names g b.sound (subst (λ (cs : Components). IsFace cs.signatures cs.ends f) (sym b.components) face) (subst (λ (q : Pooled). ArePorts q ports) (sym b.pool) are) (subst (AllByRecursion (HasFreeData ports)) (sym b.memories) free)
 
 interface_sound : (o : ObjId) (ms : List NamedMember) (h : Held) → IsSound h → AllByRecursion (λ (m : NamedMember). IsName m.name) ms → IsSound (interface_made o ms h).held
 interface_sound o ms h s named =
@@ -183,7 +205,7 @@ interface_sound o ms h s named =
     by_face : (x : Option Face × Held) → IsMadeOr (length h.pool.signals) (leaves (signing ms h).store.components.signatures false [] (length h.store.components.signatures)) x → IsSound (interface_of o ms (ports_of ms h) x).held
     by_face (None, g) t = t
     by_face (Some f, g) t =
-        names_bound_sound o f (ports_of ms h) g (names_bound [] ms (face_members g.store.components.signatures f) g) (names_sound [] ms (face_members g.store.components.signatures f) g t.sound (face_parts_sound g.store.components.signatures g.store.components.ends f t.face)) t.face t.ports
+        names_bound_sound o f (ports_of ms h) g (names_bound [] ms (face_members g.store.components.signatures f) g) (names_sound [] ms (face_members g.store.components.signatures f) g t.sound (face_parts_sound g.store.components.signatures g.store.components.ends f t.face)) t.face t.ports t.free
 
 tested_sound : (o : ObjId) (ms : List NamedMember) (h : Held) (b : Bool) → are_members ms ≡ b → IsSound h → IsSound (cond b (interface_made o ms h) (refused Raised h)).held
 tested_sound o ms h true e s = interface_sound o ms h s (are_members_named ms e)

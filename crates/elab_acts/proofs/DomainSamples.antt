@@ -3,7 +3,7 @@ use Rattle.std.specs.Prelude.{◌≡◌, refl, ℕ, false, List, [], ◌∷◌, 
 use Rattle.identifiers.proofs.Computing.{identifiers}
 use Rattle.py_values.specs.declared.val.Val.{Val}
 use Rattle.py_values.specs.declared.val.Val.TheVariants as val
-use Rattle.py_values.specs.Heaps.{Seen, seen, nothing}
+use Rattle.py_heap.specs.Heaps.{Seen, seen, nothing}
 use Rattle.py_frames.specs.declared.request.Answer.TheVariants as answer
 use Rattle.py_frames.specs.declared.request.Cause.TheVariants.{Raised}
 use Rattle.amh_host.specs.declared.place.Place.{Place}

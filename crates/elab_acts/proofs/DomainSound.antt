@@ -1,7 +1,7 @@
 -- What is held stays sound where clock domains are made and defined.
 use Rattle.std.proofs.Common.{◌≡◌, ℕ, ◌≤◌, refl, ap, ◌∙◌, sym, Bool, true, false, List, [], ◌∷◌, ◌++◌, length, Option, Some, None, true≢false, is_some, arith}
 use Rattle.std.specs.Prelude.{if◌then◌else◌, codes}
-use Rattle.std.specs.List.{list_all}
+use Rattle.std.specs.List.{AllByRecursion, list_all}
 use Rattle.std.proofs.lemmas.List.Sums.{AllPass-from_list_all}
 use Rattle.lists.specs.Names.{IsName, continues_name}
 use Rattle.lists.specs.Texts.{text_eq}
@@ -10,7 +10,7 @@ use Rattle.identifiers.specs.Identifiers.{is_identifier}
 use Rattle.identifiers.proofs.NameLaws.{identifier_is_name}
 use Rattle.py_values.specs.declared.val.Val.{Val}
 use Rattle.py_values.specs.declared.val.Val.TheVariants as val
-use Rattle.py_values.specs.Heaps.{Seen, text_at}
+use Rattle.py_heap.specs.Heaps.{Seen, text_at}
 use Rattle.design_ir.specs.declared.ids.SigId.{SigId}
 use Rattle.design_ir.specs.Pools.{Pooled}
 use Rattle.clock_domains.specs.Resolved.{bit_signal, domain_prefix}
@@ -18,7 +18,10 @@ use Rattle.amh_things.specs.declared.thing.Reading.TheVariants as reading
 use Rattle.elab_store.specs.declared.domains.ClockDomain.{ClockDomain}
 use Rattle.elab_store.specs.declared.kept.Kept.TheVariants as kept
 use Rattle.elab_store.specs.Stores.{Held, Answered, next_thing, kept_of}
-use Rattle.elab_store.specs.Sound.{IsBit, IsClockDomain, AreClockDomains, IsSound}
+use Rattle.elab_store.specs.Sound.{IsBit, IsClockDomain, AreClockDomains, IsOwnMemory, IsSound}
+use Rattle.elab_store.proofs.MemoryLaws.{HasDataBelow, data_below, with_clock, all_both}
+use Rattle.clock_domains.specs.Resolvable.{domain_numbers}
+use Rattle.elab_acts.proofs.EachLaws.{all_each}
 use Rattle.elab_components.specs.declared.signals.SignalArguments.{SignalArguments}
 use Rattle.elab_components.specs.Signals.{call_name, signal_reset_less, signal_passes}
 use Rattle.elab_acts.specs.Submodules.{found_given}
@@ -77,8 +80,13 @@ signal_named name end n e all = by_test (text_eq name (codes "sync"))
 bit_sound : (name : List ℕ) (h : Held) → IsName name → IsSound h → IsSound (with_bit (bit_signal name) h)
 bit_sound name h named t = unlimited_sound reading.Plain (bit_signal name) h named t
 
-with_domain_sound : (p : Pooled) (x : ClockDomain) (h : Held) → IsSound h → AreClockDomains p h.store.clock_domains.made → IsClockDomain h.pool x → length p.signals ≤ x.domain.clk.0 → IsSound (record h { store = keeping_domain x h.store })
-with_domain_sound p x h t before new le = record {
+-- memories had their data before the signals of the domain were made
+pub record IsSince (p : Pooled) (x : ClockDomain) (h : Held) : Type 0 where
+  pub past : AllByRecursion (λ n. length p.signals ≤ n) (domain_numbers x.domain)
+  pub memories : AllByRecursion (HasDataBelow (length p.signals)) h.store.memories
+
+with_domain_sound : (p : Pooled) (x : ClockDomain) (h : Held) → IsSound h → AreClockDomains p h.store.clock_domains.made → IsClockDomain h.pool x → length p.signals ≤ x.domain.clk.0 → IsSince p x h → IsSound (record h { store = keeping_domain x h.store })
+with_domain_sound p x h t before new le since = record {
   names = t.names;
   things = t.things;
   kept = t.kept;
@@ -88,15 +96,18 @@ with_domain_sound p x h t before new le = record {
   additions = t.additions;
   clock_domains = domains_more p h.pool h.store.clock_domains.made x before t.clock_domains new le;
   components = t.components;
+  memories = all_both (IsOwnMemory h.pool h.store.clock_domains.made h.store.components.objects) (HasDataBelow (length p.signals)) (IsOwnMemory h.pool (h.store.clock_domains.made ++ x ∷ []) h.store.components.objects) h.store.memories
+      (with_clock h.pool h.store.clock_domains.made h.store.components.objects (length p.signals) x since.past) t.memories since.memories;
+  registers = t.registers;
 }
 
-kept_sound : (p : Pooled) (x : ClockDomain) (h : Held) → IsSound h → AreClockDomains p h.store.clock_domains.made → IsClockDomain h.pool x → length p.signals ≤ x.domain.clk.0 → IsSound (clock_domain_kept x h).held
-kept_sound p x h t before new le = keeping_sound (record h { store = keeping_domain x h.store }) (kept.ClockDomain (length h.store.clock_domains.made)) (with_domain_sound p x h t before new le) tt
+kept_sound : (p : Pooled) (x : ClockDomain) (h : Held) → IsSound h → AreClockDomains p h.store.clock_domains.made → IsClockDomain h.pool x → length p.signals ≤ x.domain.clk.0 → IsSince p x h → IsSound (clock_domain_kept x h).held
+kept_sound p x h t before new le since = keeping_sound (record h { store = keeping_domain x h.store }) (kept.ClockDomain (length h.store.clock_domains.made)) (with_domain_sound p x h t before new le since) tt
 
 module _ (name : List ℕ) (named : IsName name) where
   -- the pool p is that before the clock
-  reset_sound : (p : Pooled) (clk : SigId) (h : Held) → IsSound h → AreClockDomains p h.store.clock_domains.made → IsBit h.pool clk → length p.signals ≤ clk.0 → IsSound (reset_made name clk h).held
-  reset_sound p clk h t before clock le = if_sound (signal_passes h 1) _ _ t (
+  reset_sound : (p : Pooled) (clk : SigId) (h : Held) → IsSound h → AreClockDomains p h.store.clock_domains.made → IsBit h.pool clk → length p.signals ≤ clk.0 → AllByRecursion (HasDataBelow (length p.signals)) h.store.memories → IsSound (reset_made name clk h).held
+  reset_sound p clk h t before clock le low = if_sound (signal_passes h 1) _ _ t (
       kept_sound p (clock_domain name clk (Some (record { sig = next_signal h; val = next_thing h }))) (with_bit (reset_signal name) h) after before (
       record {
         name = named;
@@ -105,7 +116,7 @@ module _ (name : List ℕ) (named : IsName name) where
         rising = refl;
         sync_reset = refl;
       }
-      ) le
+      ) le (record { past = (le, (omega (arith, le, clock.there), tt)); memories = low })
       )
     where
       after : IsSound (with_bit (reset_signal name) h)
@@ -120,9 +131,12 @@ module _ (name : List ℕ) (named : IsName name) where
       clock : IsBit (with_bit (clock_signal name) h).pool (next_signal h)
       clock = new_bit h.pool (with_bit (clock_signal name) h).pool (clock_signal name) refl refl
 
+      low : AllByRecursion (HasDataBelow (length h.pool.signals)) h.store.memories
+      low = all_each (IsOwnMemory h.pool h.store.clock_domains.made h.store.components.objects) (HasDataBelow (length h.pool.signals)) h.store.memories (data_below h.pool h.store.clock_domains.made h.store.components.objects) t.memories
+
       by_reset : (b : Bool) → IsSound (if b then clock_domain_kept (clock_domain name (next_signal h) None) (with_bit (clock_signal name) h) else reset_made name (next_signal h) (with_bit (clock_signal name) h)).held
-      by_reset true = kept_sound h.pool (clock_domain name (next_signal h) None) (with_bit (clock_signal name) h) after t.clock_domains (record { name = named; clock = clock; reset = tt; rising = refl; sync_reset = refl }) (omega arith)
-      by_reset false = reset_sound h.pool (next_signal h) (with_bit (clock_signal name) h) after t.clock_domains clock (omega arith)
+      by_reset true = kept_sound h.pool (clock_domain name (next_signal h) None) (with_bit (clock_signal name) h) after t.clock_domains (record { name = named; clock = clock; reset = tt; rising = refl; sync_reset = refl }) (omega arith) (record { past = (omega arith, tt); memories = low })
+      by_reset false = reset_sound h.pool (next_signal h) (with_bit (clock_signal name) h) after t.clock_domains clock (omega arith) low
 
 said_sound : (name : Option (List ℕ)) (r : Option Bool) (h : Held) → IsSound h → ((x : List ℕ) → name ≡ Some x → is_identifier x ≡ true) → IsSound (clock_domain_said name r h).held
 said_sound None r h t named = t
@@ -150,7 +164,7 @@ attribute_sound k name h t = own_sound _ name h t
 
 defined_sound : (m : ℕ) (o : Option ℕ) (gives : Val) (p : Place) (h : Held) → IsSound h → IsSound (domain_defined m o gives p h).held
 defined_sound m None gives p h t = t
-defined_sound m (Some k) gives p h t = record { names = t.names; things = t.things; kept = t.kept; modules = t.modules; machines = t.machines; domains = t.domains; additions = t.additions; clock_domains = t.clock_domains; components = t.components }
+defined_sound m (Some k) gives p h t = record { names = t.names; things = t.things; kept = t.kept; modules = t.modules; machines = t.machines; domains = t.domains; additions = t.additions; clock_domains = t.clock_domains; memories = t.memories; registers = t.registers; components = t.components }
 
 pub added_sound : (m : ℕ) (v x : Val) (p : Place) (h : Held) → IsSound h → IsSound (definition_added m v x p h).held
 added_sound m v x p h t = defined_sound m (clock_domain_of (kept_of h.store v)) x p h t

@@ -1,6 +1,6 @@
 -- What is held stays sound where interfaces are made.
 use Rattle.std.proofs.Common.{◌≡◌, ℕ, zero, suc, ◌+◌, ◌<◌, ◌≤◌, ◌==◌, ◌||◌, ◌&&◌, nat_lt, ap, ◌∙◌, sym, subst, refl, not, Bool, true, false, cond, List, [], ◌∷◌, ◌++◌, length, Option, Some, None, true≢false, arith}
-use Rattle.std.specs.Prelude.{⊤, slice_get, codes, IsTrue, All}
+use Rattle.std.specs.Prelude.{⊤, map, slice_get, codes, IsTrue, All}
 use Rattle.std.specs.List.{AllByRecursion}
 use Rattle.std.proofs.lemmas.Bool.{ltb-true}
 use Rattle.std.proofs.lemmas.List.{length-append, append_assoc, append-nil}
@@ -29,11 +29,12 @@ use Rattle.elab_store.specs.declared.members.NamedMember.{NamedMember}
 use Rattle.elab_store.specs.Leaves.{Signatures, joined, turned_by, form_leaves, all_leaves, some_members, leaves_in, leaves, form_count}
 use Rattle.elab_store.specs.Faces.{IsFace, IsMember, member_as, members_from, face_members}
 use Rattle.elab_store.specs.Stores.{Held}
-use Rattle.elab_store.specs.Sound.{IsKept, IsEnd, IsObject, AreComponents, IsSound}
+use Rattle.elab_store.specs.Sound.{IsKept, IsEnd, IsObject, IsOwnMemory, IsSound}
+use Rattle.elab_store.proofs.MemoryLaws.{HasFreeData, data_free, data_below}
 use Rattle.elab_store.proofs.FaceLaws.{all_count}
 use Rattle.elab_store.proofs.LeafLaws.{leaves_here, leaves_before, leaves_grown, in_length, length_more as members_length}
-use Rattle.elab_components.specs.Signals.{signal_passes, with_signal}
-use Rattle.elab_components.specs.Faces.{leaf_signal, next_end, with_end, with_leaf, leaf_made, and_made, leaves_made, port_of, leaf_ports, signing, face_behind, face_made, part_val}
+use Rattle.elab_components.specs.Signals.{signal_passes}
+use Rattle.elab_components.specs.Faces.{leaf_signal, next_end, with_end, with_leaf, and_made, leaves_made, port_of, leaf_ports, signing, part_val}
 use Rattle.elab_components.specs.Interfaces.{name_bound, names_bound}
 use Rattle.elab_acts.proofs.EachLaws.{all_each}
 use Rattle.elab_acts.proofs.GrownLaws.{IsKeptIn, all_and, keeping_sound}
@@ -118,6 +119,9 @@ kept_faces q sigs tigs ends others g (kept_as.Domain m d) h = tt
 kept_faces q sigs tigs ends others g (kept_as.Submodules m) h = tt
 kept_faces q sigs tigs ends others g (kept_as.Definitions m) h = tt
 kept_faces q sigs tigs ends others g (kept_as.ClockDomain k) h = tt
+kept_faces q sigs tigs ends others g (kept_as.Memory k) h = tt
+kept_faces q sigs tigs ends others g (kept_as.OfMemory k m) h = tt
+kept_faces q sigs tigs ends others g (kept_as.MemoryPort x) h = h
 kept_faces q sigs tigs ends others g (kept_as.Port is_out shape init) h = tt
 kept_faces q sigs tigs ends others g (kept_as.Nested is_out n) h = tt
 kept_faces q sigs tigs ends others g (kept_as.Signature n) h = tt
@@ -142,6 +146,8 @@ with_end_sound e h s is =
       domains = s.domains;
       additions = s.additions;
       clock_domains = s.clock_domains;
+      memories = s.memories;
+      registers = s.registers;
       components = record {
         names = s.components.names;
         ends = all_and (IsEnd h.pool) ends (e ∷ []) s.components.ends (is, tt);
@@ -164,6 +170,8 @@ signing_sound ms h s named =
       domains = s.domains;
       additions = s.additions;
       clock_domains = s.clock_domains;
+      memories = s.memories;
+      registers = s.registers;
       components = record {
         names = all_and (λ (xs : List NamedMember). AllByRecursion (λ (m : NamedMember). IsName m.name) xs) sigs (ms ∷ []) s.components.names (named, tt);
         ends = s.components.ends;
@@ -212,6 +220,28 @@ leaves_sound (l ∷ ls) h ps s names ports = by_test (signal_passes h l.shape.fo
           λ e. subst (ArePorts (leaves_made ls (with_leaf l h)).1.pool) same (made.1 e),
         )
 
+-- ---- memories
+
+-- nothing is done to memories
+pub leaves_memories : (ls : List Leaf) (h : Held) → (leaves_made ls h).1.store.memories ≡ h.store.memories
+leaves_memories [] h = refl
+leaves_memories (l ∷ ls) h = by_test (signal_passes h l.shape.form.width) (leaves_memories ls (with_leaf l h))
+  where
+    by_test : (b : Bool) → (leaves_made ls (with_leaf l h)).1.store.memories ≡ h.store.memories → (and_made (leaves_made ls) (cond b (false, h) (true, with_leaf l h))).1.store.memories ≡ h.store.memories
+    by_test true rest = refl
+    by_test false rest = rest
+
+ports_from : (n k : ℕ) (ls : List Leaf) → n ≤ k → AllByRecursion (λ m. n ≤ m) (map (λ (p : Port). p.sig.0) (leaf_ports k ls))
+ports_from n k [] le = tt
+ports_from n k (l ∷ ls) le = (le, ports_from n (suc k) ls (omega (arith, le)))
+
+-- the ports of an interface are no data of memories that were there
+pub leaves_free : (ls : List Leaf) (h : Held) → IsSound h → AllByRecursion (HasFreeData (leaf_ports (length h.pool.signals) ls)) (leaves_made ls h).1.store.memories
+leaves_free ls h s =
+    subst (AllByRecursion (HasFreeData (leaf_ports (length h.pool.signals) ls))) (sym (leaves_memories ls h))
+    (all_each (IsOwnMemory h.pool h.store.clock_domains.made h.store.components.objects) (HasFreeData (leaf_ports (length h.pool.signals) ls)) h.store.memories
+    (λ x own. data_free (length h.pool.signals) (leaf_ports (length h.pool.signals) ls) (ports_from (length h.pool.signals) (length h.pool.signals) ls (omega arith)) x (data_below h.pool h.store.clock_domains.made h.store.components.objects x own)) s.memories)
+
 -- ---- members of an interface
 
 abbrev pub IsPart : Signatures → List End → Option FaceMember → Type 0
@@ -252,15 +282,16 @@ pub record IsBound (h g : Held) : Type 0 where
   pub sound : IsSound g
   pub pool : g.pool ≡ h.pool
   pub components : g.store.components ≡ h.store.components
+  pub memories : g.store.memories ≡ h.store.memories
 
 part_bound : (o : Option FaceMember) (h : Held) → IsSound h → IsPart h.store.components.signatures h.store.components.ends o → IsBound h (part_val o h).1
-part_bound None h s p = record { sound = s; pool = refl; components = refl }
-part_bound (Some (face.Port k)) h s p = record { sound = s; pool = refl; components = refl }
-part_bound (Some (face.Nested f)) h s p = record { sound = keeping_sound h (kept_as.Interface f) s p; pool = refl; components = refl }
+part_bound None h s p = record { sound = s; pool = refl; components = refl; memories = refl }
+part_bound (Some (face.Port k)) h s p = record { sound = s; pool = refl; components = refl; memories = refl }
+part_bound (Some (face.Nested f)) h s p = record { sound = keeping_sound h (kept_as.Interface f) s p; pool = refl; components = refl; memories = refl }
 
 pub names_sound : (names : List NamedVal) (ms : List NamedMember) (parts : List (Option FaceMember)) (h : Held) → IsSound h → AllByRecursion (IsPart h.store.components.signatures h.store.components.ends) parts → IsBound h (names_bound names ms parts h).1
-names_sound names [] parts h s p = record { sound = s; pool = refl; components = refl }
-names_sound names (m ∷ ms) [] h s p = record { sound = s; pool = refl; components = refl }
+names_sound names [] parts h s p = record { sound = s; pool = refl; components = refl; memories = refl }
+names_sound names (m ∷ ms) [] h s p = record { sound = s; pool = refl; components = refl; memories = refl }
 names_sound names (m ∷ ms) (o ∷ parts) h s p = by_val (part_val o h) (part_bound o h s p.0) (λ more g. names_sound more ms parts g)
   where
     by_val : (x : Option Val × Held) → IsBound h x.1
@@ -270,4 +301,4 @@ names_sound names (m ∷ ms) (o ∷ parts) h s p = by_val (part_val o h) (part_b
     by_val (Some v, g) b rest =
         let x : NamedVal = record { name = m.name; val = v } in
         let after = rest (names ++ x ∷ []) g b.sound (subst (λ (cs : _). AllByRecursion (IsPart cs.signatures cs.ends) parts) (sym b.components) p.1) in
-        record { sound = after.sound; pool = after.pool ∙ b.pool; components = after.components ∙ b.components }
+        record { sound = after.sound; pool = after.pool ∙ b.pool; components = after.components ∙ b.components; memories = after.memories ∙ b.memories }

@@ -1,5 +1,5 @@
 -- What is held stays sound when it grows.
-use Rattle.std.proofs.Common.{◌≡◌, ℕ, zero, suc, ◌<◌, ◌≤◌, ap, ◌∙◌, sym, subst, true, List, [], ◌∷◌, ◌++◌, length, Some, arith}
+use Rattle.std.proofs.Common.{◌≡◌, ℕ, zero, suc, ◌<◌, ◌≤◌, ap, ◌∙◌, sym, subst, true, List, [], ◌∷◌, ◌++◌, length, Option, Some, None, arith}
 use Rattle.std.specs.Prelude.{slice_get, slice_set, IsTrue}
 use Rattle.std.specs.List.{AllByRecursion, list_all}
 use Rattle.std.proofs.lemmas.List.Elements.{All-append}
@@ -30,9 +30,12 @@ use Rattle.elab_store.specs.Stores.{Held, kept_given}
 use Rattle.elab_store.specs.declared.faces.End.{End}
 use Rattle.elab_store.specs.Leaves.{Signatures}
 use Rattle.elab_store.specs.Components.{Components}
-use Rattle.elab_store.specs.Sound.{IsEnd, AreComponents, IsAssigned, IsBegin, IsKept, IsOpening, IsTold, IsBuilt, IsMachine, IsSound}
+use Rattle.elab_store.specs.Sound.{IsEnd, AreComponents, IsAssigned, IsBegin, IsKept, IsOpening, IsTold, IsBuilt, IsMachine, IsEnableThere, IsMemoryPort, IsOwnMemory, HasOwnRegister, IsSound}
 use Rattle.elab_store.specs.declared.own_machine.OwnMachine.{OwnMachine}
+use Rattle.elab_store.specs.declared.kept.MemoryPort.{MemoryPort}
+use Rattle.memory_ports.specs.Ports as ports
 use Rattle.elab_store.proofs.Pools.{IsGrown, target_stays, there_stays}
+use Rattle.elab_store.proofs.MemoryLaws.{memory_stays, register_stays}
 use Rattle.elab_acts.proofs.EachLaws.{all_each}
 use Rattle.elab_acts.proofs.DomainLaws.{bit_stays, domains_stay}
 use Rattle.elab_acts.proofs.PortLaws.{objects_stay}
@@ -61,6 +64,13 @@ begin_stays p q g (begin.Case n) h = tt
 begin_stays p q g begin.Default h = tt
 begin_stays p q g begin.Misplaced h = tt
 
+enable_there_stays : (p q : Pooled) (e : Option ExprId) → IsGrown p q → IsEnableThere p e → IsEnableThere q e
+enable_there_stays p q None g h = tt
+enable_there_stays p q (Some e) g h = there_stays p q e.0 g h
+
+memory_port_stays : (p q : Pooled) (x : MemoryPort) → IsGrown p q → IsMemoryPort p x → IsMemoryPort q x
+memory_port_stays p q x g h = record { addr = there_stays p q x.addr.0 g h.addr; word = there_stays p q x.word.0 g h.word; enable = enable_there_stays p q x.enable g h.enable }
+
 -- what is kept of a held store keeps to it
 abbrev pub IsKeptIn : Held → Kept → Type 0
 IsKeptIn h k = IsKept h.pool h.store.components.signatures h.store.components.ends k
@@ -74,6 +84,9 @@ kept_stays p q sigs ends g (kept_as.Domain m d) h = tt
 kept_stays p q sigs ends g (kept_as.Submodules m) h = tt
 kept_stays p q sigs ends g (kept_as.Definitions m) h = tt
 kept_stays p q sigs ends g (kept_as.ClockDomain k) h = tt
+kept_stays p q sigs ends g (kept_as.Memory k) h = tt
+kept_stays p q sigs ends g (kept_as.OfMemory k y) h = tt
+kept_stays p q sigs ends g (kept_as.MemoryPort x) h = memory_port_stays p q x g h
 kept_stays p q sigs ends g (kept_as.Port is_out shape init) h = tt
 kept_stays p q sigs ends g (kept_as.Nested is_out m) h = tt
 kept_stays p q sigs ends g (kept_as.Signature n) h = tt
@@ -158,7 +171,10 @@ components_stay p q cs g le are = record {
 pub pool_grown : (h : Held) (q : Pooled) (xs : List Sig) (es : List Expr) → IsSound h → q.signals ≡ h.pool.signals ++ xs → q.exprs ≡ h.pool.exprs ++ es
     → AllByRecursion (λ (x : Sig). IsName x.name) xs → IsSound (record h { pool = q })
 pool_grown h q xs es s e1 e2 names =
-    let g : IsGrown h.pool q = record { more = es; exprs = e2 } in record {
+    let g : IsGrown h.pool q = record { more = es; exprs = e2 } in
+    let made = h.store.clock_domains.made in
+    let objects = h.store.components.objects in
+    let both : ports.IsGrown h.pool q = record { more_signals = xs; more_exprs = es; signals = e1; exprs = e2 } in record {
       names = subst (AllByRecursion (λ (x : Sig). IsName x.name)) (sym e1) (all_and (λ (x : Sig). IsName x.name) h.pool.signals xs s.names names);
       things = all_each (IsHeld (length h.pool.exprs)) (IsHeld (length q.exprs)) h.store.things (held_stays (length h.pool.exprs) (length q.exprs) (grown_length h.pool q g)) s.things;
       kept = all_each (IsKeptIn h) (IsKept q h.store.components.signatures h.store.components.ends) h.store.kept (kept_stays h.pool q h.store.components.signatures h.store.components.ends g) s.kept;
@@ -168,6 +184,8 @@ pool_grown h q xs es s e1 e2 names =
       domains = s.domains;
       additions = s.additions;
       clock_domains = domains_stay h.pool q h.store.clock_domains.made (bit_stays h.pool q xs e1) s.clock_domains;
+      memories = all_each (IsOwnMemory h.pool made objects) (IsOwnMemory q made objects) h.store.memories (memory_stays h.pool q made objects both) s.memories;
+      registers = all_each (HasOwnRegister h.pool h.store.memories) (HasOwnRegister q h.store.memories) h.store.machines (register_stays h.pool q made objects h.store.memories both s.memories) s.registers;
     }
 
 -- things that are sound are put behind the others
@@ -181,6 +199,8 @@ things_grown h ts s held = record {
   domains = s.domains;
   additions = s.additions;
   clock_domains = s.clock_domains;
+  memories = s.memories;
+  registers = s.registers;
   things = all_and (IsHeld (length h.pool.exprs)) h.store.things ts s.things held;
 }
 
@@ -200,6 +220,8 @@ kept_grown h k s held = record {
   domains = s.domains;
   additions = s.additions;
   clock_domains = s.clock_domains;
+  memories = s.memories;
+  registers = s.registers;
   kept = all_and (IsKeptIn h) h.store.kept (k ∷ []) s.kept (held, tt);
 }
 
@@ -217,7 +239,7 @@ module_built q (x ∷ bs) zero b h e = let same : x ≡ b = cc in subst (IsBuilt
 module_built q (x ∷ bs) (suc m) b h e = module_built q bs m b h.1 e
 
 pub with_top_sound : (h : Held) (t : Top) → IsSound h → IsSound (record h { store = record h.store { top = t } })
-with_top_sound h t s = record { names = s.names; things = s.things; kept = s.kept; modules = s.modules; components = s.components; machines = s.machines; domains = s.domains; additions = s.additions; clock_domains = s.clock_domains }
+with_top_sound h t s = record { names = s.names; things = s.things; kept = s.kept; modules = s.modules; components = s.components; machines = s.machines; domains = s.domains; additions = s.additions; clock_domains = s.clock_domains; memories = s.memories; registers = s.registers }
 
 -- ---- a new thing of this crate
 
@@ -230,6 +252,8 @@ keeping_sound h k s held = record {
   domains = s.domains;
   additions = s.additions;
   clock_domains = s.clock_domains;
+  memories = s.memories;
+  registers = s.registers;
   things = all_and (IsHeld (length h.pool.exprs)) h.store.things (thing.Kept (length h.store.kept) ∷ []) s.things (tt, tt);
   kept = all_and (IsKeptIn h) h.store.kept (k ∷ []) s.kept (held, tt);
 }

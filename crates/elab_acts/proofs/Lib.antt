@@ -11,6 +11,8 @@ pub mod FaceSound
 pub mod GrownLaws
 pub mod LikeSamples
 pub mod MachineSound
+pub mod MemoryPortSound
+pub mod MemorySound
 pub mod PortLaws
 pub mod ShapeSamples
 pub mod SideLaws

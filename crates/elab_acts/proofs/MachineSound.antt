@@ -10,7 +10,7 @@ use Rattle.shape_rules.specs.Forms.{Form, unsigned}
 use Rattle.py_frames.specs.declared.request.Cause.TheVariants.{Raised}
 use Rattle.py_values.specs.declared.val.StrId.{StrId}
 use Rattle.py_values.specs.declared.val.Val.{Val}
-use Rattle.py_values.specs.Heaps.{Seen, text_at}
+use Rattle.py_heap.specs.Heaps.{Seen, text_at}
 use Rattle.design_ir.specs.declared.signal.Sig.{Sig}
 use Rattle.design_ir.specs.declared.ids.ExprId.{ExprId}
 use Rattle.design_ir.specs.declared.ids.SigId.{SigId}
@@ -30,7 +30,7 @@ use Rattle.fsm_lowering.specs.declared.refusal.FsmStop.{FsmStop}
 use Rattle.fsm_lowering.specs.declared.refusal.FsmStop.TheVariants as stop
 use Rattle.fsm_lowering.specs.States.{number_of, range_width}
 use Rattle.fsm_lowering.specs.Machines.{Machine, in_state, state_number, no_bits}
-use Rattle.fsm_lowering.specs.Calls.{new_refusal, with_register, machine_at, is_begun, state_refusal, with_choice, end_refusal, next_stop, with_next, ongoing_refusal, finish_refusal, and_finished, with_end, settled_at, first_number}
+use Rattle.fsm_lowering.specs.Calls.{new_refusal, with_register, machine_at, is_begun, state_refusal, with_choice, end_refusal, next_stop, with_next, ongoing_refusal, finish_refusal, and_asked, and_finished, with_end, settled_at, first_number}
 use Rattle.amh_things.specs.declared.thing.Thing.TheVariants as thing
 use Rattle.elab_store.specs.declared.kept.MachinePart.{MachinePart}
 use Rattle.elab_store.specs.declared.kept.MachinePart.TheVariants as part
@@ -44,8 +44,11 @@ use Rattle.elab_store.specs.Stores.{Held, Answered, refused}
 use Rattle.elab_acts.specs.Sides.{part_given}
 use Rattle.elab_store.specs.OpenMachines.{innermost}
 use Rattle.elab_machines.specs.StateMachines.{part_attribute, machine_arguments, machine_said, machine_from, init_said, is_clocked, domain_said, name_said, state_argument, state_said, state_string, stop_told, unless_stopped, chain_ended, modules_begun, with_machine, machine_made, is_placed, machine_begun, register_name, domain_name, init_name, Moved, unless_refused, with_moved, move_answer, own_moved, number_moved, moved, in_place, is_at_choice, is_at_case, state_made, state_begins, state_ends, is_unsettled, machine_ends, next_refused, next_goes, next_said, next_stored, with_asked, asked_of, ongoing_said, part_called, part_entered, part_left}
-use Rattle.elab_store.specs.Sound.{IsKept, IsTold, IsBuilt, IsMachine, IsBit, IsSound}
+use Rattle.elab_store.specs.Sound.{IsKept, IsTold, IsBuilt, IsMachine, IsBit, IsOwnMemory, HasOwnRegister, IsSound}
+use Rattle.memory_ports.specs.Laws.{IsApart}
+use Rattle.elab_store.specs.declared.memories.OwnMemory.{OwnMemory}
 use Rattle.elab_store.proofs.Pools.{IsGrown, signal_there}
+use Rattle.elab_store.proofs.MemoryLaws.{register_stays, register_fresh, memories_settled, registers_settled}
 use Rattle.std.proofs.lemmas.Bool.Decides.{nat_tests}
 use Rattle.elab_acts.proofs.EachLaws.{all_each}
 use Rattle.elab_acts.proofs.GrownLaws.{IsKeptIn, components_stay, all_and, pool_grown, things_grown, keeping_sound, built_stays, kept_stays, told_module, module_built, machine_stays, name_more}
@@ -60,7 +63,7 @@ if_sound false x y h g = g
 -- ---- refusals
 
 told_sound : (p : Place) (h : Held) → IsSound h → IsSound (record h { store = record h.store { told = Some p } })
-told_sound p h t = record { names = t.names; things = t.things; kept = t.kept; modules = t.modules; machines = t.machines; domains = t.domains; additions = t.additions; clock_domains = t.clock_domains; components = t.components }
+told_sound p h t = record { names = t.names; things = t.things; kept = t.kept; modules = t.modules; machines = t.machines; domains = t.domains; additions = t.additions; clock_domains = t.clock_domains; memories = t.memories; registers = t.registers; components = t.components }
 
 stop_sound : (p : Place) (why : FsmStop) (h : Held) → IsSound h → IsSound (stop_told p why h).held
 stop_sound p (stop.UndefinedState at) h t = told_sound at h t
@@ -121,9 +124,25 @@ get_machine q [] k x h e = absurd cc
 get_machine q (y ∷ xs) zero x h e = let same : y ≡ x = cc in subst (IsMachine q) same h.0
 get_machine q (y ∷ xs) (suc k) x h e = get_machine q xs k x h.1 e
 
+set_register : (q : Pooled) (ms : List OwnMemory) (xs : List OwnMachine) (k : ℕ) (x : OwnMachine) → AllByRecursion (HasOwnRegister q ms) xs → HasOwnRegister q ms x → AllByRecursion (HasOwnRegister q ms) (slice_set xs k x)
+set_register q ms [] k x h g = tt
+set_register q ms (y ∷ xs) zero x h g = (g, h.1)
+set_register q ms (y ∷ xs) (suc k) x h g = (h.0, set_register q ms xs k x h.1 g)
+
+get_register : (q : Pooled) (ms : List OwnMemory) (xs : List OwnMachine) (k : ℕ) (x : OwnMachine) → AllByRecursion (HasOwnRegister q ms) xs → slice_get xs k ≡ Some x → HasOwnRegister q ms x
+get_register q ms [] k x h e = absurd cc
+get_register q ms (y ∷ xs) zero x h e = let same : y ≡ x = cc in subst (HasOwnRegister q ms) same h.0
+get_register q ms (y ∷ xs) (suc k) x h e = get_register q ms xs k x h.1 e
+
+-- a machine with the same register
+with_register_still : (q : Pooled) (ms : List OwnMemory) (xs : List OwnMachine) (k : ℕ) (x : OwnMachine) (y : Machine) → AllByRecursion (HasOwnRegister q ms) xs → slice_get xs k ≡ Some x → y.signal ≡ x.machine.signal → AllByRecursion (HasOwnRegister q ms) (slice_set xs k (record x { machine = y }))
+with_register_still q ms xs k x y h e same =
+    set_register q ms xs k (record x { machine = y }) h (subst (λ (s : SigId). AllByRecursion (λ (z : OwnMemory). IsApart q s.0 z.spec) ms) (sym same) (get_register q ms xs k x h e))
+
 -- the pool, a machine and its module go on
-moved_sound : (h : Held) (k m : ℕ) (x : OwnMachine) (y : Moved) → IsSound (record h { pool = y.pool }) → IsMachine y.pool (record x { machine = y.machine }) → IsBuilt y.pool y.built → IsSound (with_moved k x m y h)
-moved_sound h k m x y t own built = record {
+moved_sound : (h : Held) (k m : ℕ) (x : OwnMachine) (y : Moved) → slice_get h.store.machines k ≡ Some x → IsSound (record h { pool = y.pool }) → IsMachine y.pool (record x { machine = y.machine }) → IsBuilt y.pool y.built → y.machine.signal ≡ x.machine.signal
+    → IsSound (with_moved k x m y h)
+moved_sound h k m x y at t own built same = record {
   names = t.names;
   things = t.things;
   kept = t.kept;
@@ -132,6 +151,8 @@ moved_sound h k m x y t own built = record {
   domains = t.domains;
   additions = t.additions;
   clock_domains = t.clock_domains;
+  memories = t.memories;
+  registers = with_register_still y.pool h.store.memories h.store.machines k x y.machine t.registers at same;
   modules = told_module y.pool m y.built h.store.modules built t.modules;
 }
 
@@ -195,6 +216,7 @@ put_before (y ∷ es) x (suc k) e lt at = put_before es x k e (omega (arith, lt)
 begun_sound : (m : ℕ) (domain name : List ℕ) (init : Option (List ℕ)) (p : Place) (h : Held) → IsPool h.pool → IsSound h → IsName domain → is_identifier name ≡ true → IsSound (with_machine m domain name init p h)
 begun_sound m domain name init p h rules t side named =
     let q : Pooled = with_register h.pool name in
+    let new : OwnMachine = record { of = m; machine = machine_at h.pool domain init p } in
     let u : IsSound (record h { pool = q }) =
     pool_grown h q (no_bits (name ++ codes "_state") ∷ []) (expr.Sig (record { 0 = length h.pool.signals }) ∷ []) t refl refl (name_more name (codes "_state") (identifier_is_name name named) refl, tt) in record {
       names = u.names;
@@ -205,6 +227,11 @@ begun_sound m domain name init p h rules t side named =
       domains = u.domains;
       additions = u.additions;
       clock_domains = u.clock_domains;
+      memories = u.memories;
+      registers = all_and (HasOwnRegister q h.store.memories) h.store.machines (new ∷ []) u.registers (
+        register_stays h.pool q h.store.clock_domains.made h.store.components.objects h.store.memories record { more_signals = _; more_exprs = _; signals = refl; exprs = refl } t.memories new (register_fresh h.pool h.store.clock_domains.made h.store.components.objects h.store.memories new t.memories (omega arith)),
+        tt,
+      );
       machines = all_and (IsMachine q) h.store.machines (record { of = m; machine = machine_at h.pool domain init p } ∷ []) u.machines (
         record {
           register = get_last h.pool.exprs (expr.Sig (record { 0 = length h.pool.signals }));
@@ -239,13 +266,16 @@ begins_sound m domain name init p h rules t = by_place (is_placed m (slice_get h
 
 -- ---- what a machine does
 
+abbrev IsSoundMove : Held → OwnMachine → Moved → Type 0
+IsSoundMove h x y = IsSound (record h { pool = y.pool }) × (IsMachine y.pool (record x { machine = y.machine }) × (IsBuilt y.pool y.built × (y.machine.signal ≡ x.machine.signal)))
+
 -- where it is not refused, all that it moves stays sound
 SoundMove : Held → (Pooled → Machine → Built → Result Moved FsmStop) → Type 0
-SoundMove h f = (x : OwnMachine) (b : Built) (y : Moved) → IsMachine h.pool x → IsBuilt h.pool b → f h.pool x.machine b ≡ Ok y → IsSound (record h { pool = y.pool }) × (IsMachine y.pool (record x { machine = y.machine }) × IsBuilt y.pool y.built)
+SoundMove h f = (x : OwnMachine) (b : Built) (y : Moved) → IsMachine h.pool x → HasOwnRegister h.pool h.store.memories x → IsBuilt h.pool b → f h.pool x.machine b ≡ Ok y → IsSoundMove h x y
 
-answer_sound : (h : Held) (k m : ℕ) (x : OwnMachine) (p : Place) (r : Result Moved FsmStop) → IsSound h → ((y : Moved) → r ≡ Ok y → IsSound (record h { pool = y.pool }) × (IsMachine y.pool (record x { machine = y.machine }) × IsBuilt y.pool y.built)) → IsSound (move_answer k x m p r h).held
-answer_sound h k m x p (Err why) t f = stop_sound p why h t
-answer_sound h k m x p (Ok y) t f = let s = f y refl in moved_sound h k m x y s.0 s.1.0 s.1.1
+answer_sound : (h : Held) (k m : ℕ) (x : OwnMachine) (p : Place) (r : Result Moved FsmStop) → slice_get h.store.machines k ≡ Some x → IsSound h → ((y : Moved) → r ≡ Ok y → IsSoundMove h x y) → IsSound (move_answer k x m p r h).held
+answer_sound h k m x p (Err why) at t f = stop_sound p why h t
+answer_sound h k m x p (Ok y) at t f = let s = f y refl in moved_sound h k m x y at s.0 s.1.0 s.1.1.0 s.1.1.1
 
 move_sound : (f : Pooled → Machine → Built → Result Moved FsmStop) (m : ℕ) (p : Place) (h : Held) → IsSound h → SoundMove h f → IsSound (moved f m p h).held
 unfolding SoundMove
@@ -255,7 +285,7 @@ move_sound f m p h t sound = by_number (innermost m h.store.machines)
     by_own k None c e1 e2 = t
     by_own k (Some x) None e1 e2 = t
     by_own k (Some x) (Some b) e1 e2 =
-        answer_sound h k m x p (f h.pool x.machine b) t (λ y is. sound x b y (get_machine h.pool h.store.machines k x t.machines e1) (module_built h.pool h.store.modules m b t.modules e2) is)
+        answer_sound h k m x p (f h.pool x.machine b) e1 t (λ y is. sound x b y (get_machine h.pool h.store.machines k x t.machines e1) (get_register h.pool h.store.memories h.store.machines k x t.registers e1) (module_built h.pool h.store.modules m b t.modules e2) is)
 
     by_number : (o : Option ℕ) → IsSound (number_moved f o m p h).held
     by_number None = t
@@ -269,23 +299,23 @@ made_if false o y z e = absurd cc
 
 end_state_sound : (h : Held) → IsSound h → SoundMove h state_ends
 unfolding SoundMove
-end_state_sound h t x b y own built e =
+end_state_sound h t x b y own apart built e =
     let same = made_if (is_at_case x.machine b) (end_refusal x.machine) _ y e in
-    let P : Moved → Type 0 = λ z. IsSound (record h { pool = z.pool }) × (IsMachine z.pool (record x { machine = z.machine }) × IsBuilt z.pool z.built) in
-    subst P same (t, (record { register = own.register; target = own.target; side = own.side; front = own.front }, told_more h.pool b Leave built tt))
+    let P : Moved → Type 0 = IsSoundMove h x in
+    subst P same (t, (record { register = own.register; target = own.target; side = own.side; front = own.front }, (told_more h.pool b Leave built tt, refl)))
 
 state_sound : (h : Held) (name : List ℕ) (p : Place) → IsSound h → SoundMove h (state_begins name p)
 unfolding SoundMove
-state_sound h name p t x b y own built e =
+state_sound h name p t x b y own apart built e =
     let same = made_if (is_at_choice x.machine b) (state_refusal h.pool x.machine b name) (state_made name p h.pool x.machine b) y e in
-    let P : Moved → Type 0 = λ z. IsSound (record h { pool = z.pool }) × (IsMachine z.pool (record x { machine = z.machine }) × IsBuilt z.pool z.built) in
+    let P : Moved → Type 0 = IsSoundMove h x in
     let made : Expr = in_state x.machine (number_of x.machine.states name) in
     let q : Pooled = expr_added h.pool made in
     let g : IsGrown h.pool q = more_by h.pool made in
     let stays = machine_stays h.pool q g x own in
     let there : x.machine.register.0 < length h.pool.exprs = below h.pool.exprs x.machine.register.0 _ own.register in
     let choice : IsBuilt h.pool (with_choice h.pool x.machine b) = by_begun (is_begun x.machine) there in
-    subst P same (grown_one h made t, (record { register = stays.register; target = stays.target; side = stays.side; front = stays.front }, told_more q (with_choice h.pool x.machine b) (Enter (opening.Case (record { 0 = length h.pool.exprs }))) (built_stays h.pool q g (with_choice h.pool x.machine b) choice) (omega (arith, length-append h.pool.exprs (made ∷ [])))))
+    subst P same (grown_one h made t, (record { register = stays.register; target = stays.target; side = stays.side; front = stays.front }, (told_more q (with_choice h.pool x.machine b) (Enter (opening.Case (record { 0 = length h.pool.exprs }))) (built_stays h.pool q g (with_choice h.pool x.machine b) choice) (omega (arith, length-append h.pool.exprs (made ∷ []))), refl)))
   where
     by_begun : (c : Bool) → x.machine.register.0 < length h.pool.exprs → IsBuilt h.pool (if c then b else and_step b (Enter (opening.Switch x.machine.register)))
     by_begun true l = built
@@ -293,9 +323,9 @@ state_sound h name p t x b y own built e =
 
 next_move_sound : (h : Held) (m : ℕ) (name : List ℕ) (p : Place) → IsSound h → SoundMove h (next_goes m h name p)
 unfolding SoundMove
-next_move_sound h m name p t x b y own built e =
+next_move_sound h m name p t x b y own apart built e =
     let same = made_if true (next_refused m h (next_stop h.pool x.machine b name) (with_next h.pool x.machine b p)) _ y e in
-    let P : Moved → Type 0 = λ z. IsSound (record h { pool = z.pool }) × (IsMachine z.pool (record x { machine = z.machine }) × IsBuilt z.pool z.built) in
+    let P : Moved → Type 0 = IsSoundMove h x in
     let made : Expr = state_number (number_of x.machine.states name) in
     let q : Pooled = expr_added h.pool made in
     let g : IsGrown h.pool q = more_by h.pool made in
@@ -304,13 +334,16 @@ next_move_sound h m name p t x b y own built e =
       grown_one h made t,
       (
         record { register = stays.register; target = stays.target; side = stays.side; front = stays.front },
-        told_more q b (Assign x.machine.side x.machine.register (record { 0 = length h.pool.exprs }) p) (built_stays h.pool q g b built) (
-          own.side,
-          record {
-            target_there = below q.exprs x.machine.register.0 _ stays.register;
-            value_there = omega (arith, length-append h.pool.exprs (made ∷ []));
-            is_target = stays.target;
-          },
+        (
+          told_more q b (Assign x.machine.side x.machine.register (record { 0 = length h.pool.exprs }) p) (built_stays h.pool q g b built) (
+            own.side,
+            record {
+              target_there = below q.exprs x.machine.register.0 _ stays.register;
+              value_there = omega (arith, length-append h.pool.exprs (made ∷ []));
+              is_target = stays.target;
+            },
+          ),
+          refl,
         ),
       ),
     )
@@ -338,8 +371,9 @@ no_width q x e = eqb-true (signal_form q.signals x.signal.0).width 0 (and_split 
 
 -- a pool with as many signals and the same expressions
 pool_sound : (h : Held) (sigs : List Sig) → IsSound h → AllByRecursion (λ (x : Sig). IsName x.name) sigs → length h.pool.signals ≤ length sigs → ((s : SigId) → IsBit h.pool s → IsBit (record h.pool { signals = sigs }) s)
+    → AllByRecursion (IsOwnMemory (record h.pool { signals = sigs }) h.store.clock_domains.made h.store.components.objects) h.store.memories → AllByRecursion (HasOwnRegister (record h.pool { signals = sigs }) h.store.memories) h.store.machines
     → IsSound (record h { pool = record h.pool { signals = sigs } })
-pool_sound h sigs t names le bits =
+pool_sound h sigs t names le bits memories registers =
     let q : Pooled = record h.pool { signals = sigs } in
     let g : IsGrown h.pool q = record { more = []; exprs = sym (append-nil h.pool.exprs) } in record {
       names = names;
@@ -351,13 +385,15 @@ pool_sound h sigs t names le bits =
       additions = t.additions;
       clock_domains = domains_stay h.pool q h.store.clock_domains.made bits t.clock_domains;
       components = components_stay h.pool q h.store.components g le t.components;
+      memories = memories;
+      registers = registers;
     }
 
 end_sound : (h : Held) → IsSound h → SoundMove h machine_ends
 unfolding SoundMove
-end_sound h t x b y own built e =
+end_sound h t x b y own apart built e =
     let same = made_if (is_at_choice x.machine b && is_unsettled h.pool x.machine) (finish_refusal h.pool x.machine) _ y e in
-    let P : Moved → Type 0 = λ z. IsSound (record h { pool = z.pool }) × (IsMachine z.pool (record x { machine = z.machine }) × IsBuilt z.pool z.built) in
+    let P : Moved → Type 0 = IsSoundMove h x in
     let at_end = placed_if (is_at_choice x.machine b && is_unsettled h.pool x.machine) _ y e in
     subst P same (by_first (no_width h.pool x.machine (and_split (is_at_choice x.machine b) (is_unsettled h.pool x.machine) at_end).1) (first_number x.machine))
   where
@@ -365,8 +401,8 @@ end_sound h t x b y own built e =
     ended q h true = told_more q b Leave h tt
     ended q h false = h
 
-    by_first : (signal_form h.pool.signals x.machine.signal.0).width ≡ 0 → (o : Option ℕ) → IsSound (record h { pool = settled_at h.pool x.machine.signal (range_width (length x.machine.states)) o }) × (IsMachine (settled_at h.pool x.machine.signal (range_width (length x.machine.states)) o) (record x { machine = and_finished x.machine }) × IsBuilt (settled_at h.pool x.machine.signal (range_width (length x.machine.states)) o) (with_end x.machine b))
-    by_first none None = (t, (record { register = own.register; target = own.target; side = own.side; front = own.front }, ended h.pool built (is_begun x.machine)))
+    by_first : (signal_form h.pool.signals x.machine.signal.0).width ≡ 0 → (o : Option ℕ) → IsSound (record h { pool = settled_at h.pool x.machine.signal (range_width (length x.machine.states)) o }) × (IsMachine (settled_at h.pool x.machine.signal (range_width (length x.machine.states)) o) (record x { machine = and_finished x.machine }) × (IsBuilt (settled_at h.pool x.machine.signal (range_width (length x.machine.states)) o) (with_end x.machine b) × ((and_finished x.machine).signal ≡ x.machine.signal)))
+    by_first none None = (t, (record { register = own.register; target = own.target; side = own.side; front = own.front }, (ended h.pool built (is_begun x.machine), refl)))
     by_first none (Some n) =
         let f : Form = unsigned (range_width (length x.machine.states)) in
         let sigs : List Sig = settling.settled_at h.pool.signals x.machine.signal.0 f (pos n) in
@@ -374,18 +410,20 @@ end_sound h t x b y own built e =
         let g : IsGrown h.pool q = record { more = []; exprs = sym (append-nil h.pool.exprs) } in
         let stays = machine_stays h.pool q g x own in (
           pool_sound h sigs t (settled_names h.pool.signals x.machine.signal.0 f (pos n) t.names) (settled_length h.pool.signals x.machine.signal.0 f (pos n))
-              (λ s bit. settled_bit h.pool x.machine.signal.0 f (pos n) none s bit (settled_length h.pool.signals x.machine.signal.0 f (pos n))),
+              (λ s bit. settled_bit h.pool x.machine.signal.0 f (pos n) none s bit (settled_length h.pool.signals x.machine.signal.0 f (pos n)))
+              (memories_settled h.pool h.store.clock_domains.made h.store.components.objects h.store.memories x f (pos n) t.memories apart)
+              (all_each (HasOwnRegister h.pool h.store.memories) (HasOwnRegister q h.store.memories) h.store.machines (registers_settled h.pool h.store.memories x.machine.signal.0 f (pos n)) t.registers),
           (
             record { register = stays.register; target = stays.target; side = stays.side; front = stays.front },
-            ended q (built_stays h.pool q g b built) (is_begun x.machine),
+            (ended q (built_stays h.pool q g b built) (is_begun x.machine), refl),
           ),
         )
 
 -- ---- `ongoing`
 
-asked_sound : (k : ℕ) (o : Option OwnMachine) (name : List ℕ) (p : Place) (h : Held) → IsSound h → ((x : OwnMachine) → o ≡ Some x → IsMachine h.pool x) → IsSound (asked_of k o name p h).held
-asked_sound k None name p h t f = t
-asked_sound k (Some x) name p h t f =
+asked_sound : (k : ℕ) (o : Option OwnMachine) (name : List ℕ) (p : Place) (h : Held) → IsSound h → slice_get h.store.machines k ≡ o → ((x : OwnMachine) → o ≡ Some x → IsMachine h.pool x) → IsSound (asked_of k o name p h).held
+asked_sound k None name p h t at f = t
+asked_sound k (Some x) name p h t at f =
     let made : Expr = in_state x.machine (number_of x.machine.states name) in
     let q : Pooled = expr_added h.pool made in
     let u : IsSound (record h { pool = q }) = grown_one h made t in
@@ -399,13 +437,15 @@ asked_sound k (Some x) name p h t f =
       domains = u.domains;
       additions = u.additions;
       clock_domains = u.clock_domains;
+      memories = u.memories;
+      registers = with_register_still q h.store.memories h.store.machines k x (and_asked x.machine name p (record { 0 = length h.pool.exprs })) u.registers at refl;
       machines = set_machine q h.store.machines k _ u.machines (record { register = stays.register; target = stays.target; side = stays.side; front = stays.front });
     } in
     unless_sound (ongoing_refusal h.pool x.machine name) p _ h t (things_grown (with_asked k x name p h) (thing.Value (record { 0 = length h.pool.exprs }) ∷ []) after (omega (arith, length-append h.pool.exprs (made ∷ [])), tt))
 
 ongoing_sound : (s : Seen) (k : ℕ) (o : Option StrId) (p : Place) (h : Held) → IsSound h → IsSound (ongoing_said s k o p h).held
 ongoing_sound s k None p h t = t
-ongoing_sound s k (Some name) p h t = asked_sound k (slice_get h.store.machines k) (text_at s name.0) p h t (λ x e. get_machine h.pool h.store.machines k x t.machines e)
+ongoing_sound s k (Some name) p h t = asked_sound k (slice_get h.store.machines k) (text_at s name.0) p h t refl (λ x e. get_machine h.pool h.store.machines k x t.machines e)
 
 -- ---- all acts
 

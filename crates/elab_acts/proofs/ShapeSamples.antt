@@ -11,7 +11,7 @@ use Rattle.design_ir.specs.Values.{form}
 use Rattle.identifiers.proofs.Computing.{identifiers}
 use Rattle.py_values.specs.declared.val.Val.{Val}
 use Rattle.py_values.specs.declared.val.Val.TheVariants as val
-use Rattle.py_values.specs.Heaps.{Seen, seen, nothing}
+use Rattle.py_heap.specs.Heaps.{Seen, seen, nothing}
 use Rattle.py_frames.specs.declared.request.Answer.TheVariants as answer
 use Rattle.py_frames.specs.declared.request.Cause.TheVariants.{Raised}
 use Rattle.amh_things.specs.declared.thing.Thing.{Thing}

@@ -4,7 +4,7 @@ use Rattle.std.specs.Prelude.{option_and_then, slice_index_or, slice_get}
 use Rattle.std.specs.List.{AllByRecursion}
 use Rattle.std.proofs.Math.Seq.{drop-cons}
 use Rattle.py_values.specs.declared.val.Val.{Val}
-use Rattle.py_values.specs.Heaps.{Seen}
+use Rattle.py_heap.specs.Heaps.{Seen}
 use Rattle.elab_store.specs.declared.kept.Equation.{Equation}
 use Rattle.design_ir.specs.Pools.{Pooled}
 use Rattle.amh_things.specs.Things.{thing_of, kept_number}
@@ -127,6 +127,9 @@ module _ (q : Pooled) (store : Stored) (kept : AllByRecursion (IsKept q store.co
       by_kept (Some (kept_as.Submodules n)) f e = absurd (true≢false (ap is_some (sym e)))
       by_kept (Some (kept_as.Definitions n)) f e = absurd (true≢false (ap is_some (sym e)))
       by_kept (Some (kept_as.ClockDomain n)) f e = absurd (true≢false (ap is_some (sym e)))
+      by_kept (Some (kept_as.Memory k)) f e = absurd (true≢false (ap is_some (sym e)))
+      by_kept (Some (kept_as.OfMemory k y)) f e = absurd (true≢false (ap is_some (sym e)))
+      by_kept (Some (kept_as.MemoryPort x)) f e = absurd (true≢false (ap is_some (sym e)))
       by_kept (Some (kept_as.Port is_out shape init)) f e = absurd (true≢false (ap is_some (sym e)))
       by_kept (Some (kept_as.Nested is_out m)) f e = absurd (true≢false (ap is_some (sym e)))
       by_kept (Some (kept_as.Signature n)) f e = absurd (true≢false (ap is_some (sym e)))

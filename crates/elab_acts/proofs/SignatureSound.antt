@@ -9,7 +9,7 @@ use Rattle.identifiers.specs.Identifiers.{is_identifier}
 use Rattle.identifiers.proofs.Computing.{identifiers}
 use Rattle.identifiers.proofs.NameLaws.{identifier_is_name}
 use Rattle.py_values.specs.declared.val.Val.{Val}
-use Rattle.py_values.specs.Heaps.{Seen}
+use Rattle.py_heap.specs.Heaps.{Seen}
 use Rattle.py_frames.specs.declared.request.Cause.{Cause}
 use Rattle.py_frames.specs.declared.request.Cause.TheVariants.{Raised}
 use Rattle.elab_store.specs.declared.faces.Face.{Face}

@@ -8,7 +8,7 @@ use Rattle.lists.specs.Texts.{text_eq}
 use Rattle.amh_host.specs.declared.place.Place.{Place}
 use Rattle.py_values.specs.declared.val.Val.{Val}
 use Rattle.py_values.specs.declared.val.Val.TheVariants as val
-use Rattle.py_values.specs.Heaps.{Seen, text_at}
+use Rattle.py_heap.specs.Heaps.{Seen, text_at}
 use Rattle.py_values.specs.Numbers.{number_of}
 use Rattle.py_frames.specs.declared.request.Answer.{Answer}
 use Rattle.py_frames.specs.declared.request.Answer.TheVariants as answer
@@ -67,7 +67,7 @@ use Rattle.elab_store.specs.declared.kept.Begin.{Begin}
 use Rattle.elab_store.specs.declared.kept.Begin.TheVariants as begin
 use Rattle.elab_components.specs.Classes.{is_base, is_keyword, class_made, base_called}
 use Rattle.elab_acts.specs.Tops.{elaborate_of, with_top, top_taken, walk, body_taken, named_top, body_ended, ended_by, elaborate_ended}
-use Rattle.elab_store.specs.Stores.{object_in, first_object, module_of}
+use Rattle.elab_store.specs.Stores.{object_in, first_object, module_of, node_in}
 use Rattle.elab_components.specs.Libraries.{is_enum, is_data, library_named, thing_name_given}
 use Rattle.elab_components.specs.Likes.{liked, like_placed, like_init, own_reset_less, liked_shape, liked_signal}
 use Rattle.elab_store.specs.Sound.{IsEquation, IsBegin, IsKept, IsOpening, IsTold, IsBuilt, IsSound}
@@ -144,6 +144,8 @@ module_sound c h s =
       domains = s.domains;
       additions = s.additions;
       clock_domains = s.clock_domains;
+      memories = s.memories;
+      registers = s.registers;
       modules = all_and (IsBuilt h.pool) h.store.modules (record { name = []; steps = [] } ∷ []) s.modules (record { steps = tt }, tt);
     } tt) s
 
@@ -320,7 +322,7 @@ plain_sound m b (v ∷ vs) ns h t i = t
 case_sound : (m : ℕ) (o : Option (List Pattern)) (h : Held) → IsSound h → IsSound (case_given m o h).held
 case_sound m None h t = t
 case_sound m (Some ps) h t =
-    keeping_sound (with_patterns ps h) (kept_as.Block m (begin.Case (length h.store.patterns))) (record { names = t.names; things = t.things; kept = t.kept; modules = t.modules; components = t.components; machines = t.machines; domains = t.domains; additions = t.additions; clock_domains = t.clock_domains }) tt
+    keeping_sound (with_patterns ps h) (kept_as.Block m (begin.Case (length h.store.patterns))) (record { names = t.names; things = t.things; kept = t.kept; modules = t.modules; components = t.components; machines = t.machines; domains = t.domains; additions = t.additions; clock_domains = t.clock_domains; memories = t.memories; registers = t.registers }) tt
 
 case_in_sound : (s : Seen) (m : ℕ) (vs : List Val) (o : Option ExprId) (h : Held) → IsSound h → IsSound (case_in s m vs o h).held
 case_in_sound s m vs None h t = keeping_sound h (kept_as.Block m begin.Misplaced) t tt
@@ -383,6 +385,8 @@ entered_sound h m b x t k i = by_expr (condition_made (built_blocks b) x) (openi
       domains = u.domains;
       additions = u.additions;
       clock_domains = u.clock_domains;
+      memories = u.memories;
+      registers = u.registers;
       modules = told_module q m (and_entered h.pool b x) h.store.modules (record { steps = all_and (IsTold q) b.steps (Enter (opening_of (length h.pool.exprs) x) ∷ []) l.steps (o, tt) }) u.modules;
     }
 
@@ -422,6 +426,9 @@ enter_sound (Some (kept_as.Domain m d)) h t f = t
 enter_sound (Some (kept_as.Submodules m)) h t f = t
 enter_sound (Some (kept_as.Definitions m)) h t f = t
 enter_sound (Some (kept_as.ClockDomain k)) h t f = t
+enter_sound (Some (kept_as.Memory k)) h t f = t
+enter_sound (Some (kept_as.OfMemory k y)) h t f = t
+enter_sound (Some (kept_as.MemoryPort x)) h t f = t
 enter_sound (Some (kept_as.Statement q)) h t f = t
 enter_sound (Some (kept_as.Port is_out shape init)) h t f = t
 enter_sound (Some (kept_as.Nested is_out m)) h t f = t
@@ -440,6 +447,8 @@ left_sound h m b t k = record {
   domains = t.domains;
   additions = t.additions;
   clock_domains = t.clock_domains;
+  memories = t.memories;
+  registers = t.registers;
   modules = told_module h.pool m (and_left b) h.store.modules (record { steps = all_and (IsTold h.pool) b.steps (Leave ∷ []) k.steps (tt, tt) }) t.modules;
 }
 
@@ -466,6 +475,9 @@ leave_sound (Some (kept_as.Domain m d)) h t = t
 leave_sound (Some (kept_as.Submodules m)) h t = t
 leave_sound (Some (kept_as.Definitions m)) h t = t
 leave_sound (Some (kept_as.ClockDomain k)) h t = t
+leave_sound (Some (kept_as.Memory k)) h t = t
+leave_sound (Some (kept_as.OfMemory k y)) h t = t
+leave_sound (Some (kept_as.MemoryPort x)) h t = t
 leave_sound (Some (kept_as.Statement q)) h t = t
 leave_sound (Some (kept_as.Port is_out shape init)) h t = t
 leave_sound (Some (kept_as.Nested is_out m)) h t = t
@@ -487,6 +499,8 @@ naming_sound n h t name = record {
   domains = all_and IsName h.store.domains (n ∷ []) t.domains (name, tt);
   additions = t.additions;
   clock_domains = t.clock_domains;
+  memories = t.memories;
+  registers = t.registers;
 }
 
 pub domain_sound : (m : ℕ) (name : Option (List ℕ)) (h : Held) → IsSound h → IsSound (domain_given m name h).held
@@ -526,6 +540,8 @@ put_sound_by h None m b d q t k named e = record {
   domains = t.domains;
   additions = t.additions;
   clock_domains = t.clock_domains;
+  memories = t.memories;
+  registers = t.registers;
   modules = told_module h.pool m (built_with b d q) h.store.modules (record { steps = all_and (IsTold h.pool) b.steps (Assign d q.target q.value q.place ∷ []) k.steps ((named, e), tt) }) t.modules;
 }
 
@@ -576,7 +592,7 @@ body_sound name s vals names h t = taken_sound s (named_top name h.store.simulat
 
 ended_sound : (root : Option ℕ) (s : Seen) (v : Val) (h : Held) → IsSound h → IsSound (ended_by root s v h).held
 ended_sound None s v h t = top_sound s v (module_of (kept_of h.store v)) (elaborate_of s v) h t
-ended_sound (Some root) s v h t = submodule.node_or_called_sound (walk s) (module_of (kept_of h.store v)) (elaborate_of s v) h t (λ g. submodule.walk_sound s g)
+ended_sound (Some root) s v h t = submodule.node_or_called_sound (walk s) (node_in (kept_of h.store v)) (elaborate_of s v) h t (λ g. submodule.walk_sound s g)
 
 pub end_sound : (s : Seen) (vs : List Val) (h : Held) → IsSound h → IsSound (elaborate_ended s vs h).held
 end_sound s [] h t = t

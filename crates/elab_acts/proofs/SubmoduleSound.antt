@@ -6,13 +6,14 @@ use Rattle.lists.specs.Names.{IsName}
 use Rattle.identifiers.specs.Identifiers.{is_identifier}
 use Rattle.identifiers.proofs.NameLaws.{identifier_is_name}
 use Rattle.py_values.specs.declared.val.Val.{Val}
-use Rattle.py_values.specs.Heaps.{Seen}
+use Rattle.py_heap.specs.Heaps.{Seen}
 use Rattle.py_frames.specs.declared.request.Cause.{Cause}
 use Rattle.py_frames.specs.declared.request.Cause.TheVariants.{Raised, Limit}
 use Rattle.elab_store.specs.declared.hierarchy.Addition.{Addition}
 use Rattle.elab_store.specs.declared.hierarchy.Waiting.{Waiting}
+use Rattle.elab_store.specs.declared.hierarchy.NodeOf.{NodeOf}
 use Rattle.elab_store.specs.Hierarchies.{Hierarchy, children_of, addition_name, added_as, with_addition, taken_by, node_taken, first_waiting, thing_waiting}
-use Rattle.elab_store.specs.Stores.{Stored, Held, Answered, kept_of, module_of}
+use Rattle.elab_store.specs.Stores.{Stored, Held, Answered, kept_of, node_in}
 use Rattle.elab_store.specs.Sound.{IsSound}
 use Rattle.elab_store.proofs.NumberNames.{numbered_is_name}
 use Rattle.elab_acts.specs.declared.tops.Calling.{Calling}
@@ -31,7 +32,7 @@ AreNamed = AllByRecursion (λ (a : Addition). IsName a.name)
 
 -- where only the hierarchy is another one
 hierarchy_sound : (h : Held) (t : Hierarchy) → IsSound h → AreNamed t.additions → IsSound (record h { store = record h.store { hierarchy = t } })
-hierarchy_sound h t s named = record { names = s.names; things = s.things; kept = s.kept; modules = s.modules; components = s.components; machines = s.machines; domains = s.domains; additions = named; clock_domains = s.clock_domains }
+hierarchy_sound h t s named = record { names = s.names; things = s.things; kept = s.kept; modules = s.modules; components = s.components; machines = s.machines; domains = s.domains; additions = named; clock_domains = s.clock_domains; memories = s.memories; registers = s.registers }
 
 no_refusal : (a b c : Bool) (o : Option Cause) → (if a || (b || c) then Some Raised else o) ≡ None → b ≡ false
 no_refusal true b c o e = absurd (true≢false (ap is_some e))
@@ -76,27 +77,27 @@ submodules_sound m v h t = if_sound (is_submodules_of m (kept_of h.store v)) _ _
 
 -- ---- the walk
 
-additions_stay : (m : ℕ) (ws : List Waiting) (t : Hierarchy) → (taken_by m ws t).additions ≡ t.additions
+additions_stay : (m : NodeOf) (ws : List Waiting) (t : Hierarchy) → (taken_by m ws t).additions ≡ t.additions
 additions_stay m [] t = refl
 additions_stay m (w ∷ ws) t = refl
 
-node_sound : (m : ℕ) (h : Held) → IsSound h → IsSound (with_node m h)
+node_sound : (m : NodeOf) (h : Held) → IsSound h → IsSound (with_node m h)
 node_sound m h t = hierarchy_sound h (node_taken m h.store.hierarchy) t (subst AreNamed (sym (additions_stay m h.store.hierarchy.waiting h.store.hierarchy)) t.additions)
 
 pub entered_sound : (m : ℕ) (h : Held) → IsSound h → IsSound (with_top m h)
-entered_sound m h t = record { names = t.names; things = t.things; kept = t.kept; modules = t.modules; components = t.components; machines = t.machines; domains = t.domains; additions = t.additions; clock_domains = t.clock_domains }
+entered_sound m h t = record { names = t.names; things = t.things; kept = t.kept; modules = t.modules; components = t.components; machines = t.machines; domains = t.domains; additions = t.additions; clock_domains = t.clock_domains; memories = t.memories; registers = t.registers }
 
 below_sound : (c : Option Calling) (h : Held) → IsSound h → IsSound (below_called c h).held
 below_sound None h t = t
 below_sound (Some c) h t = t
 
-pub node_or_called_sound : (others : Held → Answered) (m : Option ℕ) (c : Option Calling) (h : Held) → IsSound h → ((g : Held) → IsSound g → IsSound (others g).held) → IsSound (node_or_called others m c h).held
+pub node_or_called_sound : (others : Held → Answered) (m : Option NodeOf) (c : Option Calling) (h : Held) → IsSound h → ((g : Held) → IsSound g → IsSound (others g).held) → IsSound (node_or_called others m c h).held
 node_or_called_sound others None c h t f = below_sound c h t
 node_or_called_sound others (Some m) c h t f = f (with_node m h) (node_sound m h t)
 
 thing_sound : (s : Seen) (others : Held → Answered) (o : Option Val) (h : Held) → IsSound h → ((g : Held) → IsSound g → IsSound (others g).held) → IsSound (thing_walked s others o h).held
 thing_sound s others None h t f = t
-thing_sound s others (Some v) h t f = node_or_called_sound others (module_of (kept_of h.store v)) (elaborate_of s v) h t f
+thing_sound s others (Some v) h t f = node_or_called_sound others (node_in (kept_of h.store v)) (elaborate_of s v) h t f
 
 next_sound : (s : Seen) (others : Held → Answered) (o : Option Waiting) (h : Held) → IsSound h → ((g : Held) → IsSound g → IsSound (others g).held) → IsSound (next_walked s others o h).held
 next_sound s others None h t f = t

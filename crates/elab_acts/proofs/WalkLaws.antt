@@ -3,11 +3,12 @@ use Rattle.std.proofs.Common.{◌≡◌, ◌∙◌, ℕ, zero, suc, ap, sym, Boo
 use Rattle.std.specs.Prelude.{if◌then◌else◌}
 use Rattle.py_values.specs.declared.val.Val.{Val}
 use Rattle.py_values.specs.declared.val.Val.TheVariants as val
-use Rattle.py_values.specs.Heaps.{Seen}
+use Rattle.py_heap.specs.Heaps.{Seen}
 use Rattle.py_frames.specs.declared.request.Cause.TheVariants.{Raised, Limit}
+use Rattle.elab_store.specs.declared.hierarchy.NodeOf.{NodeOf}
 use Rattle.elab_store.specs.declared.hierarchy.Waiting.{Waiting}
 use Rattle.elab_store.specs.Hierarchies.{first_waiting, thing_waiting}
-use Rattle.elab_store.specs.Stores.{Held, Answered, refused, given, kept_of, module_of}
+use Rattle.elab_store.specs.Stores.{Held, Answered, refused, given, kept_of, node_in}
 use Rattle.elab_acts.specs.Tops.{elaborate_of, deepest_submodule, with_node, below_called, node_or_called, thing_walked, next_walked, last_walked, walked}
 
 -- nothing waits
@@ -37,19 +38,19 @@ pub walked_nothing : (j n : ℕ) (s : Seen) (h : Held) (w : Waiting) (all : Answ
     → walked j s h ≡ all → refused Raised h ≡ all
 walked_nothing j n s h w all step some deep none e = sym (walked_next j n s h w false step some deep ∙ ap (λ (o : Option Val). thing_walked s (walked n s) o h) none) ∙ e
 
-walked_thing : (j n : ℕ) (s : Seen) (h : Held) (w : Waiting) (v : Val) (m : Option ℕ) → j ≡ suc n → first_waiting h.store.hierarchy ≡ Some w → nat_lt deepest_submodule w.depth ≡ false → thing_waiting h.store.hierarchy ≡ Some v
-    → module_of (kept_of h.store v) ≡ m → walked j s h ≡ node_or_called (walked n s) m (elaborate_of s v) h
+walked_thing : (j n : ℕ) (s : Seen) (h : Held) (w : Waiting) (v : Val) (m : Option NodeOf) → j ≡ suc n → first_waiting h.store.hierarchy ≡ Some w → nat_lt deepest_submodule w.depth ≡ false → thing_waiting h.store.hierarchy ≡ Some v
+    → node_in (kept_of h.store v) ≡ m → walked j s h ≡ node_or_called (walked n s) m (elaborate_of s v) h
 walked_thing j n s h w v m step some deep thing is =
     walked_next j n s h w false step some deep
     ∙ ap (λ (o : Option Val). thing_walked s (walked n s) o h) thing
-    ∙ ap (λ (o : Option ℕ). node_or_called (walked n s) o (elaborate_of s v) h) is
+    ∙ ap (λ (o : Option NodeOf). node_or_called (walked n s) o (elaborate_of s v) h) is
 
--- it is no module
+-- it is neither a module nor a memory
 pub walked_called : (j n : ℕ) (s : Seen) (h : Held) (w : Waiting) (v : Val) (all : Answered) → j ≡ suc n → first_waiting h.store.hierarchy ≡ Some w → nat_lt deepest_submodule w.depth ≡ false → thing_waiting h.store.hierarchy ≡ Some v
-    → module_of (kept_of h.store v) ≡ None → walked j s h ≡ all → below_called (elaborate_of s v) h ≡ all
+    → node_in (kept_of h.store v) ≡ None → walked j s h ≡ all → below_called (elaborate_of s v) h ≡ all
 walked_called j n s h w v all step some deep thing is e = sym (walked_thing j n s h w v None step some deep thing is) ∙ e
 
--- it is a module, and the others follow
-pub walked_more : (j n : ℕ) (s : Seen) (h : Held) (w : Waiting) (v : Val) (m : ℕ) (all : Answered) → j ≡ suc n → first_waiting h.store.hierarchy ≡ Some w → nat_lt deepest_submodule w.depth ≡ false → thing_waiting h.store.hierarchy ≡ Some v
-    → module_of (kept_of h.store v) ≡ Some m → walked j s h ≡ all → walked n s (with_node m h) ≡ all
+-- it is one of them, and the others follow
+pub walked_more : (j n : ℕ) (s : Seen) (h : Held) (w : Waiting) (v : Val) (m : NodeOf) (all : Answered) → j ≡ suc n → first_waiting h.store.hierarchy ≡ Some w → nat_lt deepest_submodule w.depth ≡ false → thing_waiting h.store.hierarchy ≡ Some v
+    → node_in (kept_of h.store v) ≡ Some m → walked j s h ≡ all → walked n s (with_node m h) ≡ all
 walked_more j n s h w v m all step some deep thing is e = sym (walked_thing j n s h w v (Some m) step some deep thing is) ∙ e

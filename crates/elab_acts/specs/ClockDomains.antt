@@ -6,7 +6,7 @@ use Rattle.lists.specs.Texts.{text_eq}
 use Rattle.amh_host.specs.declared.place.Place.{Place}
 use Rattle.py_values.specs.declared.val.Val.{Val}
 use Rattle.py_values.specs.declared.val.Val.TheVariants as val
-use Rattle.py_values.specs.Heaps.{Seen, text_at}
+use Rattle.py_heap.specs.Heaps.{Seen, text_at}
 use Rattle.py_frames.specs.declared.request.Answer.TheVariants as answer
 use Rattle.py_frames.specs.declared.request.Cause.TheVariants.{Raised, Limit}
 use Rattle.design_ir.specs.declared.ids.SigId.{SigId}

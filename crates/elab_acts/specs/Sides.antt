@@ -4,7 +4,7 @@ use Rattle.lists.specs.Texts.{text_eq}
 use Rattle.identifiers.specs.Identifiers.{is_identifier}
 use Rattle.py_values.specs.declared.val.Val.{Val}
 use Rattle.py_values.specs.declared.val.Val.TheVariants as val
-use Rattle.py_values.specs.Heaps.{Seen, text_at, row_at}
+use Rattle.py_heap.specs.Heaps.{Seen, text_at, row_at}
 use Rattle.py_frames.specs.declared.request.Answer.{Answer}
 use Rattle.py_frames.specs.declared.request.Answer.TheVariants as answer
 use Rattle.py_frames.specs.declared.request.Cause.{Cause}

@@ -9,7 +9,7 @@ use Rattle.py_values.specs.declared.val.Val.TheVariants as val
 use Rattle.py_values.specs.declared.func.Code.{Code}
 use Rattle.py_values.specs.declared.func.Code.TheVariants as code
 use Rattle.py_values.specs.declared.func.Func.{Func}
-use Rattle.py_values.specs.Heaps.{Seen, text_at, func_at}
+use Rattle.py_heap.specs.Heaps.{Seen, text_at, func_at}
 use Rattle.py_frames.specs.declared.request.Cause.TheVariants.{Raised, Limit}
 use Rattle.elab_store.specs.declared.kept.SimulatorPart.{SimulatorPart}
 use Rattle.elab_store.specs.declared.kept.SimulatorPart.TheVariants as part

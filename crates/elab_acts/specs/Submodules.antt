@@ -4,18 +4,18 @@ use Rattle.std.specs.Option.{option_map_or}
 use Rattle.identifiers.specs.Identifiers.{is_identifier}
 use Rattle.py_values.specs.declared.val.Val.{Val}
 use Rattle.py_values.specs.declared.val.Val.TheVariants as val
-use Rattle.py_values.specs.Heaps.{Seen}
+use Rattle.py_heap.specs.Heaps.{Seen}
 use Rattle.py_frames.specs.declared.request.Cause.{Cause}
 use Rattle.py_frames.specs.declared.request.Cause.TheVariants.{Raised, Limit}
 use Rattle.elab_store.specs.declared.kept.Kept.{Kept}
 use Rattle.elab_store.specs.declared.kept.Kept.TheVariants as kept
 use Rattle.elab_store.specs.Hierarchies.{Hierarchy, added_as, with_addition, is_node}
-use Rattle.elab_store.specs.Stores.{Stored, Held, Answered, refused, given, kept_of, module_of}
+use Rattle.elab_store.specs.Stores.{Stored, Held, Answered, refused, given, kept_of, node_in}
 use Rattle.elab_acts.specs.Tops.{elaborate_of, most_submodules}
 
--- a module, or an object with `elaborate`
+-- a module, a memory, or an object with `elaborate`
 abbrev pub is_elaboratable : Seen → Val → Stored → Bool
-is_elaboratable s v store = is_some (module_of (kept_of store v)) || is_some (elaborate_of s v)
+is_elaboratable s v store = is_some (node_in (kept_of store v)) || is_some (elaborate_of s v)
 
 -- module m is elaborated already
 abbrev pub is_elaborated : ℕ → Stored → Bool

@@ -9,16 +9,17 @@ use Rattle.py_values.specs.declared.val.ObjId.{ObjId}
 use Rattle.py_values.specs.declared.func.Func.{Func}
 use Rattle.py_values.specs.declared.func.Code.{Code}
 use Rattle.py_values.specs.declared.func.Code.TheVariants as code
-use Rattle.py_values.specs.declared.objects.Inherited.{Inherited}
-use Rattle.py_values.specs.declared.objects.Inherited.TheVariants.{Found, Thing, Nowhere}
-use Rattle.py_values.specs.Heaps.{Seen, row_at, func_at}
-use Rattle.py_values.specs.Objects.{attributes, attribute_in, inherited, first_in}
+use Rattle.py_heap.specs.declared.objects.Inherited.{Inherited}
+use Rattle.py_heap.specs.declared.objects.Inherited.TheVariants.{Found, Thing, Nowhere}
+use Rattle.py_heap.specs.Heaps.{Seen, row_at, func_at}
+use Rattle.py_heap.specs.Objects.{attributes, attribute_in, inherited, first_in}
 use Rattle.py_frames.specs.declared.request.Answer.TheVariants as answer
 use Rattle.py_frames.specs.declared.request.Cause.TheVariants.{Raised, Limit}
 use Rattle.elab_acts.specs.declared.tops.Calling.{Calling}
+use Rattle.elab_store.specs.declared.hierarchy.NodeOf.{NodeOf}
 use Rattle.elab_store.specs.declared.hierarchy.Waiting.{Waiting}
 use Rattle.elab_store.specs.Hierarchies.{first_waiting, thing_waiting, node_taken, top_entered}
-use Rattle.elab_store.specs.Stores.{with_root, with_object, module_of, Stored, Held, Answered, refused, given, kept_of}
+use Rattle.elab_store.specs.Stores.{with_root, with_object, module_of, node_in, Stored, Held, Answered, refused, given, kept_of}
 
 -- ---- `elaborate` of an object: what is called, and whether with the object first
 
@@ -87,20 +88,20 @@ most_submodules = 4096
 abbrev pub deepest_submodule : ℕ
 deepest_submodule = 64
 
-abbrev pub store_with_node : ℕ → Stored → Stored
-store_with_node m store = record store { hierarchy = node_taken m store.hierarchy }
+abbrev pub store_with_node : NodeOf → Stored → Stored
+store_with_node o store = record store { hierarchy = node_taken o store.hierarchy }
 
-abbrev pub with_node : ℕ → Held → Held
-with_node m h = record h { store = store_with_node m h.store }
+abbrev pub with_node : NodeOf → Held → Held
+with_node o h = record h { store = store_with_node o h.store }
 
--- a module is taken, and the others follow
-abbrev pub node_or_called : (Held → Answered) → Option ℕ → Option Calling → Held → Answered
-node_or_called others (Some m) c h = others (with_node m h)
+-- a module or a memory is taken, and the others follow
+abbrev pub node_or_called : (Held → Answered) → Option NodeOf → Option Calling → Held → Answered
+node_or_called others (Some o) c h = others (with_node o h)
 node_or_called others None c h = below_called c h
 
 abbrev pub thing_walked : Seen → (Held → Answered) → Option Val → Held → Answered
 thing_walked s others None h = refused Raised h
-thing_walked s others (Some v) h = node_or_called others (module_of (kept_of h.store v)) (elaborate_of s v) h
+thing_walked s others (Some v) h = node_or_called others (node_in (kept_of h.store v)) (elaborate_of s v) h
 
 abbrev pub next_walked : Seen → (Held → Answered) → Option Waiting → Held → Answered
 next_walked s others None h = given val.None h
@@ -153,7 +154,7 @@ body_ended name s vals names h = body_taken s (named_top name h.store.simulation
 -- where the top is a module already, it is a submodule that was asked
 abbrev pub ended_by : Option ℕ → Seen → Val → Held → Answered
 ended_by None s v h = elaborated s v h
-ended_by (Some root) s v h = node_or_called (walk s) (module_of (kept_of h.store v)) (elaborate_of s v) h
+ended_by (Some root) s v h = node_or_called (walk s) (node_in (kept_of h.store v)) (elaborate_of s v) h
 
 abbrev pub elaborate_ended : Seen → List Val → Held → Answered
 elaborate_ended s (v ∷ vs) h = ended_by h.store.top.root s v h

@@ -1,7 +1,7 @@
 // The blocks of a module: `m.If(c)` and the like, which `with` enters and leaves.
 ghost use Rattle.std.specs.Prelude.{◌≡◌, ◌<◌, length, Some, None, IfOk, IfSome, slice_get, option_map};
 ghost use Rattle.module_dsl.specs.declared.step.Block.TheVariants as dsl;
-ghost use Rattle.py_values.specs.Heaps.{seen};
+ghost use Rattle.py_heap.specs.Heaps.{seen};
 ghost use Rattle.amh_things.specs.Meant.{expr_meant};
 ghost use Rattle.amh_things.specs.Patterns.{AreWithin};
 ghost use Rattle.std.specs.Prelude.{Option as Stopped};
@@ -26,7 +26,8 @@ use elab_store::store::{Elaboration, Store};
 use lists::NoMemory;
 use module_dsl::{Block, BuildStop};
 use py_frames::request::{Answer, Cause};
-use py_values::{Frozen, Heap, Val};
+use py_heap::{Frozen, Heap};
+use py_values::Val;
 use std::alloc::Global;
 
 /// The block of a name.

@@ -3,7 +3,7 @@ ghost use Rattle.std.specs.Prelude.{◌≡◌, ◌+◌, ◌<◌, ◌≤◌, ◌+
 ghost use Rattle.std.specs.Option.{option_copied};
 ghost use Rattle.std.specs.List.{AllByRecursion};
 ghost use Rattle.py_values.specs.declared.val.Val.TheVariants as val;
-ghost use Rattle.py_values.specs.Heaps.{seen};
+ghost use Rattle.py_heap.specs.Heaps.{seen};
 ghost use Rattle.design_ir.specs.declared.process.Side.{Side as side};
 ghost use Rattle.elab_acts.specs.Sides.{module_attribute, domain_given, index_name, is_domain_of, domain_stored, equation_of, row_of_list, equations_in, deepest, collected, statement_told, statements_told, statements_added};
 ghost use Rattle.elab_store.specs.Sound.{IsSound, IsEquation};
@@ -19,7 +19,8 @@ use elab_store::store::{Elaboration, Store};
 use identifiers::is_identifier;
 use lists::NoMemory;
 use py_frames::request::{Answer, Cause};
-use py_values::{Frozen, Heap, Val};
+use py_heap::{Frozen, Heap};
+use py_values::Val;
 
 /// How deep lists of statements may stand in one another.
 const DEEPEST: u32 = 64;

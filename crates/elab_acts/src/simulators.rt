@@ -1,7 +1,7 @@
 // `Simulator(x)` and its calls.
 ghost use Rattle.std.specs.Prelude.{◌≡◌, map, string_bytes, Some, None, pos, is_some};
 ghost use Rattle.std.specs.Option.{option_copied};
-ghost use Rattle.py_values.specs.Heaps.{seen, func_at};
+ghost use Rattle.py_heap.specs.Heaps.{seen, func_at};
 ghost use Rattle.elab_store.specs.Seen.{called_of};
 ghost use Rattle.elab_store.specs.Held.{held_of, Gives};
 ghost use Rattle.elab_acts.specs.Simulators.{simulated, simulator_called, call_named, simulator_attribute, whole_seconds, seconds, time_meant, clock_once, clock_keyword, clock_keywords, clock_placed, clock_arguments, given_time, phase_said, clock_domain, clock_from, bench_once, bench_keyword, bench_keywords, bench_placed, bench_arguments, is_def, is_defined, bench_function, bench_said, bench_from, run_called, until_placed, is_vcd_keyword, are_vcd_keywords, vcd_placed, open_called, simulator_part_called, vcd_passed};
@@ -16,7 +16,8 @@ use elab_store::simulation::{ClockCall, RunEnd, Testbench};
 use elab_store::store::Elaboration;
 use lists::NoMemory;
 use py_frames::request::{Answer, Cause};
-use py_values::{Code, Frozen, FuncId, Heap, Val};
+use py_heap::{Frozen, Heap};
+use py_values::{Code, FuncId, Val};
 
 /// A file has so many testbenches at most.
 const MOST_TESTBENCHES: usize = 64;

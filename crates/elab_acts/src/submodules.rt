@@ -1,7 +1,7 @@
 // `m.submodules`, and what is added to it.
 ghost use Rattle.std.specs.Prelude.{◌≡◌, None, Some, IfOk, false};
 ghost use Rattle.std.specs.Option.{option_copied};
-ghost use Rattle.py_values.specs.Heaps.{seen};
+ghost use Rattle.py_heap.specs.Heaps.{seen};
 ghost use Rattle.elab_acts.specs.Submodules.{is_elaboratable, is_elaborated, is_no_name, addition_refusal, submodule_added, submodule_stored, submodule_given, is_submodules_of, submodules_stored};
 ghost use Rattle.elab_store.specs.Held.{held_of, Gives};
 
@@ -12,14 +12,15 @@ use elab_store::store::{Elaboration, Store};
 use identifiers::is_identifier;
 use lists::NoMemory;
 use py_frames::request::{Answer, Cause};
-use py_values::{Frozen, Heap, Val};
+use py_heap::{Frozen, Heap};
+use py_values::Val;
 use std::alloc::Global;
 
-// A module, or an object with `elaborate`.
+// A module, a memory, or an object with `elaborate`.
 fn is_elaboratable(store: &Store, heap: &Heap, frozen: &Frozen, v: &Val) -> bool
     ensures { result ≡ is_elaboratable (seen frozen.now heap.now) v.now store.now }
 {
-    store.module_of(v).is_some() || elaborate_of(heap, frozen, *v).is_some()
+    store.node_of(v).is_some() || elaborate_of(heap, frozen, *v).is_some()
 }
 
 // Whether a module is elaborated already.

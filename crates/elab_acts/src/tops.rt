@@ -2,10 +2,10 @@
 ghost use Rattle.std.specs.Prelude.{◌≡◌, map, string_bytes, Some, None, IfOk, option_map};
 ghost use Rattle.std.specs.Option.{option_copied};
 ghost use Rattle.py_values.specs.declared.val.Val.TheVariants as val;
-ghost use Rattle.py_values.specs.Heaps.{seen, func_at};
-ghost use Rattle.py_values.specs.Objects.{first_in};
+ghost use Rattle.py_heap.specs.Heaps.{seen, func_at};
+ghost use Rattle.py_heap.specs.Objects.{first_in};
 ghost use Rattle.elab_acts.specs.Tops.{is_unbound, is_method, method_calling, found_calling, class_calling, object_calling, elaborate_of, global, top_called, below_called, node_or_called, walk, elaborated, top_of, named_top, body_taken, body_ended, ended_by, elaborate_ended, call_args};
-ghost use Rattle.elab_store.specs.Stores.{object_in, first_object, kept_of, module_of};
+ghost use Rattle.elab_store.specs.Stores.{object_in, first_object, kept_of, module_of, node_in};
 ghost use Rattle.elab_store.specs.Held.{held_of, Gives};
 
 use elab_store::kept::{Kept, Top};
@@ -13,7 +13,8 @@ use elab_store::names::is_text;
 use elab_store::store::Elaboration;
 use lists::NoMemory;
 use py_frames::request::{Answer, Cause, Request};
-use py_values::{Code, Frozen, FuncId, Heap, Inherited, ObjId, Val, Vals};
+use py_heap::{Frozen, Heap, Inherited};
+use py_values::{Code, FuncId, ObjId, Val, Vals};
 use std::alloc::Global;
 
 /// A design has so many submodules at most.
@@ -184,10 +185,10 @@ fn walk(elaboration: &mut Elaboration, heap: &Heap, frozen: &Frozen) -> Result<A
         let Some(v) = elaboration.store.hierarchy().thing_waiting() else {
             return elaboration.refuse(Cause::Raised);
         };
-        let Some(m) = elaboration.store.module_of(&v) else {
+        let Some(node) = elaboration.store.node_of(&v) else {
             return call_below(elaboration, heap, frozen, v);
         };
-        elaboration.store.take_node(m)?;
+        elaboration.store.take_node(node)?;
     }
     match elaboration.store.hierarchy().first_waiting() {
         Some(_) => elaboration.refuse(Cause::Limit),
@@ -213,18 +214,18 @@ fn elaborate(
     }
 }
 
-// `elaborate` of a submodule gave a value: a module stands in the tree, and of an object `elaborate` is called again.
+// `elaborate` of a submodule gave a value: a module or a memory stands in the tree, and of an object `elaborate` is called again.
 fn elaborate_below(
     elaboration: &mut Elaboration,
     heap: &Heap,
     frozen: &Frozen,
     v: Val,
 ) -> Result<Answer, NoMemory>
-    ensures { let s = seen frozen.now heap.now in Gives result elaboration.new (node_or_called (walk s) (module_of (kept_of elaboration.old.store v)) (elaborate_of s v) (held_of elaboration.old)) }
+    ensures { let s = seen frozen.now heap.now in Gives result elaboration.new (node_or_called (walk s) (node_in (kept_of elaboration.old.store v)) (elaborate_of s v) (held_of elaboration.old)) }
 {
-    match elaboration.store.module_of(&v) {
-        Some(m) => {
-            elaboration.store.take_node(m)?;
+    match elaboration.store.node_of(&v) {
+        Some(node) => {
+            elaboration.store.take_node(node)?;
             walk(elaboration, heap, frozen)
         }
         None => call_below(elaboration, heap, frozen, v),

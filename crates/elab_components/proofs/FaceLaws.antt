@@ -8,7 +8,7 @@ use Rattle.design_ir.specs.declared.ids.SigId.{SigId}
 use Rattle.design_ir.specs.declared.port.Port.{Port}
 use Rattle.design_ir.proofs.Growth.{length_more}
 use Rattle.py_values.specs.declared.val.Val.{Val}
-use Rattle.py_values.proofs.ObjectLaws.{drop_at}
+use Rattle.py_heap.proofs.ObjectLaws.{drop_at}
 use Rattle.py_frames.specs.declared.request.NamedVal.{NamedVal}
 use Rattle.elab_store.specs.declared.faces.FaceMember.{FaceMember}
 use Rattle.elab_store.specs.declared.leaves.Leaf.{Leaf}

@@ -3,7 +3,7 @@ use Rattle.std.proofs.Common.{◌≡◌, ℕ, ◌+◌, ◌-◌, ◌<◌, ◌≤�
 use Rattle.std.specs.Prelude.{slice_get, slice_index_or}
 use Rattle.std.proofs.lemmas.List.{take_all}
 use Rattle.py_values.specs.declared.val.Val.{Val}
-use Rattle.py_values.proofs.ObjectLaws.{drop_at}
+use Rattle.py_heap.proofs.ObjectLaws.{drop_at}
 use Rattle.py_frames.specs.declared.request.Answer.{Answer}
 use Rattle.py_frames.specs.declared.request.Answer.TheVariants as answer
 use Rattle.py_frames.specs.declared.request.NamedVal.{NamedVal}

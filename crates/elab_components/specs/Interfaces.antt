@@ -7,8 +7,8 @@ use Rattle.identifiers.specs.Identifiers.{is_identifier}
 use Rattle.py_values.specs.declared.val.Val.{Val}
 use Rattle.py_values.specs.declared.val.Val.TheVariants as val
 use Rattle.py_values.specs.declared.val.ObjId.{ObjId}
-use Rattle.py_values.specs.Heaps.{Seen, text_at, row_at}
-use Rattle.py_values.specs.Objects.{first_in}
+use Rattle.py_heap.specs.Heaps.{Seen, text_at, row_at}
+use Rattle.py_heap.specs.Objects.{first_in}
 use Rattle.py_frames.specs.declared.request.Answer.TheVariants as answer
 use Rattle.py_frames.specs.declared.request.Cause.TheVariants.{Raised, Limit}
 use Rattle.py_frames.specs.declared.request.NamedVal.{NamedVal}

@@ -7,7 +7,7 @@ use Rattle.lists.specs.Texts.{text_eq}
 use Rattle.shape_rules.specs.Forms.{Form}
 use Rattle.py_values.specs.declared.val.Val.{Val}
 use Rattle.py_values.specs.declared.val.Val.TheVariants as val
-use Rattle.py_values.specs.Heaps.{Seen}
+use Rattle.py_heap.specs.Heaps.{Seen}
 use Rattle.py_frames.specs.declared.request.Cause.{Cause}
 use Rattle.py_frames.specs.declared.request.Cause.TheVariants.{Raised}
 use Rattle.design_ir.specs.declared.ids.ExprId.{ExprId}

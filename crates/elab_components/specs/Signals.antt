@@ -6,8 +6,8 @@ use Rattle.shape_rules.specs.Forms.{Form, unsigned}
 use Rattle.identifiers.specs.Identifiers.{is_identifier}
 use Rattle.py_values.specs.declared.val.Val.{Val}
 use Rattle.py_values.specs.declared.val.Val.TheVariants as val
-use Rattle.py_values.specs.Heaps.{Seen, text_at}
-use Rattle.py_values.specs.Truths.{truth}
+use Rattle.py_heap.specs.Heaps.{Seen, text_at}
+use Rattle.py_operators.specs.Truths.{truth}
 use Rattle.py_frames.specs.declared.request.Cause.{Cause}
 use Rattle.py_frames.specs.declared.request.Cause.TheVariants.{Raised, Limit}
 use Rattle.design_ir.specs.declared.signal.Sig.{Sig}

@@ -6,7 +6,7 @@ use Rattle.lists.specs.Texts.{text_eq}
 use Rattle.shape_rules.specs.Forms.{unsigned}
 use Rattle.py_values.specs.declared.val.Val.{Val}
 use Rattle.py_values.specs.declared.val.Val.TheVariants as val
-use Rattle.py_values.specs.Heaps.{Seen, row_at}
+use Rattle.py_heap.specs.Heaps.{Seen, row_at}
 use Rattle.py_frames.specs.declared.request.Cause.{Cause}
 use Rattle.py_frames.specs.declared.request.Cause.TheVariants.{Raised, Limit}
 use Rattle.amh_things.specs.declared.thing.Reading.TheVariants as reading

@@ -2,7 +2,7 @@
 ghost use Rattle.std.specs.Prelude.{◌≡◌, ◌∷◌, ◌++◌, [], length, not, map, string_bytes, IfOk, OnOk, Some, None, option_map, option_and_then, slice_get};
 ghost use Rattle.std.specs.Option.{option_copied};
 ghost use Rattle.py_values.specs.declared.val.Val.TheVariants as val;
-ghost use Rattle.py_values.specs.Heaps.{seen};
+ghost use Rattle.py_heap.specs.Heaps.{seen};
 ghost use Rattle.design_ir.specs.PoolRules.{HasInit};
 ghost use Rattle.elab_components.specs.Interfaces.{string_in, members_of_row, members_of_val, members_given, are_members, names_bound, store_with_interface, interface_bound, interface_of, interface_made, interface_given, component_called, component_class, init_as, init_answered};
 ghost use Rattle.elab_store.specs.Calls.{behind_first};
@@ -26,7 +26,8 @@ use elab_store::store::{Elaboration, Store};
 use identifiers::is_identifier;
 use lists::NoMemory;
 use py_frames::request::{Answer, Cause, NamedVal, NamedVals, Request};
-use py_values::{Frozen, Heap, ObjId, Val};
+use py_heap::{Frozen, Heap};
+use py_values::{ObjId, Val};
 use std::alloc::Global;
 use std::collections::BTreeSet;
 

@@ -1,6 +1,6 @@
 // The modules below `amaranth.lib`.
 ghost use Rattle.std.specs.Prelude.{◌≡◌, is_some, codes};
-ghost use Rattle.elab_components.specs.Libraries.{is_library, is_wiring, is_stream, is_enum, is_data, thing_name_given, wiring_named, stream_named, module_named, library_named, library_given};
+ghost use Rattle.elab_components.specs.Libraries.{is_library, is_wiring, is_stream, is_memory, is_enum, is_data, thing_name_given, wiring_named, stream_named, memory_named, module_named, library_named, library_given};
 ghost use Rattle.amh_things.specs.Things.{base_called, layout_named};
 ghost use Rattle.elab_store.specs.Held.{held_of, Gives};
 
@@ -42,6 +42,17 @@ pub fn stream_named(name: &str) -> Option<HdlName>
     }
 }
 
+/// The name of `amaranth.lib.memory` that is spelled so.
+pub fn memory_named(name: &str) -> Option<HdlName>
+    ensures { result ≡ memory_named name.now }
+{
+    if is_text(name, "Memory") {
+        Some(HdlName::Memory)
+    } else {
+        None
+    }
+}
+
 fn module_named(name: &str) -> Option<HdlName>
     ensures { result ≡ module_named name.now }
 {
@@ -53,6 +64,8 @@ fn module_named(name: &str) -> Option<HdlName>
         Some(HdlName::Data)
     } else if is_text(name, "stream") {
         Some(HdlName::Stream)
+    } else if is_text(name, "memory") {
+        Some(HdlName::MemoryLibrary)
     } else {
         None
     }
@@ -74,6 +87,12 @@ fn is_stream(path: &str) -> bool
     ensures { result ≡ is_stream path.now }
 {
     is_text(path, "amaranth.lib.stream")
+}
+
+fn is_memory(path: &str) -> bool
+    ensures { result ≡ is_memory path.now }
+{
+    is_text(path, "amaranth.lib.memory")
 }
 
 pub fn is_enum(path: &str) -> bool
@@ -115,6 +134,8 @@ pub fn library_named(path: &str, name: &str) -> Option<HdlName>
         wiring_named(name)
     } else if is_stream(path) {
         stream_named(name)
+    } else if is_memory(path) {
+        memory_named(name)
     } else {
         None
     }

@@ -2,7 +2,7 @@
 ghost use Rattle.std.specs.Prelude.{◌≡◌, ◌<◌, length, map, slice_get, string_bytes};
 ghost use Rattle.std.specs.List.{list_all};
 ghost use Rattle.std.specs.Option.{option_copied};
-ghost use Rattle.py_values.specs.Heaps.{seen};
+ghost use Rattle.py_heap.specs.Heaps.{seen};
 ghost use Rattle.elab_store.specs.Seen.{called_of};
 ghost use Rattle.elab_components.specs.Likes.{like_given, is_like_keyword, like_arguments, signal_in, liked_signal, own_init, own_reset_less, like_init, own_reading, like_shape, liked_shape, like_called};
 ghost use Rattle.amh_things.specs.Things.{thing_of};
@@ -21,7 +21,8 @@ use elab_store::shapes::Shaped;
 use elab_store::store::{Elaboration, Store};
 use lists::NoMemory;
 use py_frames::request::{Answer, Cause};
-use py_values::{Frozen, Heap, Val};
+use py_heap::{Frozen, Heap};
+use py_values::Val;
 use shape_rules::Shape;
 
 // ---- arguments

@@ -1,6 +1,6 @@
 // `In` and `Out`, which are called for members of interfaces.
 ghost use Rattle.std.specs.Prelude.{◌≡◌, map, string_bytes, IfOk, Some, None};
-ghost use Rattle.py_values.specs.Heaps.{seen};
+ghost use Rattle.py_heap.specs.Heaps.{seen};
 ghost use Rattle.elab_store.specs.Seen.{called_of};
 ghost use Rattle.elab_components.specs.Members.{init_given, member_init, member_said, is_without_init, nested_said, member_meant, member_placed, member_called};
 ghost use Rattle.elab_store.specs.Held.{held_of, Gives};
@@ -14,7 +14,8 @@ use elab_store::shapes::Shaped;
 use elab_store::store::{Elaboration, Store};
 use lists::NoMemory;
 use py_frames::request::{Answer, Cause};
-use py_values::{Frozen, Heap, ObjId, Val};
+use py_heap::{Frozen, Heap};
+use py_values::{ObjId, Val};
 use std::alloc::Global;
 
 // A number, or a member of an enumeration as its number; and 0 for None.

@@ -1,7 +1,7 @@
 // Modules and signals that are made.
 ghost use Rattle.std.specs.Prelude.{◌≡◌, ◌<◌, length, map, drop, string_bytes, Some, None, IfOk, option_map, option_and_then};
 ghost use Rattle.std.specs.Option.{option_copied};
-ghost use Rattle.py_values.specs.Heaps.{seen};
+ghost use Rattle.py_heap.specs.Heaps.{seen};
 ghost use Rattle.design_ir.specs.declared.expr.Expr.TheVariants as expr;
 ghost use Rattle.design_ir.specs.PoolRules.{expr_added};
 ghost use Rattle.amh_things.specs.declared.thing.Thing.TheVariants as thing;
@@ -23,7 +23,9 @@ use elab_store::store::Elaboration;
 use identifiers::is_identifier;
 use lists::NoMemory;
 use py_frames::request::{Answer, Cause};
-use py_values::{Frozen, Heap, Val};
+use py_heap::{Frozen, Heap};
+use py_operators::truth;
+use py_values::Val;
 use shape_rules::Shape;
 use std::alloc::Global;
 
@@ -171,7 +173,7 @@ pub fn signal_reset_less(heap: &Heap, frozen: &Frozen, given: Option<Val>) -> Op
 {
     match given {
         None => Some(false),
-        Some(v) => heap.truth(frozen, v),
+        Some(v) => truth(heap, frozen, v),
     }
 }
 

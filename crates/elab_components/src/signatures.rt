@@ -1,7 +1,7 @@
 // `Signature(..)`, its methods, and the signatures of streams.
 ghost use Rattle.std.specs.Prelude.{◌≡◌, map, string_bytes, slice_get, pos, IfOk, Some, None};
 ghost use Rattle.std.specs.Option.{option_copied};
-ghost use Rattle.py_values.specs.Heaps.{seen};
+ghost use Rattle.py_heap.specs.Heaps.{seen};
 ghost use Rattle.elab_store.specs.Seen.{called_of};
 ghost use Rattle.elab_store.specs.Held.{held_of, Gives};
 ghost use Rattle.elab_store.specs.declared.members.MemberForm.TheVariants as form;
@@ -24,7 +24,8 @@ use elab_store::shapes::Shaped;
 use elab_store::store::{Elaboration, Store};
 use lists::NoMemory;
 use py_frames::request::{Answer, Cause};
-use py_values::{Frozen, Heap, Val};
+use py_heap::{Frozen, Heap};
+use py_values::Val;
 use shape_rules::Shape;
 use std::alloc::Global;
 

@@ -1,7 +1,7 @@
 -- A design beside the clocks of a simulator.
 use Rattle.std.proofs.Common.{◌≡◌, ap, ◌∙◌, sym, List, Option, Result, Ok}
 use Rattle.amh_host.specs.declared.place.Place.{Place}
-use Rattle.py_values.specs.Heaps.{Made}
+use Rattle.py_heap.specs.Heaps.{Made}
 use Rattle.design_ir.specs.Circuits.{Circuit}
 use Rattle.clock_domains.specs.declared.stop.ResolveStop.{ResolveStop}
 use Rattle.elab_store.specs.declared.simulation.ClockCall.{ClockCall}

@@ -3,28 +3,31 @@ use Rattle.std.proofs.Common.{◌≡◌, ◌<◌, ◌≤◌, ℕ, zero, suc, ref
 use Rattle.std.specs.Prelude.{◌⊎◌, ◌==◌, ◌||◌, if◌then◌else◌, slice_get, option_map}
 use Rattle.std.proofs.lemmas.Bool.{cases_order, eqb-true}
 use Rattle.std.specs.Option.{option_map_or}
-use Rattle.std.specs.List.{AllByRecursion, list_any, filter_map, cons_option}
+use Rattle.std.specs.List.{AllByRecursion, filter_map, cons_option}
 use Rattle.design_ir.specs.declared.ids.SigId.{SigId}
 use Rattle.design_ir.specs.declared.domain.Domain.{Domain}
 use Rattle.design_ir.specs.declared.domain.DomainDef.{DomainDef}
-use Rattle.design_ir.specs.Forests.{Leaf, Forest, bare, grown}
+use Rattle.design_ir.specs.Forests.{Forest, bare, grown}
 use Rattle.design_ir.specs.Pools.{Pooled}
 use Rattle.design_ir.specs.Circuits.{is_among}
 use Rattle.design_ir.specs.Designs.{share}
 use Rattle.module_dsl.specs.Builders.{Built}
+use Rattle.fragment_walks.specs.Walks.{definitions_of, all_definitions}
 use Rattle.clock_domains.specs.Resolvable.{IsDomainOf, IsDefinition, IsResetOf, AreApart, domain_numbers}
 use Rattle.clock_domains.specs.Resolvable as resolvable
-use Rattle.clock_domains.specs.Walks.{definitions_of, all_definitions}
 use Rattle.elab_store.specs.declared.domains.ClockDomain.{ClockDomain}
 use Rattle.elab_store.specs.declared.domains.Definition.{Definition}
 use Rattle.elab_store.specs.declared.hierarchy.Addition.{Addition}
 use Rattle.elab_store.specs.declared.hierarchy.Node.{Node}
+use Rattle.elab_store.specs.declared.hierarchy.NodeOf.{NodeOf}
+use Rattle.elab_store.specs.declared.hierarchy.NodeOf.TheVariants as node
+use Rattle.elab_store.specs.declared.memories.OwnMemory.{OwnMemory}
 use Rattle.elab_store.specs.ClockDomains.{ClockDomains, definition_of, definition_in, defined_by}
 use Rattle.elab_store.specs.Sound.{IsBit, IsResetBehind, IsClockDomain, last_signal, IsMadeBefore, AreInOrder, AreClockDomains}
 use Rattle.elab_store.specs.Stores.{Stored}
 use Rattle.elab_acts.proofs.EachLaws.{all_each}
 use Rattle.elab_acts.proofs.GrownLaws.{all_and}
-use Rattle.elab_eval.specs.Elaborates.{leaf_at, first_trees, other_trees, forest_of_nodes, root_domains, tree_of}
+use Rattle.elab_eval.specs.Elaborates.{node_name, leaf_in, first_trees, other_trees, forest_of_nodes, root_domains, tree_of}
 
 -- ---- where a definition comes from
 
@@ -88,7 +91,7 @@ domain_there q x h = record {
   sync_reset = h.sync_reset;
 }
 
-made_at : (P : ClockDomain → Type 0) (made : List ClockDomain) (k : ℕ) (x : ClockDomain) → AllByRecursion P made → slice_get made k ≡ Some x → P x
+pub made_at : (P : ClockDomain → Type 0) (made : List ClockDomain) (k : ℕ) (x : ClockDomain) → AllByRecursion P made → slice_get made k ≡ Some x → P x
 made_at P [] k x h e = absurd (true≢false (ap is_some (sym e)))
 made_at P (y ∷ made) zero x h e = let same : y ≡ x = cc in subst P same h.0
 made_at P (y ∷ made) (suc k) x h e = made_at P made k x h.1 e
@@ -206,15 +209,20 @@ module _ (made : List ClockDomain) where
   gathered_from (grown l below rest) h =
       all_and (IsFrom made) l.domains (definitions_of below ++ definitions_of rest) h.0 (all_and (IsFrom made) (definitions_of below) (definitions_of rest) (gathered_from below h.1.0) (gathered_from rest h.1.1))
 
-nodes_from : (bs : List Built) (t : ClockDomains) (additions : List Addition) (xs : List Node) → AreFrom t.made (forest_of_nodes bs t additions xs)
-nodes_from bs t additions [] = tt
-nodes_from bs t additions (x ∷ xs) =
-    let behind = nodes_from bs t additions xs in (all_from x.«module» t.made t.definitions, (first_from t.made x.below _ behind, others_from t.made x.below _ behind))
+-- a memory defines none
+leaf_from : (bs : List Built) (ms : List OwnMemory) (t : ClockDomains) (name : List ℕ) (o : NodeOf) → AllByRecursion (IsFrom t.made) (leaf_in bs ms t name o).domains
+leaf_from bs ms t name (node.Module m) = all_from m t.made t.definitions
+leaf_from bs ms t name (node.Memory k) = tt
 
-definitions_from : (s : Stored) (b : Built) → AllByRecursion (IsFrom s.clock_domains.made) (all_definitions (tree_of s b))
+nodes_from : (bs : List Built) (ms : List OwnMemory) (t : ClockDomains) (additions : List Addition) (xs : List Node) → AreFrom t.made (forest_of_nodes bs ms t additions xs)
+nodes_from bs ms t additions [] = tt
+nodes_from bs ms t additions (x ∷ xs) =
+    let behind = nodes_from bs ms t additions xs in (leaf_from bs ms t (node_name additions x) x.of, (first_from t.made x.below _ behind, others_from t.made x.below _ behind))
+
+pub definitions_from : (s : Stored) (b : Built) → AllByRecursion (IsFrom s.clock_domains.made) (all_definitions (tree_of s b))
 definitions_from s b =
-    let below : Forest = forest_of_nodes s.modules s.clock_domains s.hierarchy.additions s.hierarchy.nodes in
-    all_and (IsFrom s.clock_domains.made) (root_domains s) (definitions_of below) (root_from s) (gathered_from s.clock_domains.made below (nodes_from s.modules s.clock_domains s.hierarchy.additions s.hierarchy.nodes))
+    let below : Forest = forest_of_nodes s.modules s.memories s.clock_domains s.hierarchy.additions s.hierarchy.nodes in
+    all_and (IsFrom s.clock_domains.made) (root_domains s) (definitions_of below) (root_from s) (gathered_from s.clock_domains.made below (nodes_from s.modules s.memories s.clock_domains s.hierarchy.additions s.hierarchy.nodes))
 
 pub definitions_apart : (q : Pooled) (s : Stored) (b : Built) → AreClockDomains q s.clock_domains.made → AllByRecursion (λ (d : DomainDef). AllByRecursion (AreApart d) (all_definitions (tree_of s b))) (all_definitions (tree_of s b))
 definitions_apart q s b h =

@@ -1,32 +1,35 @@
 -- The design of what is held, by the tree of its modules.
-use Rattle.std.proofs.Common.{◌≡◌, refl, ap, sym, ◌∙◌, subst, List, [], Bool, true, false, Option, Some, None, Result, Ok, Err}
+use Rattle.std.proofs.Common.{◌≡◌, refl, ap, sym, ◌∙◌, subst, List, Bool, true, false, Option, Some, None, Result, Ok, Err}
 use Rattle.std.specs.Prelude.{◌||◌, if◌then◌else◌}
 use Rattle.std.specs.List.{AllByRecursion, list_any}
 use Rattle.amh_host.specs.declared.place.Kind.TheVariants.{Raised}
-use Rattle.py_values.specs.Heaps.{Made, seen, nothing}
+use Rattle.py_heap.specs.Heaps.{Made, Seen, seen, nothing}
 use Rattle.design_ir.specs.declared.domain.DomainDef.{DomainDef}
 use Rattle.design_ir.specs.declared.fragment.Fragment.{Fragment}
 use Rattle.module_dsl.specs.Builders.{Built}
-use Rattle.design_ir.specs.declared.memory.Memory.{Memory}
+use Rattle.design_ir.specs.PoolRules.{IsPool}
 use Rattle.design_ir.specs.Circuits.{Circuit, is_among}
 use Rattle.clock_domains.specs.declared.top.TopPorts.{TopPorts}
 use Rattle.clock_domains.specs.declared.stop.ResolveStop.{ResolveStop}
 use Rattle.clock_domains.specs.declared.stop.ResolveStop.TheVariants as unresolved
-use Rattle.clock_domains.specs.Reads.{data_signals}
-use Rattle.clock_domains.specs.Resolvable.{IsTree, AreApart, outer_signals}
-use Rattle.clock_domains.specs.Walks.{all_definitions, all_memories}
+use Rattle.fragment_walks.specs.Reads.{data_signals}
+use Rattle.clock_domains.specs.Resolvable.{IsMemoryOf, IsTree, AreApart, outer_signals}
+use Rattle.fragment_walks.specs.Walks.{all_definitions, all_memories}
 use Rattle.clock_domains.specs.Resolved.{IsResolveRefusal, resolved, file_start}
 use Rattle.elab_store.specs.Stores.{Stored, Held}
-use Rattle.elab_store.specs.Sound.{IsNoReset, IsSound, is_reset}
+use Rattle.elab_store.specs.declared.memories.OwnMemory.{OwnMemory}
+use Rattle.elab_store.specs.Sound.{IsNoReset, IsOwnMemory, IsSound, is_reset}
 use Rattle.elab_eval.specs.declared.refusal.ElabStop.{ElabStop}
 use Rattle.elab_eval.specs.declared.refusal.ElabStop.TheVariants as stops
-use Rattle.elab_eval.specs.Elaborates.{Found, IsFound, is_open, is_open_at, root_module, top_ports, tree_of, found_by, found_with, module_found, design_of, unresolved_stop, without_modules}
+use Rattle.elab_eval.specs.Elaborates.{Found, IsFound, is_open, is_open_at, root_module, ports_of, top_ports, tree_of, found_by, found_with, module_found, design_of, unresolved_stop, without_modules}
 use Rattle.elab_eval.specs.Trees.{unless_open, tree_found, IsGot}
-use Rattle.elab_eval.proofs.Modules.{root_built, tree_stands, no_memories}
+use Rattle.elab_acts.proofs.EachLaws.{all_each}
+use Rattle.elab_eval.proofs.Modules.{root_built, tree_stands}
+use Rattle.elab_eval.proofs.OwnMemories.{memory_stands, memories_free}
 use Rattle.elab_eval.proofs.DefinitionLaws.{definitions_apart}
 
 abbrev is_any_open : Stored → Built → Bool
-is_any_open s b = is_open b || list_any (is_open_at s.modules) s.hierarchy.nodes
+is_any_open s b = is_open b || list_any (is_open_at s.modules s.memories) s.hierarchy.nodes
 
 -- a tree is that of the top, and no block is open
 pub record IsMade (s : Stored) (o : Option Built) (f : Fragment) : Type 0 where
@@ -99,17 +102,17 @@ parted s rest bs e f = ap (λ (r : Stored). record r { modules = bs }) f ∙ ap 
 pub got_of : (s t : Stored) (r : Result Fragment ElabStop) → t ≡ s → IsGot r (tree_found t (root_module t)) → IsGot r (tree_found s (root_module s))
 got_of s t r e h = subst (λ u. IsGot r (tree_found u (root_module u))) e h
 
-pub tree_resolvable : (h : Held) (f : Fragment) → AllByRecursion IsNoReset h.pool.exprs → IsSound h → tree_found h.store (root_module h.store) ≡ Ok f → IsTree h.pool f
-tree_resolvable h f plain sound e =
+pub tree_resolvable : (h : Held) (f : Fragment) → IsPool h.pool → AllByRecursion IsNoReset h.pool.exprs → IsSound h → tree_found h.store (root_module h.store) ≡ Ok f → IsTree h.pool f
+tree_resolvable h f rules plain sound e =
     let made = tree_made h.store (root_module h.store) f e in
-    subst (IsTree h.pool) (sym made.tree) (tree_stands h.pool plain h.store made.built (root_built h.pool h.store made.built sound.modules made.is) sound.modules sound.clock_domains sound.additions)
+    let own = all_each (IsOwnMemory h.pool h.store.clock_domains.made h.store.components.objects) (λ (x : OwnMemory). IsMemoryOf h.pool x.spec) h.store.memories (memory_stands h.pool rules h.store.clock_domains.made h.store.components.objects) sound.memories in
+    subst (IsTree h.pool) (sym made.tree) (tree_stands h.pool plain h.store made.built (root_built h.pool h.store made.built sound.modules made.is) sound.modules own sound.clock_domains sound.additions)
 
--- no read port of it gives anything
-pub tree_free : (h : Held) (f : Fragment) (ports : TopPorts) → tree_found h.store (root_module h.store) ≡ Ok f → AllByRecursion (λ k. is_among (outer_signals f ports) k ≡ false) (data_signals (all_memories f))
-tree_free h f ports e =
+-- no one else gives the data of its read ports
+pub tree_free : (s : Seen) (h : Held) (f : Fragment) (ports : TopPorts) → IsSound h → ports_of s h h.store.top.object ≡ Some ports → tree_found h.store (root_module h.store) ≡ Ok f → AllByRecursion (λ k. is_among (outer_signals f ports) k ≡ false) (data_signals (all_memories f))
+tree_free s h f ports sound asked e =
     let made = tree_made h.store (root_module h.store) f e in
-    let none : all_memories f ≡ [] = ap all_memories made.tree ∙ no_memories h.store made.built in
-    subst (λ (ms : List Memory). AllByRecursion (λ k. is_among (outer_signals f ports) k ≡ false) (data_signals ms)) (sym none) tt
+    subst (λ (g : Fragment). AllByRecursion (λ k. is_among (outer_signals g ports) k ≡ false) (data_signals (all_memories g))) (sym made.tree) (memories_free s h made.built ports sound asked)
 
 -- its definitions are of one domain each, or have no signal in common
 pub tree_apart : (h : Held) (f : Fragment) → IsSound h → tree_found h.store (root_module h.store) ≡ Ok f → AllByRecursion (λ (d : DomainDef). AllByRecursion (AreApart d) (all_definitions f)) (all_definitions f)

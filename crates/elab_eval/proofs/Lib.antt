@@ -6,6 +6,7 @@ pub mod DesignLaws
 pub mod Modules
 pub mod NameSamples
 pub mod NoResets
+pub mod OwnMemories
 pub mod ObjectLaws
 pub mod ObjectSamples
 pub mod PortSamples

@@ -1,13 +1,12 @@
 -- A tree of modules whose statements stand is one that can be resolved.
-use Rattle.std.specs.Prelude.{IsTrue, ◌≡◌, refl, ℕ, not, List, [], ◌∷◌, ◌++◌, map, slice_get, slice_index_or, Option, Some, None, zero, suc, codes}
+use Rattle.std.specs.Prelude.{IsTrue, ◌≡◌, refl, ℕ, not, List, [], ◌∷◌, slice_get, slice_index_or, Option, Some, None, zero, suc, codes}
 use Rattle.std.specs.Option.{option_map_or}
 use Rattle.std.specs.List.{AllByRecursion}
-use Rattle.std.proofs.Common.{ap, ◌∙◌, subst}
+use Rattle.std.proofs.Common.{sym, subst}
 use Rattle.std.proofs.lemmas.List.Elements.{All-nil}
 use Rattle.lists.specs.Names.{IsName, continues_name}
 use Rattle.design_ir.specs.declared.domain.DomainDef.{DomainDef}
 use Rattle.design_ir.specs.declared.process.Side.{Side}
-use Rattle.design_ir.specs.declared.memory.Memory.{Memory}
 use Rattle.design_ir.specs.Forests.{Forest, bare, grown}
 use Rattle.design_ir.specs.Fragments.{leaf_of}
 use Rattle.design_ir.specs.Guards.{Guarded, guarded}
@@ -17,17 +16,20 @@ use Rattle.module_dsl.specs.Sided as dsl
 use Rattle.module_dsl.specs.Sided.{givens, sides_of, process_of, processes_of}
 use Rattle.module_dsl.specs.Blocks.{Given, Entries, entries_of}
 use Rattle.module_dsl.specs.Builders.{Built, built_blocks, fragment_of}
-use Rattle.clock_domains.specs.Resolvable.{IsNamedSide, IsThere, IsOpenSide, IsDefinition, IsModule, AreModules, IsTree, is_open_target}
-use Rattle.clock_domains.specs.Walks.{path_under, memory_named, memories_of, all_memories}
+use Rattle.clock_domains.specs.Resolvable.{IsNamedSide, IsThere, IsOpenSide, IsDefinition, IsMemoryOf, IsModule, AreModules, IsTree, is_open_target}
 use Rattle.elab_store.specs.Sound.{IsNoReset, IsBuilt, AreClockDomains}
 use Rattle.elab_store.specs.ClockDomains.{ClockDomains, defined_by}
 use Rattle.elab_store.specs.declared.hierarchy.Addition.{Addition}
 use Rattle.elab_store.specs.declared.hierarchy.Node.{Node}
+use Rattle.elab_store.specs.declared.hierarchy.NodeOf.{NodeOf}
+use Rattle.elab_store.specs.declared.hierarchy.NodeOf.TheVariants as node
+use Rattle.elab_store.specs.declared.memories.OwnMemory.{OwnMemory}
 use Rattle.elab_store.specs.Stores.{Stored}
-use Rattle.elab_eval.specs.Elaborates.{module_in, root_module, node_name, first_trees, other_trees, forest_of_nodes, root_domains, tree_of}
+use Rattle.elab_eval.specs.Elaborates.{module_in, root_module, node_name, leaf_in, first_trees, other_trees, forest_of_nodes, root_domains, tree_of}
 use Rattle.elab_acts.proofs.EachLaws.{all_map, all_filter, all_each}
 use Rattle.elab_eval.proofs.DefinitionLaws.{definitions_stand, root_definitions_stand}
 use Rattle.elab_eval.proofs.NoResets.{resets_named, target_opened}
+use Rattle.elab_eval.proofs.OwnMemories.{spec_at}
 use Rattle.elab_store.proofs.Standing.{IsGiven, Stand, entries_stand, blocks_stand, givens_stand, targets_stand, exprs_stand}
 
 -- ---- sides
@@ -57,6 +59,10 @@ name_at (a ∷ additions) (suc k) g = name_at additions k g.1
 
 node_named : (additions : List Addition) (x : Node) → AllByRecursion (λ (a : Addition). IsName a.name) additions → IsName (node_name additions x)
 node_named additions x g = name_at additions x.addition g
+
+leaf_named : (bs : List Built) (ms : List OwnMemory) (t : ClockDomains) (name : List ℕ) (o : NodeOf) → (leaf_in bs ms t name o).name ≡ name
+leaf_named bs ms t name (node.Module m) = refl
+leaf_named bs ms t name (node.Memory k) = refl
 
 -- ---- statements
 
@@ -99,56 +105,24 @@ module _ (q : Pooled) (plain : AllByRecursion IsNoReset q.exprs) where
   others_stand (suc n) bare h = tt
   others_stand (suc n) (grown l below rest) h = others_stand n rest h.1.1.1
 
-  nodes_stand : (bs : List Built) (t : ClockDomains) (additions : List Addition) (xs : List Node) → AllByRecursion (IsBuilt q) bs → AreClockDomains q t.made → AllByRecursion (λ (a : Addition). IsName a.name) additions
-      → AreModules q (forest_of_nodes bs t additions xs)
-  nodes_stand bs t additions [] h clocked g = tt
-  nodes_stand bs t additions (x ∷ xs) h clocked g =
-      let behind = nodes_stand bs t additions xs h clocked g in (
-        node_named additions x g,
-        (
-          module_stands (module_or_none bs x.«module») (node_name additions x) (defined_by x.«module» t) (built_or_none q bs x.«module» h) (definitions_stand q t x.«module» clocked),
-          (first_stand x.below _ behind, others_stand x.below _ behind),
-        ),
-      )
+  -- a module, or a memory alone
+  leaf_stands : (bs : List Built) (ms : List OwnMemory) (t : ClockDomains) (name : List ℕ) (o : NodeOf) → AllByRecursion (IsBuilt q) bs → AllByRecursion (λ (x : OwnMemory). IsMemoryOf q x.spec) ms → AreClockDomains q t.made → IsModule q (leaf_in bs ms t name o)
+  leaf_stands bs ms t name (node.Module m) h own clocked = module_stands (module_or_none bs m) name (defined_by m t) (built_or_none q bs m h) (definitions_stand q t m clocked)
+  leaf_stands bs ms t name (node.Memory k) h own clocked = record { domains = tt; memories = spec_at (IsMemoryOf q) ms k own; processes = tt; resets = resets_named q _ plain }
 
-  pub tree_stands : (s : Stored) (b : Built) → IsBuilt q b → AllByRecursion (IsBuilt q) s.modules → AreClockDomains q s.clock_domains.made → AllByRecursion (λ (a : Addition). IsName a.name) s.hierarchy.additions → IsTree q (tree_of s b)
-  tree_stands s b h all clocked named = record {
+  nodes_stand : (bs : List Built) (ms : List OwnMemory) (t : ClockDomains) (additions : List Addition) (xs : List Node) → AllByRecursion (IsBuilt q) bs → AllByRecursion (λ (x : OwnMemory). IsMemoryOf q x.spec) ms → AreClockDomains q t.made
+      → AllByRecursion (λ (a : Addition). IsName a.name) additions → AreModules q (forest_of_nodes bs ms t additions xs)
+  nodes_stand bs ms t additions [] h own clocked g = tt
+  nodes_stand bs ms t additions (x ∷ xs) h own clocked g =
+      let behind = nodes_stand bs ms t additions xs h own clocked g in
+      (subst IsName (sym (leaf_named bs ms t (node_name additions x) x.of)) (node_named additions x g), (leaf_stands bs ms t (node_name additions x) x.of h own clocked, (first_stand x.below _ behind, others_stand x.below _ behind)))
+
+  pub tree_stands : (s : Stored) (b : Built) → IsBuilt q b → AllByRecursion (IsBuilt q) s.modules → AllByRecursion (λ (x : OwnMemory). IsMemoryOf q x.spec) s.memories → AreClockDomains q s.clock_domains.made → AllByRecursion (λ (a : Addition). IsName a.name) s.hierarchy.additions
+      → IsTree q (tree_of s b)
+  tree_stands s b h all own clocked named = record {
     own = root_stands b (root_domains s) h (root_definitions_stand q s clocked);
-    below = nodes_stand s.modules s.clock_domains s.hierarchy.additions s.hierarchy.nodes all clocked named;
+    below = nodes_stand s.modules s.memories s.clock_domains s.hierarchy.additions s.hierarchy.nodes all own clocked named;
   }
-
--- ---- no module of a tree has memories
-
-abbrev HaveNone : Forest → Type 0
-HaveNone bare = Unit {0}
-HaveNone (grown l below rest) = (l.memories ≡ []) × (HaveNone below × HaveNone rest)
-
-first_none : (n : ℕ) (f : Forest) → HaveNone f → HaveNone (first_trees n f)
-first_none zero f h = tt
-first_none (suc n) bare h = tt
-first_none (suc n) (grown l below rest) h = (h.0, (h.1.0, first_none n rest h.1.1))
-
-others_none : (n : ℕ) (f : Forest) → HaveNone f → HaveNone (other_trees n f)
-others_none zero f h = h
-others_none (suc n) bare h = tt
-others_none (suc n) (grown l below rest) h = others_none n rest h.1.1
-
-nodes_none : (bs : List Built) (t : ClockDomains) (additions : List Addition) (xs : List Node) → HaveNone (forest_of_nodes bs t additions xs)
-unfolding fragment_of
-nodes_none bs t additions [] = tt
-nodes_none bs t additions (x ∷ xs) = let behind = nodes_none bs t additions xs in (refl, (first_none x.below _ behind, others_none x.below _ behind))
-
-none_gathered : (path : List ℕ) (f : Forest) → HaveNone f → memories_of path f ≡ []
-none_gathered path bare h = refl
-none_gathered path (grown l below rest) h =
-    let under = path_under path l.name in
-    ap (λ (ms : List Memory). map (memory_named (path ++ l.name)) ms ++ (memories_of under below ++ memories_of path rest)) h.0
-    ∙ ap (λ (ms : List Memory). ms ++ memories_of path rest) (none_gathered under below h.1.0)
-    ∙ none_gathered path rest h.1.1
-
-pub no_memories : (s : Stored) (b : Built) → all_memories (tree_of s b) ≡ []
-unfolding fragment_of
-no_memories s b = none_gathered [] (forest_of_nodes s.modules s.clock_domains s.hierarchy.additions s.hierarchy.nodes) (nodes_none s.modules s.clock_domains s.hierarchy.additions s.hierarchy.nodes)
 
 -- the module of a number is as sound as all of them
 pub built_at : (q : Pooled) (bs : List Built) (m : Option ℕ) (b : Built) → AllByRecursion (IsBuilt q) bs → module_in bs m ≡ Some b → IsBuilt q b

@@ -14,8 +14,8 @@ use Rattle.lists.specs.Names.{IsName}
 use Rattle.shape_rules.specs.Forms.{Form, unsigned}
 use Rattle.py_values.specs.declared.val.Val.{Val}
 use Rattle.py_values.specs.declared.val.ObjId.{ObjId}
-use Rattle.py_values.specs.Heaps.{Seen, row_at}
-use Rattle.py_values.specs.Objects.{attributes, first_in}
+use Rattle.py_heap.specs.Heaps.{Seen, row_at}
+use Rattle.py_heap.specs.Objects.{attributes, first_in}
 use Rattle.design_ir.specs.declared.ids.ExprId.{ExprId}
 use Rattle.design_ir.specs.declared.ids.SigId.{SigId}
 use Rattle.design_ir.specs.declared.expr.Expr.{Expr}

@@ -11,7 +11,7 @@ use Rattle.shape_rules.specs.Forms.{unsigned}
 use Rattle.shape_rules.specs.declared.op.Op.TheVariants as op
 use Rattle.py_values.specs.declared.val.Val.{Val}
 use Rattle.py_values.specs.declared.val.Val.TheVariants as val
-use Rattle.py_values.specs.Heaps.{Seen, nothing, seen}
+use Rattle.py_heap.specs.Heaps.{Seen, nothing, seen}
 use Rattle.design_ir.specs.declared.expr.Expr.TheVariants as expr
 use Rattle.design_ir.specs.declared.ids.SigId.{SigId}
 use Rattle.design_ir.specs.declared.port.Port.{Port}
@@ -56,6 +56,7 @@ held = record {
     hierarchy = no_hierarchy;
     clock_domains = no_clock_domains;
     machines = [];
+    memories = [];
     domains = [];
     told = None;
     simulation = no_simulation;

@@ -2,7 +2,7 @@
 use Rattle.std.proofs.Common.{◌≡◌, ℕ, ◌+◌, ◌-◌, ◌<◌, refl, ap, ◌∙◌, sym, subst, List, [], ◌∷◌, ◌++◌, length, Option, Some, Result, Ok, Err, inl, inr, arith}
 use Rattle.py_tree.specs.Steps.{Steps}
 use Rattle.py_values.specs.declared.val.Val.{Val}
-use Rattle.py_values.specs.Heaps.{seen, nothing}
+use Rattle.py_heap.specs.Heaps.{seen, nothing}
 use Rattle.py_frames.specs.declared.request.Answer.{Answer}
 use Rattle.py_frames.specs.declared.request.Answer.TheVariants as answer
 use Rattle.py_frames.specs.declared.request.Request.{Request}
@@ -30,7 +30,7 @@ use Rattle.elab_eval.specs.Elaborates.{Found, Comes, design_of, without_simulati
 use Rattle.elab_eval.specs.Running.{IsRunning, HasEnded, Steps_to}
 
 nothing_sound : IsSound nothing_held
-nothing_sound = record { names = tt; things = tt; kept = tt; modules = tt; components = record { names = tt; ends = tt; objects = tt }; machines = tt; domains = tt; additions = tt; clock_domains = record { each = tt; order = tt } }
+nothing_sound = record { names = tt; things = tt; kept = tt; modules = tt; components = record { names = tt; ends = tt; objects = tt }; machines = tt; domains = tt; additions = tt; clock_domains = record { each = tt; order = tt }; memories = tt; registers = tt }
 
 -- before the first answer
 pub begun : (program : Steps) (top : Option (List ℕ)) (budget : ℕ) (m : Machine) (h : Held) → Stands program nothing [] m → m.stage ≡ stage.Before → m.going.state.used ≡ 0 → h ≡ nothing_held → 0 < budget → IsRunning program top budget m h answer.Begin budget

@@ -5,7 +5,7 @@ use Rattle.lists.specs.Texts.{text_eq}
 use Rattle.amh_host.specs.declared.place.Place.{Place}
 use Rattle.py_values.specs.declared.val.Val.{Val}
 use Rattle.py_values.specs.declared.val.Val.TheVariants as val
-use Rattle.py_values.specs.Heaps.{Seen}
+use Rattle.py_heap.specs.Heaps.{Seen}
 use Rattle.py_frames.specs.declared.request.Act.{Act}
 use Rattle.py_frames.specs.declared.request.Act.TheVariants as act
 use Rattle.py_frames.specs.declared.request.Request.{Request}
@@ -27,7 +27,7 @@ use Rattle.elab_acts.specs.Sides.{index_name, equations_in, deepest}
 use Rattle.elab_acts.specs.Blocks.{block_named}
 use Rattle.elab_eval.specs.Table.{placed_called, kept_called, equated_by, called_by, call_answered, attribute_of, attribute_by, attribute_answered, module_stored, attribute_stored, store_answered, index_of, index_answered, index_stored, index_store_answered, added, operator_answered, kept_entered, kept_left, enter_answered, leave_answered, own_answered, only}
 use Rattle.elab_eval.specs.Table as table
-use Rattle.elab_components.specs.Libraries.{wiring_named, stream_named}
+use Rattle.elab_components.specs.Libraries.{wiring_named, stream_named, memory_named}
 use Rattle.elab_eval.specs.Table.{name_attribute}
 use Rattle.elab_components.specs.Likes.{like_arguments}
 use Rattle.elab_acts.specs.ClockDomains.{domain_arguments}
@@ -41,6 +41,8 @@ use Rattle.elab_acts.proofs.SubmoduleSound as submodule
 use Rattle.elab_acts.proofs.DomainSound as clocked
 use Rattle.elab_acts.proofs.SimulatorSound as simulator
 use Rattle.elab_acts.proofs.SignatureSound as signed
+use Rattle.elab_acts.proofs.MemorySound as memory
+use Rattle.elab_acts.proofs.MemoryPortSound as port
 use Rattle.elab_wiring.proofs.InterfaceSound.{interface_attribute_sound, flipped_sound}
 use Rattle.elab_wiring.proofs.ConnectSound.{connect_sound}
 use Rattle.elab_wiring.proofs.SignatureClassSound.{any_class_sound, any_init_sound, object_attribute_sound}
@@ -78,6 +80,8 @@ name_sound s hdl.Flipped c h t = flipped_sound c h t
 name_sound s hdl.Stream c h t = t
 name_sound s hdl.StreamSignature c h t = signed.stream_sound s c h t
 name_sound s hdl.Simulator c h t = simulator.called_sound c h t
+name_sound s hdl.MemoryLibrary c h t = t
+name_sound s hdl.Memory c h t = memory.memory_call_sound s c h t
 
 placed_sound : (s : Seen) (n : HdlName) (c : Called) (p : Place) (h : Held) → IsSound h → IsSound (placed_called s n c p h).held
 placed_sound s hdl.Connect c p h t = connect_sound c p h t
@@ -95,36 +99,41 @@ placed_sound s hdl.Out c p h t = name_sound s hdl.Out c h t
 placed_sound s hdl.Component c p h t = name_sound s hdl.Component c h t
 placed_sound s hdl.ClockDomain c p h t = name_sound s hdl.ClockDomain c h t
 placed_sound s hdl.Simulator c p h t = name_sound s hdl.Simulator c h t
+placed_sound s hdl.MemoryLibrary c p h t = name_sound s hdl.MemoryLibrary c h t
+placed_sound s hdl.Memory c p h t = name_sound s hdl.Memory c h t
 placed_sound s hdl.Signature c p h t = name_sound s hdl.Signature c h t
 placed_sound s hdl.Flipped c p h t = name_sound s hdl.Flipped c h t
 placed_sound s hdl.Stream c p h t = name_sound s hdl.Stream c h t
 placed_sound s hdl.StreamSignature c p h t = name_sound s hdl.StreamSignature c h t
 
-own_call_sound : (s : Seen) (o : Option Kept) (c : Called) (p : Place) (h : Held) → IsSound h → IsSound (kept_called s o c p h).held
-own_call_sound s None c p h t = t
-own_call_sound s (Some (kept_as.Name n)) c p h t = placed_sound s n c p h t
-own_call_sound s (Some (kept_as.Module n)) c p h t = t
-own_call_sound s (Some (kept_as.Domains n)) c p h t = t
-own_call_sound s (Some (kept_as.Domain n d)) c p h t = t
-own_call_sound s (Some (kept_as.Submodules n)) c p h t = t
-own_call_sound s (Some (kept_as.Definitions n)) c p h t = t
-own_call_sound s (Some (kept_as.ClockDomain n)) c p h t = t
-own_call_sound s (Some (kept_as.Statement n)) c p h t = t
-own_call_sound s (Some (kept_as.Port is_out shape init)) c p h t = t
-own_call_sound s (Some (kept_as.Nested is_out m)) c p h t = t
-own_call_sound s (Some (kept_as.Signature m)) c p h t = t
-own_call_sound s (Some (kept_as.OfSignature m y)) c p h t = signed.method_called_sound m y c h t
-own_call_sound s (Some (kept_as.Interface m)) c p h t = t
-own_call_sound s (Some (kept_as.BlockName m n)) c p h t = block_call_sound s m n c h t
-own_call_sound s (Some (kept_as.Block m b)) c p h t = t
-own_call_sound s (Some (kept_as.OfMachine x)) c p h t = machine.part_call_sound s x c p h t
-own_call_sound s (Some (kept_as.OfSimulator x)) c p h t = simulator.part_called_sound s x c p h t
+own_call_sound : (s : Seen) (o : Option Kept) (c : Called) (p : Place) (h : Held) → IsPool h.pool → IsSound h → IsSound (kept_called s o c p h).held
+own_call_sound s None c p h rules t = t
+own_call_sound s (Some (kept_as.Name n)) c p h rules t = placed_sound s n c p h t
+own_call_sound s (Some (kept_as.Module n)) c p h rules t = t
+own_call_sound s (Some (kept_as.Domains n)) c p h rules t = t
+own_call_sound s (Some (kept_as.Domain n d)) c p h rules t = t
+own_call_sound s (Some (kept_as.Submodules n)) c p h rules t = t
+own_call_sound s (Some (kept_as.Definitions n)) c p h rules t = t
+own_call_sound s (Some (kept_as.ClockDomain n)) c p h rules t = t
+own_call_sound s (Some (kept_as.Statement n)) c p h rules t = t
+own_call_sound s (Some (kept_as.Port is_out shape init)) c p h rules t = t
+own_call_sound s (Some (kept_as.Nested is_out m)) c p h rules t = t
+own_call_sound s (Some (kept_as.Signature m)) c p h rules t = t
+own_call_sound s (Some (kept_as.OfSignature m y)) c p h rules t = signed.method_called_sound m y c h t
+own_call_sound s (Some (kept_as.Memory m)) c p h rules t = t
+own_call_sound s (Some (kept_as.OfMemory m y)) c p h rules t = port.port_call_sound s m y c h t rules
+own_call_sound s (Some (kept_as.MemoryPort m)) c p h rules t = t
+own_call_sound s (Some (kept_as.Interface m)) c p h rules t = t
+own_call_sound s (Some (kept_as.BlockName m n)) c p h rules t = block_call_sound s m n c h t
+own_call_sound s (Some (kept_as.Block m b)) c p h rules t = t
+own_call_sound s (Some (kept_as.OfMachine x)) c p h rules t = machine.part_call_sound s x c p h t
+own_call_sound s (Some (kept_as.OfSimulator x)) c p h rules t = simulator.part_called_sound s x c p h t
 
-call_sound : (s : Seen) (r : Request) (c : Called) (h : Held) → IsSound h → IsSound (call_answered s r c h).held
-call_sound s r c h t = by_eq (equated_by (thing_of h.store.things c.callee)) (λ e is. equated_there (length h.pool.exprs) h.store.things c.callee e t.things is)
+call_sound : (s : Seen) (r : Request) (c : Called) (h : Held) → IsPool h.pool → IsSound h → IsSound (call_answered s r c h).held
+call_sound s r c h rules t = by_eq (equated_by (thing_of h.store.things c.callee)) (λ e is. equated_there (length h.pool.exprs) h.store.things c.callee e t.things is)
   where
     by_eq : (o : Option ExprId) → ((e : ExprId) → o ≡ Some e → e.0 < length h.pool.exprs) → IsSound (called_by s o r c h).held
-    by_eq None f = own_call_sound s (kept_of h.store c.callee) c r.place h t
+    by_eq None f = own_call_sound s (kept_of h.store c.callee) c r.place h rules t
     by_eq (Some e) f = eq_sound h e c.placed c.keywords r.place t (f e refl)
 
 -- ---- attributes and indices
@@ -149,6 +158,8 @@ library_name_sound hdl.Flipped name h t = t
 library_name_sound hdl.Stream name h t = component.library_sound (stream_named name) h t
 library_name_sound hdl.StreamSignature name h t = t
 library_name_sound hdl.Simulator name h t = t
+library_name_sound hdl.MemoryLibrary name h t = component.library_sound (memory_named name) h t
+library_name_sound hdl.Memory name h t = t
 
 attribute_sound : (o : Option Kept) (name : List ℕ) (h : Held) → IsSound h → ((k : Kept) → o ≡ Some k → IsKept h.pool h.store.components.signatures h.store.components.ends k) → IsSound (attribute_of o name h).held
 attribute_sound None name h t f = t
@@ -167,6 +178,9 @@ attribute_sound (Some (kept_as.Port is_out shape init)) name h t f = t
 attribute_sound (Some (kept_as.Nested is_out m)) name h t f = t
 attribute_sound (Some (kept_as.Signature m)) name h t f = signed.attribute_sound m name h t
 attribute_sound (Some (kept_as.OfSignature m y)) name h t f = t
+attribute_sound (Some (kept_as.Memory k)) name h t f = memory.memory_attribute_sound k name h t
+attribute_sound (Some (kept_as.OfMemory m y)) name h t f = t
+attribute_sound (Some (kept_as.MemoryPort x)) name h t f = memory.port_attribute_sound x name h t (f (kept_as.MemoryPort x) refl)
 attribute_sound (Some (kept_as.Interface m)) name h t f = interface_attribute_sound m name h t (f (kept_as.Interface m) refl)
 attribute_sound (Some (kept_as.BlockName m n)) name h t f = t
 attribute_sound (Some (kept_as.Block m b)) name h t f = t
@@ -200,7 +214,10 @@ attribute_stored_sound s (Some (kept_as.Statement m)) name v p h t = t
 attribute_stored_sound s (Some (kept_as.Port is_out shape init)) name v p h t = t
 attribute_stored_sound s (Some (kept_as.Nested is_out m)) name v p h t = t
 attribute_stored_sound s (Some (kept_as.Signature m)) name v p h t = t
+attribute_stored_sound s (Some (kept_as.Memory m)) name v p h t = t
+attribute_stored_sound s (Some (kept_as.MemoryPort m)) name v p h t = t
 attribute_stored_sound s (Some (kept_as.OfSignature m y)) name v p h t = t
+attribute_stored_sound s (Some (kept_as.OfMemory m y)) name v p h t = t
 attribute_stored_sound s (Some (kept_as.Interface m)) name v p h t = t
 attribute_stored_sound s (Some (kept_as.BlockName m n)) name v p h t = t
 attribute_stored_sound s (Some (kept_as.Block m b)) name v p h t = t
@@ -227,7 +244,10 @@ index_sound s (Some (kept_as.Statement m)) i h t = t
 index_sound s (Some (kept_as.Port is_out shape init)) i h t = t
 index_sound s (Some (kept_as.Nested is_out m)) i h t = t
 index_sound s (Some (kept_as.Signature m)) i h t = t
+index_sound s (Some (kept_as.Memory m)) i h t = t
+index_sound s (Some (kept_as.MemoryPort m)) i h t = t
 index_sound s (Some (kept_as.OfSignature m y)) i h t = t
+index_sound s (Some (kept_as.OfMemory m y)) i h t = t
 index_sound s (Some (kept_as.Interface m)) i h t = t
 index_sound s (Some (kept_as.BlockName m n)) i h t = t
 index_sound s (Some (kept_as.Block m b)) i h t = t
@@ -253,7 +273,10 @@ index_stored_sound s (Some (kept_as.Statement m)) i v h t = t
 index_stored_sound s (Some (kept_as.Port is_out shape init)) i v h t = t
 index_stored_sound s (Some (kept_as.Nested is_out m)) i v h t = t
 index_stored_sound s (Some (kept_as.Signature m)) i v h t = t
+index_stored_sound s (Some (kept_as.Memory m)) i v h t = t
+index_stored_sound s (Some (kept_as.MemoryPort m)) i v h t = t
 index_stored_sound s (Some (kept_as.OfSignature m y)) i v h t = t
+index_stored_sound s (Some (kept_as.OfMemory m y)) i v h t = t
 index_stored_sound s (Some (kept_as.Interface m)) i v h t = t
 index_stored_sound s (Some (kept_as.BlockName m n)) i v h t = t
 index_stored_sound s (Some (kept_as.Block m b)) i v h t = t
@@ -282,7 +305,10 @@ added_sound s (Some (kept_as.Statement m)) x v p h t = t
 added_sound s (Some (kept_as.Port is_out shape init)) x v p h t = t
 added_sound s (Some (kept_as.Nested is_out m)) x v p h t = t
 added_sound s (Some (kept_as.Signature m)) x v p h t = t
+added_sound s (Some (kept_as.Memory m)) x v p h t = t
+added_sound s (Some (kept_as.MemoryPort m)) x v p h t = t
 added_sound s (Some (kept_as.OfSignature m y)) x v p h t = t
+added_sound s (Some (kept_as.OfMemory m y)) x v p h t = t
 added_sound s (Some (kept_as.Interface m)) x v p h t = t
 added_sound s (Some (kept_as.BlockName m n)) x v p h t = t
 added_sound s (Some (kept_as.Block m b)) x v p h t = t
@@ -313,7 +339,10 @@ kept_entered_sound s (Some (kept_as.Statement q)) h rules t f = enter_sound (Som
 kept_entered_sound s (Some (kept_as.Port is_out shape init)) h rules t f = enter_sound (Some (kept_as.Port is_out shape init)) h t f
 kept_entered_sound s (Some (kept_as.Nested is_out m)) h rules t f = enter_sound (Some (kept_as.Nested is_out m)) h t f
 kept_entered_sound s (Some (kept_as.Signature m)) h rules t f = enter_sound (Some (kept_as.Signature m)) h t f
+kept_entered_sound s (Some (kept_as.Memory m)) h rules t f = enter_sound (Some (kept_as.Memory m)) h t f
+kept_entered_sound s (Some (kept_as.MemoryPort m)) h rules t f = enter_sound (Some (kept_as.MemoryPort m)) h t f
 kept_entered_sound s (Some (kept_as.OfSignature m y)) h rules t f = enter_sound (Some (kept_as.OfSignature m y)) h t f
+kept_entered_sound s (Some (kept_as.OfMemory m y)) h rules t f = enter_sound (Some (kept_as.OfMemory m y)) h t f
 kept_entered_sound s (Some (kept_as.Interface m)) h rules t f = enter_sound (Some (kept_as.Interface m)) h t f
 kept_entered_sound s (Some (kept_as.BlockName m n)) h rules t f = enter_sound (Some (kept_as.BlockName m n)) h t f
 kept_entered_sound s (Some (kept_as.Block m b)) h rules t f = enter_sound (Some (kept_as.Block m b)) h t f
@@ -338,7 +367,10 @@ kept_left_sound (Some (kept_as.Statement q)) h t = leave_sound (Some (kept_as.St
 kept_left_sound (Some (kept_as.Port is_out shape init)) h t = leave_sound (Some (kept_as.Port is_out shape init)) h t
 kept_left_sound (Some (kept_as.Nested is_out m)) h t = leave_sound (Some (kept_as.Nested is_out m)) h t
 kept_left_sound (Some (kept_as.Signature m)) h t = leave_sound (Some (kept_as.Signature m)) h t
+kept_left_sound (Some (kept_as.Memory m)) h t = leave_sound (Some (kept_as.Memory m)) h t
+kept_left_sound (Some (kept_as.MemoryPort m)) h t = leave_sound (Some (kept_as.MemoryPort m)) h t
 kept_left_sound (Some (kept_as.OfSignature m y)) h t = leave_sound (Some (kept_as.OfSignature m y)) h t
+kept_left_sound (Some (kept_as.OfMemory m y)) h t = leave_sound (Some (kept_as.OfMemory m y)) h t
 kept_left_sound (Some (kept_as.Interface m)) h t = leave_sound (Some (kept_as.Interface m)) h t
 kept_left_sound (Some (kept_as.BlockName m n)) h t = leave_sound (Some (kept_as.BlockName m n)) h t
 kept_left_sound (Some (kept_as.Block m b)) h t = leave_sound (Some (kept_as.Block m b)) h t
@@ -354,7 +386,7 @@ pub own_sound : (top : Option (List ℕ)) (s : Seen) (a : Act) (r : Request) (h 
 own_sound top s act.Import r h rules t = import_sound r.names h t
 own_sound top s act.Attribute r h rules t = attributes_sound r.vals (only r.names) h t
 own_sound top s act.SetAttribute r h rules t = stores_sound s r.vals (only r.names) r.place h t
-own_sound top s act.CallThing r h rules t = call_sound s r (called r.vals r.names) h t
+own_sound top s act.CallThing r h rules t = call_sound s r (called r.vals r.names) h rules t
 own_sound top s act.Index r h rules t = indices_sound s r.vals h t
 own_sound top s act.SetIndex r h rules t = index_stores_sound s r.vals h t
 own_sound top s act.Operator r h rules t = operator_sound s r.vals (only r.names) r.place h t

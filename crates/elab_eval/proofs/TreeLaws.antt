@@ -13,12 +13,14 @@ use Rattle.design_ir.specs.declared.fragment.Fragment.{Fragment}
 use Rattle.module_dsl.specs.Builders.{Built, fragment_of}
 use Rattle.elab_store.specs.declared.hierarchy.Addition.{Addition}
 use Rattle.elab_store.specs.declared.hierarchy.Node.{Node}
+use Rattle.elab_store.specs.declared.hierarchy.NodeOf.TheVariants as node
+use Rattle.elab_store.specs.declared.memories.OwnMemory.{OwnMemory}
 use Rattle.elab_store.specs.ClockDomains.{ClockDomains, defined_by}
 use Rattle.elab_store.specs.Stores.{Stored}
 use Rattle.lists.specs.declared.items.NoMemory.{NoMemory}
 use Rattle.elab_eval.specs.declared.refusal.ElabStop.{ElabStop}
 use Rattle.elab_eval.specs.declared.refusal.ElabStop.TheVariants as stops
-use Rattle.elab_eval.specs.Elaborates.{is_open, is_open_at, fragment_at, node_name, leaf_at, first_trees, other_trees, forest_of_nodes, root_domains, tree_of}
+use Rattle.elab_eval.specs.Elaborates.{is_open, is_open_in, is_open_at, fragment_at, node_name, spec_of, leaf_in, leaf_at, first_trees, other_trees, forest_of_nodes, root_domains, tree_of}
 use Rattle.elab_eval.specs.Trees.{finished, fragment_with, unless_open, rooted, tree_found, IsGot}
 
 -- ---- one tree more
@@ -70,26 +72,33 @@ found_at (b ∷ bs) zero f at = by_test (is_open b) refl at
     by_test false e at = (e, cc)
 found_at (b ∷ bs) (suc m) f at = found_at bs m f at
 
--- no block is open of a node whose module is done with, and what it is made of stands under the name of its addition
-leaf_found : (bs : List Built) (t : ClockDomains) (additions : List Addition) (x : Node) (f : Fragment) → fragment_at bs x.«module» ≡ f
-    → leaf_at bs t additions x ≡ leaf_of (fragment_with (node_name additions x) (defined_by x.«module» t) f.processes bare)
+-- no block is open of a module that is done with, and what it is made of stands under the name
+leaf_found : (bs : List Built) (ms : List OwnMemory) (t : ClockDomains) (name : List ℕ) (m : ℕ) (f : Fragment) → fragment_at bs m ≡ f → leaf_in bs ms t name (node.Module m) ≡ leaf_of (fragment_with name (defined_by m t) f.processes [] bare)
 unfolding fragment_of
-leaf_found bs t additions x f is = ap (λ (g : Fragment). leaf_of (fragment_with (node_name additions x) (defined_by x.«module» t) g.processes bare)) is
+leaf_found bs ms t name m f is = ap (λ (g : Fragment). leaf_of (fragment_with name (defined_by m t) g.processes [] bare)) is
 
-pub node_grown : (bs : List Built) (t : ClockDomains) (additions : List Addition) (x : Node) (f : Fragment) (name : List ℕ) (ds : List DomainDef) (below rest trees : Forest)
-    → slice_get (map finished bs) x.«module» ≡ Some (Some f) → name ≡ node_name additions x → ds ≡ defined_by x.«module» t
-    → trees ≡ grown (leaf_of (fragment_with name ds f.processes bare)) below rest → unless_open (is_open_at bs x) (grown (leaf_at bs t additions x) below rest) ≡ Ok trees
-node_grown bs t additions x f name ds below rest trees at named defined made =
-    let found = found_at bs x.«module» f at in
-    ap (λ o. unless_open o (grown (leaf_at bs t additions x) below rest)) found.0
-    ∙ ap Ok (
-    ap (λ l. grown l below rest) (
-    leaf_found bs t additions x f found.1
-    ∙ ap (λ n. leaf_of (fragment_with n (defined_by x.«module» t) f.processes bare)) (sym named)
-    ∙ ap (λ es. leaf_of (fragment_with name es f.processes bare)) (sym defined)
-    )
-    ∙ sym made
-    )
+pub module_grown : (bs : List Built) (ms : List OwnMemory) (t : ClockDomains) (additions : List Addition) (x : Node) (m : ℕ) (f : Fragment) (name : List ℕ) (below rest trees : Forest)
+    → x.of ≡ node.Module m → slice_get (map finished bs) m ≡ Some (Some f) → name ≡ node_name additions x
+    → trees ≡ grown (leaf_of (fragment_with name (defined_by m t) f.processes [] bare)) below rest → unless_open (is_open_at bs ms x) (grown (leaf_at bs ms t additions x) below rest) ≡ Ok trees
+module_grown bs ms t additions x m f name below rest trees is at named made =
+    let found = found_at bs m f at in
+    ap (λ o. unless_open (is_open_in bs ms o) (grown (leaf_in bs ms t (node_name additions x) o) below rest)) is
+    ∙ ap (λ o. unless_open o (grown (leaf_in bs ms t (node_name additions x) (node.Module m)) below rest)) found.0
+    ∙ ap (λ l. Ok (grown l below rest)) (leaf_found bs ms t (node_name additions x) m f found.1 ∙ ap (λ n. leaf_of (fragment_with n (defined_by m t) f.processes [] bare)) (sym named))
+    ∙ ap Ok (sym made)
+
+-- a memory alone
+abbrev alone : List ℕ → Option OwnMemory → Leaf
+alone name o = record { name = name; is_part = false; domains = []; processes = []; memories = spec_of o }
+
+pub memory_grown : (bs : List Built) (ms : List OwnMemory) (t : ClockDomains) (additions : List Addition) (x : Node) (k : ℕ) (own : OwnMemory) (name : List ℕ) (below rest trees : Forest)
+    → x.of ≡ node.Memory k → slice_get ms k ≡ Some own → name ≡ node_name additions x
+    → trees ≡ grown (leaf_of (fragment_with name [] [] (own.spec ∷ []) bare)) below rest → unless_open (is_open_at bs ms x) (grown (leaf_at bs ms t additions x) below rest) ≡ Ok trees
+memory_grown bs ms t additions x k own name below rest trees is at named made =
+    ap (λ o. unless_open (is_open_in bs ms o) (grown (leaf_in bs ms t (node_name additions x) o) below rest)) is
+    ∙ ap (λ o. unless_open (option_map_or (λ (y : OwnMemory). false) o true) (grown (alone (node_name additions x) o) below rest)) at
+    ∙ ap (λ n. Ok (grown (alone n (Some own)) below rest)) (sym named)
+    ∙ ap Ok (sym made)
 
 -- ---- refusals
 
@@ -126,70 +135,76 @@ no_more_open true x y e = cc
 no_more_open false x y e = (refl, cc)
 
 -- a node more, and what stands behind it
-pub node_more : (bs : List Built) (t : ClockDomains) (additions : List Addition) (xs : List Node) (i : ℕ) (d : Node) (trees more : Forest) → i < length xs
-    → (list_any (is_open_at bs) (drop (length xs - i) xs) ≡ false) × (trees ≡ forest_of_nodes bs t additions (drop (length xs - i) xs))
-    → (let x = get_or xs (length xs - 1 - i) d in unless_open (is_open_at bs x) (grown (leaf_at bs t additions x) (first_trees x.below trees) (other_trees x.below trees)) ≡ Ok more)
-    → (list_any (is_open_at bs) (drop (length xs - (i + 1)) xs) ≡ false) × (more ≡ forest_of_nodes bs t additions (drop (length xs - (i + 1)) xs))
-node_more bs t additions xs i d trees more lt behind taken =
+pub node_more : (bs : List Built) (ms : List OwnMemory) (t : ClockDomains) (additions : List Addition) (xs : List Node) (i : ℕ) (d : Node) (trees more : Forest) → i < length xs
+    → (list_any (is_open_at bs ms) (drop (length xs - i) xs) ≡ false) × (trees ≡ forest_of_nodes bs ms t additions (drop (length xs - i) xs))
+    → (let x = get_or xs (length xs - 1 - i) d in unless_open (is_open_at bs ms x) (grown (leaf_at bs ms t additions x) (first_trees x.below trees) (other_trees x.below trees)) ≡ Ok more)
+    → (list_any (is_open_at bs ms) (drop (length xs - (i + 1)) xs) ≡ false) × (more ≡ forest_of_nodes bs ms t additions (drop (length xs - (i + 1)) xs))
+node_more bs ms t additions xs i d trees more lt behind taken =
     let j = length xs - 1 - i in
     let x = get_or xs j d in
     let here : length xs - (i + 1) ≡ j = omega (arith, lt) in
     let next : suc j ≡ length xs - i = omega (arith, lt) in
     let first : drop (length xs - (i + 1)) xs ≡ x ∷ drop (length xs - i) xs = ap (λ n. drop n xs) here ∙ dropped xs j x (read xs j d (omega (arith, lt))) ∙ ap (λ n. x ∷ drop n xs) next in
-    let told = no_more_open (is_open_at bs x) _ more taken in (
-      ap (list_any (is_open_at bs)) first ∙ ap (λ b. b || list_any (is_open_at bs) (drop (length xs - i) xs)) told.0 ∙ behind.0,
-      told.1 ∙ ap (λ f. grown (leaf_at bs t additions x) (first_trees x.below f) (other_trees x.below f)) behind.1 ∙ ap (forest_of_nodes bs t additions) (sym first),
+    let told = no_more_open (is_open_at bs ms x) _ more taken in (
+      ap (list_any (is_open_at bs ms)) first ∙ ap (λ b. b || list_any (is_open_at bs ms) (drop (length xs - i) xs)) told.0 ∙ behind.0,
+      told.1 ∙ ap (λ f. grown (leaf_at bs ms t additions x) (first_trees x.below f) (other_trees x.below f)) behind.1 ∙ ap (forest_of_nodes bs ms t additions) (sym first),
     )
 
 -- a node that is refused
-pub node_refused : {A B : Type 0} (bs : List Built) (xs : List Node) (i : ℕ) (d : Node) (stop : ElabStop) (x : A) (y : B) → i < length xs
-    → IsGot (Err stop) (unless_open (is_open_at bs (get_or xs (length xs - 1 - i) d)) x) → IsGot (Err stop) (unless_open (list_any (is_open_at bs) xs) y)
-node_refused bs xs i d stop x y lt h =
+pub node_refused : {A B : Type 0} (bs : List Built) (ms : List OwnMemory) (xs : List Node) (i : ℕ) (d : Node) (stop : ElabStop) (x : A) (y : B) → i < length xs
+    → IsGot (Err stop) (unless_open (is_open_at bs ms (get_or xs (length xs - 1 - i) d)) x) → IsGot (Err stop) (unless_open (list_any (is_open_at bs ms) xs) y)
+node_refused bs ms xs i d stop x y lt h =
     let j = length xs - 1 - i in
-    one_refused stop (is_open_at bs (get_or xs j d)) (list_any (is_open_at bs) xs) x y (λ e. one_open (is_open_at bs) xs j (get_or xs j d) (read xs j d (omega (arith, lt))) e) h
+    one_refused stop (is_open_at bs ms (get_or xs j d)) (list_any (is_open_at bs ms) xs) x y (λ e. one_open (is_open_at bs ms) xs j (get_or xs j d) (read xs j d (omega (arith, lt))) e) h
 
 -- ---- the top
 
 -- its tree, where no block is open below it
 made_rooted : (s : Stored) (o : Option Built) (root : Option Fragment) (below : Forest) (r : Result Fragment ElabStop)
-    → unless_open (list_any (is_open_at s.modules) s.hierarchy.nodes) (forest_of_nodes s.modules s.clock_domains s.hierarchy.additions s.hierarchy.nodes) ≡ Ok below → root ≡ option_and_then finished o
+    → unless_open (list_any (is_open_at s.modules s.memories) s.hierarchy.nodes) (forest_of_nodes s.modules s.memories s.clock_domains s.hierarchy.additions s.hierarchy.nodes) ≡ Ok below → root ≡ option_and_then finished o
     → IsGot r (rooted root (root_domains s) below) → IsGot r (tree_found s o)
 unfolding fragment_of
 made_rooted s o root below r closed found got =
-    let told = no_more_open (list_any (is_open_at s.modules) s.hierarchy.nodes) _ below closed in
+    let told = no_more_open (list_any (is_open_at s.modules s.memories) s.hierarchy.nodes) _ below closed in
     subst (IsGot r) (ap (λ f. rooted f (root_domains s) below) found ∙ by_module o told.0 told.1) got
   where
-    by_test : (b : Built) (opened : Bool) → list_any (is_open_at s.modules) s.hierarchy.nodes ≡ false → below ≡ forest_of_nodes s.modules s.clock_domains s.hierarchy.additions s.hierarchy.nodes
-        → rooted (if opened then None else Some (fragment_of b)) (root_domains s) below ≡ unless_open (opened || list_any (is_open_at s.modules) s.hierarchy.nodes) (tree_of s b)
+    by_test : (b : Built) (opened : Bool) → list_any (is_open_at s.modules s.memories) s.hierarchy.nodes ≡ false → below ≡ forest_of_nodes s.modules s.memories s.clock_domains s.hierarchy.additions s.hierarchy.nodes
+        → rooted (if opened then None else Some (fragment_of b)) (root_domains s) below ≡ unless_open (opened || list_any (is_open_at s.modules s.memories) s.hierarchy.nodes) (tree_of s b)
     by_test b true none is = refl
-    by_test b false none is = ap (λ f. Ok (fragment_with b.name (root_domains s) (fragment_of b).processes f)) is ∙ ap (λ t. unless_open t (tree_of s b)) (sym none)
+    by_test b false none is = ap (λ f. Ok (fragment_with b.name (root_domains s) (fragment_of b).processes [] f)) is ∙ ap (λ t. unless_open t (tree_of s b)) (sym none)
 
-    by_module : (o : Option Built) → list_any (is_open_at s.modules) s.hierarchy.nodes ≡ false → below ≡ forest_of_nodes s.modules s.clock_domains s.hierarchy.additions s.hierarchy.nodes → rooted (option_and_then finished o) (root_domains s) below ≡ tree_found s o
+    by_module : (o : Option Built) → list_any (is_open_at s.modules s.memories) s.hierarchy.nodes ≡ false → below ≡ forest_of_nodes s.modules s.memories s.clock_domains s.hierarchy.additions s.hierarchy.nodes → rooted (option_and_then finished o) (root_domains s) below ≡ tree_found s o
     by_module None none is = refl
     by_module (Some b) none is = by_test b (is_open b) none is
 
 -- as the code has it, of what it was given
-pub record IsGivenOf (s : Stored) (t : ClockDomains) (additions : List Addition) (xs : List Node) (ds : List DomainDef) : Type 0 where
+pub record IsGivenOf (s : Stored) (ms : List OwnMemory) (t : ClockDomains) (additions : List Addition) (xs : List Node) (ds : List DomainDef) : Type 0 where
+  pub memories : ms ≡ s.memories
   pub clock_domains : t ≡ s.clock_domains
   pub added : additions ≡ s.hierarchy.additions
   pub nodes : xs ≡ s.hierarchy.nodes
   pub domains : ds ≡ root_domains s
 
-pub root_rooted : (s : Stored) (o : Option Built) (root : Option Fragment) (below : Forest) (r : Result Fragment ElabStop) (t : ClockDomains) (additions : List Addition) (xs : List Node) (ds : List DomainDef)
-    → IsGivenOf s t additions xs ds → unless_open (list_any (is_open_at s.modules) xs) (forest_of_nodes s.modules t additions xs) ≡ Ok below → root ≡ option_and_then finished o
+abbrev below_made : List Built → List OwnMemory → ClockDomains → List Addition → List Node → Result Forest ElabStop
+below_made bs ms t additions xs = unless_open (list_any (is_open_at bs ms) xs) (forest_of_nodes bs ms t additions xs)
+
+pub root_rooted : (s : Stored) (o : Option Built) (root : Option Fragment) (below : Forest) (r : Result Fragment ElabStop) (ms : List OwnMemory) (t : ClockDomains) (additions : List Addition) (xs : List Node) (ds : List DomainDef)
+    → IsGivenOf s ms t additions xs ds → below_made s.modules ms t additions xs ≡ Ok below → root ≡ option_and_then finished o
     → IsGot r (rooted root ds below) → IsGot r (tree_found s o)
-root_rooted s o root below r t additions xs ds is closed found got =
-    let there = ap (λ u. unless_open (list_any (is_open_at s.modules) s.hierarchy.nodes) (forest_of_nodes s.modules u s.hierarchy.additions s.hierarchy.nodes)) (sym is.clock_domains)
-    ∙ ap (λ added. unless_open (list_any (is_open_at s.modules) s.hierarchy.nodes) (forest_of_nodes s.modules t added s.hierarchy.nodes)) (sym is.added)
-    ∙ ap (λ ns. unless_open (list_any (is_open_at s.modules) ns) (forest_of_nodes s.modules t additions ns)) (sym is.nodes) in
+root_rooted s o root below r ms t additions xs ds is closed found got =
+    let there = ap (λ own. below_made s.modules own s.clock_domains s.hierarchy.additions s.hierarchy.nodes) (sym is.memories)
+    ∙ ap (λ u. below_made s.modules ms u s.hierarchy.additions s.hierarchy.nodes) (sym is.clock_domains)
+    ∙ ap (λ added. below_made s.modules ms t added s.hierarchy.nodes) (sym is.added)
+    ∙ ap (λ ns. below_made s.modules ms t additions ns) (sym is.nodes) in
     made_rooted s o root below r (there ∙ closed) found (subst (λ es. IsGot r (rooted root es below)) is.domains got)
 
 -- where a block is open below it
-pub root_refused : {A : Type 0} (s : Stored) (o : Option Built) (stop : ElabStop) (xs : List Node) (x : A) → xs ≡ s.hierarchy.nodes → IsGot (Err stop) (unless_open (list_any (is_open_at s.modules) xs) x)
+pub root_refused : {A : Type 0} (s : Stored) (o : Option Built) (stop : ElabStop) (ms : List OwnMemory) (xs : List Node) (x : A) → ms ≡ s.memories → xs ≡ s.hierarchy.nodes → IsGot (Err stop) (unless_open (list_any (is_open_at s.modules ms) xs) x)
     → IsGot {A = Fragment} (Err stop) (tree_found s o)
-root_refused {A} s o stop xs x all_nodes h = by_module o (subst (λ ns. IsGot {A = A} (Err stop) (unless_open (list_any (is_open_at s.modules) ns) x)) all_nodes h)
+root_refused {A} s o stop ms xs x all_memories all_nodes h =
+    by_module o (subst (λ ns. IsGot {A = A} (Err stop) (unless_open (list_any (is_open_at s.modules s.memories) ns) x)) all_nodes (subst (λ own. IsGot {A = A} (Err stop) (unless_open (list_any (is_open_at s.modules own) xs) x)) all_memories h))
   where
-    by_module : (o : Option Built) → IsGot {A = A} (Err stop) (unless_open (list_any (is_open_at s.modules) s.hierarchy.nodes) x) → IsGot {A = Fragment} (Err stop) (tree_found s o)
-    by_module None h = one_refused stop (list_any (is_open_at s.modules) s.hierarchy.nodes) true x (fragment_with [] [] [] bare) (λ e. refl) h
+    by_module : (o : Option Built) → IsGot {A = A} (Err stop) (unless_open (list_any (is_open_at s.modules s.memories) s.hierarchy.nodes) x) → IsGot {A = Fragment} (Err stop) (tree_found s o)
+    by_module None h = one_refused stop (list_any (is_open_at s.modules s.memories) s.hierarchy.nodes) true x (fragment_with [] [] [] [] bare) (λ e. refl) h
     by_module (Some b) h =
-        one_refused stop (list_any (is_open_at s.modules) s.hierarchy.nodes) (is_open b || list_any (is_open_at s.modules) s.hierarchy.nodes) x (tree_of s b) (λ e. ap (λ t. is_open b || t) e ∙ or_true (is_open b)) h
+        one_refused stop (list_any (is_open_at s.modules s.memories) s.hierarchy.nodes) (is_open b || list_any (is_open_at s.modules s.memories) s.hierarchy.nodes) x (tree_of s b) (λ e. ap (λ t. is_open b || t) e ∙ or_true (is_open b)) h

@@ -13,14 +13,19 @@ use Rattle.module_dsl.specs.declared.step.Step.TheVariants.{Assign, Enter}
 use Rattle.module_dsl.specs.declared.step.Opening.TheVariants.{If}
 use Rattle.module_dsl.specs.Blocks.{blocks_of}
 use Rattle.module_dsl.specs.Builders.{Built, fragment_of}
-use Rattle.clock_domains.specs.Walks.{all_processes, all_paths, all_definitions}
+use Rattle.fragment_walks.specs.Walks.{all_processes, all_paths, all_definitions}
 use Rattle.elab_store.specs.declared.hierarchy.Addition.{Addition}
 use Rattle.elab_store.specs.declared.hierarchy.Node.{Node}
+use Rattle.elab_store.specs.declared.hierarchy.NodeOf.TheVariants as node
+use Rattle.elab_store.specs.declared.memories.OwnMemory.{OwnMemory}
+use Rattle.amh_things.specs.declared.thing.Reading.TheVariants as reading
+use Rattle.shape_rules.specs.Forms.{unsigned}
+use Rattle.memory_ports.specs.Calls.{new_memory}
 use Rattle.elab_store.specs.Components.{no_components}
 use Rattle.elab_store.specs.declared.domains.ClockDomain.{ClockDomain}
 use Rattle.elab_store.specs.ClockDomains.{ClockDomains}
 use Rattle.elab_store.specs.Simulations.{no_simulation}
-use Rattle.elab_store.specs.Stores.{Stored, no_top}
+use Rattle.elab_store.specs.Stores.{Stored}
 use Rattle.elab_eval.specs.Elaborates.{is_open_at, forest_of_nodes, tree_of}
 
 e : ℕ → ExprId
@@ -50,7 +55,7 @@ unfolding addition
 additions = addition 0 (codes "a") ∷ addition 0 (codes "u1") ∷ addition 1 (codes "x") ∷ []
 
 nodes : List Node
-nodes = record { addition = 0; «module» = 1; below = 1 } ∷ record { addition = 2; «module» = 3; below = 0 } ∷ record { addition = 1; «module» = 2; below = 0 } ∷ []
+nodes = record { addition = 0; of = node.Module 1; below = 1 } ∷ record { addition = 2; of = node.Module 3; below = 0 } ∷ record { addition = 1; of = node.Module 2; below = 0 } ∷ []
 
 -- `fast`, without a reset, and `slow`
 made : ℕ → ClockDomain
@@ -73,16 +78,25 @@ leaf : List ℕ → List DomainDef → Process → Leaf
 leaf name ds p = record { name = name; is_part = false; domains = ds; processes = p ∷ []; memories = [] }
 
 -- `a` with `a.x` below it, and then `u1`
-tree_is : forest_of_nodes modules clock_domains additions nodes
+tree_is : forest_of_nodes modules [] clock_domains additions nodes
     ≡ grown (leaf (codes "a") [] (process sync 11)) (grown (leaf (codes "x") (defined 0 21 ∷ []) (process sync 13)) bare bare) (grown (leaf (codes "u1") [] (process Comb 12)) bare bare)
 unfolding e told process sync modules addition additions nodes made defined clock_domains leaf fragment_of blocks_of
 tree_is = refl
 
 -- a module may stand in the tree more than once, each time under another name
-twice : forest_of_nodes modules clock_domains additions (record { addition = 0; «module» = 3; below = 0 } ∷ record { addition = 1; «module» = 3; below = 0 } ∷ [])
+twice : forest_of_nodes modules [] clock_domains additions (record { addition = 0; of = node.Module 3; below = 0 } ∷ record { addition = 1; of = node.Module 3; below = 0 } ∷ [])
     ≡ grown (leaf (codes "a") (defined 0 21 ∷ []) (process sync 13)) bare (grown (leaf (codes "u1") (defined 0 21 ∷ []) (process sync 13)) bare bare)
 unfolding e told process sync modules addition additions made defined clock_domains leaf fragment_of blocks_of
 twice = refl
+
+-- a memory of four rows stands alone
+own : OwnMemory
+own = record { spec = new_memory (unsigned 8) 4 []; reading = reading.Plain }
+
+a_memory : forest_of_nodes modules (own ∷ []) clock_domains additions (record { addition = 0; of = node.Memory 0; below = 0 } ∷ record { addition = 1; of = node.Module 2; below = 0 } ∷ [])
+    ≡ grown (record { name = codes "a"; is_part = false; domains = []; processes = []; memories = new_memory (unsigned 8) 4 [] ∷ [] }) bare (grown (leaf (codes "u1") [] (process Comb 12)) bare bare)
+unfolding e told process sync modules addition additions made clock_domains leaf own fragment_of blocks_of
+a_memory = refl
 
 -- ---- the whole: processes of the top come first, and each has the names above it
 
@@ -98,6 +112,7 @@ store = record {
   hierarchy = record { additions = additions; nodes = nodes; waiting = [] };
   clock_domains = clock_domains;
   machines = [];
+  memories = [];
   domains = [];
   told = None;
   simulation = no_simulation;
@@ -116,7 +131,7 @@ unfolding e told process sync modules addition additions nodes store fragment_of
 paths_are = refl
 
 -- a block is open of module 0, and there is no module 1
-open_block : (is_open_at (record { name = []; steps = Enter (If (e 1)) ∷ [] } ∷ []) (record { addition = 0; «module» = 0; below = 0 }) ≡ true)
-    × (is_open_at (told Comb 1 ∷ []) (record { addition = 0; «module» = 1; below = 0 }) ≡ true) × (is_open_at (told Comb 1 ∷ []) (record { addition = 0; «module» = 0; below = 0 }) ≡ false)
+open_block : (is_open_at (record { name = []; steps = Enter (If (e 1)) ∷ [] } ∷ []) [] (record { addition = 0; of = node.Module 0; below = 0 }) ≡ true)
+    × (is_open_at (told Comb 1 ∷ []) [] (record { addition = 0; of = node.Module 1; below = 0 }) ≡ true) × (is_open_at (told Comb 1 ∷ []) [] (record { addition = 0; of = node.Module 0; below = 0 }) ≡ false)
 unfolding e told blocks_of
 open_block = (refl, refl, refl)

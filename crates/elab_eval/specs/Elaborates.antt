@@ -1,13 +1,13 @@
 -- What a program is elaborated to under the name that the words may give the top, within a budget: a design, or why there is none; and at what
 -- cost.
-use Rattle.std.specs.Prelude.{◌≡◌, ◌⊎◌, ℕ, zero, suc, ◌-◌, ◌||◌, not, Bool, true, if◌then◌else◌, ⊤, List, [], ◌∷◌, slice_get, slice_index_or, Option, Some, None, Result, Ok, Err, codes}
+use Rattle.std.specs.Prelude.{◌≡◌, ◌⊎◌, ℕ, zero, suc, ◌-◌, ◌||◌, not, Bool, true, false, if◌then◌else◌, ⊤, List, [], ◌∷◌, slice_get, slice_index_or, Option, Some, None, Result, Ok, Err, codes}
 use Rattle.std.specs.Option.{option_map_or}
 use Rattle.std.specs.List.{list_any}
 use Rattle.amh_host.specs.declared.place.Place.{Place}
 use Rattle.amh_host.specs.declared.place.Kind.TheVariants as kind
 use Rattle.py_tree.specs.Steps.{Steps}
 use Rattle.py_values.specs.declared.val.ObjId.{ObjId}
-use Rattle.py_values.specs.Heaps.{Made, Seen, seen, nothing}
+use Rattle.py_heap.specs.Heaps.{Made, Seen, seen, nothing}
 use Rattle.py_frames.specs.declared.request.Answer.{Answer}
 use Rattle.py_frames.specs.declared.request.Cause.{Cause}
 use Rattle.py_frames.specs.declared.request.Cause.TheVariants as cause
@@ -36,6 +36,10 @@ use Rattle.elab_eval.specs.ObjectTops.{object_ports}
 use Rattle.elab_eval.specs.Clocks.{clock_refused}
 use Rattle.elab_store.specs.declared.hierarchy.Addition.{Addition}
 use Rattle.elab_store.specs.declared.hierarchy.Node.{Node}
+use Rattle.elab_store.specs.declared.hierarchy.NodeOf.{NodeOf}
+use Rattle.elab_store.specs.declared.hierarchy.NodeOf.TheVariants as node
+use Rattle.elab_store.specs.declared.memories.OwnMemory.{OwnMemory}
+use Rattle.design_ir.specs.declared.memory.Memory.{Memory}
 use Rattle.elab_acts.specs.Simulators.{with_simulation}
 use Rattle.elab_store.specs.Simulations.{no_simulation}
 use Rattle.elab_store.specs.ClockDomains.{ClockDomains, defined_by}
@@ -81,7 +85,7 @@ abbrev pub found_with : Held → Made → Result Circuit ResolveStop → Result 
 found_with h heap (Ok c) = found_unless (clock_refused c h.store.simulation.clocks) (record { circuit = c; store = without_modules h.store; frozen = heap })
 found_with h heap (Err stop) = Err (unresolved_stop stop)
 
--- ---- the tree of modules
+-- ---- the tree of modules and memories
 
 abbrev pub module_in : List Built → Option ℕ → Option Built
 module_in bs None = None
@@ -95,8 +99,13 @@ root_module s = module_in s.modules s.top.root
 abbrev pub is_open : Built → Bool
 is_open b = not (is_outermost (built_blocks b).around)
 
-abbrev pub is_open_at : List Built → Node → Bool
-is_open_at bs x = option_map_or is_open (slice_get bs x.module) true
+-- what may not stand in the tree: beside such a module, what is not there
+abbrev pub is_open_in : List Built → List OwnMemory → NodeOf → Bool
+is_open_in bs ms (node.Module m) = option_map_or is_open (slice_get bs m) true
+is_open_in bs ms (node.Memory k) = option_map_or (λ (x : OwnMemory). false) (slice_get ms k) true
+
+abbrev pub is_open_at : List Built → List OwnMemory → Node → Bool
+is_open_at bs ms x = is_open_in bs ms x.of
 
 -- a module of the tree as a fragment, under the name of its addition
 abbrev pub fragment_at : List Built → ℕ → Fragment
@@ -105,9 +114,17 @@ fragment_at bs m = fragment_of (slice_index_or bs m (record { name = []; steps =
 abbrev pub node_name : List Addition → Node → List ℕ
 node_name additions x = option_map_or (λ (a : Addition). a.name) (slice_get additions x.addition) (codes "u")
 
--- with the domains that it defines
-abbrev pub leaf_at : List Built → ClockDomains → List Addition → Node → Leaf
-leaf_at bs t additions x = record (leaf_of (fragment_at bs x.module)) { name = node_name additions x; domains = defined_by x.module t }
+abbrev pub spec_of : Option OwnMemory → List Memory
+spec_of None = []
+spec_of (Some x) = x.spec ∷ []
+
+-- a module with the domains that it defines, or a memory alone
+abbrev pub leaf_in : List Built → List OwnMemory → ClockDomains → List ℕ → NodeOf → Leaf
+leaf_in bs ms t name (node.Module m) = record (leaf_of (fragment_at bs m)) { name = name; domains = defined_by m t }
+leaf_in bs ms t name (node.Memory k) = record { name = name; is_part = false; domains = []; processes = []; memories = spec_of (slice_get ms k) }
+
+abbrev pub leaf_at : List Built → List OwnMemory → ClockDomains → List Addition → Node → Leaf
+leaf_at bs ms t additions x = leaf_in bs ms t (node_name additions x) x.of
 
 -- the first trees of a forest, and those behind them
 abbrev pub first_trees : ℕ → Forest → Forest
@@ -121,11 +138,11 @@ other_trees (suc n) bare = bare
 other_trees (suc n) (grown l below rest) = other_trees n rest
 
 -- nodes stand before those below them, and each tells how many stand directly below it
-abbrev pub forest_of_nodes : List Built → ClockDomains → List Addition → List Node → Forest
-forest_of_nodes bs t additions [] = bare
-forest_of_nodes bs t additions (x ∷ xs) =
-    let behind = forest_of_nodes bs t additions xs in
-    grown (leaf_at bs t additions x) (first_trees x.below behind) (other_trees x.below behind)
+abbrev pub forest_of_nodes : List Built → List OwnMemory → ClockDomains → List Addition → List Node → Forest
+forest_of_nodes bs ms t additions [] = bare
+forest_of_nodes bs ms t additions (x ∷ xs) =
+    let behind = forest_of_nodes bs ms t additions xs in
+    grown (leaf_at bs ms t additions x) (first_trees x.below behind) (other_trees x.below behind)
 
 -- the domains that the top defines
 abbrev pub root_domains : Stored → List DomainDef
@@ -133,7 +150,7 @@ root_domains s = option_map_or (λ m. defined_by m s.clock_domains) s.top.root [
 
 -- the top, with all that stands below it
 abbrev pub tree_of : Stored → Built → Fragment
-tree_of s b = record (fragment_of b) { domains = root_domains s; submodules = forest_of_nodes s.modules s.clock_domains s.hierarchy.additions s.hierarchy.nodes }
+tree_of s b = record (fragment_of b) { domains = root_domains s; submodules = forest_of_nodes s.modules s.memories s.clock_domains s.hierarchy.additions s.hierarchy.nodes }
 
 -- a component whose ports were not made is no top
 abbrev pub found_by : Held → Made → Built → Option TopPorts → Result Found ElabStop
@@ -144,7 +161,7 @@ found_by h heap b (Some ports) = found_with h heap (resolved h.pool (tree_of h.s
 abbrev pub module_found : Held → Made → Option Built → Result Found ElabStop
 module_found h heap None = Err (Refused kind.Raised file_start)
 module_found h heap (Some b) =
-    if is_open b || list_any (is_open_at h.store.modules) h.store.hierarchy.nodes then Err (Refused kind.Raised file_start)
+    if is_open b || list_any (is_open_at h.store.modules h.store.memories) h.store.hierarchy.nodes then Err (Refused kind.Raised file_start)
     else found_by h heap b (top_ports (seen nothing heap) h)
 
 -- What is held at the end of a program, with the heap that it made, as a design. A reset would raise; `ResetSignal` comes with domains that

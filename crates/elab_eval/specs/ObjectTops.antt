@@ -5,8 +5,8 @@ use Rattle.std.specs.List.{filter}
 use Rattle.py_values.specs.declared.val.Val.{Val}
 use Rattle.py_values.specs.declared.val.Val.TheVariants as val
 use Rattle.py_values.specs.declared.val.ObjId.{ObjId}
-use Rattle.py_values.specs.Heaps.{Seen, text_at, row_at}
-use Rattle.py_values.specs.Objects.{attributes, first_in}
+use Rattle.py_heap.specs.Heaps.{Seen, text_at, row_at}
+use Rattle.py_heap.specs.Objects.{attributes, first_in}
 use Rattle.design_ir.specs.declared.ids.ExprId.{ExprId}
 use Rattle.design_ir.specs.declared.ids.SigId.{SigId}
 use Rattle.design_ir.specs.declared.expr.Expr.{Expr}

@@ -1,7 +1,7 @@
 -- Which answers a program gets, one after the other, and what is held behind them.
 use Rattle.std.specs.Prelude.{◌≡◌, ℕ, List, [], ◌∷◌, ◌++◌, Option}
 use Rattle.py_tree.specs.Steps.{Steps}
-use Rattle.py_values.specs.Heaps.{seen, nothing}
+use Rattle.py_heap.specs.Heaps.{seen, nothing}
 use Rattle.py_frames.specs.declared.request.Answer.{Answer}
 use Rattle.py_frames.specs.declared.request.Answer.TheVariants as answer
 use Rattle.py_frames.specs.declared.request.Request.{Request}

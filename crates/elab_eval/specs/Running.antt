@@ -1,7 +1,7 @@
 -- How an elaboration stands between two answers: side by side, what the machine stands for and which answers are reached.
 use Rattle.std.specs.Prelude.{◌≡◌, ℕ, ◌+◌, ◌<◌, ◌^◌, ⊤, List, [], ◌∷◌, ◌++◌, length, Option, None, Result, Ok, Err}
 use Rattle.py_tree.specs.Steps.{Steps}
-use Rattle.py_values.specs.Heaps.{nothing}
+use Rattle.py_heap.specs.Heaps.{nothing}
 use Rattle.py_frames.specs.declared.request.Answer.{Answer}
 use Rattle.py_frames.specs.declared.state.Got.{Got}
 use Rattle.py_frames.specs.Doing.{Done}

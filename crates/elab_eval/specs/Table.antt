@@ -3,7 +3,7 @@ use Rattle.std.specs.Prelude.{ℕ, true, false, if◌then◌else◌, List, [], �
 use Rattle.lists.specs.Texts.{text_eq}
 use Rattle.py_values.specs.declared.val.Val.{Val}
 use Rattle.py_values.specs.declared.val.Val.TheVariants as val
-use Rattle.py_values.specs.Heaps.{Seen}
+use Rattle.py_heap.specs.Heaps.{Seen}
 use Rattle.py_frames.specs.declared.request.Act.{Act}
 use Rattle.py_frames.specs.declared.request.Act.TheVariants as act
 use Rattle.py_frames.specs.declared.request.Request.{Request}
@@ -33,12 +33,15 @@ use Rattle.elab_machines.specs.StateMachines.{part_attribute, next_stored, part_
 use Rattle.elab_acts.specs.Sides.{module_attribute, domain_given, index_name, domain_stored, deepest, equations_in, statements_added}
 use Rattle.elab_acts.specs.ClockDomains.{clock_domain_called, clock_domain_attribute, definition_added, definition_stored, definitions_stored}
 use Rattle.elab_acts.specs.Submodules.{submodule_added, submodule_stored, submodule_given, submodules_stored}
-use Rattle.elab_components.specs.Libraries.{wiring_named, stream_named, library_given, thing_name_given}
+use Rattle.elab_components.specs.Libraries.{wiring_named, stream_named, memory_named, library_given, thing_name_given}
 use Rattle.elab_components.specs.Signatures.{signature_called, signature_attribute, signature_method_called, stream_signature_called}
 use Rattle.elab_wiring.specs.Interfaces.{interface_attribute, flipped_called}
 use Rattle.elab_wiring.specs.Connections.{connect_called}
 use Rattle.elab_wiring.specs.SignatureClasses.{any_class_answered, any_init_answered, object_attribute}
 use Rattle.elab_components.specs.Members.{member_called}
+use Rattle.elab_memories.specs.Memories.{memory_called}
+use Rattle.elab_memories.specs.Ports.{port_called}
+use Rattle.elab_memories.specs.Attributes.{memory_attribute, port_attribute}
 use Rattle.elab_acts.specs.Tops.{body_ended, elaborate_ended}
 use Rattle.elab_acts.specs.Simulators.{simulator_called, simulator_attribute, simulator_part_called, vcd_passed}
 
@@ -53,6 +56,7 @@ name_called s hdl.ClockDomain c h = clock_domain_called s c h
 name_called s hdl.In c h = member_called s false c h
 name_called s hdl.Out c h = member_called s true c h
 name_called s hdl.Simulator c h = simulator_called c h
+name_called s hdl.Memory c h = memory_called s c h
 name_called s hdl.Signature c h = signature_called s c h
 name_called s hdl.StreamSignature c h = stream_signature_called s c h
 name_called s hdl.Flipped c h = flipped_called c h
@@ -66,6 +70,7 @@ placed_called s n c p h = name_called s n c h
 abbrev pub kept_called : Seen → Option Kept → Called → Place → Held → Answered
 kept_called s (Some (kept.Name n)) c p h = placed_called s n c p h
 kept_called s (Some (kept.OfSignature n m)) c p h = signature_method_called n m c h
+kept_called s (Some (kept.OfMemory k m)) c p h = port_called s k m c h
 kept_called s (Some (kept.BlockName m n)) c p h = block_called s m n c h
 kept_called s (Some (kept.OfMachine x)) c p h = part_called s x c p h
 kept_called s (Some (kept.OfSimulator x)) c p h = simulator_part_called s x c p h
@@ -96,6 +101,7 @@ only (x ∷ y ∷ xs) = None
 abbrev pub name_attribute : HdlName → List ℕ → Held → Answered
 name_attribute hdl.Wiring name h = library_given (wiring_named name) h
 name_attribute hdl.Stream name h = library_given (stream_named name) h
+name_attribute hdl.MemoryLibrary name h = library_given (memory_named name) h
 name_attribute hdl.Enumerations name h = thing_name_given (base_called name) h
 name_attribute hdl.Data name h = thing_name_given (layout_named name) h
 name_attribute hdl.Signal name h = like_given name h
@@ -107,6 +113,8 @@ attribute_of (Some (kept.Module m)) name h = module_attribute m name h
 attribute_of (Some (kept.Domains m)) name h = domain_given m (Some name) h
 attribute_of (Some (kept.Submodules m)) name h = submodule_given m (Some name) h
 attribute_of (Some (kept.ClockDomain k)) name h = clock_domain_attribute k name h
+attribute_of (Some (kept.Memory k)) name h = memory_attribute k name h
+attribute_of (Some (kept.MemoryPort x)) name h = port_attribute x name h
 attribute_of (Some (kept.OfMachine x)) name h = part_attribute x name h
 attribute_of (Some (kept.OfSimulator x)) name h = simulator_attribute x name h
 attribute_of (Some (kept.Signature n)) name h = signature_attribute n name h

@@ -1,7 +1,7 @@
-// What a request is answered where the table of shapes and values leaves it open: which act of elab_acts or elab_machines it asks for.
+// What a request is answered where the table of shapes and values leaves it open: which act of the crates below it asks for.
 ghost use Rattle.std.specs.Prelude.{◌≡◌, ◌<◌, length};
 ghost use Rattle.std.specs.Option.{option_copied};
-ghost use Rattle.py_values.specs.Heaps.{seen};
+ghost use Rattle.py_heap.specs.Heaps.{seen};
 ghost use Rattle.elab_store.specs.Calls.{called};
 ghost use Rattle.amh_things.specs.Things.{thing_of};
 ghost use Rattle.elab_eval.specs.Table.{equated_by, call_answered, attribute_answered, store_answered, index_answered, index_store_answered, operator_answered, kept_entered, kept_left, enter_answered, leave_answered, own_answered, name_called, placed_called, kept_called, only, name_attribute, attribute_of, attribute_by, attribute_stored, module_stored, added, signed};
@@ -24,7 +24,7 @@ use elab_acts::tops::{end_body, end_elaborate};
 use elab_components::equations::equate;
 use elab_components::imports::import;
 use elab_components::libraries::{
-    give_base, give_layout, give_library, stream_named, wiring_named,
+    give_base, give_layout, give_library, memory_named, stream_named, wiring_named,
 };
 use elab_components::likes::{give_like, make_like};
 use elab_components::member_calls::call_member;
@@ -35,6 +35,9 @@ use elab_components::signatures::{
 use elab_machines::state_machines::{
     call_part, enter_part, leave_part, part_attribute, store_next,
 };
+use elab_memories::attributes::{memory_attribute, port_attribute};
+use elab_memories::memories::make_memory;
+use elab_memories::ports::call_port;
 use elab_store::calls::Called;
 use elab_store::kept::{HdlName, Kept};
 use elab_store::names::is_text;
@@ -44,7 +47,8 @@ use elab_wiring::faces::{flip, interface_attribute};
 use elab_wiring::signature_classes::{answer_class, init_object, object_attribute};
 use lists::NoMemory;
 use py_frames::request::{Act, Answer, Cause, Request};
-use py_values::{Frozen, Heap, Val};
+use py_heap::{Frozen, Heap};
+use py_values::Val;
 
 // The call of a name.
 fn call_name(
@@ -65,6 +69,7 @@ fn call_name(
         HdlName::In => call_member(elaboration, heap, frozen, false, call),
         HdlName::Out => call_member(elaboration, heap, frozen, true, call),
         HdlName::Simulator => make_simulator(elaboration, call),
+        HdlName::Memory => make_memory(elaboration, heap, frozen, call),
         HdlName::Signature => call_signature(elaboration, heap, frozen, call),
         HdlName::StreamSignature => call_stream_signature(elaboration, heap, frozen, call),
         HdlName::Flipped => flip(elaboration, call),
@@ -106,6 +111,14 @@ fn call_kept(
         Some(Kept::OfSignature { of, method }) => {
             call_signature_method(elaboration, of, method, call)
         }
+        Some(Kept::OfMemory { of, method }) => call_port(
+            elaboration,
+            heap,
+            frozen,
+            of,
+            method,
+            call,
+        ),
         Some(Kept::BlockName { of, name }) => call_block(elaboration, heap, frozen, of, name, call),
         Some(Kept::OfMachine(part)) => call_part(elaboration, heap, frozen, part, call, place),
         Some(Kept::OfSimulator(part)) => {
@@ -132,8 +145,8 @@ fn call(
     }
 }
 
-// An attribute: `m.d` and its domains, `m.submodules` and what was added there, and those of a clock domain, a signature and an
-// interface.
+// An attribute: `m.d` and its domains, `m.submodules` and what was added there, and those of a clock domain, a memory, a port of one, a
+// signature and an interface.
 fn attribute(elaboration: &mut Elaboration, request: &Request) -> Result<Answer, NoMemory>
     requires { IsSound (held_of elaboration.old) }
     ensures { Gives result elaboration.new (attribute_answered request.now.vals (only request.now.names) (held_of elaboration.old)) }
@@ -168,6 +181,8 @@ fn attribute_of(elaboration: &mut Elaboration, x: &Val, name: &str) -> Result<An
         Some(Kept::Domains(m)) => give_domain(elaboration, m, Some(name)),
         Some(Kept::Submodules(m)) => give_submodule(elaboration, m, Some(name)),
         Some(Kept::ClockDomain(number)) => clock_domain_attribute(elaboration, number, name),
+        Some(Kept::Memory(number)) => memory_attribute(elaboration, number, name),
+        Some(Kept::MemoryPort(port)) => port_attribute(elaboration, port, name),
         Some(Kept::OfMachine(part)) => part_attribute(elaboration, part, name),
         Some(Kept::OfSimulator(part)) => simulator_attribute(elaboration, part, name),
         Some(Kept::Signature(number)) => signature_attribute(elaboration, number, name),
@@ -187,6 +202,7 @@ fn name_attribute(
     match library {
         HdlName::Wiring => give_library(elaboration, wiring_named(name)),
         HdlName::Stream => give_library(elaboration, stream_named(name)),
+        HdlName::MemoryLibrary => give_library(elaboration, memory_named(name)),
         HdlName::Enumerations => give_base(elaboration, name),
         HdlName::Data => give_layout(elaboration, name),
         HdlName::Signal => give_like(elaboration, name),

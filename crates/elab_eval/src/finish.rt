@@ -1,7 +1,7 @@
 // The end: what is held becomes a design.
 ghost use Rattle.std.specs.Prelude.{◌≡◌, IfOk};
 ghost use Rattle.std.specs.List.{list_any};
-ghost use Rattle.py_values.specs.Heaps.{nothing};
+ghost use Rattle.py_heap.specs.Heaps.{nothing};
 ghost use Rattle.design_ir.specs.Rising.{AllRisingSync};
 ghost use Rattle.elab_eval.specs.Elaborates.{IsFound, design_of, without_modules, unresolved_stop};
 ghost use Rattle.elab_store.specs.Sound.{IsSound, is_reset};
@@ -17,8 +17,8 @@ use clock_domains::{ResolveStop, resolve};
 use design_ir::{Expr, ExprId, Exprs, Pool};
 use elab_store::store::{Elaboration, Store};
 use module_dsl::Builder;
+use py_heap::Frozen;
 use py_machine::Machine;
-use py_values::Frozen;
 use std::alloc::Global;
 
 fn is_reset(e: &Expr) -> bool
@@ -72,6 +72,7 @@ fn part(store: Store, alloc: Global) -> (Vec<Builder>, Store)
         hierarchy,
         clock_domains,
         machines,
+        memories,
         domains,
         told,
         simulation,
@@ -87,6 +88,7 @@ fn part(store: Store, alloc: Global) -> (Vec<Builder>, Store)
         hierarchy,
         clock_domains,
         machines,
+        memories,
         domains,
         told,
         simulation,

@@ -1,8 +1,8 @@
 // The ports of an object that is the top.
 ghost use Rattle.std.specs.Prelude.{◌≡◌, ◌<◌, ◌++◌, [], length, true, IfOk, OnOk, Some, None};
 ghost use Rattle.std.specs.List.{AllByRecursion};
-ghost use Rattle.py_values.specs.Heaps.{seen};
-ghost use Rattle.py_values.specs.Objects.{attributes};
+ghost use Rattle.py_heap.specs.Heaps.{seen};
+ghost use Rattle.py_heap.specs.Objects.{attributes};
 ghost use Rattle.design_ir.specs.declared.ids.SigId.{SigId};
 ghost use Rattle.clock_domains.specs.Resolved.{port_of};
 ghost use Rattle.amh_things.specs.Held.{AreHeld};
@@ -17,7 +17,8 @@ use elab_acts::tops::first_in;
 use elab_components::interfaces::{component_class, copied_text};
 use elab_store::store::Elaboration;
 use lists::NoMemory;
-use py_values::{Frozen, Heap, ObjId, Val};
+use py_heap::{Frozen, Heap};
+use py_values::{ObjId, Val};
 use std::collections::BTreeSet;
 
 fn signal_in(e: &Expr) -> Option<SigId>

@@ -2,7 +2,7 @@
 ghost use Rattle.std.specs.Prelude.{◌≡◌, ◌<◌, ◌≤◌, ◌^◌, IfOk, OnOk, length, Ok, Err};
 ghost use Rattle.std.specs.Option.{option_copied};
 ghost use Rattle.py_tree.specs.Programs.{program_of};
-ghost use Rattle.py_values.specs.Heaps.{nothing, seen};
+ghost use Rattle.py_heap.specs.Heaps.{nothing, seen};
 ghost use Rattle.py_frames.specs.declared.request.Answer.TheVariants.{Begin};
 ghost use Rattle.py_machine.specs.Lives.{IsOf};
 ghost use Rattle.amh_values.specs.Acts.{acted, Acts};
@@ -24,9 +24,9 @@ use elab_store::simulation::Simulation;
 use elab_store::store::{Elaboration, Store};
 use lists::NoMemory;
 use py_frames::request::{Answer, Cause, Request, Stop, Turn};
+use py_heap::Frozen;
 use py_machine::Machine;
 use py_tree::Program;
-use py_values::Frozen;
 use std::alloc::Global;
 use std::sync::ledger::Ledger;
 

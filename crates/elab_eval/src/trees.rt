@@ -1,5 +1,5 @@
-// The tree of modules: the top, with all that stands below it.
-ghost use Rattle.std.specs.Prelude.{◌≡◌, map, IfOk, OnOk, MatchOption, option_and_then, List};
+// The tree of modules and memories: the top, with all that stands below it.
+ghost use Rattle.std.specs.Prelude.{◌≡◌, [], ◌∷◌, map, IfOk, OnOk, MatchOption, option_and_then, List};
 ghost use Rattle.std.specs.List.{list_any};
 ghost use Rattle.amh_host.specs.declared.place.Kind.TheVariants.{Raised};
 ghost use Rattle.design_ir.specs.Forests.{Forest, bare, grown};
@@ -7,17 +7,20 @@ ghost use Rattle.design_ir.specs.Fragments.{leaf_of};
 ghost use Rattle.module_dsl.specs.Builders.{Built};
 ghost use Rattle.clock_domains.specs.Resolved.{file_start};
 ghost use Rattle.elab_eval.specs.declared.refusal.ElabStop.TheVariants.{Refused};
+ghost use Rattle.elab_store.specs.ClockDomains.{defined_by};
 ghost use Rattle.elab_eval.specs.Elaborates.{module_in, root_module, is_open_at, node_name, leaf_at, first_trees, other_trees, forest_of_nodes, root_domains};
 ghost use Rattle.elab_eval.specs.Trees.{finished, fragment_with, unless_open, rooted, tree_found, IsGot};
 
 use crate::refusal::ElabStop;
 use amh_host::{Items, Kind, Place, Text};
-use clock_domains::copied_process;
-use design_ir::{DomainDefs, Fragment, Fragments, Process, Processes};
+use design_ir::{DomainDefs, Fragment, Fragments, Memories, Process, Processes};
 use elab_store::domains::ClockDomains;
-use elab_store::hierarchy::{Addition, Node};
+use elab_store::hierarchy::{Addition, Node, NodeOf};
+use elab_store::memories::OwnMemory;
 use elab_store::store::Store;
+use fragment_walks::copies::copied_process;
 use lists::NoMemory;
+use memory_ports::copied_memory;
 use module_dsl::{BuildStop, Builder};
 use std::alloc::Global;
 use std::marker::Model;
@@ -47,6 +50,7 @@ pub(crate) fn tree(
     let below = trees_of(
         alloc,
         modules.as_slice(),
+        store.memories.as_slice(),
         &store.clock_domains,
         hierarchy.additions(),
         hierarchy.nodes(),
@@ -206,25 +210,34 @@ impl Trees {
     }
 }
 
-// ---- the modules below the top
+// ---- what stands below the top
 
 // The trees of nodes, each of which stands before those below it.
 fn trees_of(
     alloc: Global,
     modules: &[Option<Fragment>],
+    memories: &[OwnMemory],
     clock_domains: &ClockDomains,
     additions: &[Addition],
     nodes: &[Node],
 ) -> Result<Trees, ElabStop>
     ghost built: { List Built }
     requires { modules.now ≡ map finished built }
-    ensures { IsGot result (unless_open (list_any (is_open_at built) nodes.now) (forest_of_nodes built clock_domains.now additions.now nodes.now)) }
+    ensures { IsGot result (unless_open (list_any (is_open_at built memories.now) nodes.now) (forest_of_nodes built memories.now clock_domains.now additions.now nodes.now)) }
 {
     let mut trees = Trees::new(alloc);
     let count = nodes.len();
     for i in 0..count {
         let node = nodes[count - 1 - i];
-        match grown(alloc, modules, clock_domains, additions, node, trees) {
+        match grown(
+            alloc,
+            modules,
+            memories,
+            clock_domains,
+            additions,
+            node,
+            trees,
+        ) {
             Ok(more) => trees = more,
             Err(stop) => return Err(stop),
         }
@@ -236,6 +249,7 @@ fn trees_of(
 fn grown(
     alloc: Global,
     modules: &[Option<Fragment>],
+    memories: &[OwnMemory],
     clock_domains: &ClockDomains,
     additions: &[Addition],
     node: Node,
@@ -243,37 +257,85 @@ fn grown(
 ) -> Result<Trees, ElabStop>
     ghost built: { List Built }
     requires { modules.now ≡ map finished built }
-    ensures { IsGot result (unless_open (is_open_at built node) (grown (leaf_at built clock_domains.now additions.now node) (first_trees node.below behind) (other_trees node.below behind))) }
+    ensures { IsGot result (unless_open (is_open_at built memories.now node) (grown (leaf_at built memories.now clock_domains.now additions.now node) (first_trees node.below behind) (other_trees node.below behind))) }
 {
-    let Some(Some(fragment)) = modules.get(node.module as usize) else {
-        return Err(raised());
-    };
-    let Ok(domains) = clock_domains.defined_by(alloc, node.module) else {
-        return Err(ElabStop::NoMemory);
-    };
-    match with_node(
-        alloc,
-        fragment,
-        node_name(additions, node),
-        domains,
-        node.below,
-        behind,
-    ) {
-        Ok(trees) => Ok(trees),
-        Err(_) => Err(ElabStop::NoMemory),
+    let name = node_name(additions, node);
+    match node.of {
+        NodeOf::Module(m) => {
+            let Some(Some(fragment)) = modules.get(m as usize) else {
+                return Err(raised());
+            };
+            match with_module(alloc, fragment, clock_domains, m, name, node.below, behind) {
+                Ok(trees) => Ok(trees),
+                Err(_) => Err(ElabStop::NoMemory),
+            }
+        }
+        NodeOf::Memory(k) => {
+            let Some(memory) = memories.get(k as usize) else {
+                return Err(raised());
+            };
+            match with_memory(alloc, memory, name, node.below, behind) {
+                Ok(trees) => Ok(trees),
+                Err(_) => Err(ElabStop::NoMemory),
+            }
+        }
     }
 }
 
-// A module under a name, with domains, before the trees behind it, of which it takes so many.
-fn with_node(
+// A module under a name, with the domains that it defines.
+fn with_module(
     alloc: Global,
     fragment: &Fragment,
+    clock_domains: &ClockDomains,
+    m: u32,
     name: &str,
-    domains: DomainDefs,
     below: u32,
     behind: Trees,
 ) -> Result<Trees, NoMemory>
-    ensures { IfOk result (λ ts. ts ≡ grown (leaf_of (fragment_with name.now domains fragment.now.processes bare)) (first_trees below behind) (other_trees below behind)) }
+    ensures { IfOk result (λ ts. ts ≡ grown (leaf_of (fragment_with name.now (defined_by m clock_domains.now) fragment.now.processes [] bare)) (first_trees below behind) (other_trees below behind)) }
+{
+    let domains = clock_domains.defined_by(alloc, m)?;
+    let processes = copied_processes(alloc, fragment.processes.as_slice())?;
+    let none = Memories::new(alloc);
+    with_node(alloc, name, domains, processes, none, below, behind)
+}
+
+// A memory under a name, which is all that its fragment has.
+fn with_memory(
+    alloc: Global,
+    memory: &OwnMemory,
+    name: &str,
+    below: u32,
+    behind: Trees,
+) -> Result<Trees, NoMemory>
+    ensures { IfOk result (λ ts. ts ≡ grown (leaf_of (fragment_with name.now [] [] (memory.now.spec ∷ []) bare)) (first_trees below behind) (other_trees below behind)) }
+{
+    let own = only_memory(alloc, memory)?;
+    let domains = DomainDefs::new(alloc);
+    let processes = Processes::new(alloc);
+    with_node(alloc, name, domains, processes, own, below, behind)
+}
+
+// One memory, as far as it is made.
+fn only_memory(alloc: Global, memory: &OwnMemory) -> Result<Memories, NoMemory>
+    ensures { IfOk result (λ ms. ms ≡ memory.now.spec ∷ []) }
+{
+    let mut own = Memories::new(alloc);
+    own.push(copied_memory(alloc, memory.spec.so_far())?)?;
+    Ok(own)
+}
+
+// What a fragment has of its own under a name, before the trees behind it, of which it takes so many.
+fn with_node(
+    alloc: Global,
+    name: &str,
+    domains: DomainDefs,
+    processes: Processes,
+    memories: Memories,
+    below: u32,
+    behind: Trees,
+) -> Result<Trees, NoMemory>
+    ensures { IfOk result (λ ts. ts ≡ grown (leaf_of (fragment_with name.now domains processes memories bare)) (first_trees below behind) (other_trees below behind)) }
 {
     let mut trees = behind;
     let submodules = trees.take(alloc, below as usize)?;
@@ -281,8 +343,8 @@ fn with_node(
         name: copied_name(alloc, name)?,
         is_part: false,
         domains,
-        processes: copied_processes(alloc, fragment.processes.as_slice())?,
-        memories: Items::new(alloc),
+        processes,
+        memories,
         submodules,
     })?;
     Ok(trees)

@@ -12,7 +12,7 @@ use Rattle.design_ir.specs.declared.signal.Sig.{Sig}
 use Rattle.std.proofs.lemmas.List.{length-append}
 use Rattle.elab_store.specs.Sound.{IsFront}
 use Rattle.std.proofs.lemmas.Bool.{and_parts}
-use Rattle.py_values.proofs.ObjectLaws.{drop_at}
+use Rattle.py_heap.proofs.ObjectLaws.{drop_at}
 use Rattle.design_ir.specs.declared.expr.Expr.{Expr}
 use Rattle.design_ir.specs.Pools.{Pooled}
 use Rattle.design_ir.specs.Values.{signal_form, form_step}

@@ -7,7 +7,7 @@ use Rattle.identifiers.specs.Identifiers.{is_identifier}
 use Rattle.py_values.specs.declared.val.StrId.{StrId}
 use Rattle.py_values.specs.declared.val.Val.{Val}
 use Rattle.py_values.specs.declared.val.Val.TheVariants as val
-use Rattle.py_values.specs.Heaps.{Seen, text_at}
+use Rattle.py_heap.specs.Heaps.{Seen, text_at}
 use Rattle.py_frames.specs.declared.request.Cause.TheVariants.{Raised, Limit}
 use Rattle.amh_host.specs.declared.place.Place.{Place}
 use Rattle.design_ir.specs.declared.ids.ExprId.{ExprId}

@@ -1,7 +1,7 @@
 // The state machines of a module: `m.FSM(..)`, `m.State(..)`, `m.next` and `ongoing`.
 ghost use Rattle.std.specs.Prelude.{◌≡◌, true, ◌<◌, length, map, drop, string_bytes, Some, None, IfOk, IfSome, OnOk, slice_get, option_map, option_and_then};
 ghost use Rattle.std.specs.Option.{option_copied};
-ghost use Rattle.py_values.specs.Heaps.{seen};
+ghost use Rattle.py_heap.specs.Heaps.{seen};
 ghost use Rattle.elab_store.specs.Seen.{called_of};
 ghost use Rattle.elab_machines.specs.StateMachines.{part_named, part_attribute, machine_once, machine_keyword, machine_keywords, machine_placed, machine_arguments, state_string, name_string, init_said, name_said, is_clocked, domain_string, domain_said, domain_name, machine_said, machine_from, one_argument, state_argument, state_said, stop_told, register_name, init_name, is_placed, machine_made, machine_begun, machine_entered, state_entered, state_left, machine_left, next_said, next_stored, next_goes, moved, ongoing_said, part_called, part_entered, part_left};
 ghost use Rattle.elab_machines.specs.Moves.{action_moves};
@@ -22,7 +22,8 @@ use fsm_lowering::{Fsm, FsmStop};
 use identifiers::is_identifier;
 use lists::NoMemory;
 use py_frames::request::{Answer, Cause};
-use py_values::{Frozen, Heap, StrId, Val};
+use py_heap::{Frozen, Heap};
+use py_values::{StrId, Val};
 use std::alloc::Global;
 
 /// The arguments of `m.FSM`, where they are given.

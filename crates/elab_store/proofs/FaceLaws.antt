@@ -4,7 +4,7 @@ use Rattle.std.specs.Prelude.{slice_get}
 use Rattle.std.proofs.lemmas.Bool.{ltb-true}
 use Rattle.std.proofs.lemmas.List.{length-append, append_assoc}
 use Rattle.lists.specs.Texts.{text_eq}
-use Rattle.py_values.proofs.ObjectLaws.{drop_at}
+use Rattle.py_heap.proofs.ObjectLaws.{drop_at}
 use Rattle.elab_store.specs.declared.faces.Face.{Face}
 use Rattle.elab_store.specs.declared.faces.End.{End}
 use Rattle.elab_store.specs.declared.faces.FaceMember.{FaceMember}

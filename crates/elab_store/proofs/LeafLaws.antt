@@ -4,7 +4,7 @@ use Rattle.std.specs.Prelude.{slice_get, option_map}
 use Rattle.std.proofs.lemmas.Bool.{eq-eqb, ne_eqb, eqb-true, eqb-false, le-leb, lt-leb, leb-true, leb-false, true≢false}
 use Rattle.std.proofs.lemmas.List.{append-nil, append_assoc, length-append}
 use Rattle.std.proofs.lemmas.Option.{slice_get_past}
-use Rattle.py_values.proofs.ObjectLaws.{drop_at}
+use Rattle.py_heap.proofs.ObjectLaws.{drop_at}
 use Rattle.elab_store.specs.declared.leaves.Leaf.{Leaf}
 use Rattle.elab_store.specs.declared.leaves.Rest.{Rest}
 use Rattle.elab_store.specs.declared.members.MemberForm.{MemberForm}

@@ -4,6 +4,7 @@ pub mod FaceLaws
 pub mod HierarchyLaws
 pub mod LeafLaws
 mod LeafSamples
+pub mod MemoryLaws
 pub mod NumberNames
 pub mod Pools
 pub mod Standing

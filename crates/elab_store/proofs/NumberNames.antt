@@ -33,7 +33,7 @@ onto_continues (suc k) n ds h = by_test (n / 10 == 0) (digit_before n ds h) (ont
     by_test true here more = here
     by_test false here more = more
 
-decimal_continues : (n : ℕ) → list_all continues_name (decimal n) ≡ true
+pub decimal_continues : (n : ℕ) → list_all continues_name (decimal n) ≡ true
 unfolding digits
 decimal_continues n = onto_continues 64 n [] refl
 

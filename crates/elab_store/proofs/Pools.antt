@@ -1,6 +1,6 @@
 -- Pools that grow at their ends, and expressions in which no reset stands.
 use Rattle.std.specs.Prelude.{◌≡◌, refl, ℕ, zero, suc, ◌<◌, Bool, true, false, List, [], ◌∷◌, ◌++◌, length, get_or, slice_index_or, slice_get, Some, drop, ◌+◌, ◌||◌, ◌≤◌}
-use Rattle.py_values.proofs.ObjectLaws.{drop_at}
+use Rattle.py_heap.proofs.ObjectLaws.{drop_at}
 use Rattle.std.specs.List.{AllByRecursion, list_any}
 use Rattle.std.proofs.Common.{sym, ◌∙◌, ap, arith, subst}
 use Rattle.std.proofs.lemmas.List.{length-append}

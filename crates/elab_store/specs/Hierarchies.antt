@@ -1,19 +1,21 @@
--- What was added to modules as their submodules, and the tree of modules that is elaborated of it. (Amaranth language guide 0.5, "Submodules". The
+-- What was added to modules as their submodules, and the tree of modules and memories that is elaborated of it. (Amaranth language guide 0.5, "Submodules". The
 -- names of additions without one, and that the tree is walked from the top, each module before those below it, is this project's own
 -- rule.)
-use Rattle.std.specs.Prelude.{ℕ, suc, ◌==◌, ◌&&◌, Bool, if◌then◌else◌, List, [], ◌∷◌, ◌++◌, map, length, slice_get, Option, Some, None, is_some, option_map, option_and_then, codes}
+use Rattle.std.specs.Prelude.{ℕ, suc, ◌==◌, ◌&&◌, Bool, false, if◌then◌else◌, List, [], ◌∷◌, ◌++◌, map, length, slice_get, Option, Some, None, is_some, option_map, option_and_then, codes}
 use Rattle.std.specs.List.{find, list_any}
 use Rattle.std.specs.Fmt.{decimal}
 use Rattle.lists.specs.Texts.{text_eq}
 use Rattle.py_values.specs.declared.val.Val.{Val}
 use Rattle.elab_store.specs.declared.hierarchy.Addition.{Addition}
 use Rattle.elab_store.specs.declared.hierarchy.Node.{Node}
+use Rattle.elab_store.specs.declared.hierarchy.NodeOf.{NodeOf}
+use Rattle.elab_store.specs.declared.hierarchy.NodeOf.TheVariants.{Module, Memory}
 use Rattle.elab_store.specs.declared.hierarchy.Waiting.{Waiting}
 
 pub record Hierarchy : Type 0 where
   -- all additions, in order
   pub additions : List Addition
-  -- the modules below the top that were elaborated, each before those below it
+  -- the modules and memories below the top that were elaborated, each before those below it
   pub nodes : List Node
   -- the additions that are still to be elaborated, the next one first
   pub waiting : List Waiting
@@ -56,16 +58,21 @@ waiting_for depth numbers = map (λ n. record { addition = n; depth = depth }) n
 abbrev pub top_entered : ℕ → Hierarchy → Hierarchy
 top_entered m t = record t { waiting = waiting_for 1 (children_of m t) ++ t.waiting }
 
-abbrev pub node_of : ℕ → Waiting → Hierarchy → Node
-node_of m w t = record { addition = w.addition; «module» = m; below = length (children_of m t) }
+-- a memory has nothing below it
+abbrev pub numbers_below : NodeOf → List Addition → List ℕ
+numbers_below (Module m) additions = numbers_of m 0 additions
+numbers_below (Memory k) additions = []
 
-abbrev pub taken_by : ℕ → List Waiting → Hierarchy → Hierarchy
-taken_by m [] t = t
-taken_by m (w ∷ ws) t = record t { nodes = t.nodes ++ node_of m w t ∷ []; waiting = waiting_for (suc w.depth) (children_of m t) ++ ws }
+abbrev pub node_of : NodeOf → Waiting → Hierarchy → Node
+node_of o w t = record { addition = w.addition; of = o; below = length (numbers_below o t.additions) }
 
--- what waits first is module m: its own additions wait before all others
-abbrev pub node_taken : ℕ → Hierarchy → Hierarchy
-node_taken m t = taken_by m t.waiting t
+abbrev pub taken_by : NodeOf → List Waiting → Hierarchy → Hierarchy
+taken_by o [] t = t
+taken_by o (w ∷ ws) t = record t { nodes = t.nodes ++ node_of o w t ∷ []; waiting = waiting_for (suc w.depth) (numbers_below o t.additions) ++ ws }
+
+-- what waits first is this module or memory: its own additions wait before all others
+abbrev pub node_taken : NodeOf → Hierarchy → Hierarchy
+node_taken o t = taken_by o t.waiting t
 
 abbrev pub first_of : {A : Type 0} → List A → Option A
 first_of [] = None
@@ -78,6 +85,10 @@ first_waiting t = first_of t.waiting
 abbrev pub thing_waiting : Hierarchy → Option Val
 thing_waiting t = option_map (λ (a : Addition). a.thing) (option_and_then (λ (w : Waiting). slice_get t.additions w.addition) (first_waiting t))
 
+abbrev pub is_of_module : ℕ → NodeOf → Bool
+is_of_module m (Module n) = n == m
+is_of_module m (Memory k) = false
+
 -- module m stands in the tree below the top
 abbrev pub is_node : ℕ → Hierarchy → Bool
-is_node m t = list_any (λ (x : Node). x.module == m) t.nodes
+is_node m t = list_any (λ (x : Node). is_of_module m x.of) t.nodes

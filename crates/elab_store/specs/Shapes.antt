@@ -3,7 +3,7 @@
 use Rattle.std.specs.Prelude.{List, Result, Ok, Err}
 use Rattle.shape_rules.specs.Forms.{Form}
 use Rattle.py_values.specs.declared.val.Val.{Val}
-use Rattle.py_values.specs.Heaps.{Seen}
+use Rattle.py_heap.specs.Heaps.{Seen}
 use Rattle.py_frames.specs.declared.request.Cause.{Cause}
 use Rattle.amh_things.specs.declared.thing.Thing.{Thing}
 use Rattle.amh_things.specs.declared.thing.Reading.{Reading}

@@ -1,5 +1,5 @@
 -- What is held keeps to: whatever is named stands there.
-use Rattle.std.specs.Prelude.{◌≡◌, ℕ, ◌<◌, ⊤, List, [], ◌∷◌, length, slice_get, Option, Some, None, Bool, true, false}
+use Rattle.std.specs.Prelude.{◌≡◌, ℕ, ◌<◌, ⊤, List, [], ◌∷◌, map, length, slice_get, Option, Some, None, IfSome, Bool, true, false}
 use Rattle.std.specs.Option.{option_map_or}
 use Rattle.std.specs.List.{AllByRecursion}
 use Rattle.lists.specs.Names.{IsName}
@@ -20,10 +20,18 @@ use Rattle.module_dsl.specs.declared.step.Step.TheVariants.{Assign, Enter, Leave
 use Rattle.module_dsl.specs.Builders.{Built}
 use Rattle.elab_store.specs.declared.kept.Begin.{Begin}
 use Rattle.elab_store.specs.declared.kept.Begin.TheVariants as begin
-use Rattle.clock_domains.specs.Resolvable.{IsNamedSide, ArePorts}
+use Rattle.design_ir.specs.declared.port.Port.{Port}
+use Rattle.design_ir.specs.declared.memory.MemWrite.{MemWrite}
+use Rattle.design_ir.specs.declared.memory.MemRead.{MemRead}
+use Rattle.design_ir.specs.Circuits.{is_among}
+use Rattle.clock_domains.specs.Resolvable.{IsNamedSide, ArePorts, domain_numbers}
+use Rattle.memory_ports.specs.Memories.{IsSpec, HasPorts}
+use Rattle.memory_ports.specs.Laws.{IsApart}
 use Rattle.amh_things.specs.Held.{AreHeld}
 use Rattle.elab_store.specs.declared.kept.Equation.{Equation}
 use Rattle.elab_store.specs.declared.kept.Kept.{Kept}
+use Rattle.elab_store.specs.declared.kept.MemoryPort.{MemoryPort}
+use Rattle.elab_store.specs.declared.memories.OwnMemory.{OwnMemory}
 use Rattle.elab_store.specs.declared.kept.Kept.TheVariants as kept
 use Rattle.design_ir.specs.Settling.{is_signal}
 use Rattle.fsm_lowering.specs.Machines.{Machine, HasRegister}
@@ -75,6 +83,16 @@ IsBegin q (begin.Case n) = ⊤
 IsBegin q begin.Default = ⊤
 IsBegin q begin.Misplaced = ⊤
 
+abbrev pub IsEnableThere : Pooled → Option ExprId → Type 0
+IsEnableThere q None = ⊤
+IsEnableThere q (Some e) = e.0 < length q.exprs
+
+-- the expressions of a port stand in the pool
+pub record IsMemoryPort (q : Pooled) (x : MemoryPort) : Type 0 where
+  pub addr : x.addr.0 < length q.exprs
+  pub word : x.word.0 < length q.exprs
+  pub enable : IsEnableThere q x.enable
+
 -- an interface has its ends
 abbrev pub IsKept : Pooled → Signatures → List End → Kept → Type 0
 IsKept q sigs ends (kept.Statement x) = IsEquation q x
@@ -85,6 +103,9 @@ IsKept q sigs ends (kept.Domain m d) = ⊤
 IsKept q sigs ends (kept.Submodules m) = ⊤
 IsKept q sigs ends (kept.Definitions m) = ⊤
 IsKept q sigs ends (kept.ClockDomain k) = ⊤
+IsKept q sigs ends (kept.Memory k) = ⊤
+IsKept q sigs ends (kept.OfMemory k m) = ⊤
+IsKept q sigs ends (kept.MemoryPort x) = IsMemoryPort q x
 IsKept q sigs ends (kept.Port is_out shape init) = ⊤
 IsKept q sigs ends (kept.Nested is_out n) = ⊤
 IsKept q sigs ends (kept.Signature n) = ⊤
@@ -174,6 +195,37 @@ pub record AreComponents (q : Pooled) (cs : Components) : Type 0 where
   pub ends : AllByRecursion (IsEnd q) cs.ends
   pub objects : AllByRecursion (λ (o : ℕ × ComponentObject). IsObject q cs.signatures cs.ends o.1) cs.objects
 
+-- ---- memories
+
+-- the signals of a clock domain
+abbrev pub HasNoClock : ℕ → ClockDomain → Type 0
+HasNoClock s x = is_among (domain_numbers x.domain) s ≡ false
+
+-- and those of a component's ports are other ones
+abbrev pub HasNoPort : ℕ → ℕ × ComponentObject → Type 0
+HasNoPort s o = is_among (map (λ (p : Port). p.sig.0) o.1.ports) s ≡ false
+
+-- nothing outside of the memory gives its data
+pub record IsOwnData (made : List ClockDomain) (objects : List (ℕ × ComponentObject)) (r : MemRead) : Type 0 where
+  pub clocks : AllByRecursion (HasNoClock r.word.0) made
+  pub ports : AllByRecursion (HasNoPort r.word.0) objects
+
+-- the domain of a port has the name of one
+abbrev pub IsNamedRead : MemRead → Type 0
+IsNamedRead r = IfSome r.domain IsName
+
+-- its ports have their signals in the pool, and no one else gives its data
+pub record IsOwnMemory (q : Pooled) (made : List ClockDomain) (objects : List (ℕ × ComponentObject)) (x : OwnMemory) : Type 0 where
+  pub spec : IsSpec x.spec
+  pub ports : HasPorts q x.spec
+  pub write_names : AllByRecursion (λ (w : MemWrite). IsName w.domain) x.spec.writes
+  pub read_names : AllByRecursion IsNamedRead x.spec.reads
+  pub own_data : AllByRecursion (IsOwnData made objects) x.spec.reads
+
+-- the register of a machine is no signal of a memory's port
+abbrev pub HasOwnRegister : Pooled → List OwnMemory → OwnMachine → Type 0
+HasOwnRegister q memories m = AllByRecursion (λ (x : OwnMemory). IsApart q m.machine.signal.0 x.spec) memories
+
 pub record IsSound (h : Held) : Type 0 where
   pub names : AllByRecursion (λ (x : Sig). IsName x.name) h.pool.signals
   pub things : AreHeld (length h.pool.exprs) h.store.things
@@ -184,3 +236,5 @@ pub record IsSound (h : Held) : Type 0 where
   pub additions : AllByRecursion (λ (a : Addition). IsName a.name) h.store.hierarchy.additions
   pub clock_domains : AreClockDomains h.pool h.store.clock_domains.made
   pub components : AreComponents h.pool h.store.components
+  pub memories : AllByRecursion (IsOwnMemory h.pool h.store.clock_domains.made h.store.components.objects) h.store.memories
+  pub registers : AllByRecursion (HasOwnRegister h.pool h.store.memories) h.store.machines

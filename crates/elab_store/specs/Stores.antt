@@ -24,6 +24,9 @@ use Rattle.elab_store.specs.declared.kept.DomainName.{DomainName}
 use Rattle.elab_store.specs.declared.kept.DomainName.TheVariants as domain
 use Rattle.amh_host.specs.declared.place.Place.{Place}
 use Rattle.elab_store.specs.declared.own_machine.OwnMachine.{OwnMachine}
+use Rattle.elab_store.specs.declared.memories.OwnMemory.{OwnMemory}
+use Rattle.elab_store.specs.declared.hierarchy.NodeOf.{NodeOf}
+use Rattle.elab_store.specs.declared.hierarchy.NodeOf.TheVariants as node
 use Rattle.elab_store.specs.Components.{Components, no_components, signed_at, face_at}
 use Rattle.elab_store.specs.declared.faces.Face.{Face}
 use Rattle.elab_store.specs.Hierarchies.{Hierarchy, no_hierarchy}
@@ -48,6 +51,8 @@ pub record Stored : Type 0 where
   pub clock_domains : ClockDomains
   -- state machines in order of making
   pub machines : List OwnMachine
+  -- memories in order of making
+  pub memories : List OwnMemory
   -- the names of domains with a clock by which modules were asked
   pub domains : List (List ℕ)
   -- where the refusal is told, where this is not the place of the request
@@ -65,7 +70,7 @@ no_top = record { object = None; root = None }
 
 -- before the body of a program
 abbrev pub nothing_held : Held
-nothing_held = record { pool = record { signals = []; exprs = [] }; store = record { things = []; kept = []; modules = []; patterns = []; top = no_top; components = no_components; hierarchy = no_hierarchy; clock_domains = no_clock_domains; machines = []; domains = []; told = None; simulation = no_simulation } }
+nothing_held = record { pool = record { signals = []; exprs = [] }; store = record { things = []; kept = []; modules = []; patterns = []; top = no_top; components = no_components; hierarchy = no_hierarchy; clock_domains = no_clock_domains; machines = []; memories = []; domains = []; told = None; simulation = no_simulation } }
 
 -- what a request is answered, and what is then held
 pub record Answered : Type 0 where
@@ -164,6 +169,23 @@ with_object v s = record s { top = record { object = first_object s.top.object (
 abbrev pub module_of : Option Kept → Option ℕ
 module_of (Some (kept.Module m)) = Some m
 module_of k = None
+
+abbrev pub memory_of : Option Kept → Option ℕ
+memory_of (Some (kept.Memory k)) = Some k
+memory_of k = None
+
+-- the module or the memory that stands in the tree where a value was added
+abbrev pub node_in : Option Kept → Option NodeOf
+node_in (Some (kept.Module m)) = Some (node.Module m)
+node_in (Some (kept.Memory k)) = Some (node.Memory k)
+node_in k = None
+
+-- ---- memories
+
+abbrev pub store_with_memory : OwnMemory → Stored → Stored
+store_with_memory x s = record s { memories = s.memories ++ x ∷ [] }
+
+-- ---- modules that are made
 
 -- a module has no name of its own: nobody names the top
 abbrev pub store_and_module : Stored → Stored

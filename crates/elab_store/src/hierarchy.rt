@@ -1,8 +1,8 @@
-// Submodules: what was added to which module, and the tree of modules that is elaborated of it.
+// Submodules: what was added to which module, and the tree of modules and memories that is elaborated of it.
 ghost use Rattle.std.specs.Prelude.{◌≡◌, ◌++◌, length, reverse, IfOk, OnOk, codes};
 ghost use Rattle.std.specs.Fmt.{decimal};
 ghost use Rattle.std.specs.Option.{option_copied};
-ghost use Rattle.elab_store.specs.Hierarchies.{no_hierarchy, numbers_of, addition_name, added_as, with_addition, waiting_for, top_entered, node_taken, first_waiting, thing_waiting, is_node};
+ghost use Rattle.elab_store.specs.Hierarchies.{no_hierarchy, numbers_of, numbers_below, is_of_module, addition_name, added_as, with_addition, waiting_for, top_entered, node_taken, first_waiting, thing_waiting, is_node};
 
 use amh_host::Text;
 use lists::NoMemory;
@@ -19,11 +19,18 @@ pub struct Addition {
     pub thing: Val,
 }
 
-/// A module of the tree below the top: by which addition it stands there, which module it is, and how many stand directly below it.
+/// What stands in the tree: a module or a memory, by its number in order of making.
+#[derive(Clone, Copy, PartialEq, Eq, Drop)]
+pub enum NodeOf {
+    Module(u32),
+    Memory(u32),
+}
+
+/// A module or a memory of the tree below the top: by which addition it stands there, what it is, and how many stand directly below it.
 #[derive(Clone, Copy, PartialEq, Eq, Drop)]
 pub struct Node {
     pub addition: u32,
-    pub module: u32,
+    pub of: NodeOf,
     pub below: u32,
 }
 
@@ -90,6 +97,40 @@ fn wait_for(
     Ok(())
 }
 
+// How many additions are to a module; a memory has none.
+fn below_count(additions: &[Addition], of: NodeOf) -> usize
+    ensures { result ≡ length (numbers_below of additions.now) }
+{
+    match of {
+        NodeOf::Module(m) => child_count(additions, m),
+        NodeOf::Memory(_) => 0,
+    }
+}
+
+// The additions to a module wait in this depth, the first of them last; a memory has none.
+fn wait_below(
+    additions: &[Addition],
+    of: NodeOf,
+    depth: u32,
+    waiting: &mut Vec<Waiting>,
+) -> Result<(), NoMemory>
+    ensures { OnOk result (waiting.new.items ≡ waiting.old.items ++ reverse (waiting_for depth (numbers_below of additions.now))) }
+{
+    match of {
+        NodeOf::Module(m) => wait_for(additions, m, depth, waiting),
+        NodeOf::Memory(_) => Ok(()),
+    }
+}
+
+fn is_of_module(m: u32, of: NodeOf) -> bool
+    ensures { result ≡ is_of_module m of }
+{
+    match of {
+        NodeOf::Module(n) => n == m,
+        NodeOf::Memory(_) => false,
+    }
+}
+
 /// A text once more.
 pub(crate) fn copied(alloc: Global, name: &str) -> Result<Text, NoMemory>
     ensures { IfOk result (λ t. t ≡ name.now) }
@@ -128,7 +169,7 @@ impl Hierarchy {
         self.additions.as_slice()
     }
 
-    /// The modules of the tree below the top, each before those below it.
+    /// The modules and memories of the tree below the top, each before those below it.
     pub fn nodes(&self) -> &[Node]
         ensures { result.now ≡ self.now.nodes }
     {
@@ -186,11 +227,11 @@ impl Hierarchy {
         wait_for(self.additions.as_slice(), m, 1, &mut self.waiting)
     }
 
-    /// What waits first is a module, which stands in the tree from now on: what was added to it waits before all others.
-    pub fn take_node(&mut self, m: u32) -> Result<(), NoMemory>
-        ensures { OnOk result (self.new ≡ node_taken m self.old) }
+    /// What waits first is this, which stands in the tree from now on: what was added to it waits before all others.
+    pub fn take_node(&mut self, of: NodeOf) -> Result<(), NoMemory>
+        ensures { OnOk result (self.new ≡ node_taken of self.old) }
     {
-        let below = child_count(self.additions.as_slice(), m);
+        let below = below_count(self.additions.as_slice(), of);
         let Some(first) = self.waiting.pop() else {
             return Ok(());
         };
@@ -199,12 +240,12 @@ impl Hierarchy {
         }
         self.nodes.push(Node {
             addition: first.addition,
-            module: m,
+            of,
             below: below as u32,
         })?;
-        wait_for(
+        wait_below(
             self.additions.as_slice(),
-            m,
+            of,
             first.depth + 1,
             &mut self.waiting,
         )
@@ -232,6 +273,6 @@ impl Hierarchy {
     pub fn is_node(&self, m: u32) -> bool
         ensures { result ≡ is_node m self.now }
     {
-        self.nodes.iter().any(|x| x.module == m)
+        self.nodes.iter().any(|x| is_of_module(m, x.of))
     }
 }

@@ -4,6 +4,7 @@ use crate::faces::Face;
 use crate::shapes::Shaped;
 use amh_bits::Int;
 use amh_host::Place;
+use amh_things::thing::Reading;
 use design_ir::ExprId;
 use py_values::StrId;
 
@@ -35,6 +36,9 @@ pub enum HdlName {
     Stream,
     StreamSignature,
     ClockDomain,
+    /// The module `amaranth.lib.memory`, and its `Memory`.
+    MemoryLibrary,
+    Memory,
     /// `Simulator` of `amaranth.sim`.
     Simulator,
 }
@@ -139,6 +143,26 @@ pub enum SignatureMethod {
     Create,
 }
 
+/// The name of a method of a memory.
+#[derive(Clone, Copy, PartialEq, Eq, Drop)]
+pub enum MemoryMethod {
+    WritePort,
+    ReadPort,
+}
+
+/// A port of a memory: its number among the write ports or the read ports, the expressions that are its signals, and what its data are
+/// read as. A read port without a clock has no enable.
+#[derive(Clone, Copy, PartialEq, Eq, Drop)]
+pub struct MemoryPort {
+    pub of: u32,
+    pub is_write: bool,
+    pub number: u32,
+    pub addr: ExprId,
+    pub word: ExprId,
+    pub enable: Option<ExprId>,
+    pub reading: Reading,
+}
+
 /// What a kept thing is.
 #[derive(Clone, Copy, PartialEq, Eq, Drop)]
 pub enum Kept {
@@ -159,6 +183,15 @@ pub enum Kept {
     Definitions(u32),
     /// A clock domain, by its number in order of making.
     ClockDomain(u32),
+    /// A memory, by its number in order of making.
+    Memory(u32),
+    /// `mem.write_port` and `mem.read_port` of a memory.
+    OfMemory {
+        of: u32,
+        method: MemoryMethod,
+    },
+    /// A port of a memory.
+    MemoryPort(MemoryPort),
     /// `x.eq(v)`.
     Statement(Equation),
     /// `In(shape)` or `Out(shape)`.

@@ -15,6 +15,7 @@ pub mod hierarchy;
 pub mod kept;
 pub mod leaves;
 pub mod members;
+pub mod memories;
 pub mod names;
 pub mod objects;
 pub mod own_machine;

@@ -1,13 +1,14 @@
 // Shapes that a program gives.
 ghost use Rattle.std.specs.Prelude.{◌≡◌};
-ghost use Rattle.py_values.specs.Heaps.{seen};
+ghost use Rattle.py_heap.specs.Heaps.{seen};
 ghost use Rattle.amh_things.specs.Things.{reading_given};
 ghost use Rattle.elab_store.specs.Shapes.{shaped_by, shaped_meant};
 
 use crate::store::Store;
 use amh_things::thing::Reading;
 use py_frames::request::Cause;
-use py_values::{Frozen, Heap, Val};
+use py_heap::{Frozen, Heap};
+use py_values::Val;
 use shape_rules::Shape;
 
 /// A shape, and what the bits of a value of it are read as.

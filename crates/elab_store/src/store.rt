@@ -1,28 +1,29 @@
 // What elaboration holds beside the heap of a program.
 ghost use Rattle.std.specs.Prelude.{◌≡◌, ◌++◌, ◌∷◌, [], length, IfOk, OnOk, OnErr, Some, None, IsSome, option_map, slice_get};
 ghost use Rattle.std.specs.Option.{option_copied};
-ghost use Rattle.py_values.specs.Heaps.{seen};
+ghost use Rattle.py_heap.specs.Heaps.{seen};
 ghost use Rattle.py_values.specs.declared.val.Val.TheVariants as val;
 ghost use Rattle.amh_things.specs.declared.thing.Thing.TheVariants as thing;
 ghost use Rattle.amh_things.specs.Things.{name_called, thing_of, base_called, layout_named, read_as};
 ghost use Rattle.amh_things.specs.Meant.{shape_meant, expr_meant, Gives as Meant};
 ghost use Rattle.amh_things.specs.Held.{AreHeld};
 ghost use Rattle.amh_things.specs.Members.{counted};
-ghost use Rattle.elab_store.specs.Stores.{store_and_module, naming_domain, side_of, is_domain};
+ghost use Rattle.elab_store.specs.Stores.{store_and_module, store_with_memory, naming_domain, side_of, is_domain};
 ghost use Rattle.elab_store.specs.declared.kept.DomainName.TheVariants as domain;
 ghost use Rattle.elab_store.specs.Components.{no_components};
 ghost use Rattle.elab_store.specs.ClockDomains.{no_clock_domains, with_clock_domain, with_definition};
 ghost use Rattle.elab_store.specs.Hierarchies.{no_hierarchy, with_addition, top_entered, node_taken};
 ghost use Rattle.elab_store.specs.Simulations.{no_simulation};
 ghost use Rattle.elab_store.specs.Stores.{nothing_held, no_top, kept_of, store_with, store_keeping, kept_given, given, refused, refused_at};
-ghost use Rattle.elab_store.specs.Stores.{with_root, with_object, module_of, signature_in, signature_of, face_in, face_of};
+ghost use Rattle.elab_store.specs.Stores.{with_root, with_object, module_of, memory_of, node_in, signature_in, signature_of, face_in, face_of};
 ghost use Rattle.elab_store.specs.Held.{held_of, Gives};
 
 use crate::components::Components;
 use crate::domains::{ClockDomain, ClockDomains, Definition};
 use crate::faces::Face;
-use crate::hierarchy::Hierarchy;
+use crate::hierarchy::{Hierarchy, NodeOf};
 use crate::kept::{DomainName, Kept, Top};
+use crate::memories::OwnMemory;
 use crate::names::is_text;
 use crate::objects::first_object;
 use crate::own_machine::OwnMachine;
@@ -38,7 +39,8 @@ use design_ir::{ExprId, Patterns, Pool, Side};
 use lists::NoMemory;
 use module_dsl::Builder;
 use py_frames::request::{Answer, Cause};
-use py_values::{Frozen, Heap, Val};
+use py_heap::{Frozen, Heap};
+use py_values::Val;
 use shape_rules::Shape;
 use std::alloc::Global;
 use std::marker::Model;
@@ -57,6 +59,7 @@ pub struct Store {
     pub hierarchy: Hierarchy,
     pub clock_domains: ClockDomains,
     pub machines: Vec<OwnMachine>,
+    pub memories: Vec<OwnMemory>,
     pub domains: Items<Text>,
     pub told: Option<Place>,
     pub simulation: Simulation,
@@ -69,7 +72,7 @@ impl Model for Store {
 
     ghost Value = { Stored };
 
-    ghost view = { λ a. record { things = a.things; kept = a.kept.items; modules = a.modules.items; patterns = a.patterns.items; top = a.top; components = a.components; hierarchy = a.hierarchy; clock_domains = a.clock_domains; machines = a.machines.items; domains = a.domains; told = a.told; simulation = a.simulation } };
+    ghost view = { λ a. record { things = a.things; kept = a.kept.items; modules = a.modules.items; patterns = a.patterns.items; top = a.top; components = a.components; hierarchy = a.hierarchy; clock_domains = a.clock_domains; machines = a.machines.items; memories = a.memories.items; domains = a.domains; told = a.told; simulation = a.simulation } };
 
     ghost invariant = { λ a. IsStore a.statements a.modules.items a.patterns.items };
 }
@@ -77,7 +80,7 @@ impl Model for Store {
 impl Store {
     /// Nothing yet, which takes no memory.
     fn new(alloc: Global) -> Store
-        ensures { result ≡ record { things = []; kept = []; modules = []; patterns = []; top = no_top; components = no_components; hierarchy = no_hierarchy; clock_domains = no_clock_domains; machines = []; domains = []; told = None; simulation = no_simulation } }
+        ensures { result ≡ record { things = []; kept = []; modules = []; patterns = []; top = no_top; components = no_components; hierarchy = no_hierarchy; clock_domains = no_clock_domains; machines = []; memories = []; domains = []; told = None; simulation = no_simulation } }
     {
         Store {
             things: Values::new(alloc),
@@ -93,6 +96,7 @@ impl Store {
             hierarchy: Hierarchy::new(alloc),
             clock_domains: ClockDomains::new(alloc),
             machines: Vec::new(alloc),
+            memories: Vec::new(alloc),
             domains: Items::new(alloc),
             told: None,
             simulation: Simulation::new(alloc),
@@ -223,6 +227,18 @@ impl Store {
         Ok(number as u32)
     }
 
+    /// A memory that is made.
+    pub fn add_memory(&mut self, memory: OwnMemory) -> Result<u32, NoMemory>
+        ensures { IfOk result (λ k. (k ≡ length self.old.memories) × (self.new ≡ store_with_memory memory self.old)) }
+    {
+        let number = self.memories.len();
+        if number >= 4_294_967_295 {
+            return Err(NoMemory);
+        }
+        self.memories.push(memory)?;
+        Ok(number as u32)
+    }
+
     /// What was added to modules, and the tree of it.
     pub fn hierarchy(&self) -> &Hierarchy
         ensures { result.now ≡ self.now.hierarchy }
@@ -272,11 +288,11 @@ impl Store {
         self.hierarchy.enter_top(root)
     }
 
-    /// The module that what waits first came to.
-    pub fn take_node(&mut self, m: u32) -> Result<(), NoMemory>
-        ensures { OnOk result (self.new ≡ record self.old { hierarchy = node_taken m self.old.hierarchy }) }
+    /// The module or the memory that what waits first came to.
+    pub fn take_node(&mut self, of: NodeOf) -> Result<(), NoMemory>
+        ensures { OnOk result (self.new ≡ record self.old { hierarchy = node_taken of self.old.hierarchy }) }
     {
-        self.hierarchy.take_node(m)
+        self.hierarchy.take_node(of)
     }
 
     /// `elaborate` of an object is called.
@@ -307,6 +323,27 @@ impl Store {
     {
         match self.kept_of(*v) {
             Some(Kept::Module(m)) => Some(m),
+            _ => None,
+        }
+    }
+
+    /// The memory that a value is.
+    pub fn memory_of(&self, v: &Val) -> Option<u32>
+        ensures { result ≡ memory_of (kept_of self.now v.now) }
+    {
+        match self.kept_of(*v) {
+            Some(Kept::Memory(k)) => Some(k),
+            _ => None,
+        }
+    }
+
+    /// The module or the memory that a value is.
+    pub fn node_of(&self, v: &Val) -> Option<NodeOf>
+        ensures { result ≡ node_in (kept_of self.now v.now) }
+    {
+        match self.kept_of(*v) {
+            Some(Kept::Module(m)) => Some(NodeOf::Module(m)),
+            Some(Kept::Memory(k)) => Some(NodeOf::Memory(k)),
             _ => None,
         }
     }

@@ -4,7 +4,7 @@ use Rattle.py_values.specs.declared.val.Val.{Val}
 use Rattle.py_values.specs.declared.val.Val.TheVariants as val
 use Rattle.py_values.specs.declared.val.ObjId.{ObjId}
 use Rattle.py_values.specs.declared.val.Hw.{Hw}
-use Rattle.py_values.specs.Heaps.{Seen, row_at}
+use Rattle.py_heap.specs.Heaps.{Seen, row_at}
 use Rattle.elab_store.specs.Calls.{first_or}
 use Rattle.elab_wiring.specs.SignatureClasses.{root_by, root_in}
 

@@ -4,7 +4,7 @@ use Rattle.shape_rules.specs.Forms.{unsigned}
 use Rattle.amh_host.specs.declared.place.Place.{Place}
 use Rattle.amh_things.specs.declared.thing.Reading.TheVariants as reading
 use Rattle.py_values.specs.declared.val.Val.TheVariants as val
-use Rattle.py_values.specs.Heaps.{Seen, seen, nothing}
+use Rattle.py_heap.specs.Heaps.{Seen, seen, nothing}
 use Rattle.py_frames.specs.declared.request.Answer.TheVariants as answer
 use Rattle.py_frames.specs.declared.request.Cause.TheVariants.{Raised}
 use Rattle.design_ir.specs.declared.signal.Sig.{Sig}

@@ -7,7 +7,7 @@ use Rattle.py_values.specs.declared.val.Val.{Val}
 use Rattle.py_values.specs.declared.val.Val.TheVariants as val
 use Rattle.py_values.specs.declared.val.ObjId.{ObjId}
 use Rattle.py_values.specs.declared.val.Hw.{Hw}
-use Rattle.py_values.specs.Heaps.{Seen, row_at}
+use Rattle.py_heap.specs.Heaps.{Seen, row_at}
 use Rattle.py_frames.specs.declared.request.Answer.TheVariants as answer
 use Rattle.py_frames.specs.declared.request.Cause.TheVariants.{Raised}
 use Rattle.elab_store.specs.declared.kept.HdlName.TheVariants as hdl

@@ -1,6 +1,6 @@
 // Classes over `Signature`, and their objects.
 ghost use Rattle.std.specs.Prelude.{◌≡◌, [], map, string_bytes, length, IfOk, OnOk};
-ghost use Rattle.py_values.specs.Heaps.{seen};
+ghost use Rattle.py_heap.specs.Heaps.{seen};
 ghost use Rattle.elab_store.specs.Held.{held_of, Gives};
 ghost use Rattle.elab_wiring.specs.SignatureClasses.{is_signature_name, any_class_answered, root_of, class_root, is_signature_root, signed_by, signed_given, signature_init, any_init_answered, object_attribute};
 
@@ -14,7 +14,8 @@ use elab_store::members::Members;
 use elab_store::store::{Elaboration, Store};
 use lists::NoMemory;
 use py_frames::request::{Answer, Cause, NamedVals, Request};
-use py_values::{Frozen, Heap, Hw, ObjId, Val};
+use py_heap::{Frozen, Heap};
+use py_values::{Hw, ObjId, Val};
 
 // ---- classes
 

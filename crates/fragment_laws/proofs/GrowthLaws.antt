@@ -21,7 +21,7 @@ use Rattle.design_ir.specs.Histories.{HistoryFrom}
 use Rattle.design_ir.specs.Legal.{IsLegal}
 use Rattle.flat_design.specs.Growing.{IsMore}
 use Rattle.flat_design.proofs.Growing.{more_refl, more_added, more_trans, form_more, num_more, bits_more, signals_more}
-use Rattle.clock_domains.specs.Held.{read_exprs, write_exprs}
+use Rattle.fragment_walks.specs.Held.{read_exprs, write_exprs}
 use Rattle.fragment_laws.specs.SamePools.{IsSame, AllSame, IsSameMemory, AreSameIn}
 use Rattle.fragment_laws.specs.Growth.{GrowsOn, MeansTheSame, GrowthKeepsMeaning}
 use Rattle.fragment_laws.proofs.Twins.{all_imp, delta_same, step_same, first_same}

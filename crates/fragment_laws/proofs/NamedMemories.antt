@@ -4,9 +4,9 @@ use Rattle.std.proofs.Common.{sym, ◌∙◌, ap}
 use Rattle.design_ir.specs.declared.memory.Memory.{Memory}
 use Rattle.design_ir.specs.declared.fragment.Fragment.{Fragment}
 use Rattle.design_ir.specs.Forests.{Forest, bare, grown}
-use Rattle.clock_domains.specs.Walks.{memory_named, named_memories, path_under}
-use Rattle.clock_domains.specs.Walks as walk
-use Rattle.clock_domains.proofs.Lists.{map-append}
+use Rattle.fragment_walks.specs.Walks.{memory_named, named_memories, path_under}
+use Rattle.fragment_walks.specs.Walks as walk
+use Rattle.fragment_walks.proofs.Lists.{map-append}
 use Rattle.fragment_laws.specs.Parts.{unnamed, all_memories, memories_of}
 
 unnamed_own : (name : List ℕ) (ms : List Memory) → map unnamed (map (memory_named name) ms) ≡ map unnamed ms

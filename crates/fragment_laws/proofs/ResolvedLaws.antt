@@ -20,13 +20,13 @@ use Rattle.design_ir.specs.Pools.{Pooled}
 use Rattle.design_ir.specs.PoolRules.{IsPool}
 use Rattle.design_ir.specs.Guards.{block_exprs}
 use Rattle.design_ir.specs.Circuits.{Circuit}
+use Rattle.fragment_walks.specs.Held.{fragment_exprs, read_exprs, write_exprs}
+use Rattle.fragment_walks.specs.Walks.{Contents, all_contents}
+use Rattle.fragment_walks.proofs.Lists.{all_left, all_right}
 use Rattle.clock_domains.specs.declared.top.TopPorts.{TopPorts}
-use Rattle.clock_domains.specs.Held.{fragment_exprs, read_exprs, write_exprs}
 use Rattle.clock_domains.specs.Resolvable.{IsResolvable, IsSideOf, IsPlain}
 use Rattle.clock_domains.specs.Resolved.{circuit_of, domain_number, domain_stop, driver_stop, is_clocked, made_domains, made_names, made_pool, ports_of, process_in, whole_pool}
 use Rattle.clock_domains.specs.Ready.{IsPlainMemory, IsReady}
-use Rattle.clock_domains.specs.Walks.{Contents, all_contents}
-use Rattle.clock_domains.proofs.Lists.{all_left, all_right}
 use Rattle.clock_domains.proofs.DesignMemories.{all_parted}
 use Rattle.clock_domains.proofs.PlacedLaws.{placed_signals}
 use Rattle.clock_domains.proofs.ReadyLaws.{ready_apart, resolved_whole, walked_ready}

@@ -14,7 +14,7 @@ use Rattle.design_ir.specs.Circuits.{Circuit, State}
 use Rattle.design_ir.specs.Settled.{delta, Settled}
 use Rattle.design_ir.specs.Steps as design
 use Rattle.design_ir.specs.Histories as history
-use Rattle.clock_domains.specs.Walks.{all_processes}
+use Rattle.fragment_walks.specs.Walks.{all_processes}
 use Rattle.fragment_laws.specs.Surroundings.{Surroundings}
 use Rattle.fragment_laws.specs.Settling.{IsSettled}
 use Rattle.fragment_laws.specs.Stepping.{step}

@@ -32,8 +32,8 @@ use Rattle.design_ir.specs.Settled.{delta}
 use Rattle.design_ir.specs.Steps as design
 use Rattle.design_ir.proofs.Resets.{lists_same}
 use Rattle.design_ir.proofs.ClearedLaws.{clears_length}
+use Rattle.fragment_walks.specs.Walks.{all_processes}
 use Rattle.clock_domains.specs.Resolved.{domain_number, process_in}
-use Rattle.clock_domains.specs.Walks.{all_processes}
 use Rattle.fragment_laws.specs.Parts.{all_memories}
 use Rattle.fragment_laws.specs.Surroundings.{pool_in}
 use Rattle.fragment_laws.specs.Givers.{ReadPort, giver_among, giver}

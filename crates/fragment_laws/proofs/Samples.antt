@@ -16,9 +16,9 @@ use Rattle.design_ir.specs.Values.{form, num}
 use Rattle.design_ir.specs.Targets.{target_bits, target_signals}
 use Rattle.design_ir.specs.Circuits.{is_among}
 use Rattle.design_ir.proofs.SanityParts.{signal, e, s, set, here, domain, falling_domain, async_domain}
-use Rattle.clock_domains.specs.Held.{fragment_exprs, inside}
+use Rattle.fragment_walks.specs.Held.{fragment_exprs, inside}
+use Rattle.fragment_walks.specs.Walks.{all_memories}
 use Rattle.clock_domains.specs.Placed.{placed_pool}
-use Rattle.clock_domains.specs.Walks.{all_memories}
 use Rattle.fragment_laws.specs.Surroundings.{Surroundings, pool_in}
 use Rattle.fragment_laws.specs.Stepping.{Happening, given, toggled, step}
 use Rattle.fragment_laws.specs.Lives.{History}

@@ -26,7 +26,7 @@ use Rattle.design_ir.specs.Designs.{drivers}
 use Rattle.design_ir.specs.Settled.{starts, comb_process, comb_read, comb_reads, delta}
 use Rattle.design_ir.specs.Steps.{port_active, clock_low, toggle, clocked_at, clocked, cleared_at, cleared, write_row, rows_after, writes_through, shown_through, read_word, reads_now, clocked_read, clocked_reads, moved, all_cleared, step, first_state}
 use Rattle.design_ir.proofs.DesignGrowth.{block_targets}
-use Rattle.clock_domains.specs.Held.{read_exprs, write_exprs}
+use Rattle.fragment_walks.specs.Held.{read_exprs, write_exprs}
 use Rattle.fragment_laws.specs.SamePools.{IsSame, AllSame, IsSameMemory, AreSameIn}
 
 -- ---- lists

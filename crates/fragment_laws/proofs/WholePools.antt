@@ -14,7 +14,7 @@ use Rattle.design_ir.specs.declared.expr.Expr.TheVariants.{Const, Unary, Binary,
 use Rattle.design_ir.specs.Pools.{Pooled}
 use Rattle.design_ir.specs.PoolRules.{AreExprs, HasInit, IsPool, signal_bits}
 use Rattle.design_ir.proofs.Growth.{exprs_more}
-use Rattle.clock_domains.specs.Held.{is_within}
+use Rattle.fragment_walks.specs.Held.{is_within}
 use Rattle.clock_domains.specs.Placed.{or_signal, placed_expr, placed_from, placed_pool, reset_of}
 use Rattle.clock_domains.specs.Resolved.{domain_signals, with_domains}
 use Rattle.fragment_laws.specs.Surroundings.{read_in, pool_in}

@@ -8,7 +8,7 @@ use Rattle.design_ir.specs.declared.fragment.Fragment.{Fragment}
 use Rattle.design_ir.specs.Pools.{Pooled}
 use Rattle.design_ir.specs.Guards.{driven}
 use Rattle.design_ir.specs.Circuits.{is_among}
-use Rattle.clock_domains.specs.Walks.{all_processes}
+use Rattle.fragment_walks.specs.Walks.{all_processes}
 use Rattle.fragment_laws.specs.Parts.{all_memories}
 
 -- a read port, with its memory and the memory's number

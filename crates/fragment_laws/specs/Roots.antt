@@ -16,10 +16,10 @@ use Rattle.design_ir.specs.Designs.{IsDesign}
 use Rattle.design_ir.specs.Settled.{Settled}
 use Rattle.design_ir.specs.Steps as design
 use Rattle.design_ir.specs.Histories as design_history
+use Rattle.fragment_walks.specs.Walks.{all_processes}
 use Rattle.clock_domains.specs.declared.top.TopPorts.{TopPorts}
 use Rattle.clock_domains.specs.Resolvable.{IsResolvable}
 use Rattle.clock_domains.specs.Resolved.{made_pool, process_in, resolved}
-use Rattle.clock_domains.specs.Walks.{all_processes}
 use Rattle.fragment_laws.specs.Parts.{unnamed, all_memories}
 use Rattle.fragment_laws.specs.Surroundings.{Surroundings, domain_of, pool_in}
 use Rattle.fragment_laws.specs.Settling.{IsSettled}

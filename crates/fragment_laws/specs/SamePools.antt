@@ -11,7 +11,7 @@ use Rattle.design_ir.specs.Values.{num}
 use Rattle.design_ir.specs.Targets.{target_bits, target_signals}
 use Rattle.design_ir.specs.Guards.{block_exprs}
 use Rattle.design_ir.specs.Circuits.{Circuit}
-use Rattle.clock_domains.specs.Held.{read_exprs, write_exprs}
+use Rattle.fragment_walks.specs.Held.{read_exprs, write_exprs}
 
 -- an expression has the same integer, and as a target it stands for the same bits, of the same signals
 pub record IsSame (p q : Pooled) (k : ℕ) : Type 0 where

@@ -4,7 +4,7 @@
 //! (specs/Surroundings.antt). Then each signal has one that gives it its number: the statements of a process, a read port
 //! of a memory, or nobody (specs/Givers.antt). What they give says which environments are settled
 //! (specs/Settling.antt) and what an event leaves (specs/Stepping.antt), signal by signal, for all that stands in the
-//! fragment and below it (its processes by Walks of clock_domains, its memories by specs/Parts.antt); events name the
+//! fragment and below it (its processes by Walks of fragment_walks, its memories by specs/Parts.antt); events name the
 //! domains whose clocks toggle. So a fragment has a first state and histories (specs/Lives.antt) before its domains have
 //! numbers.
 //!

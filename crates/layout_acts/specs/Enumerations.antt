@@ -7,7 +7,7 @@ use Rattle.shape_rules.specs.Forms.{Form}
 use Rattle.data_layouts.specs.declared.enumeration.NumberedName.{NumberedName}
 use Rattle.data_layouts.specs.declared.refusal.LayoutStop.{LayoutStop}
 use Rattle.data_layouts.specs.Enumerations.{enum_refusal}
-use Rattle.py_values.specs.Heaps.{Seen}
+use Rattle.py_heap.specs.Heaps.{Seen}
 use Rattle.py_values.specs.declared.val.Val.{Val}
 use Rattle.py_values.specs.declared.val.Val.TheVariants as val
 use Rattle.py_values.specs.Numbers.{number_of}

@@ -11,7 +11,7 @@ use Rattle.data_layouts.specs.declared.refusal.LayoutStop.TheVariants.{Repeated}
 use Rattle.data_layouts.specs.Layouts.{Laid, structure_of, union_of, array_of, structure_refusal, union_refusal}
 use Rattle.py_values.specs.declared.val.Val.{Val}
 use Rattle.py_values.specs.declared.val.Val.TheVariants as val
-use Rattle.py_values.specs.Heaps.{Seen, text_at, row_at}
+use Rattle.py_heap.specs.Heaps.{Seen, text_at, row_at}
 use Rattle.py_values.specs.Numbers.{number_of}
 use Rattle.py_frames.specs.declared.request.NamedVal.{NamedVal}
 use Rattle.py_frames.specs.declared.request.Cause.{Cause}

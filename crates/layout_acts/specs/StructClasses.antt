@@ -1,7 +1,7 @@
 -- Classes over `Struct`. Amaranth standard library reference 0.5, "Data structures", data classes: the annotations are the members of a structure,
 -- the first least significant. That such a class has no keyword and binds nothing, so that it has no functions and no default values, is an own rule.
 use Rattle.std.specs.Prelude.{ℕ, ◌==◌, Bool, true, false, if◌then◌else◌, List, [], ◌∷◌, ◌++◌, option_map, Option, Some, None, Result, Err}
-use Rattle.py_values.specs.Heaps.{Seen}
+use Rattle.py_heap.specs.Heaps.{Seen}
 use Rattle.py_values.specs.declared.val.Val.{Val}
 use Rattle.py_frames.specs.declared.request.NamedVal.{NamedVal}
 use Rattle.py_frames.specs.declared.request.Cause.{Cause}

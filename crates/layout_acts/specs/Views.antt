@@ -15,8 +15,8 @@ use Rattle.design_ir.specs.Values.{form}
 use Rattle.py_values.specs.declared.val.Hw.{Hw}
 use Rattle.py_values.specs.declared.val.Val.{Val}
 use Rattle.py_values.specs.declared.val.Val.TheVariants as val
-use Rattle.py_values.specs.Changes.{index_place}
-use Rattle.py_values.specs.Heaps.{Seen, text_at}
+use Rattle.py_heap.specs.Changes.{index_place}
+use Rattle.py_heap.specs.Heaps.{Seen, text_at}
 use Rattle.py_values.specs.Numbers.{number_of}
 use Rattle.py_frames.specs.declared.request.Answer.TheVariants as answer
 use Rattle.py_frames.specs.declared.request.Cause.{Cause}

@@ -7,7 +7,7 @@ ghost use Rattle.data_layouts.specs.declared.refusal.LayoutStop.{LayoutStop as S
 ghost use Rattle.data_layouts.specs.Enumerations.{IsEnumerated};
 ghost use Rattle.data_layouts.specs.Layouts.{IsOwed};
 ghost use Rattle.amh_things.specs.declared.plan.Plan.{Plan as Owed};
-ghost use Rattle.py_values.specs.Heaps.{seen};
+ghost use Rattle.py_heap.specs.Heaps.{seen};
 ghost use Rattle.amh_things.specs.Ranges.{width_for_all, form_for_all, form_within};
 ghost use Rattle.layout_acts.specs.Enumerations.{value_before, behind_names, numbered_names, is_keyword, is_other_keyword, numbers_of, numbers_shape, member_thing, unless_stopped, shaped, integer_base, class_over, class_made};
 ghost use Rattle.amh_things.specs.Things.{thing_of, shown_name};

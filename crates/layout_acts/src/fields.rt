@@ -3,7 +3,7 @@ ghost use Rattle.std.specs.Prelude.{◌≡◌, ◌<◌, length, position, slice_
 ghost use Rattle.std.specs.Option.{option_copied, option_and_then};
 ghost use Rattle.lists.specs.Texts.{text_eq};
 ghost use Rattle.data_layouts.specs.declared.field.Field.{Field as Placed};
-ghost use Rattle.py_values.specs.Changes.{index_place};
+ghost use Rattle.py_heap.specs.Changes.{index_place};
 ghost use Rattle.layout_acts.specs.Views.{field_with, field_read, field_named, field_at};
 
 use amh_bits::Int;

@@ -3,7 +3,7 @@ ghost use Rattle.std.specs.Prelude.{◌≡◌, ◌≤◌, ◌<◌, ℕ, map, rep
 ghost use Rattle.std.specs.List.{list_any};
 ghost use Rattle.data_layouts.specs.declared.refusal.LayoutStop.{LayoutStop as Stop};
 ghost use Rattle.data_layouts.specs.Layouts.{IsOwed};
-ghost use Rattle.py_values.specs.Heaps.{seen};
+ghost use Rattle.py_heap.specs.Heaps.{seen};
 ghost use Rattle.amh_things.specs.declared.thing.LayoutThing.{LayoutThing as Made};
 ghost use Rattle.amh_things.specs.Ends.{Ends as Counts};
 ghost use Rattle.amh_things.specs.Meant.{shape_meant};

@@ -1,7 +1,7 @@
 // Classes over `Struct`.
 ghost use Rattle.std.specs.Prelude.{◌≡◌, map, string_bytes, IfOk, Option, List, Some, true};
 ghost use Rattle.py_frames.specs.declared.request.NamedVal.{NamedVal as Annotated};
-ghost use Rattle.py_values.specs.Heaps.{seen};
+ghost use Rattle.py_heap.specs.Heaps.{seen};
 ghost use Rattle.amh_things.specs.Plans.{IsPlanned, MakesThings};
 ghost use Rattle.amh_things.specs.Things.{thing_of, shown_name};
 ghost use Rattle.layout_acts.specs.StructClasses.{annotation_before, annotations, behind_members, structure_made, is_struct, class_made};

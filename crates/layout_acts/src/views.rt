@@ -3,7 +3,7 @@ ghost use Rattle.std.specs.Prelude.{◌≡◌, ◌+◌, ◌^◌, ◌≤◌, ◌<
 ghost use Rattle.std.specs.List.{list_any};
 ghost use Rattle.std.specs.Option.{option_copied};
 ghost use Rattle.design_ir.specs.Values.{form};
-ghost use Rattle.py_values.specs.Heaps.{seen, text_at};
+ghost use Rattle.py_heap.specs.Heaps.{seen, text_at};
 ghost use Rattle.amh_things.specs.Held.{AreHeld};
 ghost use Rattle.amh_things.specs.Operands.{IsOperand};
 ghost use Rattle.amh_things.specs.Plans.{ends_of, thing_made, IsPlanned, IsDrafted};

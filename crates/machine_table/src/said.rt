@@ -3,8 +3,9 @@ ghost use Rattle.std.specs.Prelude.{◌≡◌, ◌++◌, IfOk, codes, string_byt
 ghost use Rattle.machine_table.specs.Words.{word_of, place_said};
 
 use crate::shown::Shown;
+use py_heap::Frozen;
 use py_machine::{Act, Cause, Machine, Request};
-use py_values::{Frozen, Val};
+use py_values::Val;
 use std::alloc::Global;
 use table_text::Stop;
 

@@ -1,7 +1,8 @@
 // Values, as text.
 
+use py_heap::Frozen;
 use py_machine::Machine;
-use py_values::{Frozen, Number, ObjId, Val};
+use py_values::{Number, ObjId, Val};
 use std::alloc::Global;
 use table_text::Stop;
 

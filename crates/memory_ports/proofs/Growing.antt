@@ -1,5 +1,5 @@
 -- A pool that gets the signals of a port.
-use Rattle.std.specs.Prelude.{◌≡◌, refl, ℕ, zero, suc, ◌+◌, ◌≤◌, nat_le, nat_lt, ◌||◌, Bool, true, false, List, [], ◌∷◌, ◌++◌, length, None, Result, Ok, Err, IfErr}
+use Rattle.std.specs.Prelude.{◌≡◌, refl, ℕ, zero, suc, ◌+◌, ◌≤◌, nat_le, nat_lt, ◌||◌, Bool, true, false, List, [], ◌∷◌, ◌++◌, length, if◌then◌else◌, Some, None, Result, Ok, Err, IfErr}
 use Rattle.std.specs.List.{AllByRecursion}
 use Rattle.std.proofs.Common.{sym, ◌∙◌, ap, arith, append_assoc, append-nil}
 use Rattle.std.proofs.lemmas.Bool.{lt-ltb, le-ltb, leb-true, leb-false}
@@ -16,8 +16,9 @@ use Rattle.design_ir.specs.PoolRules.{IsPool, IsRefusal, signal_bits, signal_add
 use Rattle.design_ir.specs.Values.{signal_form}
 use Rattle.design_ir.proofs.Growth.{length_more, signal_bits_more}
 use Rattle.memory_ports.specs.declared.refusal.MemStop.TheVariants as stop
-use Rattle.memory_ports.specs.Ports.{with_signal, with_signals, is_over, IsGrown}
-use Rattle.memory_ports.specs.Calls.{IsOwed, IsCount, told, stop_where}
+use Rattle.memory_ports.specs.declared.refusal.MemStop.{MemStop}
+use Rattle.memory_ports.specs.Ports.{with_signal, with_signals, is_over, filled, IsGrown}
+use Rattle.memory_ports.specs.Calls.{IsOwed, IsCount, WhereLimit, told, stop_where}
 
 -- ---- growth
 
@@ -137,3 +138,35 @@ over_expr q x e = over_one q x ∙ or_right (no_signal q x) (nat_le 262144 (leng
 -- and one that is taken is none too many
 pub over_none : (q : Pooled) (x : Sig) → limit_where (no_signal q x) ≡ None → limit_where (nat_le 262144 (length q.exprs)) ≡ None → is_over q (x ∷ []) ≡ false
 over_none q x signal expr = over_one q x ∙ rw (limit_none (no_signal q x) signal, limit_none (nat_le 262144 (length q.exprs)) expr) refl
+
+-- ---- a count that is passed
+
+-- the first signal does not fit: nothing has come
+pub filled_first : (q r : Pooled) (x : Sig) (xs : List Sig) (why : MemStop) → IsOwed (stop_where stop.Limit (is_over q (x ∷ [])) None) why → WhereLimit why (r ≡ q) → WhereLimit why (r ≡ filled q (x ∷ xs))
+filled_first q r x xs stop.BadDomain owed h = tt
+filled_first q r x xs stop.BadGranularity owed h = tt
+filled_first q r x xs stop.BadTransparent owed h = tt
+filled_first q r x xs stop.TooManyRows owed h = tt
+filled_first q r x xs stop.NoMemory owed h = tt
+filled_first q r x xs stop.Limit owed h = by_test (is_over q (x ∷ [])) owed
+  where
+    by_test : (b : Bool) → stop_where stop.Limit b None ≡ Some stop.Limit → r ≡ (if b then q else filled (with_signal q x) xs)
+    by_test true e = h
+    by_test false e = cc
+
+-- it fits, and one behind it does not
+pub filled_next : (q r : Pooled) (x : Sig) (xs : List Sig) (why : MemStop) → is_over q (x ∷ []) ≡ false → WhereLimit why (r ≡ filled (with_signal q x) xs) → WhereLimit why (r ≡ filled q (x ∷ xs))
+filled_next q r x xs stop.BadDomain fits h = tt
+filled_next q r x xs stop.BadGranularity fits h = tt
+filled_next q r x xs stop.BadTransparent fits h = tt
+filled_next q r x xs stop.TooManyRows fits h = tt
+filled_next q r x xs stop.NoMemory fits h = tt
+filled_next q r x xs stop.Limit fits h = h ∙ ap (λ b. if b then q else filled (with_signal q x) xs) (sym fits)
+
+-- where there is room, memory alone is wanted
+pub not_full : (b : Bool) (s : PoolStop) (P : Type 0) → b ≡ false → IsRefusal (limit_where b) s → WhereLimit (told s) P
+not_full b Width P none h = tt
+not_full b BadOperand P none h = tt
+not_full b NoMemory P none h = tt
+not_full true Limit P none h = cc
+not_full false Limit P none h = cc

@@ -79,7 +79,7 @@ divisor_parts w g h = go (nat_lt 0 g) refl h
     go true e k = (ltb-true 0 g e, eqb-true (w % g) 0 k)
     go false e k = absurd (false≢true k)
 
-granularity : (m : Memory) (g : ℕ) → is_granularity m.shape.width g ≡ true → IsGranularity m g
+pub granularity : (m : Memory) (g : ℕ) → is_granularity m.shape.width g ≡ true → IsGranularity m g
 granularity m g h = go (g == m.shape.width) refl h
   where
     go : (b : Bool) → (g == m.shape.width) ≡ b → (b || is_divisor m.shape.width g) ≡ true → IsGranularity m g

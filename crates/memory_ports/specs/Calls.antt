@@ -17,7 +17,7 @@ use Rattle.memory_ports.specs.declared.ports.ReadPort.{ReadPort}
 use Rattle.memory_ports.specs.declared.refusal.MemStop.{MemStop}
 use Rattle.memory_ports.specs.declared.refusal.MemStop.TheVariants.{BadDomain, BadGranularity, BadTransparent, TooManyRows, Limit, NoMemory}
 use Rattle.memory_ports.specs.Memories.{is_divisor}
-use Rattle.memory_ports.specs.Ports.{granule, enable_width, address_signal, data_signal, write_enable, read_enable, is_over}
+use Rattle.memory_ports.specs.Ports.{granule, enable_width, address_signal, data_signal, write_enable, read_enable, is_over, filled}
 
 -- ---- refusals
 
@@ -42,6 +42,15 @@ Unless BadTransparent unchanged = unchanged
 Unless TooManyRows unchanged = unchanged
 Unless Limit unchanged = ⊤
 Unless NoMemory unchanged = ⊤
+
+-- what holds where a count was passed
+abbrev pub WhereLimit : MemStop → Type 0 → Type 0
+WhereLimit BadDomain p = ⊤
+WhereLimit BadGranularity p = ⊤
+WhereLimit BadTransparent p = ⊤
+WhereLimit TooManyRows p = ⊤
+WhereLimit Limit p = p
+WhereLimit NoMemory p = ⊤
 
 -- of the refusals of a pool these two alone come here: a count was passed, or memory ran out
 abbrev pub IsCount : PoolStop → Type 0
@@ -73,6 +82,10 @@ new_memory shape depth rows = record { name = []; shape = shape; depth = depth; 
 -- a memory with 64 ports has no room for another one
 abbrev pub is_full : Memory → Bool
 is_full m = nat_le 64 (length m.writes + length m.reads)
+
+-- what is left of a pool where a count is passed by a port with these signals
+abbrev pub left_behind : Pooled → Memory → List Sig → Pooled
+left_behind q m signals = if is_full m then q else filled q signals
 
 -- ---- a write port
 

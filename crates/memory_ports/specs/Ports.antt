@@ -68,6 +68,11 @@ with_signals q (x ∷ xs) = with_signals (with_signal q x) xs
 abbrev pub is_over : Pooled → List Sig → Bool
 is_over q xs = nat_lt 16384 (length q.signals + length xs) || (nat_lt 262144 (signal_bits q.signals + signal_bits xs) || nat_lt 262144 (length q.exprs + length xs))
 
+-- what is left where one of these does not fit: those before it stay
+abbrev pub filled : Pooled → List Sig → Pooled
+filled q [] = q
+filled q (x ∷ xs) = if is_over q (x ∷ []) then q else filled (with_signal q x) xs
+
 -- a pool that has grown at its end
 pub record IsGrown (q q' : Pooled) : Type 0 where
   pub more_signals : List Sig

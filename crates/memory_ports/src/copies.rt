@@ -5,7 +5,7 @@ ghost use Rattle.memory_ports.specs.Calls.{all_rows};
 
 use amh_bits::Int;
 use amh_host::{NoMemory, Numbers, Text};
-use design_ir::Ints;
+use design_ir::{Ints, MemRead, MemReads, MemWrite, MemWrites, Memory};
 use std::alloc::Global;
 
 /// Whether two texts are the same.
@@ -81,4 +81,71 @@ pub fn all_rows(alloc: Global, depth: usize, rows: &[Int]) -> Result<Ints, NoMem
         push_zeros(&mut all, depth - rows.len())?;
     }
     Ok(all)
+}
+
+fn copied_write(alloc: Global, port: &MemWrite) -> Result<MemWrite, NoMemory>
+    ensures { IfOk result (λ p. p ≡ port.now) }
+{
+    Ok(MemWrite {
+        domain: copied(alloc, port.domain.as_str())?,
+        addr: port.addr,
+        word: port.word,
+        enable: port.enable,
+        granularity: port.granularity,
+    })
+}
+
+fn copied_writes(alloc: Global, ports: &[MemWrite]) -> Result<MemWrites, NoMemory>
+    ensures { IfOk result (λ ps. ps ≡ ports.now) }
+{
+    let mut copy = MemWrites::new(alloc);
+    for port in ports {
+        copy.push(copied_write(alloc, port)?)?;
+    }
+    Ok(copy)
+}
+
+fn copied_domain(alloc: Global, domain: &Option<Text>) -> Result<Option<Text>, NoMemory>
+    ensures { IfOk result (λ d. d ≡ domain.now) }
+{
+    match domain {
+        None => Ok(None),
+        Some(name) => Ok(Some(copied(alloc, name.as_str())?)),
+    }
+}
+
+fn copied_read(alloc: Global, port: &MemRead) -> Result<MemRead, NoMemory>
+    ensures { IfOk result (λ p. p ≡ port.now) }
+{
+    Ok(MemRead {
+        domain: copied_domain(alloc, &port.domain)?,
+        addr: port.addr,
+        word: port.word,
+        enable: port.enable,
+        transparent: copied_numbers(alloc, port.transparent.as_slice())?,
+    })
+}
+
+fn copied_reads(alloc: Global, ports: &[MemRead]) -> Result<MemReads, NoMemory>
+    ensures { IfOk result (λ ps. ps ≡ ports.now) }
+{
+    let mut copy = MemReads::new(alloc);
+    for port in ports {
+        copy.push(copied_read(alloc, port)?)?;
+    }
+    Ok(copy)
+}
+
+/// The same memory again.
+pub fn copied_memory(alloc: Global, memory: &Memory) -> Result<Memory, NoMemory>
+    ensures { IfOk result (λ m. m ≡ memory.now) }
+{
+    Ok(Memory {
+        name: copied(alloc, memory.name.as_str())?,
+        shape: memory.shape,
+        depth: memory.depth,
+        rows: copied_ints(alloc, memory.rows.as_slice())?,
+        writes: copied_writes(alloc, memory.writes.as_slice())?,
+        reads: copied_reads(alloc, memory.reads.as_slice())?,
+    })
 }

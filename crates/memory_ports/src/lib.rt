@@ -13,6 +13,7 @@ mod refusal;
 mod rules;
 mod signals;
 
+pub use copies::copied_memory;
 pub use laws::{addresses_are_least, ports_have_signals, renamed_are_specs, specs_are_memories};
 pub use memory::MemorySpec;
 pub use ports::{ReadPort, WritePort};

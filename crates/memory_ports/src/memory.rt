@@ -4,7 +4,7 @@ ghost use Rattle.std.specs.List.{AllByRecursion};
 ghost use Rattle.amh_bits.specs.Patterns.{IsOf};
 ghost use Rattle.memory_ports.specs.Ports.{with_signals, IsGrown};
 ghost use Rattle.memory_ports.specs.Memories.{IsSpec};
-ghost use Rattle.memory_ports.specs.Calls.{IsOwed, Unless, new_refusal, new_memory, write_signals, write_refusal, write_port, and_write, read_signals, read_refusal, read_port, and_read};
+ghost use Rattle.memory_ports.specs.Calls.{IsOwed, Unless, WhereLimit, left_behind, new_refusal, new_memory, write_signals, write_refusal, write_port, and_write, read_signals, read_refusal, read_port, and_read};
 
 use crate::copies::{all_rows, copied, copied_numbers, copied_option};
 use crate::ports::{ReadPort, WritePort, made_read, made_write};
@@ -75,6 +75,7 @@ impl MemorySpec {
         ensures refused { IfErr result (λ stop. IsOwed (write_refusal pool.old self.old domain.now granularity) stop) }
         ensures unchanged { IfErr result (λ stop. (self.new ≡ self.old) × Unless stop (pool.new ≡ pool.old)) }
         ensures grown { IfErr result (λ _. IsGrown pool.old pool.new) }
+        ensures full { IfErr result (λ stop. WhereLimit stop (pool.new ≡ left_behind pool.old self.old (write_signals self.old granularity))) }
     {
         if is_bad_domain(&self.memory, domain) {
             return Err(MemStop::BadDomain);
@@ -117,6 +118,7 @@ impl MemorySpec {
         ensures refused { IfErr result (λ stop. IsOwed (read_refusal pool.old self.old (option_copied domain.entry) transparent.now) stop) }
         ensures unchanged { IfErr result (λ stop. (self.new ≡ self.old) × Unless stop (pool.new ≡ pool.old)) }
         ensures grown { IfErr result (λ _. IsGrown pool.old pool.new) }
+        ensures full { IfErr result (λ stop. WhereLimit stop (pool.new ≡ left_behind pool.old self.old (read_signals self.old (option_copied domain.entry)))) }
     {
         if is_bad_transparent(&self.memory, domain, transparent.as_slice()) {
             return Err(MemStop::BadTransparent);
@@ -141,7 +143,7 @@ impl MemorySpec {
         Ok(made.port)
     }
 
-    /// The memory as far as it is made.
+    /// The memory as far as it is made, without a name.
     pub fn so_far(&self) -> &Memory
         ensures { result.now ≡ self.now }
     {

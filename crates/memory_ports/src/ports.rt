@@ -1,8 +1,8 @@
 // The ports of a memory, and their making in a pool.
 ghost use Rattle.std.specs.Prelude.{◌≡◌, ◌+◌, ◌⊎◌, ◌<◌, ◌≤◌, ◌∷◌, [], true, false, length, IfOk, IfErr, None, Some, option_copied};
 ghost use Rattle.design_ir.specs.PoolRules.{HasInit};
-ghost use Rattle.memory_ports.specs.Ports.{granule, enable_width, with_signals, is_over, IsGrown};
-ghost use Rattle.memory_ports.specs.Calls.{IsOwed, stop_where, is_granule, write_signals, write_port, read_signals, read_port, where_clocked};
+ghost use Rattle.memory_ports.specs.Ports.{granule, enable_width, with_signals, is_over, filled, IsGrown};
+ghost use Rattle.memory_ports.specs.Calls.{IsOwed, WhereLimit, stop_where, is_granule, write_signals, write_port, read_signals, read_port, where_clocked};
 
 use crate::refusal::MemStop;
 use crate::signals::{
@@ -85,6 +85,7 @@ pub fn made_write(
     ensures made { IfOk result (λ m. m ≡ record { addr = record { 0 = length pool.old.exprs }; word = record { 0 = length pool.old.exprs + 1 }; enable = record { 0 = length pool.old.exprs + 2 }; granularity = granule memory.now.shape.width granularity; port = write_port pool.old }) }
     ensures pool { IfOk result (λ _. pool.new ≡ with_signals pool.old (write_signals memory.now granularity)) }
     ensures refused { IfErr result (λ stop. IsOwed (stop_where MemStop.Limit (is_over pool.old (write_signals memory.now granularity)) None) stop) }
+    ensures full { IfErr result (λ stop. WhereLimit stop (pool.new ≡ filled pool.old (write_signals memory.now granularity))) }
     ensures grown { IfErr result (λ _. IsGrown pool.old pool.new) }
 {
     let number = memory.writes.len();
@@ -121,6 +122,7 @@ pub fn made_read(
     ensures made { IfOk result (λ m. m ≡ record { addr = record { 0 = length pool.old.exprs }; enable = where_clocked (option_copied domain.entry) (record { 0 = length pool.old.exprs + 2 }); port = read_port pool.old (option_copied domain.entry) }) }
     ensures pool { IfOk result (λ _. pool.new ≡ with_signals pool.old (read_signals memory.now (option_copied domain.entry))) }
     ensures refused { IfErr result (λ stop. IsOwed (stop_where MemStop.Limit (is_over pool.old (read_signals memory.now (option_copied domain.entry))) None) stop) }
+    ensures full { IfErr result (λ stop. WhereLimit stop (pool.new ≡ filled pool.old (read_signals memory.now (option_copied domain.entry)))) }
     ensures grown { IfErr result (λ _. IsGrown pool.old pool.new) }
 {
     let number = memory.reads.len();
@@ -146,6 +148,7 @@ fn made_comb(pool: &mut Pool, addr: Sig, word: Sig) -> Result<MadeRead, MemStop>
     ensures made { IfOk result (λ m. m ≡ record { addr = record { 0 = length pool.old.exprs }; enable = None; port = read_port pool.old None }) }
     ensures pool { IfOk result (λ _. pool.new ≡ with_signals pool.old (addr ∷ word ∷ [])) }
     ensures refused { IfErr result (λ stop. IsOwed (stop_where MemStop.Limit (is_over pool.old (addr ∷ word ∷ [])) None) stop) }
+    ensures full { IfErr result (λ stop. WhereLimit stop (pool.new ≡ filled pool.old (addr ∷ word ∷ []))) }
     ensures grown { IfErr result (λ _. IsGrown pool.old pool.new) }
 {
     let MadeTwo { addr, word } = make_two(pool, addr, word)?;
@@ -169,6 +172,7 @@ fn made_clocked(pool: &mut Pool, addr: Sig, word: Sig, enable: Sig) -> Result<Ma
     ensures made { IfOk result (λ m. m ≡ record { addr = record { 0 = length pool.old.exprs }; enable = Some (record { 0 = length pool.old.exprs + 2 }); port = record { addr = record { 0 = length pool.old.signals }; word = record { 0 = length pool.old.signals + 1 }; enable = Some (record { 0 = length pool.old.signals + 2 }) } }) }
     ensures pool { IfOk result (λ _. pool.new ≡ with_signals pool.old (addr ∷ word ∷ enable ∷ [])) }
     ensures refused { IfErr result (λ stop. IsOwed (stop_where MemStop.Limit (is_over pool.old (addr ∷ word ∷ enable ∷ [])) None) stop) }
+    ensures full { IfErr result (λ stop. WhereLimit stop (pool.new ≡ filled pool.old (addr ∷ word ∷ enable ∷ []))) }
     ensures grown { IfErr result (λ _. IsGrown pool.old pool.new) }
 {
     let MadeThree { addr, word, enable } = make_three(pool, addr, word, enable)?;

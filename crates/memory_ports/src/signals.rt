@@ -2,8 +2,8 @@
 ghost use Rattle.std.specs.Prelude.{◌≡◌, ◌+◌, ◌∷◌, [], ◌≤◌, false, length, None, IfOk, IfErr};
 ghost use Rattle.amh_bits.specs.Patterns.{IsOf};
 ghost use Rattle.design_ir.specs.PoolRules.{HasInit};
-ghost use Rattle.memory_ports.specs.Ports.{port_name, port_signal, address_width, with_signal, with_signals, is_over, IsGrown};
-ghost use Rattle.memory_ports.specs.Calls.{IsOwed, IsCount, told, stop_where};
+ghost use Rattle.memory_ports.specs.Ports.{port_name, port_signal, address_width, with_signal, with_signals, is_over, filled, IsGrown};
+ghost use Rattle.memory_ports.specs.Calls.{IsOwed, IsCount, WhereLimit, told, stop_where};
 
 use crate::copies::copied;
 use crate::refusal::MemStop;
@@ -107,8 +107,12 @@ fn make(pool: &mut Pool, x: Sig) -> Result<Made, MemStop>
     ensures made { IfOk result (λ m. m ≡ record { sig = record { 0 = length pool.old.signals }; expr = record { 0 = length pool.old.exprs } }) }
     ensures pool { IfOk result (λ _. pool.new ≡ with_signal pool.old x) }
     ensures refused { IfErr result (λ stop. IsOwed (stop_where MemStop.Limit (is_over pool.old (x ∷ [])) None) stop) }
+    ensures full { IfErr result (λ stop. WhereLimit stop (pool.new ≡ pool.old)) }
     ensures grown { IfErr result (λ _. IsGrown pool.old pool.new) }
 {
+    if pool.count() >= 262_144 {
+        return Err(MemStop::Limit);
+    }
     let sig = match pool.sig(x) {
         Ok(sig) => sig,
         Err(stop) => return Err(told(stop)),
@@ -127,6 +131,7 @@ pub fn make_two(pool: &mut Pool, addr: Sig, word: Sig) -> Result<MadeTwo, MemSto
     ensures made { IfOk result (λ m. m ≡ record { addr = record { sig = record { 0 = length pool.old.signals }; expr = record { 0 = length pool.old.exprs } }; word = record { sig = record { 0 = length pool.old.signals + 1 }; expr = record { 0 = length pool.old.exprs + 1 } } }) }
     ensures pool { IfOk result (λ _. pool.new ≡ with_signals pool.old (addr ∷ word ∷ [])) }
     ensures refused { IfErr result (λ stop. IsOwed (stop_where MemStop.Limit (is_over pool.old (addr ∷ word ∷ [])) None) stop) }
+    ensures full { IfErr result (λ stop. WhereLimit stop (pool.new ≡ filled pool.old (addr ∷ word ∷ []))) }
     ensures grown { IfErr result (λ _. IsGrown pool.old pool.new) }
 {
     let addr = match make(pool, addr) {
@@ -148,14 +153,19 @@ pub fn make_three(pool: &mut Pool, addr: Sig, word: Sig, enable: Sig) -> Result<
     ensures made { IfOk result (λ m. m ≡ record { addr = record { sig = record { 0 = length pool.old.signals }; expr = record { 0 = length pool.old.exprs } }; word = record { sig = record { 0 = length pool.old.signals + 1 }; expr = record { 0 = length pool.old.exprs + 1 } }; enable = record { sig = record { 0 = length pool.old.signals + 2 }; expr = record { 0 = length pool.old.exprs + 2 } } }) }
     ensures pool { IfOk result (λ _. pool.new ≡ with_signals pool.old (addr ∷ word ∷ enable ∷ [])) }
     ensures refused { IfErr result (λ stop. IsOwed (stop_where MemStop.Limit (is_over pool.old (addr ∷ word ∷ enable ∷ [])) None) stop) }
+    ensures full { IfErr result (λ stop. WhereLimit stop (pool.new ≡ filled pool.old (addr ∷ word ∷ enable ∷ []))) }
     ensures grown { IfErr result (λ _. IsGrown pool.old pool.new) }
 {
-    let MadeTwo { addr, word } = match make_two(pool, addr, word) {
+    let addr = match make(pool, addr) {
         Ok(made) => made,
         Err(stop) => return Err(stop),
     };
-    match make(pool, enable) {
-        Ok(enable) => Ok(MadeThree { addr, word, enable }),
+    match make_two(pool, word, enable) {
+        Ok(made) => Ok(MadeThree {
+            addr,
+            word: made.addr,
+            enable: made.word,
+        }),
         Err(stop) => Err(stop),
     }
 }

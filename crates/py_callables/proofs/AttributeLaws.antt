@@ -10,10 +10,10 @@ use Rattle.py_values.specs.declared.func.Func.{Func}
 use Rattle.py_values.specs.declared.func.Code.{Code}
 use Rattle.py_values.specs.declared.func.Code.TheVariants as code
 use Rattle.py_values.specs.declared.op.Builtin.TheVariants as builtins
-use Rattle.py_values.specs.declared.objects.Inherited.{Inherited}
-use Rattle.py_values.specs.Heaps.{Made, seen, func_at, row_at}
-use Rattle.py_values.specs.Names.{new_func}
-use Rattle.py_values.specs.Objects.{attributes, attribute_in, inherited as inherits}
+use Rattle.py_heap.specs.declared.objects.Inherited.{Inherited}
+use Rattle.py_heap.specs.Heaps.{Made, seen, func_at, row_at}
+use Rattle.py_heap.specs.Names.{new_func}
+use Rattle.py_heap.specs.Objects.{attributes, attribute_in, inherited as inherits}
 use Rattle.py_frames.specs.declared.request.Act.TheVariants.{Attribute}
 use Rattle.py_frames.specs.declared.request.Request.{Request}
 use Rattle.py_frames.specs.declared.request.Cause.TheVariants.{Raised, Spent}

@@ -8,10 +8,10 @@ use Rattle.py_values.specs.declared.val.Val.{Val}
 use Rattle.py_values.specs.declared.val.ObjId.{ObjId}
 use Rattle.py_values.specs.declared.val.ValueStop.{ValueStop}
 use Rattle.py_values.specs.declared.val.ValueStop.TheVariants as refusal
-use Rattle.py_values.specs.Heaps.{Made, seen}
+use Rattle.py_heap.specs.Heaps.{Made, seen}
 use Rattle.py_values.specs.Runs.{Answers}
-use Rattle.py_values.specs.Names.{scope_bound}
-use Rattle.py_values.specs.Objects.{attribute_set}
+use Rattle.py_heap.specs.Names.{scope_bound}
+use Rattle.py_heap.specs.Objects.{attribute_set}
 use Rattle.py_frames.specs.declared.request.NamedVal.{NamedVal}
 use Rattle.py_frames.specs.declared.request.Cause.TheVariants as cause
 use Rattle.py_frames.specs.declared.state.State.{State}

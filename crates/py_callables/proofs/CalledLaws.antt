@@ -13,12 +13,12 @@ use Rattle.py_values.specs.declared.op.Builtin.TheVariants as builtins
 use Rattle.py_values.specs.declared.func.Func.{Func}
 use Rattle.py_values.specs.declared.func.Code.{Code}
 use Rattle.py_values.specs.declared.func.Code.TheVariants as code
-use Rattle.py_values.specs.declared.scopes.LookUp.{LookUp}
-use Rattle.py_values.specs.declared.objects.Inherited.{Inherited}
-use Rattle.py_values.specs.declared.objects.Inherited.TheVariants as inherited
-use Rattle.py_values.specs.Heaps.{Made, seen, func_at}
+use Rattle.py_heap.specs.declared.scopes.LookUp.{LookUp}
+use Rattle.py_heap.specs.declared.objects.Inherited.{Inherited}
+use Rattle.py_heap.specs.declared.objects.Inherited.TheVariants as inherited
+use Rattle.py_heap.specs.Heaps.{Made, seen, func_at}
 use Rattle.py_values.specs.Runs.{Answers, paired}
-use Rattle.py_values.specs.Objects.{inherited as inherits, new_object}
+use Rattle.py_heap.specs.Objects.{inherited as inherits, new_object}
 use Rattle.py_frames.specs.declared.request.Act.TheVariants.{InitBase, Length}
 use Rattle.py_frames.specs.declared.request.NamedVal.{NamedVal}
 use Rattle.py_frames.specs.declared.request.Request.{Request}
@@ -36,7 +36,7 @@ use Rattle.py_frames.specs.Doing.{Doing, World, Known, give, stop, making, made,
 use Rattle.py_frames.specs.Asking.{request, ask}
 use Rattle.py_frames.specs.Functions.{function_at}
 use Rattle.py_frames.specs.Statements.{known}
-use Rattle.py_values.specs.Names.{look_up}
+use Rattle.py_heap.specs.Names.{look_up}
 use Rattle.py_frames.specs.Async.{is_async_body}
 use Rattle.py_frames.specs.Values.{method_called, func_called, builtin_called, init_thing, on_names, attributes_bound, named_vals, named_names, class_word, super_of, super_called, with_func, without_arguments, without_keywords, nothing_begun, length_called, magnitude_called, built, gone_over, initialised, code_called, made_object, object_made, class_called}
 use Rattle.py_frames.specs.Calling.{bound_method}

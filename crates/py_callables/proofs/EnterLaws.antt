@@ -10,9 +10,9 @@ use Rattle.py_values.specs.declared.val.ScopeId.{ScopeId}
 use Rattle.py_values.specs.declared.val.ValueStop.{ValueStop}
 use Rattle.py_values.specs.declared.val.ValueStop.TheVariants as refusal
 use Rattle.py_values.specs.declared.func.Func.{Func}
-use Rattle.py_values.specs.Heaps.{Made, seen, func_at}
+use Rattle.py_heap.specs.Heaps.{Made, seen, func_at}
 use Rattle.py_values.specs.Runs.{Answers}
-use Rattle.py_values.specs.Names.{new_scope, scope_bound}
+use Rattle.py_heap.specs.Names.{new_scope, scope_bound}
 use Rattle.py_frames.specs.declared.request.NamedVal.{NamedVal}
 use Rattle.py_frames.specs.declared.request.Cause.TheVariants as cause
 use Rattle.py_frames.specs.declared.state.State.{State}

@@ -5,7 +5,7 @@ use Rattle.amh_host.specs.declared.place.Place.{Place}
 use Rattle.py_tree.specs.Programs.{steps_of}
 use Rattle.py_values.specs.declared.val.Val.{Val}
 use Rattle.py_values.specs.declared.op.Builtin.{Builtin}
-use Rattle.py_values.specs.Heaps.{Made}
+use Rattle.py_heap.specs.Heaps.{Made}
 use Rattle.py_callables.specs.declared.call_gone.Gone.{Gone}
 use Rattle.py_callables.specs.declared.call_gone.Gone.TheVariants as gone
 use Rattle.py_frames.specs.declared.state.Halt.{Halt}

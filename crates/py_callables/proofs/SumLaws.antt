@@ -10,9 +10,9 @@ use Rattle.py_values.specs.declared.val.ValueStop.{ValueStop}
 use Rattle.py_values.specs.declared.val.ValueStop.TheVariants as refusal
 use Rattle.py_values.specs.declared.op.Builtin.{Builtin}
 use Rattle.py_values.specs.declared.op.Builtin.TheVariants as builtins
-use Rattle.py_values.specs.Heaps.{Made, seen}
-use Rattle.py_values.specs.Elements.{elements}
-use Rattle.py_values.specs.Operators.{operate}
+use Rattle.py_heap.specs.Heaps.{Made, seen}
+use Rattle.py_operators.specs.Elements.{elements}
+use Rattle.py_operators.specs.Operators.{operate}
 use Rattle.py_values.specs.Runs.{Run, Answers, Charged, paired}
 use Rattle.py_frames.specs.declared.request.Act.TheVariants.{Operator}
 use Rattle.py_frames.specs.declared.state.State.{State}

@@ -3,7 +3,7 @@ use Rattle.std.proofs.Common.{◌≡◌, ℕ, zero, suc, ◌==◌, ◌||◌, Boo
 use Rattle.py_values.specs.declared.val.Val.{Val}
 use Rattle.py_values.specs.declared.val.Val.TheVariants as val
 use Rattle.py_values.specs.declared.val.ObjId.{ObjId}
-use Rattle.py_values.specs.Heaps.{Seen, row_at}
+use Rattle.py_heap.specs.Heaps.{Seen, row_at}
 use Rattle.py_frames.specs.Values.{stands_over, head_of}
 
 turn : (n : ℕ) (s : Seen) (d c : ObjId) → stands_over (suc n) s (val.Class d) c ≡ ((d.0 == c.0) || stands_over n s (head_of (row_at s d.0)) c)

@@ -2,9 +2,9 @@
 -- Internal: no rule of the language.
 use Rattle.std.specs.Prelude.{ℕ, List, [], ◌∷◌, Result, Ok, Err}
 use Rattle.py_values.specs.declared.val.ValueStop.{ValueStop}
-use Rattle.py_values.specs.Heaps.{Made, seen}
-use Rattle.py_values.specs.Names.{scope_bound}
-use Rattle.py_values.specs.Objects.{attribute_set}
+use Rattle.py_heap.specs.Heaps.{Made, seen}
+use Rattle.py_heap.specs.Names.{scope_bound}
+use Rattle.py_heap.specs.Objects.{attribute_set}
 use Rattle.py_frames.specs.declared.request.NamedVal.{NamedVal}
 
 -- on with the heap that a change left

@@ -2,7 +2,7 @@
 -- Internal: no rule of the language.
 use Rattle.std.specs.Prelude.{ℕ, zero, suc}
 use Rattle.py_tree.specs.Steps.{Steps, Body, Fun}
-use Rattle.py_values.specs.Heaps.{Made}
+use Rattle.py_heap.specs.Heaps.{Made}
 use Rattle.py_frames.specs.declared.state.Here.{Here}
 use Rattle.py_frames.specs.Doing.{Doing, Known, after}
 use Rattle.py_frames.specs.Statements.{Runs, no_room, body_run, known, run_all, call_ended}

@@ -6,7 +6,7 @@ use Rattle.py_values.specs.declared.val.Val.{Val}
 use Rattle.py_values.specs.declared.val.Val.TheVariants as val
 use Rattle.py_values.specs.declared.op.Builtin.{Builtin}
 use Rattle.py_values.specs.declared.op.PyOp.TheVariants as op
-use Rattle.py_values.specs.Heaps.{Made}
+use Rattle.py_heap.specs.Heaps.{Made}
 use Rattle.py_frames.specs.declared.state.Halt.{Halt}
 use Rattle.py_frames.specs.declared.frame.Now.{Now}
 use Rattle.py_frames.specs.declared.functions.Functions.{Functions}

@@ -12,9 +12,10 @@ use py_frames::functions::Functions;
 use py_frames::going::{Going, MOST};
 use py_frames::request::Act;
 use py_frames::state::Halt;
+use py_heap::{Frozen, Inherited};
 use py_tree::Name;
 use py_turns::call_leaf::{about_name, ask_under, give, new_func, raise, run_out};
-use py_values::{Builtin, Code, Frozen, Func, Inherited, ObjId, Val, Vals};
+use py_values::{Builtin, Code, Func, ObjId, Val, Vals};
 
 /// A value that was found in a class.
 #[tactic(auto, using(py_frames::proofs::BeginLaws::turn_rules))]

@@ -1,13 +1,14 @@
 // What attributes need of the heap alone.
 ghost use Rattle.std.specs.Prelude.{◌≡◌, IfOk, Ok};
-ghost use Rattle.py_values.specs.Heaps.{seen, row_at, func_at};
+ghost use Rattle.py_heap.specs.Heaps.{seen, row_at, func_at};
 ghost use Rattle.py_frames.specs.Values.{method_of, is_plain_code, list_method, dict_method, head_of, is_init};
 ghost use Rattle.py_frames.specs.Calling.{bound_func, bound_method, is_super};
 
 use amh_host::NoMemory;
 use py_frames::going::Going;
+use py_heap::{Frozen, Heap};
 use py_turns::call_leaf::vals_of;
-use py_values::{Builtin, Code, Frozen, Func, FuncId, Heap, ObjId, Val};
+use py_values::{Builtin, Code, Func, FuncId, ObjId, Val};
 use std::alloc::Global;
 
 // Whether reading a function from a class binds it.

@@ -11,9 +11,10 @@ use py_frames::frame::Now;
 use py_frames::functions::Functions;
 use py_frames::going::Going;
 use py_frames::state::Halt;
+use py_heap::{Frozen, Inherited};
 use py_tree::Name;
 use py_turns::call_leaf::raise;
-use py_values::{Builtin, Frozen, FuncId, Inherited, ObjId, Val};
+use py_values::{Builtin, FuncId, ObjId, Val};
 
 // `super().name` that reaches a thing.
 #[tactic(auto, using(py_frames::proofs::CallLaws::choose_rules))]

@@ -12,7 +12,8 @@ use py_frames::functions::Functions;
 use py_frames::going::{Going, told};
 use py_frames::request::{NamedVal, NamedVals};
 use py_frames::state::{Got, Halt};
-use py_values::{Frozen, Heap, ObjId, ScopeId, Val, ValueStop};
+use py_heap::{Frozen, Heap};
+use py_values::{ObjId, ScopeId, Val, ValueStop};
 
 /// Names are bound in a scope.
 #[tactic(auto, using(crate::proofs::BoundLaws::bound_steps))]

@@ -16,10 +16,11 @@ use py_frames::functions::Functions;
 use py_frames::going::{Going, ask};
 use py_frames::request::{Act, NamedVals};
 use py_frames::state::Halt;
+use py_heap::Frozen;
 use py_turns::attribute_store::ask_about;
 use py_turns::call_leaf::{about_name, ask_under, give, new_func, raise};
 use py_turns::operators::built;
-use py_values::{Builtin, Frozen, Func, Hw, ObjId, Val, Vals};
+use py_values::{Builtin, Func, Hw, ObjId, Val, Vals};
 
 /// A thing is called: the store is asked.
 #[tactic(auto, using(py_frames::proofs::CallLaws::asked_same, py_frames::proofs::BeginLaws::turn_rules))]

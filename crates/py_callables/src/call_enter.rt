@@ -1,7 +1,7 @@
 // Calls of functions with a body: a new scope, in which the parameters are bound and the body runs.
 ghost use Rattle.std.specs.Prelude.{◌≡◌, ◌<◌, ◌≤◌, OnOk, IfOk, Some};
 ghost use Rattle.py_tree.specs.Programs.{steps_of, body_of};
-ghost use Rattle.py_values.specs.Heaps.{seen, func_at};
+ghost use Rattle.py_heap.specs.Heaps.{seen, func_at};
 ghost use Rattle.py_frames.specs.Functions.{function_at};
 ghost use Rattle.py_frames.specs.Own.{function_names};
 ghost use Rattle.py_frames.specs.Statements.{first_of, body_entered, code_entered, func_entered, entered};
@@ -18,10 +18,11 @@ use py_frames::functions::{Functions, KnownFunction};
 use py_frames::going::{Going, stopped, told};
 use py_frames::request::{Cause, NamedVals};
 use py_frames::state::{Halt, Here};
+use py_heap::Frozen;
 use py_tree::Block;
 use py_turns::block::run_block;
 use py_turns::call_leaf::{raise, vals_of};
-use py_values::{Code, Frozen, Func, FuncId, Val, Vals};
+use py_values::{Code, Func, FuncId, Val, Vals};
 use std::mem::replace;
 
 /// The first of the arguments.

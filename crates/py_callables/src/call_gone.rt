@@ -10,10 +10,11 @@ use py_frames::frame::{CallFrame, Frame, Now};
 use py_frames::functions::Functions;
 use py_frames::going::Going;
 use py_frames::state::Halt;
+use py_heap::Frozen;
 use py_turns::attribute_store::iterated;
 use py_turns::call_leaf::vals_of;
 use py_turns::operators::is_thing;
-use py_values::{Builtin, Frozen, Val, Vals};
+use py_values::{Builtin, Val, Vals};
 use std::alloc::Global;
 
 /// The arguments of a builtin, by the first thing among them that it goes over.

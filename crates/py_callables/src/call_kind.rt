@@ -3,7 +3,7 @@ ghost use Rattle.std.specs.Prelude.{◌≡◌, ◌++◌, ◌∷◌, IfOk};
 ghost use Rattle.py_frames.specs.declared.request.Act.TheVariants.{CallThing, InitBase};
 ghost use Rattle.py_frames.specs.Asking.{request};
 ghost use Rattle.py_tree.specs.Programs.{steps_of};
-ghost use Rattle.py_values.specs.Heaps.{seen};
+ghost use Rattle.py_heap.specs.Heaps.{seen};
 ghost use Rattle.py_frames.specs.Async.{is_async_body};
 ghost use Rattle.py_frames.specs.Functions.{function_at};
 ghost use Rattle.py_frames.specs.Tables.{IsTable};
@@ -15,7 +15,8 @@ use amh_host::{Names, NoMemory, Place};
 use py_frames::functions::Functions;
 use py_frames::going::Going;
 use py_frames::request::{Act, NamedVal, NamedVals, Request};
-use py_values::{Builtin, Code, Frozen, Func, Hw, LookUp, ObjId, Val, Vals};
+use py_heap::{Frozen, LookUp};
+use py_values::{Builtin, Code, Func, Hw, ObjId, Val, Vals};
 use std::alloc::Global;
 
 /// How a builtin is called.

@@ -1,7 +1,7 @@
 // `sum`, which asks for its additions where there are things among what it adds.
 ghost use Rattle.std.specs.Prelude.{◌≡◌, ◌<◌, ◌≤◌, false, IfOk, OnOk, drop};
 ghost use Rattle.py_values.specs.declared.op.PyOp.TheVariants as op;
-ghost use Rattle.py_values.specs.Heaps.{seen};
+ghost use Rattle.py_heap.specs.Heaps.{seen};
 ghost use Rattle.py_frames.specs.declared.frame.Frame.TheVariants as frame;
 ghost use Rattle.py_frames.specs.declared.frame.CallFrame.TheVariants as call;
 ghost use Rattle.py_frames.specs.Values.{asks_operator, operated, adds_things, sum_asked, summed, built_over};
@@ -14,10 +14,12 @@ use py_frames::frame::{CallFrame, Frame, Now};
 use py_frames::functions::Functions;
 use py_frames::going::Going;
 use py_frames::state::Halt;
+use py_heap::Frozen;
+use py_operators::{elements, operate};
 use py_turns::binds::refused;
 use py_turns::call_leaf::{give, raise};
 use py_turns::operators::{asks_operator, built, has_thing, is_thing, operated, used_after};
-use py_values::{Builtin, Frozen, Number, PyOp, Val, Vals, ValueStop};
+use py_values::{Builtin, Number, PyOp, Val, Vals, ValueStop};
 
 // What `sum` goes over, where there are things among that or it begins with one.
 fn adds_things(going: &Going, frozen: &Frozen, args: &[Val]) -> Result<bool, NoMemory>
@@ -28,7 +30,7 @@ fn adds_things(going: &Going, frozen: &Frozen, args: &[Val]) -> Result<bool, NoM
         [row, start] => (*row, is_thing(start)),
         _ => return Ok(false),
     };
-    match going.state.heap.elements(frozen, row) {
+    match elements(&going.state.heap, frozen, row) {
         Ok(vals) => Ok(begins || has_thing(vals.as_slice())),
         Err(ValueStop::NoMemory) => Err(NoMemory),
         Err(_) => Ok(begins),
@@ -65,10 +67,14 @@ fn added(
     let mut left = Budget {
         left: budget - going.state.used,
     };
-    let given = going
-        .state
-        .heap
-        .operate(frozen, PyOp::Add, total, x, &mut left);
+    let given = operate(
+        &mut going.state.heap,
+        frozen,
+        PyOp::Add,
+        total,
+        x,
+        &mut left,
+    );
     going.state.used = used_after(going.state.used, budget, left.left);
     match given {
         Ok(v) => Ok(v),
@@ -155,7 +161,7 @@ fn sum_asked(
         return raise(going, functions, frozen, place, budget);
     };
     let start = start_of(args);
-    match going.state.heap.elements(frozen, row) {
+    match elements(&going.state.heap, frozen, row) {
         Ok(vals) => summed(going, functions, frozen, start, vals, 0, place, budget),
         Err(stop) => Err(refused(stop, place)),
     }

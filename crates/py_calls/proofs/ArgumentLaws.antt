@@ -6,12 +6,12 @@ use Rattle.py_tree.specs.declared.expr.Argument.{Argument as Given}
 use Rattle.py_tree.specs.Programs.{steps_of}
 use Rattle.py_tree.specs.Seen.{tree, argument_of}
 use Rattle.py_tree.specs.Tree.{Tree, Trailers, no_trailer, trailer, Trailer, Call, CallOf, Attribute, Index, Slice, Arguments, no_argument, argument, Argument, Positional, Starred, Keyword, arguments}
-use Rattle.py_values.specs.Heaps.{Made, seen}
+use Rattle.py_heap.specs.Heaps.{Made, seen}
 use Rattle.py_values.specs.declared.val.Val.{Val}
 use Rattle.py_values.specs.declared.val.ValueStop.{ValueStop}
 use Rattle.py_values.specs.declared.val.ValueStop.TheVariants as refusal
 use Rattle.py_values.specs.Runs.{Answers}
-use Rattle.py_values.specs.Elements.{elements}
+use Rattle.py_operators.specs.Elements.{elements}
 use Rattle.py_frames.specs.declared.request.NamedVal.{NamedVal}
 use Rattle.py_frames.specs.declared.state.Halt.{Halt}
 use Rattle.py_frames.specs.declared.frame.Now.{Now}

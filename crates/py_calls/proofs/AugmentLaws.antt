@@ -8,7 +8,7 @@ use Rattle.py_tree.specs.Seen.{tree}
 use Rattle.py_tree.specs.Programs.{step_of}
 use Rattle.py_tree.specs.Steps.{Augment}
 use Rattle.py_tree.specs.Tree.{Tree, no_trailer, trailer, Trailer, Attribute, Index}
-use Rattle.py_values.specs.Heaps.{Made}
+use Rattle.py_heap.specs.Heaps.{Made}
 use Rattle.py_values.specs.declared.val.Val.{Val}
 use Rattle.py_values.specs.declared.op.PyOp.{PyOp}
 use Rattle.py_frames.specs.declared.request.Cause.TheVariants.{Raised}

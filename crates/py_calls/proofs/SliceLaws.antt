@@ -5,7 +5,7 @@ use Rattle.py_tree.specs.declared.expr.Expr.{Expr}
 use Rattle.py_tree.specs.Programs.{steps_of}
 use Rattle.py_tree.specs.Seen.{tree}
 use Rattle.py_tree.specs.Tree.{Tree, Perhaps, absent, present, Trailers, no_trailer, trailer, Trailer, Call, CallOf, Attribute, Index, Slice}
-use Rattle.py_values.specs.Heaps.{Made}
+use Rattle.py_heap.specs.Heaps.{Made}
 use Rattle.py_values.specs.declared.val.Val.{Val}
 use Rattle.py_values.specs.declared.val.Val.TheVariants as val
 use Rattle.py_frames.specs.declared.request.Cause.TheVariants.{Raised}

@@ -1,8 +1,8 @@
 // Calls of values.
 ghost use Rattle.std.specs.Prelude.{◌≡◌, ◌<◌, ◌≤◌, OnOk};
-ghost use Rattle.py_values.specs.Heaps.{seen, func_at};
+ghost use Rattle.py_heap.specs.Heaps.{seen, func_at};
 ghost use Rattle.py_tree.specs.Programs.{steps_of};
-ghost use Rattle.py_values.specs.declared.objects.Inherited.TheVariants as inherited;
+ghost use Rattle.py_heap.specs.declared.objects.Inherited.TheVariants as inherited;
 ghost use Rattle.py_frames.specs.Values.{called, method_called, object_made, made_object, class_called};
 ghost use Rattle.py_frames.specs.Expressions.{awaited};
 ghost use Rattle.py_callables.specs.Called.{called_as, callable_of};
@@ -19,10 +19,11 @@ use py_frames::functions::Functions;
 use py_frames::going::{Going, told};
 use py_frames::request::{Act, NamedVals};
 use py_frames::state::Halt;
+use py_heap::{Frozen, Inherited};
 use py_turns::attribute_store::ask_about;
 use py_turns::call_leaf::raise;
 use py_turns::operators::is_thing;
-use py_values::{Code, Frozen, FuncId, Inherited, ObjId, Val, Vals};
+use py_values::{Code, FuncId, ObjId, Val, Vals};
 
 // What a call of a function is.
 fn callable_of(going: &Going, functions: &Functions, frozen: &Frozen, id: FuncId) -> Callable

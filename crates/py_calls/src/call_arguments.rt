@@ -21,11 +21,13 @@ use py_frames::leaf::following;
 use py_frames::request::NamedVals;
 use py_frames::state::Halt;
 use py_frames::trail_leaf::{place_at, share_purpose};
+use py_heap::Frozen;
+use py_operators::elements;
 use py_tree::{Argument, Expr, Name, Trailer};
 use py_turns::at_once::{at_once, wait_or_come};
 use py_turns::attribute_store::as_row;
 use py_turns::call_leaf::raise;
-use py_values::{Frozen, Val, Vals};
+use py_values::{Val, Vals};
 
 // On with the argument of this number, for which a frame waits.
 #[tactic(auto, using(crate::proofs::ArgumentLaws::arguments_end, py_frames::proofs::BeginLaws::no_memory))]
@@ -394,7 +396,7 @@ fn elements_spread(
     ensures grows { going.old.state.used ≤ going.new.state.used }
 {
     let place = place_at(node);
-    match going.state.heap.elements(frozen, row) {
+    match elements(&going.state.heap, frozen, row) {
         Ok(elements) => elements_given(
             going, functions, frozen, node, trailer, at, callee, vals, keywords, purpose,
             &elements, budget,

@@ -1,6 +1,6 @@
 // How the frames of calls go on.
 ghost use Rattle.std.specs.Prelude.{◌≡◌, ◌<◌, ◌≤◌, [], ◌∷◌, ◌++◌, OnOk};
-ghost use Rattle.py_values.specs.Heaps.{seen};
+ghost use Rattle.py_heap.specs.Heaps.{seen};
 ghost use Rattle.py_frames.specs.Doing.{came, give, on_value, heap_seen};
 ghost use Rattle.py_frames.specs.Asking.{asked, returned, callee_place};
 ghost use Rattle.py_frames.specs.Values.{on_through, attribute_in_rounds, on_names, attributes_bound, initialised, gone_over};
@@ -30,10 +30,11 @@ use py_frames::functions::Functions;
 use py_frames::going::Going;
 use py_frames::request::{Act, NamedVals};
 use py_frames::state::{Got, Halt, Here};
+use py_heap::Frozen;
 use py_tree::Name;
 use py_turns::attribute_store::indexed;
 use py_turns::call_leaf::{about, give, raise, vals_of};
-use py_values::{Builtin, Code, Frozen, ObjId, Val, Vals};
+use py_values::{Builtin, Code, ObjId, Val, Vals};
 
 // What a function's body leaves is its value.
 fn value_left(got: &Got) -> Val

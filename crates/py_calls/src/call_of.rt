@@ -17,8 +17,9 @@ use py_frames::going::{Going, spend};
 use py_frames::leaf::place_of;
 use py_frames::state::Halt;
 use py_frames::trail_leaf::share_purpose;
+use py_heap::Frozen;
 use py_tree::{Comprehension, Expr};
-use py_values::{Frozen, Val};
+use py_values::Val;
 use py_walks::comprehensions::begun_comprehension;
 
 /// The comprehension begins that is the one argument of the call at this number of what trails: the call takes its

@@ -27,11 +27,12 @@ use py_frames::going::{Going, wait_for};
 use py_frames::leaf::following;
 use py_frames::state::Halt;
 use py_frames::trail_leaf::{ends_in_call, place_at, purpose_before, share_purpose, trailer_at};
+use py_heap::Frozen;
 use py_tree::{Expr, Trailer};
 use py_turns::at_once::at_once;
 use py_turns::attribute_store::indexed;
 use py_turns::call_leaf::give;
-use py_values::{Frozen, Val};
+use py_values::Val;
 
 // An index begins; where it is there at once, no frame waits for it.
 #[tactic(auto, using(py_frames::proofs::BeginLaws::no_memory))]

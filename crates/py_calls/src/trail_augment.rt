@@ -18,9 +18,10 @@ use py_frames::going::{Going, wait_for};
 use py_frames::leaf::following;
 use py_frames::state::Halt;
 use py_frames::trail_leaf::{place_at, trailer_at};
+use py_heap::Frozen;
 use py_tree::{Expr, Name, Operator, Stmt, StmtKind, Trailer};
 use py_turns::call_leaf::raise;
-use py_values::{Frozen, Val};
+use py_values::Val;
 
 // An attribute that is changed is read.
 #[tactic(auto, using(py_frames::proofs::BeginLaws::no_memory))]

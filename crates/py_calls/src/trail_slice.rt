@@ -14,10 +14,11 @@ use py_frames::functions::Functions;
 use py_frames::going::{Going, wait_for};
 use py_frames::state::Halt;
 use py_frames::trail_leaf::{place_at, trailer_at};
+use py_heap::Frozen;
 use py_tree::{Expr, Trailer};
 use py_turns::attribute_store::sliced;
 use py_turns::call_leaf::{raise, vals_of};
-use py_values::{Frozen, Val, Vals};
+use py_values::{Val, Vals};
 
 // The part of a slice of a number.
 #[tactic(auto, using(crate::proofs::SliceLaws::part_rules))]

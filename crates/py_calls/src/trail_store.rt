@@ -16,12 +16,13 @@ use py_frames::going::{Going, spend, wait_for};
 use py_frames::leaf::following;
 use py_frames::state::{Got, Halt};
 use py_frames::trail_leaf::{place_at, trailer_at};
+use py_heap::Frozen;
 use py_tree::{Expr, Trailer};
 use py_turns::at_once::at_once;
 use py_turns::attribute_store::{store_attribute, store_index};
 use py_turns::call_leaf::raise;
 use py_turns::stmt_plain::comes;
-use py_values::{Frozen, Val};
+use py_values::Val;
 
 // A value is stored under an index, which begins; where it is there at once, no frame waits for it.
 #[tactic(auto, using(py_frames::proofs::BeginLaws::turn_rules))]

@@ -8,9 +8,9 @@ use Rattle.py_values.specs.declared.val.Val.{Val}
 use Rattle.py_values.specs.declared.val.ScopeId.{ScopeId}
 use Rattle.py_values.specs.declared.val.ValueStop.{ValueStop}
 use Rattle.py_values.specs.declared.val.ValueStop.TheVariants as refusal
-use Rattle.py_values.specs.Heaps.{Made, Seen, seen}
-use Rattle.py_values.specs.Names.{scope_bound}
-use Rattle.py_values.specs.Objects.{new_class}
+use Rattle.py_heap.specs.Heaps.{Made, Seen, seen}
+use Rattle.py_heap.specs.Names.{scope_bound}
+use Rattle.py_heap.specs.Objects.{new_class}
 use Rattle.py_values.specs.Runs.{Answers, paired}
 use Rattle.py_frames.specs.declared.request.NamedVal.{NamedVal}
 use Rattle.py_frames.specs.declared.request.Request.{Request}

@@ -15,9 +15,9 @@ use Rattle.py_values.specs.declared.val.Val.TheVariants as val
 use Rattle.py_values.specs.declared.val.ScopeId.{ScopeId}
 use Rattle.py_values.specs.declared.val.ValueStop.{ValueStop}
 use Rattle.py_values.specs.declared.val.ValueStop.TheVariants as refusal
-use Rattle.py_values.specs.Heaps.{Made, seen}
-use Rattle.py_values.specs.Names.{new_scope}
-use Rattle.py_values.specs.Elements.{elements}
+use Rattle.py_heap.specs.Heaps.{Made, seen}
+use Rattle.py_heap.specs.Names.{new_scope}
+use Rattle.py_operators.specs.Elements.{elements}
 use Rattle.py_values.specs.Runs.{Answers}
 use Rattle.py_frames.specs.declared.request.NamedVal.{NamedVal}
 use Rattle.py_frames.specs.declared.request.Cause.TheVariants as cause

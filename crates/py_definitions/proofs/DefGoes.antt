@@ -3,8 +3,8 @@ use Rattle.std.proofs.Common.{◌≡◌, ℕ, suc, refl, ap, ◌∙◌, sym, sub
 use Rattle.py_tree.specs.Steps.{Step}
 use Rattle.py_tree.specs.declared.stmt.Stmt.{Stmt}
 use Rattle.py_tree.specs.Programs.{step_of}
-use Rattle.py_values.specs.Heaps.{Made, seen}
-use Rattle.py_values.specs.Names.{bindings_at}
+use Rattle.py_heap.specs.Heaps.{Made, seen}
+use Rattle.py_heap.specs.Names.{bindings_at}
 use Rattle.py_values.specs.declared.val.Val.{Val}
 use Rattle.py_frames.specs.declared.request.NamedVal.{NamedVal}
 use Rattle.py_frames.specs.declared.request.Request.{Request}

@@ -8,8 +8,8 @@ use Rattle.py_tree.specs.Steps.{Step, Def, Body, Fun, Parameter}
 use Rattle.py_values.specs.declared.val.Val.{Val}
 use Rattle.py_values.specs.declared.val.ScopeId.{ScopeId}
 use Rattle.py_values.specs.declared.val.ValueStop.{ValueStop}
-use Rattle.py_values.specs.Heaps.{Made, seen}
-use Rattle.py_values.specs.Names.{new_func}
+use Rattle.py_heap.specs.Heaps.{Made, seen}
+use Rattle.py_heap.specs.Names.{new_func}
 use Rattle.py_frames.specs.declared.state.State.{State}
 use Rattle.py_frames.specs.declared.state.Halt.{Halt}
 use Rattle.py_frames.specs.declared.state.Halt.TheVariants.{Asks, Stopped, NoMemory}

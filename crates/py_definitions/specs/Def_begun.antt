@@ -7,7 +7,7 @@ use Rattle.py_tree.specs.Tree.{Tree, Perhaps, absent, present, Each, Argument, P
 use Rattle.py_tree.specs.Steps.{Step, Parameter, Named, Star, Body, Fun}
 use Rattle.py_values.specs.declared.val.Val.{Val}
 use Rattle.py_values.specs.declared.val.ScopeId.{ScopeId}
-use Rattle.py_values.specs.Heaps.{Made}
+use Rattle.py_heap.specs.Heaps.{Made}
 use Rattle.py_frames.specs.declared.request.NamedVal.{NamedVal}
 use Rattle.py_frames.specs.declared.state.Halt.{Halt}
 use Rattle.py_frames.specs.declared.state.Got.{Got}

@@ -19,8 +19,9 @@ use py_frames::going::{Going, wait_for};
 use py_frames::leaf::place_of;
 use py_frames::request::NamedVals;
 use py_frames::state::Halt;
+use py_heap::Frozen;
 use py_tree::{Argument, Block, Comprehension, Expr, ExprKind, Name, Stmt, StmtKind, Trailer};
-use py_values::{Frozen, Vals};
+use py_values::Vals;
 use std::alloc::Global;
 
 // The argument of this number of a list, and none past the last.

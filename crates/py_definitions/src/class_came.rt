@@ -19,12 +19,14 @@ use py_frames::going::Going;
 use py_frames::keyword::is_given;
 use py_frames::request::NamedVals;
 use py_frames::state::Halt;
+use py_heap::Frozen;
+use py_operators::elements;
 use py_tree::{Argument, Name, Stmt, StmtKind};
 use py_turns::attribute_store::as_row;
 use py_turns::binds::refused;
 use py_turns::call_leaf::raise;
 use py_turns::expr_values::named_val;
-use py_values::{Frozen, Val, Vals};
+use py_values::{Val, Vals};
 
 // The place of a class.
 fn class_place(s: &Stmt) -> Place
@@ -224,7 +226,7 @@ pub fn class_spread_came(
     let Some(_) = class_argument(s, n) else {
         return class_given(going, functions, frozen, s, vals, keywords, budget);
     };
-    match going.state.heap.elements(frozen, row) {
+    match elements(&going.state.heap, frozen, row) {
         Ok(items) => {
             class_extended(
                 going,

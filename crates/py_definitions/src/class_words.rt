@@ -1,8 +1,8 @@
 // What the store is told of names and their values.
 ghost use Rattle.std.specs.Prelude.{◌≡◌, ◌++◌, ◌∷◌, OnOk, IfOk, codes};
 ghost use Rattle.std.specs.Option.{option_copied};
-ghost use Rattle.py_values.specs.Names.{bindings_in, bindings_at};
-ghost use Rattle.py_values.specs.Heaps.{seen};
+ghost use Rattle.py_heap.specs.Names.{bindings_in, bindings_at};
+ghost use Rattle.py_heap.specs.Heaps.{seen};
 ghost use Rattle.py_frames.specs.declared.request.Act.TheVariants as act;
 ghost use Rattle.py_frames.specs.Asking.{request};
 ghost use Rattle.py_frames.specs.Values.{named_vals, named_names};
@@ -10,8 +10,9 @@ ghost use Rattle.py_frames.specs.Statements.{bound_names, with_mark};
 
 use amh_host::{Names, NoMemory, Place, Text};
 use py_frames::request::{Act, NamedVals, Request};
+use py_heap::{Frozen, Heap};
 use py_turns::expr_values::named_val;
-use py_values::{Bindings, Frozen, Heap, Scope, ScopeId, Val, Vals};
+use py_values::{Bindings, Scope, ScopeId, Val, Vals};
 use std::alloc::Global;
 
 // The names of bindings and their values.

@@ -20,10 +20,11 @@ use py_frames::functions::Functions;
 use py_frames::going::{Going, ask};
 use py_frames::request::NamedVals;
 use py_frames::state::{Got, Halt};
+use py_heap::Frozen;
 use py_tree::Stmt;
 use py_turns::block::{leaves, value_come};
 use py_turns::stmt_plain::comes;
-use py_values::{Frozen, ScopeId, Val, Vals};
+use py_values::{ScopeId, Val, Vals};
 
 // Whether a frame of a definition waits for more than a value.
 fn takes_more(frame: &DefFrame) -> bool

@@ -16,10 +16,11 @@ use py_frames::going::{Going, wait_for};
 use py_frames::leaf::following;
 use py_frames::scopes::seen_from;
 use py_frames::state::{Got, Halt};
+use py_heap::Frozen;
 use py_tree::{Function, Stmt, StmtKind};
 use py_turns::binds::name_bound;
 use py_turns::stmt_plain::comes;
-use py_values::{Code, Frozen, Func, Vals};
+use py_values::{Code, Func, Vals};
 use std::rc::Rc;
 
 /// A function: its defaults first.

@@ -6,8 +6,8 @@ use Rattle.py_tree.specs.declared.expr.Operator.{Operator}
 use Rattle.py_tree.specs.Seen.{tree}
 use Rattle.py_tree.specs.Programs.{steps_of}
 use Rattle.py_tree.specs.Tree.{Tree, Links, link, Pairs}
-use Rattle.py_values.specs.Heaps.{Made, seen}
-use Rattle.py_values.specs.Truths.{truth}
+use Rattle.py_heap.specs.Heaps.{Made, seen}
+use Rattle.py_operators.specs.Truths.{truth}
 use Rattle.py_values.specs.declared.val.Val.{Val}
 use Rattle.py_values.specs.declared.op.PyOp.{PyOp}
 use Rattle.py_frames.specs.declared.state.Halt.{Halt}

@@ -5,10 +5,10 @@ use Rattle.amh_host.specs.declared.place.Place.{Place}
 use Rattle.py_tree.specs.declared.name.Piece.{Piece}
 use Rattle.py_tree.specs.declared.name.Piece.TheVariants as piece
 use Rattle.py_tree.specs.Programs.{steps_of}
-use Rattle.py_values.specs.Heaps.{Made, seen}
-use Rattle.py_values.specs.Scalars.{shown_text}
-use Rattle.py_values.specs.Names.{look_up}
-use Rattle.py_values.specs.Places.{new_text}
+use Rattle.py_heap.specs.Heaps.{Made, seen}
+use Rattle.py_builtins.specs.Scalars.{shown_text}
+use Rattle.py_heap.specs.Names.{look_up}
+use Rattle.py_heap.specs.Places.{new_text}
 use Rattle.py_values.specs.declared.val.Val.{Val}
 use Rattle.py_frames.specs.declared.request.Cause.TheVariants as cause
 use Rattle.py_frames.specs.declared.state.Halt.{Halt}

@@ -9,10 +9,10 @@ use Rattle.py_values.specs.declared.val.ValueStop.{ValueStop}
 use Rattle.py_values.specs.declared.val.ValueStop.TheVariants as refusal
 use Rattle.py_values.specs.declared.op.PyOp.{PyOp}
 use Rattle.py_values.specs.declared.op.PyOp.TheVariants as op
-use Rattle.py_values.specs.Heaps.{Made, seen}
-use Rattle.py_values.specs.Elements.{elements}
+use Rattle.py_heap.specs.Heaps.{Made, seen}
+use Rattle.py_operators.specs.Elements.{elements}
 use Rattle.py_values.specs.Runs.{Answers}
-use Rattle.py_values.specs.Truths.{truth}
+use Rattle.py_operators.specs.Truths.{truth}
 use Rattle.py_frames.specs.declared.request.Cause.TheVariants as cause
 use Rattle.py_frames.specs.declared.state.Halt.{Halt}
 use Rattle.py_frames.specs.declared.state.Got.TheVariants.{Value}

@@ -3,8 +3,8 @@
 use Rattle.std.specs.Prelude.{◌≡◌, ℕ, ◌≤◌, List, ◌++◌, Option, Some, None, Result, Ok, Err, ⊤}
 use Rattle.amh_host.specs.declared.place.Place.{Place}
 use Rattle.py_tree.specs.declared.name.Piece.{Piece}
-use Rattle.py_values.specs.Heaps.{Made}
-use Rattle.py_values.specs.Scalars.{shown_text}
+use Rattle.py_heap.specs.Heaps.{Made}
+use Rattle.py_builtins.specs.Scalars.{shown_text}
 use Rattle.py_frames.specs.declared.state.Halt.{Halt}
 use Rattle.py_frames.specs.declared.frame.Now.{Now}
 use Rattle.py_frames.specs.declared.leaf.PartAt.{PartAt}

@@ -22,11 +22,12 @@ use py_frames::leaf::{
     PartAt, copied, following, goes_on, link_at, operand_place, operator_of, place_of,
 };
 use py_frames::state::{Got, Halt};
+use py_heap::Frozen;
 use py_tree::{Expr, Link};
 use py_turns::at_once::at_once;
 use py_turns::expr_values::truth_of;
 use py_turns::operators::operated;
-use py_values::{Frozen, PyOp, Val};
+use py_values::{PyOp, Val};
 
 /// The first operand of a chain of operators begins; where it is there at once, no frame waits for it.
 #[tactic(auto, using(py_frames::proofs::BeginLaws::no_memory))]

@@ -2,12 +2,13 @@
 ghost use Rattle.std.specs.Prelude.{◌≡◌, ◌<◌, ◌≤◌, [], ◌∷◌, List, OnOk};
 ghost use Rattle.py_tree.specs.declared.name.Piece.{Piece};
 ghost use Rattle.py_frames.specs.Expressions.{pieces_shown};
-ghost use Rattle.py_values.specs.Heaps.{seen};
-ghost use Rattle.py_values.specs.Scalars.{shown_text};
+ghost use Rattle.py_heap.specs.Heaps.{seen};
+ghost use Rattle.py_builtins.specs.Scalars.{shown_text};
 ghost use Rattle.py_expressions.specs.Format_parts.{Carries, FoundText, hole_then};
 ghost use Rattle.py_frames.specs.Frames.{GoesOn};
 
 use amh_host::{Place, Text};
+use py_builtins::shown;
 use py_frames::expr_names::name_value;
 use py_frames::frame::Now;
 use py_frames::functions::Functions;
@@ -15,15 +16,16 @@ use py_frames::going::{Going, spend, stopped};
 use py_frames::leaf::PartAt;
 use py_frames::request::Cause;
 use py_frames::state::Halt;
+use py_heap::Frozen;
 use py_tree::{Name, Piece, Pieces};
 use py_turns::expr_values::new_text;
-use py_values::{Frozen, Val};
+use py_values::Val;
 
 // The text of a value that a hole shows, where it has one.
 fn shown_text(going: &Going, frozen: &Frozen, v: Val) -> PartAt<Text>
     ensures { FoundText result (shown_text (seen frozen.now going.now.state.heap) v) }
 {
-    match going.state.heap.shown(frozen, v) {
+    match shown(&going.state.heap, frozen, v) {
         Err(_) => PartAt::NoMemory,
         Ok(shown) => match shown {
             None => PartAt::Past,

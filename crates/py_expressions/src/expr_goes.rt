@@ -17,10 +17,11 @@ use py_frames::going::{Going, stopped, wait_for};
 use py_frames::leaf::{PartAt, choice_of, exponent_of, following, place_of};
 use py_frames::request::Cause;
 use py_frames::state::Halt;
+use py_heap::Frozen;
 use py_tree::Expr;
 use py_turns::expr_values::truth;
 use py_turns::operators::{operated, turned};
-use py_values::{Frozen, PyOp, Val, Vals};
+use py_values::{PyOp, Val, Vals};
 
 // The right operand of a power, whose left one has come.
 #[tactic(auto, using(py_frames::proofs::BeginLaws::no_memory))]

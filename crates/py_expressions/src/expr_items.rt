@@ -11,9 +11,10 @@ use py_frames::functions::Functions;
 use py_frames::going::{Going, new_list, wait_for};
 use py_frames::leaf::{PartAt, following, is_tuple, item_at, pair_at, place_of};
 use py_frames::state::Halt;
+use py_heap::Frozen;
 use py_tree::Expr;
 use py_turns::expr_values::{new_dict, new_tuple};
-use py_values::{Frozen, Val, Vals};
+use py_values::{Val, Vals};
 
 // What the items of a tuple or of a list become.
 #[tactic(auto, using(py_frames::proofs::ExprGoes::items_tuple, py_frames::proofs::ExprGoes::items_list))]

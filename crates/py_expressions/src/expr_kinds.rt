@@ -16,9 +16,10 @@ use py_frames::going::{Going, stopped};
 use py_frames::leaf::constant_val;
 use py_frames::request::Cause;
 use py_frames::state::{Got, Halt};
+use py_heap::Frozen;
 use py_tree::{Amount, Comprehension, Constant, Decimal, Expr, Name, Pair, Pieces};
 use py_turns::expr_values::new_literal;
-use py_values::{Frozen, Number, Val, Vals};
+use py_values::{Number, Val, Vals};
 use py_walks::comprehensions::begun_comprehension;
 
 // The value of a name.

@@ -12,8 +12,9 @@ use py_frames::functions::Functions;
 use py_frames::going::{Going, wait_for};
 use py_frames::leaf::prefix_of;
 use py_frames::state::Halt;
+use py_heap::Frozen;
 use py_tree::{Expr, Link, Sign};
-use py_values::{Frozen, PyOp};
+use py_values::PyOp;
 
 // The left operand of a power.
 #[tactic(auto, using(py_frames::proofs::ExprBegins::power_begins, py_frames::proofs::BeginLaws::no_memory))]

@@ -1,6 +1,6 @@
 // `in` and `not in`, which ask for each comparison where there is a thing on either side of it.
 ghost use Rattle.std.specs.Prelude.{◌≡◌, ◌<◌, ◌≤◌, OnOk, drop};
-ghost use Rattle.py_values.specs.Heaps.{seen};
+ghost use Rattle.py_heap.specs.Heaps.{seen};
 ghost use Rattle.py_frames.specs.Doing.{give, choose};
 ghost use Rattle.py_frames.specs.Values.{is_same_thing, seeks_things, truth_of, matched, sought, contained, related};
 ghost use Rattle.py_values.specs.declared.val.Val.TheVariants as val;
@@ -11,10 +11,12 @@ use py_frames::frame::{ExprFrame, Frame, Now};
 use py_frames::functions::Functions;
 use py_frames::going::{Going, spend};
 use py_frames::state::{Got, Halt};
+use py_heap::Frozen;
+use py_operators::elements;
 use py_turns::binds::refused;
 use py_turns::expr_values::truth_of;
 use py_turns::operators::{has_thing, is_thing, operated};
-use py_values::{Frozen, PyOp, Val, Vals};
+use py_values::{PyOp, Val, Vals};
 
 /// An operator that compares two operands.
 #[tactic(auto, using(py_frames::proofs::BeginLaws::no_memory))]
@@ -91,7 +93,7 @@ fn contained(
     if !seeks_things(going, frozen, a, b) {
         return operated(going, functions, frozen, op, a, b, place, budget);
     }
-    match going.state.heap.elements(frozen, *b) {
+    match elements(&going.state.heap, frozen, *b) {
         Ok(row) => sought(going, functions, frozen, sign, *a, row, 0, place, budget),
         Err(stop) => Err(refused(stop, place)),
     }

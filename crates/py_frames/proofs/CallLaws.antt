@@ -6,9 +6,9 @@ use Rattle.py_values.specs.declared.val.Val.{Val}
 use Rattle.py_values.specs.declared.val.ValueStop.{ValueStop}
 use Rattle.py_values.specs.declared.val.ValueStop.TheVariants as refusal
 use Rattle.py_values.specs.declared.func.Func.{Func}
-use Rattle.py_values.specs.Heaps.{Made, Seen, seen}
+use Rattle.py_heap.specs.Heaps.{Made, Seen, seen}
 use Rattle.py_values.specs.Runs.{Answers, paired}
-use Rattle.py_values.specs.Names.{new_func}
+use Rattle.py_heap.specs.Names.{new_func}
 use Rattle.py_frames.specs.declared.request.Request.{Request}
 use Rattle.py_frames.specs.declared.request.Cause.TheVariants as cause
 use Rattle.py_frames.specs.declared.state.State.{State}

@@ -6,8 +6,8 @@ use Rattle.py_tree.specs.declared.expr.Expr.{Expr}
 use Rattle.py_tree.specs.Seen.{tree}
 use Rattle.py_tree.specs.Programs.{steps_of}
 use Rattle.py_tree.specs.Tree.{Tree, Name, Number, Decimal_time, Quotient, Str, Format, Constant_value, Tuple, Display, Dict, ListOf, DictOf, Trailed, Await, Power, Unary, Not, Binary, Compare, Boolean, Choice, Trees, Pairs, pair}
-use Rattle.py_values.specs.Heaps.{Made, seen}
-use Rattle.py_values.specs.Truths.{truth}
+use Rattle.py_heap.specs.Heaps.{Made, seen}
+use Rattle.py_operators.specs.Truths.{truth}
 use Rattle.py_values.specs.declared.val.Val.{Val}
 use Rattle.py_values.specs.declared.op.PyOp.TheVariants as op
 use Rattle.py_frames.specs.declared.request.Cause.TheVariants as cause

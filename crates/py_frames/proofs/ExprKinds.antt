@@ -10,12 +10,12 @@ use Rattle.py_tree.specs.declared.number.Amount.{Amount}
 use Rattle.py_tree.specs.declared.number.Decimal.{Decimal}
 use Rattle.py_tree.specs.Seen.{tree}
 use Rattle.py_tree.specs.Tree.{Tree, Name, Number, Decimal_time, Quotient, Str, Format, Constant_value, Tuple, Display, Dict, ListOf, DictOf, Unary, Not, Binary, Compare, Boolean, Choice, Trees, Links, Pairs, Each, each}
-use Rattle.py_values.specs.Heaps.{Made, seen}
+use Rattle.py_heap.specs.Heaps.{Made, seen}
 use Rattle.py_values.specs.declared.val.Val.{Val}
 use Rattle.py_values.specs.declared.val.Val.TheVariants as val
-use Rattle.py_values.specs.declared.scopes.LookUp.{LookUp}
-use Rattle.py_values.specs.declared.scopes.LookUp.TheVariants as lookup
-use Rattle.py_values.specs.Names.{look_up}
+use Rattle.py_heap.specs.declared.scopes.LookUp.{LookUp}
+use Rattle.py_heap.specs.declared.scopes.LookUp.TheVariants as lookup
+use Rattle.py_heap.specs.Names.{look_up}
 use Rattle.py_values.specs.declared.op.PyOp.{PyOp}
 use Rattle.py_values.specs.declared.op.PyOp.TheVariants as op
 use Rattle.py_frames.specs.declared.request.Cause.TheVariants as cause

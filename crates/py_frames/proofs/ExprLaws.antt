@@ -4,14 +4,14 @@ use Rattle.std.proofs.lemmas.Bool.Decides.{nat_tests}
 use Rattle.amh_host.specs.declared.place.Place.{Place}
 use Rattle.py_tree.specs.Programs.{steps_of}
 use Rattle.py_tree.specs.Tree.{Tree}
-use Rattle.py_values.specs.Heaps.{Made, seen}
+use Rattle.py_heap.specs.Heaps.{Made, seen}
 use Rattle.py_values.specs.declared.val.Val.{Val}
 use Rattle.py_values.specs.declared.val.ValueStop.{ValueStop}
 use Rattle.py_values.specs.Runs.{Answers, paired}
-use Rattle.py_values.specs.Truths.{truth}
-use Rattle.py_values.specs.Places.{new_text, new_tuple}
-use Rattle.py_values.specs.Names.{literal, scope_bound}
-use Rattle.py_values.specs.Dicts.{new_dict}
+use Rattle.py_operators.specs.Truths.{truth}
+use Rattle.py_heap.specs.Places.{new_text, new_tuple}
+use Rattle.py_heap.specs.Names.{literal, scope_bound}
+use Rattle.py_heap.specs.Dicts.{new_dict}
 use Rattle.py_frames.specs.declared.request.Cause.TheVariants as cause
 use Rattle.py_frames.specs.declared.request.Stop.{Stop}
 use Rattle.py_frames.specs.declared.state.Halt.{Halt}

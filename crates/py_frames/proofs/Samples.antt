@@ -7,8 +7,8 @@ use Rattle.py_tree.specs.Tree.{Name, Number, ListOf, Trailed, Binary, none, some
 use Rattle.py_tree.specs.Steps.{Steps, last, next, Assign}
 use Rattle.py_values.specs.declared.val.Val.{Val}
 use Rattle.py_values.specs.declared.val.Val.TheVariants as val
-use Rattle.py_values.specs.Heaps.{row_at, seen, nothing}
-use Rattle.py_values.specs.Names as names
+use Rattle.py_heap.specs.Heaps.{row_at, seen, nothing}
+use Rattle.py_heap.specs.Names as names
 use Rattle.py_frames.specs.declared.request.Answer.TheVariants as answer
 use Rattle.py_frames.specs.declared.request.Act.TheVariants as act
 use Rattle.py_frames.specs.declared.request.Act.{Act}

@@ -10,9 +10,9 @@ use Rattle.py_values.specs.declared.val.Val.TheVariants as val
 use Rattle.py_values.specs.declared.val.ValueStop.{ValueStop}
 use Rattle.py_values.specs.declared.val.Hw.{Hw}
 use Rattle.py_values.specs.declared.op.Builtin.{Builtin}
-use Rattle.py_values.specs.Heaps.{Made, seen}
+use Rattle.py_heap.specs.Heaps.{Made, seen}
 use Rattle.py_values.specs.Runs.{Answers, paired}
-use Rattle.py_values.specs.Objects.{attribute_set}
+use Rattle.py_heap.specs.Objects.{attribute_set}
 use Rattle.py_frames.specs.declared.request.Act.TheVariants.{SetAttribute}
 use Rattle.py_frames.specs.declared.request.Request.{Request}
 use Rattle.py_frames.specs.declared.state.State.{State}

@@ -5,7 +5,7 @@ use Rattle.py_tree.specs.declared.expr.Expr.{Expr}
 use Rattle.py_tree.specs.declared.expr.Trailer.{Trailer as Trails}
 use Rattle.py_tree.specs.Seen.{tree, trailer_of}
 use Rattle.py_tree.specs.Tree.{Tree, Trailers, no_trailer, trailer, Trailer, trailers, Trailed, Await}
-use Rattle.py_values.specs.Heaps.{Made}
+use Rattle.py_heap.specs.Heaps.{Made}
 use Rattle.py_values.specs.declared.val.Val.{Val}
 use Rattle.py_frames.specs.declared.state.Halt.{Halt}
 use Rattle.py_frames.specs.declared.frame.Now.{Now}

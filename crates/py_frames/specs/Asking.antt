@@ -7,8 +7,8 @@ use Rattle.py_values.specs.declared.val.Val.TheVariants as val
 use Rattle.py_values.specs.declared.func.Func.{Func}
 use Rattle.py_values.specs.declared.func.Code.{Code}
 use Rattle.py_values.specs.declared.func.Code.TheVariants as code
-use Rattle.py_values.specs.Heaps.{Seen, func_at}
-use Rattle.py_values.specs.Places.{new_text, new_tuple}
+use Rattle.py_heap.specs.Heaps.{Seen, func_at}
+use Rattle.py_heap.specs.Places.{new_text, new_tuple}
 use Rattle.py_frames.specs.declared.request.Act.{Act}
 use Rattle.py_frames.specs.declared.request.Act.TheVariants.{Import, Attribute, CallThing, Iterate, InitBase, BodyEnd, Returned, Await}
 use Rattle.py_frames.specs.declared.request.Request.{Request}

@@ -7,7 +7,7 @@ use Rattle.py_values.specs.declared.val.Val.TheVariants as val
 use Rattle.py_values.specs.declared.func.Func.{Func}
 use Rattle.py_values.specs.declared.func.Code.{Code}
 use Rattle.py_values.specs.declared.func.Code.TheVariants as code
-use Rattle.py_values.specs.Heaps.{Seen, func_at}
+use Rattle.py_heap.specs.Heaps.{Seen, func_at}
 use Rattle.py_frames.specs.Doing.{Known}
 use Rattle.py_frames.specs.Functions.{function_at}
 

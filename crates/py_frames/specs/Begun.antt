@@ -5,7 +5,7 @@ use Rattle.amh_host.specs.declared.place.Place.{Place}
 use Rattle.py_tree.specs.Tree.{Tree, Name, Number, Decimal_time, Quotient, Str, Format, Constant_value, Tuple, Display, Dict, ListOf, DictOf, Trailed, Await, Power, Unary, Not, Binary, Compare, Boolean, Choice}
 use Rattle.py_values.specs.declared.val.Val.TheVariants as val
 use Rattle.py_values.specs.declared.op.PyOp.TheVariants as op
-use Rattle.py_values.specs.Places.{new_tuple}
+use Rattle.py_heap.specs.Places.{new_tuple}
 use Rattle.py_frames.specs.declared.request.Cause.TheVariants.{Spent}
 use Rattle.py_frames.specs.declared.state.Halt.{Halt}
 use Rattle.py_frames.specs.declared.state.Halt.TheVariants.{Asks, Stopped, NoMemory}

@@ -9,8 +9,8 @@ use Rattle.py_values.specs.declared.op.Builtin.TheVariants as builtins
 use Rattle.py_values.specs.declared.func.Func.{Func}
 use Rattle.py_values.specs.declared.func.Code.{Code}
 use Rattle.py_values.specs.declared.func.Code.TheVariants as code
-use Rattle.py_values.specs.Heaps.{Made, Seen, func_at}
-use Rattle.py_values.specs.Names.{new_func}
+use Rattle.py_heap.specs.Heaps.{Made, Seen, func_at}
+use Rattle.py_heap.specs.Names.{new_func}
 use Rattle.py_frames.specs.declared.request.Act.TheVariants.{Attribute, SetIndex}
 use Rattle.py_frames.specs.declared.state.Halt.{Halt}
 use Rattle.py_frames.specs.declared.state.Got.TheVariants.{Next}

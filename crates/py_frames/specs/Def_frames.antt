@@ -6,7 +6,7 @@ use Rattle.py_tree.specs.Programs.{step_of}
 use Rattle.py_tree.specs.Tree.{Call, Arguments, no_argument}
 use Rattle.py_tree.specs.Steps.{Step, Def, Class, Body, Fun, Parameter, Bases, bases}
 use Rattle.py_values.specs.declared.val.Val.{Val}
-use Rattle.py_values.specs.Names.{new_func}
+use Rattle.py_heap.specs.Names.{new_func}
 use Rattle.py_frames.specs.declared.request.NamedVal.{NamedVal}
 use Rattle.py_frames.specs.declared.state.Here.{Here}
 use Rattle.py_frames.specs.declared.state.Got.{Got}

@@ -6,7 +6,7 @@ use Rattle.py_tree.specs.Steps.{Steps}
 use Rattle.py_values.specs.declared.val.Val.{Val}
 use Rattle.py_values.specs.declared.val.ValueStop.{ValueStop}
 use Rattle.py_values.specs.declared.val.ValueStop.TheVariants as refusal
-use Rattle.py_values.specs.Heaps.{Made, Seen, seen}
+use Rattle.py_heap.specs.Heaps.{Made, Seen, seen}
 use Rattle.py_values.specs.Runs.{Run}
 use Rattle.py_frames.specs.declared.request.Answer.{Answer}
 use Rattle.py_frames.specs.declared.request.NamedVal.{NamedVal}

@@ -7,7 +7,7 @@ use Rattle.py_tree.specs.Tree.{Tree, Tuple, Display, Dict, Power, Binary, Compar
 use Rattle.py_values.specs.declared.val.Val.{Val}
 use Rattle.py_values.specs.declared.val.Val.TheVariants as val
 use Rattle.py_values.specs.declared.op.PyOp.TheVariants as op
-use Rattle.py_values.specs.Places.{new_tuple}
+use Rattle.py_heap.specs.Places.{new_tuple}
 use Rattle.py_frames.specs.declared.request.Cause.TheVariants.{Raised}
 use Rattle.py_frames.specs.declared.frame.Purpose.TheVariants.{Plain}
 use Rattle.py_frames.specs.declared.frame.ExprFrame.{ExprFrame}

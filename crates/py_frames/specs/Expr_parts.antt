@@ -7,8 +7,8 @@ use Rattle.py_tree.specs.Tree.{Tree, Tuple, Trailed, Power, Choice, Trees, none,
 use Rattle.py_values.specs.declared.val.Val.{Val}
 use Rattle.py_values.specs.declared.val.Val.TheVariants as val
 use Rattle.py_values.specs.declared.op.Builtin.{Builtin}
-use Rattle.py_values.specs.declared.scopes.LookUp.{LookUp}
-use Rattle.py_values.specs.declared.scopes.LookUp.TheVariants as lookup
+use Rattle.py_heap.specs.declared.scopes.LookUp.{LookUp}
+use Rattle.py_heap.specs.declared.scopes.LookUp.TheVariants as lookup
 use Rattle.py_frames.specs.declared.request.Cause.TheVariants.{Raised}
 use Rattle.py_frames.specs.declared.frame.Purpose.TheVariants.{Plain}
 use Rattle.py_frames.specs.declared.frame.Comprehended.{Comprehended}
@@ -17,7 +17,7 @@ use Rattle.py_frames.specs.Parts.{place_of}
 use Rattle.py_frames.specs.Values.{truth_of, as_row, builtin_value, builtin_names}
 use Rattle.py_frames.specs.Expressions.{value_of}
 use Rattle.py_frames.specs.Walk_frames.{comp_of, with_comp, source_of, comp_over}
-use Rattle.py_values.specs.Places.{new_tuple}
+use Rattle.py_heap.specs.Places.{new_tuple}
 
 -- ---- by number
 

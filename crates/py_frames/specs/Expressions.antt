@@ -14,13 +14,13 @@ use Rattle.py_values.specs.declared.val.Val.{Val}
 use Rattle.py_values.specs.declared.val.Val.TheVariants as val
 use Rattle.py_values.specs.declared.val.ScopeId.{ScopeId}
 use Rattle.py_values.specs.declared.op.PyOp.TheVariants as op
-use Rattle.py_values.specs.Heaps.{Seen, row_at}
-use Rattle.py_values.specs.Places.{new_text, new_tuple, new_list}
-use Rattle.py_values.specs.Names.{literal, new_scope, scope_at}
-use Rattle.py_values.specs.Dicts.{new_dict}
-use Rattle.py_values.specs.Members.{is_key}
-use Rattle.py_values.specs.Scalars.{shown_text}
-use Rattle.py_values.specs.Elements.{elements, element, counts_to}
+use Rattle.py_heap.specs.Heaps.{Seen, row_at}
+use Rattle.py_heap.specs.Places.{new_text, new_tuple, new_list}
+use Rattle.py_heap.specs.Names.{literal, new_scope, scope_at}
+use Rattle.py_heap.specs.Dicts.{new_dict}
+use Rattle.py_heap.specs.Members.{is_key}
+use Rattle.py_builtins.specs.Scalars.{shown_text}
+use Rattle.py_operators.specs.Elements.{elements, element, counts_to}
 use Rattle.py_values.specs.declared.func.Scope.{Scope}
 use Rattle.py_values.specs.declared.val.ValueStop.{ValueStop}
 use Rattle.py_frames.specs.declared.request.Act.TheVariants as act

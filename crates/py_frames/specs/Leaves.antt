@@ -5,10 +5,10 @@
 use Rattle.std.specs.Prelude.{◌≡◌, ℕ, ◌+◌, ◌<◌, pos, List, Option, Some, None}
 use Rattle.py_tree.specs.declared.expr.Operator.{Operator}
 use Rattle.py_tree.specs.Tree.{Tree, Name, Number, Constant_value, Trailed, Binary, Compare, Links, no_link, link, Trailers, no_trailer, trailer, Trailer, Attribute, Index}
-use Rattle.py_values.specs.Heaps.{Seen, row_at}
-use Rattle.py_values.specs.Names.{look_up}
-use Rattle.py_values.specs.Objects.{attributes, attribute_in}
-use Rattle.py_values.specs.At_once.{integers_operated, item_at}
+use Rattle.py_heap.specs.Heaps.{Seen, row_at}
+use Rattle.py_heap.specs.Names.{look_up}
+use Rattle.py_heap.specs.Objects.{attributes, attribute_in}
+use Rattle.py_builtins.specs.At_once.{integers_operated, item_at}
 use Rattle.py_values.specs.declared.val.Val.{Val}
 use Rattle.py_values.specs.declared.val.Val.TheVariants as val
 use Rattle.py_frames.specs.declared.leaf.Priced.{Priced}

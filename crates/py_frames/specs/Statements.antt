@@ -16,13 +16,13 @@ use Rattle.py_values.specs.declared.func.Func.{Func}
 use Rattle.py_values.specs.declared.func.Code.{Code}
 use Rattle.py_values.specs.declared.func.Code.TheVariants as code
 use Rattle.py_values.specs.declared.func.Scope.{Scope}
-use Rattle.py_values.specs.declared.objects.Inherited.{Inherited}
-use Rattle.py_values.specs.declared.objects.Inherited.TheVariants as inherited
-use Rattle.py_values.specs.Heaps.{Made, Seen, seen, func_at}
+use Rattle.py_heap.specs.declared.objects.Inherited.{Inherited}
+use Rattle.py_heap.specs.declared.objects.Inherited.TheVariants as inherited
+use Rattle.py_heap.specs.Heaps.{Made, Seen, seen, func_at}
 use Rattle.py_values.specs.Bindings.{Binding}
-use Rattle.py_values.specs.Names.{new_func, new_scope, scope_at, scope_bound}
-use Rattle.py_values.specs.Objects.{inherited as inherits, new_class}
-use Rattle.py_values.specs.Elements.{element}
+use Rattle.py_heap.specs.Names.{new_func, new_scope, scope_at, scope_bound}
+use Rattle.py_heap.specs.Objects.{inherited as inherits, new_class}
+use Rattle.py_operators.specs.Elements.{element}
 use Rattle.py_frames.specs.declared.request.Act.TheVariants as act
 use Rattle.py_frames.specs.declared.request.NamedVal.{NamedVal}
 use Rattle.py_frames.specs.declared.request.Cause.TheVariants.{Raised, Limit, Spent, Assert as Assertion}

@@ -9,7 +9,7 @@ use Rattle.py_tree.specs.declared.expr.Operator.{Operator}
 use Rattle.py_tree.specs.Seen.{tree}
 use Rattle.py_tree.specs.Tree.{Tree}
 use Rattle.py_values.specs.declared.val.ValueStop.{ValueStop}
-use Rattle.py_values.specs.Heaps.{Made}
+use Rattle.py_heap.specs.Heaps.{Made}
 use Rattle.py_frames.specs.declared.request.Cause.TheVariants.{Raised}
 use Rattle.py_frames.specs.declared.state.Halt.{Halt}
 use Rattle.py_frames.specs.declared.state.Halt.TheVariants.{Asks, Stopped, NoMemory}

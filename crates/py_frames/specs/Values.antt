@@ -19,18 +19,18 @@ use Rattle.py_values.specs.declared.op.Builtin.TheVariants as builtins
 use Rattle.py_values.specs.declared.func.Func.{Func}
 use Rattle.py_values.specs.declared.func.Code.{Code}
 use Rattle.py_values.specs.declared.func.Code.TheVariants as code
-use Rattle.py_values.specs.declared.scopes.LookUp.{LookUp}
-use Rattle.py_values.specs.declared.scopes.LookUp.TheVariants as lookup
-use Rattle.py_values.specs.declared.objects.Inherited.{Inherited}
-use Rattle.py_values.specs.declared.objects.Inherited.TheVariants as inherited
-use Rattle.py_values.specs.Heaps.{Seen, row_at, func_at}
+use Rattle.py_heap.specs.declared.scopes.LookUp.{LookUp}
+use Rattle.py_heap.specs.declared.scopes.LookUp.TheVariants as lookup
+use Rattle.py_heap.specs.declared.objects.Inherited.{Inherited}
+use Rattle.py_heap.specs.declared.objects.Inherited.TheVariants as inherited
+use Rattle.py_heap.specs.Heaps.{Seen, row_at, func_at}
 use Rattle.py_values.specs.Runs.{free}
-use Rattle.py_values.specs.Truths.{truth}
-use Rattle.py_values.specs.Operators.{operate}
-use Rattle.py_values.specs.Builtins.{builtin}
-use Rattle.py_values.specs.Elements.{elements}
-use Rattle.py_values.specs.Names.{new_func, look_up, scope_bound}
-use Rattle.py_values.specs.Objects.{attributes, attribute_in, inherited as inherits, new_object, attribute_set}
+use Rattle.py_operators.specs.Truths.{truth}
+use Rattle.py_operators.specs.Operators.{operate}
+use Rattle.py_builtins.specs.Builtins.{builtin}
+use Rattle.py_operators.specs.Elements.{elements}
+use Rattle.py_heap.specs.Names.{new_func, look_up, scope_bound}
+use Rattle.py_heap.specs.Objects.{attributes, attribute_in, inherited as inherits, new_object, attribute_set}
 use Rattle.py_frames.specs.declared.request.Act.TheVariants.{Attribute, SetAttribute, CallThing, Index, SetIndex, Operator, Length, Iterate, InitBase}
 use Rattle.py_frames.specs.declared.request.NamedVal.{NamedVal}
 use Rattle.py_frames.specs.declared.request.Cause.TheVariants.{Raised, Spent}

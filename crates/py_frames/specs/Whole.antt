@@ -8,8 +8,8 @@ use Rattle.py_values.specs.declared.func.Scope.{Scope}
 use Rattle.py_values.specs.declared.func.Code.TheVariants as code
 use Rattle.py_values.specs.declared.op.Builtin.{Builtin}
 use Rattle.py_values.specs.declared.op.Builtin.TheVariants as builtins
-use Rattle.py_values.specs.Heaps.{Made, nothing}
-use Rattle.py_values.specs.Names.{bindings_at}
+use Rattle.py_heap.specs.Heaps.{Made, nothing}
+use Rattle.py_heap.specs.Names.{bindings_at}
 use Rattle.py_frames.specs.declared.request.Act.TheVariants as act
 use Rattle.py_frames.specs.declared.request.Answer.{Answer}
 use Rattle.py_frames.specs.declared.state.State.{State}

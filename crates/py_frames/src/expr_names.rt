@@ -1,8 +1,8 @@
 // The values of names: what the scopes say, and behind them the builtins.
 ghost use Rattle.std.specs.Prelude.{◌≡◌, option_map};
 ghost use Rattle.lists.specs.Texts.{text_eq};
-ghost use Rattle.py_values.specs.Heaps.{seen};
-ghost use Rattle.py_values.specs.Names.{look_up};
+ghost use Rattle.py_heap.specs.Heaps.{seen};
+ghost use Rattle.py_heap.specs.Names.{look_up};
 ghost use Rattle.py_frames.specs.Values.{builtin_value, builtin_from, builtin_names, read};
 ghost use Rattle.py_frames.specs.Expr_parts.{name_value, func_val, later_names};
 ghost use Rattle.py_frames.specs.Frames.{GoesOn};
@@ -13,8 +13,9 @@ use crate::going::{Going, stopped};
 use crate::request::Cause;
 use crate::state::{Got, Halt};
 use amh_host::Place;
+use py_heap::{Frozen, LookUp};
 use py_tree::Name;
-use py_values::{Frozen, FuncId, LookUp, StrId, Val};
+use py_values::{FuncId, StrId, Val};
 
 #[tactic(auto, using(crate::proofs::ExprNames::text_eq_sym))]
 fn is_name(this: &str, name: &Name) -> bool

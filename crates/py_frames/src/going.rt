@@ -16,8 +16,9 @@ use crate::functions::Functions;
 use crate::request::{Cause, Request, Stop};
 use crate::state::{Got, Halt, State};
 use amh_host::{NoMemory, Place};
+use py_heap::Frozen;
 use py_tree::{Expr, Stmt};
-use py_values::{Frozen, Val, Vals, ValueStop};
+use py_values::{Val, Vals, ValueStop};
 use std::alloc::Global;
 
 /// How many turns a loop may have, and how many functions answers may begin one after the other: no budget and no list

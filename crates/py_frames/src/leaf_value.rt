@@ -1,14 +1,15 @@
 // Parts that are there at once, for which no frame has to wait.
 ghost use Rattle.std.specs.Prelude.{◌≡◌};
 ghost use Rattle.py_tree.specs.Seen.{tree};
-ghost use Rattle.py_values.specs.Heaps.{seen};
+ghost use Rattle.py_heap.specs.Heaps.{seen};
 ghost use Rattle.py_frames.specs.Leaves.{leaf_value};
 
 use crate::expr_names::name_value;
 use crate::going::Going;
 use crate::leaf::constant_val;
+use py_heap::Frozen;
 use py_tree::{Expr, ExprKind};
-use py_values::{Frozen, Number, Val};
+use py_values::{Number, Val};
 
 /// The value of a number, of a constant, or of a name that has one.
 pub fn leaf_value(going: &Going, frozen: &Frozen, e: &Expr) -> Option<Val>

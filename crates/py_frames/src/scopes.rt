@@ -1,11 +1,12 @@
 // The scope that the functions and comprehensions of a body see.
 ghost use Rattle.std.specs.Prelude.{◌≡◌};
 ghost use Rattle.std.specs.Option.{option_copied};
-ghost use Rattle.py_values.specs.Heaps.{seen};
+ghost use Rattle.py_heap.specs.Heaps.{seen};
 ghost use Rattle.py_frames.specs.Expressions.{seen_from, seen_of};
 
 use crate::going::Going;
-use py_values::{Frozen, Scope, ScopeId};
+use py_heap::Frozen;
+use py_values::{Scope, ScopeId};
 
 /// The scope that the functions of a body see.
 pub fn seen_of(found: Option<&Scope>, here: ScopeId) -> Option<ScopeId>

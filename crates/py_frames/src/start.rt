@@ -5,7 +5,8 @@ ghost use Rattle.py_frames.specs.Whole.{builtin_func, builtin_funcs, module_scop
 use crate::request::NamedVals;
 use crate::state::{Here, State};
 use amh_host::{Names, NoMemory};
-use py_values::{Builtin, Code, Frozen, Func, Heap, OwnNames, ScopeId, Vals};
+use py_heap::{Frozen, Heap};
+use py_values::{Builtin, Code, Func, OwnNames, ScopeId, Vals};
 use std::alloc::Global;
 
 /// How many calls may stand in one another.

@@ -2,7 +2,8 @@
 
 use crate::boxed::Boxed;
 use crate::request::{NamedVals, Request, Stop};
-use py_values::{Heap, ScopeId, Val};
+use py_heap::Heap;
+use py_values::{ScopeId, Val};
 
 /// What a class body has bound in its scope, each binding in its order.
 #[derive(Drop)]

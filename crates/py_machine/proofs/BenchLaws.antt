@@ -5,7 +5,7 @@ use Rattle.py_tree.specs.Programs.{steps_of}
 use Rattle.py_values.specs.declared.val.Val.{Val}
 use Rattle.py_values.specs.declared.val.Val.TheVariants as val
 use Rattle.py_values.specs.declared.val.Hw.{Hw}
-use Rattle.py_values.specs.Heaps.{Made, Seen, seen}
+use Rattle.py_heap.specs.Heaps.{Made, Seen, seen}
 use Rattle.py_frames.specs.declared.request.NamedVal.{NamedVal}
 use Rattle.py_frames.specs.declared.request.Cause.TheVariants.{Raised}
 use Rattle.py_frames.specs.declared.state.Halt.{Halt}

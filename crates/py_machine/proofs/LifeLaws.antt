@@ -9,7 +9,7 @@ use Rattle.py_tree.specs.Programs.{steps_of}
 use Rattle.py_values.specs.declared.val.Val.{Val}
 use Rattle.py_values.specs.declared.val.Hw.{Hw}
 use Rattle.py_tree.specs.declared.stmt.Block.{Block}
-use Rattle.py_values.specs.Heaps.{Made, nothing}
+use Rattle.py_heap.specs.Heaps.{Made, nothing}
 use Rattle.py_frames.specs.declared.request.Act.{Act}
 use Rattle.py_frames.specs.declared.request.Answer.{Answer}
 use Rattle.py_frames.specs.declared.request.Answer.TheVariants as answer

@@ -3,7 +3,7 @@ use Rattle.std.proofs.Common.{◌≡◌, ℕ, ap, ◌∙◌, sym, Bool, true, fa
 use Rattle.amh_host.specs.declared.place.Place.{Place}
 use Rattle.py_values.specs.declared.val.Val.{Val}
 use Rattle.py_tree.specs.Programs.{steps_of}
-use Rattle.py_values.specs.Heaps.{Made, seen}
+use Rattle.py_heap.specs.Heaps.{Made, seen}
 use Rattle.py_frames.specs.declared.request.Act.{Act}
 use Rattle.py_frames.specs.declared.request.NamedVal.{NamedVal}
 use Rattle.py_frames.specs.declared.state.Halt.{Halt}

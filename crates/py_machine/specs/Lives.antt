@@ -3,7 +3,7 @@ use Rattle.std.specs.Prelude.{◌≡◌, ℕ, ◌+◌, ◌<◌, List, [], ◌∷
 use Rattle.amh_host.specs.declared.place.Place.{Place}
 use Rattle.py_tree.specs.Steps.{Steps}
 use Rattle.py_tree.specs.Programs.{steps_of}
-use Rattle.py_values.specs.Heaps.{Made, nothing}
+use Rattle.py_heap.specs.Heaps.{Made, nothing}
 use Rattle.py_values.specs.declared.val.Val.{Val}
 use Rattle.py_values.specs.declared.val.Val.TheVariants as val
 use Rattle.py_values.specs.declared.val.Hw.{Hw}

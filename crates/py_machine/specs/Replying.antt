@@ -2,7 +2,7 @@
 use Rattle.std.specs.Prelude.{ℕ, List, []}
 use Rattle.amh_host.specs.declared.place.Place.{Place}
 use Rattle.py_values.specs.declared.val.Val.{Val}
-use Rattle.py_values.specs.Places.{new_text, new_tuple}
+use Rattle.py_heap.specs.Places.{new_text, new_tuple}
 use Rattle.py_frames.specs.declared.request.Act.{Act}
 use Rattle.py_frames.specs.Doing.{Doing, Known, heap_seen, ◌>>=◌, give, making}
 use Rattle.py_frames.specs.Asking.{asked, returned}

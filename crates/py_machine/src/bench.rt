@@ -1,7 +1,7 @@
 // The begin of a testbench.
 ghost use Rattle.std.specs.Prelude.{◌≡◌, ◌<◌, ◌≤◌, [], ◌∷◌, OnOk};
 ghost use Rattle.py_values.specs.declared.val.Val.TheVariants as val;
-ghost use Rattle.py_values.specs.Heaps.{seen};
+ghost use Rattle.py_heap.specs.Heaps.{seen};
 ghost use Rattle.py_frames.specs.Asking.{callee_place};
 ghost use Rattle.py_frames.specs.Tables.{IsTable};
 ghost use Rattle.py_frames.specs.Frames.{GoesOn};
@@ -16,8 +16,9 @@ use py_frames::functions::Functions;
 use py_frames::going::Going;
 use py_frames::request::NamedVals;
 use py_frames::state::{Halt, Here, State};
+use py_heap::{Frozen, Heap};
 use py_turns::call_leaf::{raise, vals_of};
-use py_values::{Code, Frozen, Heap, Hw, ScopeId, Val};
+use py_values::{Code, Hw, ScopeId, Val};
 use std::alloc::Global;
 
 /// How many calls may stand in one another.

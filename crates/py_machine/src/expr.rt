@@ -20,8 +20,8 @@ use py_frames::functions::Functions;
 use py_frames::going::{Going, spend};
 use py_frames::leaf::{cost_of, is_trailed, place_of};
 use py_frames::state::Halt;
+use py_heap::Frozen;
 use py_tree::{Expr, ExprKind};
-use py_values::Frozen;
 
 /// Begins an expression.
 #[tactic(auto, using(py_frames::proofs::ExprLaws::node_spent, py_frames::proofs::ExprLaws::node_stops))]

@@ -15,9 +15,10 @@ use py_frames::functions::Functions;
 use py_frames::going::Going;
 use py_frames::request::{Act, Answer, Cause, NamedVals, Stop};
 use py_frames::state::{Got, Halt};
+use py_heap::Frozen;
 use py_turns::call_leaf::{give, raise};
 use py_turns::expr_values::{new_text, new_tuple};
-use py_values::{Frozen, Val, Vals};
+use py_values::{Val, Vals};
 
 // Which acts take a value.
 fn takes_value(act: Act) -> bool

@@ -13,6 +13,7 @@ use py_frames::functions::Functions;
 use py_frames::going::{Going, MOST, spend, wait_for};
 use py_frames::request::Cause;
 use py_frames::state::{Got, Halt};
+use py_heap::Frozen;
 use py_statements::annotate::begun_annotate;
 use py_statements::augment_begin::augment_begun;
 use py_statements::imports::{begun_import, begun_import_all};
@@ -22,7 +23,6 @@ use py_statements::stmt_while::while_turn;
 use py_statements::stmt_with::begun_with;
 use py_tree::{Stmt, StmtKind};
 use py_turns::stmt_plain::{begun_assert, begun_return, comes, stops};
-use py_values::Frozen;
 use py_walks::loops::for_begun;
 
 // How many units a statement spends where it begins.

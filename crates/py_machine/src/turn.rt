@@ -19,8 +19,9 @@ use py_frames::frame::{CallFrame, ExprFrame, Frame, Now};
 use py_frames::functions::Functions;
 use py_frames::going::{Going, MOST};
 use py_frames::state::{Got, Halt, Here};
+use py_heap::Frozen;
 use py_statements::stmt_goes::stmt_goes;
-use py_values::{Frozen, Val};
+use py_values::Val;
 use py_walks::walk_goes::walk_goes;
 use std::sync::ledger::Ledger;
 

@@ -9,10 +9,10 @@ use Rattle.py_tree.specs.Seen.{tree}
 use Rattle.py_tree.specs.Programs.{step_of}
 use Rattle.py_tree.specs.Tree.{Tree, Name, Trees, none, some, trees}
 use Rattle.py_tree.specs.Steps.{Step, Pass, Break, Continue, Return, Assert, Raise, ImportAll, Import, Assign, Annotate, Augment, Evaluate, If, While, For, With, Def, Class}
-use Rattle.py_values.specs.Heaps.{Made, seen}
+use Rattle.py_heap.specs.Heaps.{Made, seen}
 use Rattle.py_values.specs.declared.val.Val.{Val}
 use Rattle.py_values.specs.declared.val.ValueStop.{ValueStop}
-use Rattle.py_values.specs.Names.{scope_bound}
+use Rattle.py_heap.specs.Names.{scope_bound}
 use Rattle.py_frames.specs.declared.state.State.{State}
 use Rattle.py_frames.specs.declared.state.Halt.{Halt}
 use Rattle.py_frames.specs.declared.state.Got.{Got}

@@ -5,9 +5,9 @@ use Rattle.py_tree.specs.declared.stmt.Stmt.{Stmt}
 use Rattle.py_tree.specs.Programs.{step_of, steps_of}
 use Rattle.py_tree.specs.Steps.{Step}
 use Rattle.py_tree.specs.Tree.{Tree, Name, Number, Decimal_time, Quotient, Str, Format, Constant_value, Tuple, Display, Dict, ListOf, DictOf, Trailed, Await, Power, Unary, Not, Binary, Compare, Boolean, Choice}
-use Rattle.py_values.specs.Heaps.{Made, seen}
-use Rattle.py_values.specs.Names.{scope_bound}
-use Rattle.py_values.specs.Builtins.{builtin}
+use Rattle.py_heap.specs.Heaps.{Made, seen}
+use Rattle.py_heap.specs.Names.{scope_bound}
+use Rattle.py_builtins.specs.Builtins.{builtin}
 use Rattle.py_values.specs.Runs.{free, Charged, paired}
 use Rattle.py_values.specs.declared.val.Val.{Val}
 use Rattle.py_values.specs.declared.val.ValueStop.{ValueStop}

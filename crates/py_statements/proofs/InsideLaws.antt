@@ -7,7 +7,7 @@ use Rattle.py_tree.specs.Seen.{tree}
 use Rattle.py_tree.specs.Programs.{step_of}
 use Rattle.py_tree.specs.Tree.{Tree, absent, present, perhaps}
 use Rattle.py_tree.specs.Steps.{Step, With, Steps}
-use Rattle.py_values.specs.Heaps.{Made}
+use Rattle.py_heap.specs.Heaps.{Made}
 use Rattle.py_values.specs.declared.val.Val.{Val}
 use Rattle.py_frames.specs.declared.state.Halt.{Halt}
 use Rattle.py_frames.specs.declared.state.Got.{Got}

@@ -5,8 +5,8 @@ use Rattle.py_tree.specs.declared.stmt.Stmt.{Stmt}
 use Rattle.py_tree.specs.Programs.{step_of}
 use Rattle.py_tree.specs.Tree.{Tree}
 use Rattle.py_tree.specs.Steps.{Step, While, Steps}
-use Rattle.py_values.specs.Heaps.{Made, seen}
-use Rattle.py_values.specs.Truths.{truth}
+use Rattle.py_heap.specs.Heaps.{Made, seen}
+use Rattle.py_operators.specs.Truths.{truth}
 use Rattle.py_values.specs.declared.val.Val.{Val}
 use Rattle.py_frames.specs.declared.request.Cause.TheVariants as cause
 use Rattle.py_frames.specs.declared.state.Halt.{Halt}

@@ -5,7 +5,7 @@ use Rattle.py_tree.specs.declared.stmt.Stmt.{Stmt}
 use Rattle.py_tree.specs.Programs.{step_of}
 use Rattle.py_tree.specs.Tree.{Tree, Perhaps}
 use Rattle.py_tree.specs.Steps.{Step, With, Steps}
-use Rattle.py_values.specs.Heaps.{Made}
+use Rattle.py_heap.specs.Heaps.{Made}
 use Rattle.py_values.specs.declared.val.Val.{Val}
 use Rattle.py_frames.specs.declared.request.Act.TheVariants as act
 use Rattle.py_frames.specs.declared.request.Request.{Request}

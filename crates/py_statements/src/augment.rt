@@ -13,16 +13,18 @@ ghost use Rattle.py_statements.specs.Augmented.{change_seen, FoundChange, instea
 ghost use Rattle.py_frames.specs.Frames.{GoesOn};
 
 use amh_host::{Budget, NoMemory, Place};
+use py_builtins::builtin;
 use py_frames::frame::{Changed, Frame, Now, StmtFrame};
 use py_frames::functions::Functions;
 use py_frames::going::{Going, ask, told, wait_for};
 use py_frames::leaf::{PartAt, operator_of, place_of};
 use py_frames::state::{Got, Halt};
+use py_heap::Frozen;
 use py_tree::{Expr, ExprKind, Name, Operator, Stmt, StmtKind};
 use py_turns::attribute_store::{indexed, store_attribute, store_index};
 use py_turns::binds::name_bound;
 use py_turns::operators::{is_thing, operated, operator_request, two_vals, used_after};
-use py_values::{Builtin, Frozen, PyOp, Val, ValueStop};
+use py_values::{Builtin, PyOp, Val, ValueStop};
 
 /// The parts of an augmented assignment.
 #[derive(Drop)]
@@ -154,7 +156,7 @@ fn list_changed(
     let mut left = Budget {
         left: budget - going.state.used,
     };
-    let given = going.state.heap.builtin(frozen, b, &vals, &mut left);
+    let given = builtin(&mut going.state.heap, frozen, b, &vals, &mut left);
     going.state.used = used_after(going.state.used, budget, left.left);
     told(instead(*x, given), place)
 }

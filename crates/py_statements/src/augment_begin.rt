@@ -16,8 +16,8 @@ use py_frames::going::{Going, spend, stopped, wait_for};
 use py_frames::leaf::{cost_of, place_of};
 use py_frames::request::Cause;
 use py_frames::state::Halt;
+use py_heap::Frozen;
 use py_tree::{Expr, ExprKind, Name, Operator, Stmt, Trailer};
-use py_values::Frozen;
 
 // Whether a node is one that may be changed.
 fn can_change(e: &Expr) -> bool

@@ -3,7 +3,7 @@ ghost use Rattle.std.specs.Prelude.{◌≡◌, map};
 ghost use Rattle.py_tree.specs.Programs.{step_of, import_of};
 ghost use Rattle.py_tree.specs.Steps.{Import, ImportAll};
 ghost use Rattle.std.specs.Option.{option_copied};
-ghost use Rattle.py_values.specs.Heaps.{seen};
+ghost use Rattle.py_heap.specs.Heaps.{seen};
 ghost use Rattle.py_frames.specs.Statements.{imported, dotted, is_module, stands_in_module, all_asked};
 ghost use Rattle.py_frames.specs.Stmt_begun.{run_after};
 ghost use Rattle.py_frames.specs.Stmt_frames.{imports_from, imported_at};
@@ -15,11 +15,12 @@ use py_frames::functions::Functions;
 use py_frames::going::Going;
 use py_frames::request::Cause;
 use py_frames::state::{Got, Halt};
+use py_heap::Frozen;
 use py_tree::{Imported, Name, Stmt, StmtKind};
 use py_turns::call_leaf::ask_under;
 use py_turns::expr_values::bind;
 use py_turns::stmt_plain::{comes, stops};
-use py_values::{Frozen, Scope, Val};
+use py_values::{Scope, Val};
 
 // Whether a scope is the module's.
 fn is_module(found: Option<&Scope>) -> bool

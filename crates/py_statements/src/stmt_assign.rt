@@ -18,12 +18,13 @@ use py_frames::going::Going;
 use py_frames::leaf::copied;
 use py_frames::state::{Got, Halt};
 use py_frames::stmt_purpose::purpose_of;
+use py_heap::Frozen;
 use py_tree::{Expr, ExprKind, Name, Stmt, StmtKind};
 use py_turns::at_once::at_once;
 use py_turns::binds::name_bound;
 use py_turns::block::leaves;
 use py_turns::stmt_plain::comes;
-use py_values::{Frozen, Val};
+use py_values::Val;
 use py_walks::target_turns::assign_under;
 
 // The target of this number, and none past the last.

@@ -17,10 +17,11 @@ use py_frames::functions::Functions;
 use py_frames::going::Going;
 use py_frames::request::Cause;
 use py_frames::state::{Got, Halt};
+use py_heap::Frozen;
 use py_turns::binds::names_came;
 use py_turns::block::{block_came, value_come};
 use py_turns::stmt_plain::{assert_came, comes, stops};
-use py_values::{Frozen, Val};
+use py_values::Val;
 use py_walks::for_turns::{for_bound_left, for_left, for_row_came, for_source_came};
 
 // Whether a frame of a statement waits for more than a value.

@@ -15,11 +15,13 @@ use py_frames::going::Going;
 use py_frames::leaf::place_of;
 use py_frames::request::Cause;
 use py_frames::state::{Got, Halt};
+use py_heap::Frozen;
+use py_operators::truth;
 use py_tree::{Block, Branch, Expr, Stmt, StmtKind};
 use py_turns::at_once::wait_or_come;
 use py_turns::block::run_block;
 use py_turns::stmt_plain::{comes, stops};
-use py_values::{Frozen, Val};
+use py_values::Val;
 
 // The branch of this number, and none past the last.
 #[tactic(auto, using(py_turns::proofs::IfLaws::branch_rules))]
@@ -161,7 +163,7 @@ fn branch_tested(
     let Some(branch) = branch_at(tests, n) else {
         return branch_turn(going, functions, frozen, s, tests, other, n, budget);
     };
-    match going.state.heap.truth(frozen, x) {
+    match truth(&going.state.heap, frozen, x) {
         Some(holds) => {
             if holds {
                 return run_block(going, functions, frozen, branch_body(branch), budget);

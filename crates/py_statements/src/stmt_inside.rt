@@ -12,10 +12,11 @@ use py_frames::frame::{Frame, Now, StmtFrame};
 use py_frames::functions::Functions;
 use py_frames::going::Going;
 use py_frames::state::{Got, Halt};
+use py_heap::Frozen;
 use py_tree::{Block, Expr, Stmt, StmtKind};
 use py_turns::block::{block_under, leaves};
 use py_turns::stmt_plain::comes;
-use py_values::{Frozen, Val};
+use py_values::Val;
 use py_walks::target_turns::assign_under;
 
 /// A thing was entered: what that gave goes to the target, where there is one.

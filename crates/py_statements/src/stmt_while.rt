@@ -14,11 +14,13 @@ use py_frames::going::{Going, spend};
 use py_frames::leaf::place_of;
 use py_frames::request::Cause;
 use py_frames::state::{Got, Halt};
+use py_heap::Frozen;
+use py_operators::truth;
 use py_tree::{Block, Expr, Stmt, StmtKind};
 use py_turns::at_once::wait_or_come;
 use py_turns::block::{block_under, loop_left};
 use py_turns::stmt_plain::{comes, stops};
-use py_values::{Frozen, Val};
+use py_values::Val;
 
 /// So many turns: the test of the first of them.
 #[tactic(auto, using(crate::proofs::WhileLaws::turn_rules))]
@@ -97,7 +99,7 @@ fn while_tested(
     ensures left { OnOk result (going.new.state.used < budget) }
     ensures grows { going.old.state.used ≤ going.new.state.used }
 {
-    match going.state.heap.truth(frozen, x) {
+    match truth(&going.state.heap, frozen, x) {
         Some(holds) => {
             if holds {
                 return while_body(going, functions, frozen, s, test, body, n, budget);

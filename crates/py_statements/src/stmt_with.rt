@@ -16,12 +16,13 @@ use py_frames::going::{Going, wait_for};
 use py_frames::leaf::copied;
 use py_frames::request::{Act, Cause};
 use py_frames::state::{Got, Halt};
+use py_heap::Frozen;
 use py_tree::{Block, Expr, Stmt, StmtKind};
 use py_turns::asks::request_of;
 use py_turns::call_leaf::ask_under;
 use py_turns::operators::is_thing;
 use py_turns::stmt_plain::{comes, stops};
-use py_values::{Frozen, Val};
+use py_values::Val;
 
 /// `with`: its context.
 #[tactic(auto, using(crate::proofs::WithLaws::begin_rules))]

@@ -1,6 +1,6 @@
 -- A request is asked, and a frame waits for its answer.
 use Rattle.std.proofs.Common.{◌≡◌, ℕ, subst, List, ◌∷◌, Result}
-use Rattle.py_values.specs.Heaps.{Made}
+use Rattle.py_heap.specs.Heaps.{Made}
 use Rattle.py_frames.specs.declared.request.Request.{Request}
 use Rattle.py_frames.specs.declared.state.Halt.{Halt}
 use Rattle.py_frames.specs.declared.frame.Now.{Now}

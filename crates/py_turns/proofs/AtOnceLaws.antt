@@ -5,13 +5,13 @@ use Rattle.amh_host.specs.declared.place.Place.{Place}
 use Rattle.py_tree.specs.declared.expr.Operator.{Operator}
 use Rattle.py_tree.specs.Programs.{steps_of}
 use Rattle.py_tree.specs.Tree.{Tree, Name, Number, Decimal_time, Quotient, Str, Format, Constant_value, Tuple, Display, Dict, ListOf, DictOf, Trailed, Await, Power, Unary, Not, Binary, Compare, Boolean, Choice, Links, no_link, link, Trailers, no_trailer, trailer, Trailer, Attribute, Call, CallOf, Index, Slice}
-use Rattle.py_values.specs.Heaps.{Made, Seen, seen, row_at}
-use Rattle.py_values.specs.Objects.{attributes, attribute_in}
-use Rattle.py_values.specs.Builtins.{builtin}
-use Rattle.py_values.specs.Operators.{operate}
+use Rattle.py_heap.specs.Heaps.{Made, Seen, seen, row_at}
+use Rattle.py_heap.specs.Objects.{attributes, attribute_in}
+use Rattle.py_builtins.specs.Builtins.{builtin}
+use Rattle.py_operators.specs.Operators.{operate}
 use Rattle.py_values.specs.Runs.{Run, free}
-use Rattle.py_values.specs.At_once.{integers_give, integers_operated, item_at}
-use Rattle.py_values.proofs.AtOnceLaws.{AreIntegers, integers_are, integers_free, item_at_free}
+use Rattle.py_builtins.specs.At_once.{integers_give, integers_operated, item_at}
+use Rattle.py_builtins.proofs.AtOnceLaws.{AreIntegers, integers_are, integers_free, item_at_free}
 use Rattle.py_values.specs.declared.op.PyOp.{PyOp}
 use Rattle.py_values.specs.declared.op.PyOp.TheVariants as op
 use Rattle.py_values.specs.declared.op.Builtin.TheVariants as builtins

@@ -2,8 +2,8 @@
 use Rattle.std.proofs.Common.{◌≡◌, ℕ, ◌+◌, ◌<◌, ◌≤◌, ap, ◌∙◌, sym, subst, List, ◌∷◌, drop, length, get_or, Result, Ok, Err}
 use Rattle.std.proofs.lemmas.List.{drop_more, drop_all}
 use Rattle.amh_host.specs.declared.place.Place.{Place}
-use Rattle.py_values.specs.Heaps.{Made, seen}
-use Rattle.py_values.specs.Names.{scope_bound}
+use Rattle.py_heap.specs.Heaps.{Made, seen}
+use Rattle.py_heap.specs.Names.{scope_bound}
 use Rattle.py_frames.specs.declared.request.NamedVal.{NamedVal}
 use Rattle.py_frames.specs.declared.state.Halt.{Halt}
 use Rattle.py_frames.specs.declared.state.Got.TheVariants.{Next}

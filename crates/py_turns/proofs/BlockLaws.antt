@@ -6,7 +6,7 @@ use Rattle.py_tree.specs.declared.stmt.Stmt.{Stmt}
 use Rattle.py_tree.specs.declared.stmt.Block.{Block}
 use Rattle.py_tree.specs.Programs.{step_of, steps_of}
 use Rattle.py_tree.specs.Steps.{Steps, last, next, steps}
-use Rattle.py_values.specs.Heaps.{Made}
+use Rattle.py_heap.specs.Heaps.{Made}
 use Rattle.py_frames.specs.declared.state.Halt.{Halt}
 use Rattle.py_frames.specs.declared.state.Got.TheVariants.{Next}
 use Rattle.py_frames.specs.declared.frame.Now.{Now}

@@ -2,15 +2,15 @@
 use Rattle.std.proofs.Common.{◌≡◌, ℕ, ◌<◌, ◌≤◌, ◌+◌, ◌-◌, refl, ap, ◌∙◌, sym, subst, List, [], ◌∷◌, Some, Result, Ok, Err, Bool, true, false, OnOk, arith}
 use Rattle.amh_host.specs.declared.place.Place.{Place}
 use Rattle.py_tree.specs.Programs.{steps_of}
-use Rattle.py_values.specs.Heaps.{Made}
+use Rattle.py_heap.specs.Heaps.{Made}
 use Rattle.py_values.specs.declared.val.Val.{Val}
 use Rattle.py_values.specs.declared.val.ValueStop.{ValueStop}
 use Rattle.py_values.specs.declared.val.ValueStop.TheVariants as refusal
 use Rattle.py_values.specs.declared.op.PyOp.{PyOp}
 use Rattle.py_values.specs.declared.op.Builtin.{Builtin}
 use Rattle.py_values.specs.Runs.{Run, free, Answers, Charged, paired}
-use Rattle.py_values.specs.Operators.{operate}
-use Rattle.py_values.specs.Builtins.{builtin}
+use Rattle.py_operators.specs.Operators.{operate}
+use Rattle.py_builtins.specs.Builtins.{builtin}
 use Rattle.py_frames.specs.declared.request.Cause.TheVariants as cause
 use Rattle.py_frames.specs.declared.request.Act.TheVariants.{Operator}
 use Rattle.py_frames.specs.declared.state.Halt.{Halt}

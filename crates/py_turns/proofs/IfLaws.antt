@@ -9,8 +9,8 @@ use Rattle.py_tree.specs.declared.stmt.Branch.{Branch}
 use Rattle.py_tree.specs.Programs.{step_of, steps_of, branch_of}
 use Rattle.py_tree.specs.Tree.{Tree}
 use Rattle.py_tree.specs.Steps.{Step, Pass, Break, Continue, Return, Assert, Raise, ImportAll, Import, Assign, Annotate, Augment, Evaluate, If, While, For, With, Def, Class, Steps, Branches, no_branch, branch, branches, Otherwise, nothing_else, otherwise, else_of}
-use Rattle.py_values.specs.Heaps.{Made, seen}
-use Rattle.py_values.specs.Truths.{truth}
+use Rattle.py_heap.specs.Heaps.{Made, seen}
+use Rattle.py_operators.specs.Truths.{truth}
 use Rattle.py_values.specs.declared.val.Val.{Val}
 use Rattle.py_frames.specs.declared.request.Cause.TheVariants as cause
 use Rattle.py_frames.specs.declared.state.Halt.{Halt}

@@ -7,7 +7,7 @@ use Rattle.py_tree.specs.Tree.{Tree, Perhaps, perhaps}
 use Rattle.py_tree.specs.Seen.{tree}
 use Rattle.py_tree.specs.declared.expr.Expr.{Expr}
 use Rattle.py_tree.specs.Steps.{Step, Assert}
-use Rattle.py_values.specs.Heaps.{Made}
+use Rattle.py_heap.specs.Heaps.{Made}
 use Rattle.py_values.specs.declared.val.Val.TheVariants as val
 use Rattle.py_frames.specs.declared.state.Halt.{Halt}
 use Rattle.py_frames.specs.declared.state.Got.TheVariants.{Returned}

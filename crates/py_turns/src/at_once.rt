@@ -2,20 +2,22 @@
 ghost use Rattle.std.specs.Prelude.{◌≡◌, ◌+◌, ◌<◌, ◌≤◌, OnOk, IfSome, Some, map};
 ghost use Rattle.py_tree.specs.Seen.{tree, link_tree, trailer_of};
 ghost use Rattle.py_tree.specs.Tree.{links, trailers};
-ghost use Rattle.py_values.specs.Heaps.{seen};
+ghost use Rattle.py_heap.specs.Heaps.{seen};
 ghost use Rattle.py_frames.specs.declared.frame.Purpose.TheVariants.{Plain};
 ghost use Rattle.py_frames.specs.Expressions.{value_of};
 ghost use Rattle.py_frames.specs.Frames.{GoesOn, KeepsRoom, within};
 ghost use Rattle.py_frames.specs.Leaves.{at_cost, of_both, joined, item_of, own_attribute, attribute_of, at_once, link_at_once, trailers_at_once};
 
+use py_builtins::{integers_operated, item_at};
 use py_frames::frame::{Frame, Now};
 use py_frames::functions::Functions;
 use py_frames::going::{Going, wait_for};
 use py_frames::leaf::{Priced, operator_of};
 use py_frames::leaf_value::leaf_value;
 use py_frames::state::{Got, Halt};
+use py_heap::Frozen;
 use py_tree::{Expr, ExprKind, Link, Name, Operator, Trailer};
-use py_values::{Frozen, Val, integers_operated};
+use py_values::Val;
 
 // How deep parts stand in one another that are tried.
 const DEPTH: u64 = 4;
@@ -191,7 +193,7 @@ fn item_of(going: &Going, frozen: &Frozen, a: Priced, i: Priced) -> Option<Price
     ensures { IfSome result (λ x. Some x ≡ item_of (seen frozen.now going.now.state.heap) a i) }
 {
     match cost_of_both(a.cost, i.cost) {
-        Some(cost) => at_cost(cost, going.state.heap.item_at(frozen, a.val, i.val)),
+        Some(cost) => at_cost(cost, item_at(&going.state.heap, frozen, a.val, i.val)),
         None => None,
     }
 }

@@ -1,6 +1,6 @@
 // Assignments to attributes and to items, and indices.
 ghost use Rattle.std.specs.Prelude.{◌≡◌, ◌<◌, ◌≤◌, [], OnOk};
-ghost use Rattle.py_values.specs.Objects.{attribute_set};
+ghost use Rattle.py_heap.specs.Objects.{attribute_set};
 ghost use Rattle.py_frames.specs.declared.state.Got.TheVariants.{Next};
 ghost use Rattle.py_frames.specs.Doing.{came, heap_seen, making};
 ghost use Rattle.py_frames.specs.Asking.{request, ask};
@@ -16,7 +16,8 @@ use py_frames::functions::Functions;
 use py_frames::going::{Going, ask};
 use py_frames::request::Act;
 use py_frames::state::Halt;
-use py_values::{Builtin, Frozen, Hw, ObjId, Val};
+use py_heap::Frozen;
+use py_values::{Builtin, Hw, ObjId, Val};
 
 // The store is told an attribute.
 #[tactic(auto, using(py_frames::proofs::StoreLaws::store_asked, py_frames::proofs::BeginLaws::turn_rules))]

@@ -14,7 +14,8 @@ use py_frames::functions::Functions;
 use py_frames::going::{Going, stopped};
 use py_frames::request::{Cause, NamedVals};
 use py_frames::state::{Got, Halt};
-use py_values::{Frozen, Val, ValueStop};
+use py_heap::Frozen;
+use py_values::{Val, ValueStop};
 
 // What the heap refused, as the machine tells it.
 pub fn refused(stop: ValueStop, place: Place) -> Halt

@@ -14,8 +14,9 @@ use py_frames::frame::{Frame, Now, StmtFrame};
 use py_frames::functions::Functions;
 use py_frames::going::{Going, wait_for_step};
 use py_frames::state::{Got, Halt};
+use py_heap::Frozen;
 use py_tree::{Block, Stmt};
-use py_values::{Frozen, Val};
+use py_values::Val;
 
 // The statement of this number, and none past the last.
 #[tactic(auto, using(crate::proofs::BlockLaws::step_rules))]

@@ -5,7 +5,7 @@ ghost use Rattle.py_frames.specs.Doing.{give, stop, making, heap_seen};
 ghost use Rattle.py_frames.specs.Asking.{request, ask};
 ghost use Rattle.py_frames.specs.Calling.{told_done};
 ghost use Rattle.py_frames.specs.Frames.{GoesOn, KeepsRoom, within};
-ghost use Rattle.py_values.specs.Names.{new_func};
+ghost use Rattle.py_heap.specs.Names.{new_func};
 
 use amh_host::{Names, NoMemory, Place};
 use py_frames::frame::{Frame, Now};
@@ -13,7 +13,8 @@ use py_frames::functions::Functions;
 use py_frames::going::{Going, ask, told};
 use py_frames::request::{Act, Cause, Request, Stop};
 use py_frames::state::{Got, Halt};
-use py_values::{Frozen, Func, Val, Vals, ValueStop};
+use py_heap::Frozen;
+use py_values::{Func, Val, Vals, ValueStop};
 use std::alloc::Global;
 
 /// A list of these values.

@@ -1,9 +1,9 @@
 // What a turn does with values, beside operators: names, truth, literals, tuples and dicts.
 ghost use Rattle.std.specs.Prelude.{◌≡◌, [], ◌∷◌, ◌++◌, IfOk, IfErr, OnOk, option_map};
-ghost use Rattle.py_values.specs.Heaps.{seen};
-ghost use Rattle.py_values.specs.Truths.{truth};
-ghost use Rattle.py_values.specs.Names.{scope_bound};
-ghost use Rattle.py_values.specs.Places.{new_text};
+ghost use Rattle.py_heap.specs.Heaps.{seen};
+ghost use Rattle.py_operators.specs.Truths.{truth};
+ghost use Rattle.py_heap.specs.Names.{scope_bound};
+ghost use Rattle.py_heap.specs.Places.{new_text};
 ghost use Rattle.py_frames.specs.Doing.{making, give, heap_seen};
 ghost use Rattle.py_frames.specs.Expressions.{text_literal, dict_made};
 ghost use Rattle.py_frames.specs.Expr_parts.{tuple_made};
@@ -20,8 +20,9 @@ use py_frames::going::{Going, stopped, told};
 use py_frames::leaf::copied;
 use py_frames::request::{Cause, NamedVal};
 use py_frames::state::{ClassBody, Halt};
+use py_heap::Frozen;
 use py_tree::Name;
-use py_values::{Frozen, ScopeId, Val, Vals, ValueStop};
+use py_values::{ScopeId, Val, Vals, ValueStop};
 use std::alloc::Global;
 use std::mem;
 
@@ -29,7 +30,7 @@ use std::mem;
 pub fn truth(going: &Going, frozen: &Frozen, v: Val, place: Place) -> Result<bool, Halt>
     ensures { TellsTruth result (truth (seen frozen.now going.now.state.heap) v) place }
 {
-    match going.state.heap.truth(frozen, v) {
+    match py_operators::truth(&going.state.heap, frozen, v) {
         Some(holds) => Ok(holds),
         None => Err(stopped(Cause::Raised, place)),
     }

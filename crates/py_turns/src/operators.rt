@@ -5,7 +5,7 @@ ghost use Rattle.py_frames.specs.declared.request.Act.TheVariants as act;
 ghost use Rattle.py_frames.specs.Asking.{request};
 ghost use Rattle.py_frames.specs.Doing.{charging, give};
 ghost use Rattle.py_frames.specs.Values.{is_thing, asks_operator, sign_of, operated, turned, built};
-ghost use Rattle.py_values.specs.Operators.{operate};
+ghost use Rattle.py_operators.specs.Operators.{operate};
 ghost use Rattle.py_frames.specs.Frames.{GoesOn};
 
 use amh_host::{Budget, Names, NoMemory, Place};
@@ -14,7 +14,9 @@ use py_frames::functions::Functions;
 use py_frames::going::{Going, ask, told};
 use py_frames::request::{Act, Request};
 use py_frames::state::Halt;
-use py_values::{Builtin, Frozen, PyOp, Val, Vals};
+use py_heap::Frozen;
+use py_operators::operate;
+use py_values::{Builtin, PyOp, Val, Vals};
 use std::alloc::Global;
 
 /// Whether a value is a thing of the store.
@@ -163,7 +165,7 @@ fn operator_made(
     let mut left = Budget {
         left: budget - going.state.used,
     };
-    let given = going.state.heap.operate(frozen, op, a, b, &mut left);
+    let given = operate(&mut going.state.heap, frozen, op, a, b, &mut left);
     going.state.used = used_after(going.state.used, budget, left.left);
     told(given, place)
 }
@@ -244,7 +246,7 @@ pub fn built(
     let mut left = Budget {
         left: budget - going.state.used,
     };
-    let given = going.state.heap.builtin(frozen, builtin, &vals, &mut left);
+    let given = py_builtins::builtin(&mut going.state.heap, frozen, builtin, &vals, &mut left);
     going.state.used = used_after(going.state.used, budget, left.left);
     told(given, place)
 }

@@ -23,8 +23,10 @@ use py_frames::going::{Going, stopped, wait_for};
 use py_frames::leaf::place_of;
 use py_frames::request::Cause;
 use py_frames::state::{Got, Halt};
+use py_heap::Frozen;
+use py_operators::truth;
 use py_tree::{Expr, Stmt, StmtKind};
-use py_values::{Frozen, Val};
+use py_values::Val;
 
 /// What has come at once.
 #[tactic(auto, using(py_frames::proofs::StmtLaws::came_goes))]
@@ -160,7 +162,7 @@ fn assert_tested(
     ensures moves { GoesOn functions.now frozen.now result going.old going.new budget (λ k. asserts k (step_of s.now) x) }
     ensures state { going.new.state ≡ going.old.state }
 {
-    match going.state.heap.truth(frozen, x) {
+    match truth(&going.state.heap, frozen, x) {
         Some(holds) => {
             if holds {
                 return comes(going, functions, frozen, Got::Next, budget);

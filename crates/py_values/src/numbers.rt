@@ -10,14 +10,14 @@ use crate::val::{NumberStop, Val};
 use amh_bits::{Int, TooWide};
 
 /// The number that a boolean is.
-pub(crate) fn bit_number(b: bool) -> Int
+pub fn bit_number(b: bool) -> Int
     ensures { result ≡ bit_number b }
 {
     if b { Int::of_u128(1) } else { Int::of_u128(0) }
 }
 
 /// The number that a value is, where it is one.
-pub(crate) fn number_of(v: Val) -> Option<Int>
+pub fn number_of(v: Val) -> Option<Int>
     ensures { result ≡ number_of v }
 {
     match v {
@@ -37,14 +37,14 @@ pub(crate) fn widened(n: Result<Int, TooWide>) -> Result<Val, NumberStop>
     }
 }
 
-pub(crate) fn is_zero(n: Int) -> bool
+pub fn is_zero(n: Int) -> bool
     ensures { result ≡ is_zero n }
 {
     n.size == 0
 }
 
 // Whether the first is the smaller one.
-pub(crate) fn is_less(a: Int, b: Int) -> bool
+pub fn is_less(a: Int, b: Int) -> bool
     ensures { result ≡ int_lt a b }
 {
     a.less(b)
@@ -71,7 +71,7 @@ fn remainder(a: Int, b: Int) -> Result<Val, NumberStop>
 }
 
 /// An operator on two integers.
-pub(crate) fn calculated(op: PyOp, a: Int, b: Int) -> Result<Val, NumberStop>
+pub fn calculated(op: PyOp, a: Int, b: Int) -> Result<Val, NumberStop>
     ensures { result ≡ calculated op a b }
 {
     match op {
@@ -130,7 +130,7 @@ fn with_bit(op: PyOp, x: bool, b: Val) -> Result<Val, NumberStop>
 }
 
 /// An operator on two values that are to be numbers.
-pub(crate) fn on_numbers(op: PyOp, a: Val, b: Val) -> Result<Val, NumberStop>
+pub fn on_numbers(op: PyOp, a: Val, b: Val) -> Result<Val, NumberStop>
     ensures { result ≡ on_numbers op a b }
 {
     match a {
@@ -144,7 +144,7 @@ pub(crate) fn on_numbers(op: PyOp, a: Val, b: Val) -> Result<Val, NumberStop>
 }
 
 /// An operator on one value that is to be a number.
-pub(crate) fn on_number(op: PyOp, a: Val) -> Result<Val, NumberStop>
+pub fn on_number(op: PyOp, a: Val) -> Result<Val, NumberStop>
     ensures { result ≡ on_number op a }
 {
     match number_of(a) {

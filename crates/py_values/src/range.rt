@@ -8,10 +8,10 @@ use amh_bits::Int;
 
 /// From `start` on by steps of `step`, before `stop`.
 #[derive(Clone, Copy, Drop)]
-pub(crate) struct Span {
-    pub(crate) start: Int,
-    pub(crate) stop: Int,
-    pub(crate) step: Int,
+pub struct Span {
+    pub start: Int,
+    pub stop: Int,
+    pub step: Int,
 }
 
 // The number that stands at a place of a row, and 0 where there is none.
@@ -28,7 +28,7 @@ fn number_at(row: &[Val], i: usize) -> Int
 }
 
 /// The range that a row holds.
-pub(crate) fn span_of(row: &[Val]) -> Span
+pub fn span_of(row: &[Val]) -> Span
     ensures { result ≡ span_of row.now }
 {
     Span {
@@ -39,7 +39,7 @@ pub(crate) fn span_of(row: &[Val]) -> Span
 }
 
 /// Whether one number stands before another on the way of the step.
-pub(crate) fn comes_before(step: Int, n: Int, m: Int) -> bool
+pub fn comes_before(step: Int, n: Int, m: Int) -> bool
     ensures { result ≡ comes_before step n m }
 {
     if step.size == 0 {
@@ -52,14 +52,14 @@ pub(crate) fn comes_before(step: Int, n: Int, m: Int) -> bool
 }
 
 /// Whether a range has no element.
-pub(crate) fn is_empty_range(r: Span) -> bool
+pub fn is_empty_range(r: Span) -> bool
     ensures { result ≡ is_empty_range r }
 {
     !comes_before(r.step, r.start, r.stop)
 }
 
 /// Whether a number is an element of a range.
-pub(crate) fn in_range(r: Span, n: Int) -> bool
+pub fn in_range(r: Span, n: Int) -> bool
     ensures { result ≡ in_range r n }
 {
     comes_before(r.step, n, r.stop)

@@ -70,7 +70,7 @@ pub enum ValueStop {
 
 /// Why an operator on numbers gives none.
 #[derive(Clone, Copy, PartialEq, Eq, Drop)]
-pub(crate) enum NumberStop {
+pub enum NumberStop {
     Raised,
     Width,
 }

@@ -87,7 +87,7 @@ impl Vals {
     }
 
     /// Puts a value in the place of another.
-    pub(crate) fn set(&mut self, i: usize, item: Val)
+    pub fn set(&mut self, i: usize, item: Val)
         requires { i < length self.old }
         ensures { self.new ≡ slice_set self.old i item }
     {
@@ -95,7 +95,7 @@ impl Vals {
     }
 
     /// Puts a value before the one at a place.
-    pub(crate) fn insert(&mut self, i: usize, item: Val) -> Result<(), NoMemory>
+    pub fn insert(&mut self, i: usize, item: Val) -> Result<(), NoMemory>
         requires { i ≤ length self.old }
         ensures ok { OnOk result (self.new ≡ insert self.old i item) }
         ensures err { OnErr result (self.new ≡ self.old) }
@@ -107,7 +107,7 @@ impl Vals {
     }
 
     /// Takes the value at a place out.
-    pub(crate) fn remove(&mut self, i: usize) -> Val
+    pub fn remove(&mut self, i: usize) -> Val
         requires { i < length self.old }
         ensures taken { slice_get self.old i ≡ Some result }
         ensures rest { self.new ≡ remove self.old i }
@@ -116,7 +116,7 @@ impl Vals {
     }
 
     /// The same values from the last to the first.
-    pub(crate) fn reversed(alloc: Global, items: &[Val]) -> Result<Vals, NoMemory>
+    pub fn reversed(alloc: Global, items: &[Val]) -> Result<Vals, NoMemory>
         ensures { IfOk result (λ v. v ≡ reverse items.now) }
     {
         match items.iter().rev().copied().collect(alloc) {

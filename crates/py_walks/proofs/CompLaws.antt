@@ -3,10 +3,10 @@ use Rattle.std.proofs.Common.{◌≡◌, ℕ, suc, ◌+◌, ◌-◌, ◌≤◌, 
 use Rattle.amh_host.specs.declared.place.Place.{Place}
 use Rattle.py_tree.specs.Programs.{steps_of}
 use Rattle.py_tree.specs.Tree.{Tree, Perhaps, absent, present}
-use Rattle.py_values.specs.Heaps.{Made, seen}
-use Rattle.py_values.specs.Truths.{truth}
-use Rattle.py_values.specs.Elements.{element}
-use Rattle.py_values.specs.Members.{is_key}
+use Rattle.py_heap.specs.Heaps.{Made, seen}
+use Rattle.py_operators.specs.Truths.{truth}
+use Rattle.py_operators.specs.Elements.{element}
+use Rattle.py_heap.specs.Members.{is_key}
 use Rattle.py_values.specs.declared.val.Val.{Val}
 use Rattle.py_values.specs.declared.val.ScopeId.{ScopeId}
 use Rattle.py_values.specs.declared.val.ValueStop.{ValueStop}

@@ -1,6 +1,6 @@
 -- How frames of comprehensions and of targets go on with a value, and with what else may come.
 use Rattle.std.proofs.Common.{◌≡◌, ℕ, refl, ◌∙◌, sym, subst, List, false, Some, None, Result, Ok}
-use Rattle.py_values.specs.Heaps.{Made}
+use Rattle.py_heap.specs.Heaps.{Made}
 use Rattle.py_values.specs.declared.val.ScopeId.{ScopeId}
 use Rattle.py_values.specs.declared.val.Val.{Val}
 use Rattle.py_frames.specs.declared.state.Halt.{Halt}

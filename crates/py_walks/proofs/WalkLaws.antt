@@ -3,8 +3,8 @@
 use Rattle.std.proofs.Common.{◌≡◌, ℕ, ◌==◌, ap, sym, subst, List, ◌∷◌, Result, Ok, Err, Bool, true, false, arith}
 use Rattle.amh_host.specs.declared.place.Place.{Place}
 use Rattle.py_tree.specs.Programs.{steps_of}
-use Rattle.py_values.specs.Heaps.{Made, seen}
-use Rattle.py_values.specs.Elements.{elements, counts_to}
+use Rattle.py_heap.specs.Heaps.{Made, seen}
+use Rattle.py_operators.specs.Elements.{elements, counts_to}
 use Rattle.py_values.specs.declared.val.Val.{Val}
 use Rattle.py_values.specs.declared.val.ScopeId.{ScopeId}
 use Rattle.py_values.specs.declared.val.ValueStop.{ValueStop}

@@ -2,7 +2,7 @@
 ghost use Rattle.std.specs.Prelude.{◌≡◌, ◌<◌, ◌≤◌, ◌++◌, [], ◌∷◌, true, Some, OnOk};
 ghost use Rattle.py_tree.specs.Seen.{tree};
 ghost use Rattle.py_tree.specs.Tree.{present};
-ghost use Rattle.py_values.specs.Elements.{element};
+ghost use Rattle.py_operators.specs.Elements.{element};
 ghost use Rattle.py_frames.specs.declared.frame.Frame.TheVariants as frame;
 ghost use Rattle.py_frames.specs.declared.frame.Purpose.TheVariants.{Plain};
 ghost use Rattle.py_frames.specs.declared.frame.WalkFrame.TheVariants as frame_of;
@@ -23,10 +23,11 @@ use py_frames::going::{Going, MOST, new_list, spend, stopped, wait_for};
 use py_frames::leaf::{PartAt, place_of};
 use py_frames::request::Cause;
 use py_frames::state::{Got, Halt};
+use py_heap::Frozen;
 use py_tree::Expr;
 use py_turns::block::leaves;
 use py_turns::expr_values::{new_dict, truth};
-use py_values::{Frozen, ScopeId, Val, Vals};
+use py_values::{ScopeId, Val, Vals};
 
 /// What a comprehension goes over has come.
 #[tactic(auto, using(crate::proofs::CompLaws::row_rules))]

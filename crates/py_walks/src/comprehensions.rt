@@ -1,8 +1,8 @@
 // Comprehensions: their source, and then an element after the other in a scope of their own.
 ghost use Rattle.std.specs.Prelude.{◌≡◌, ◌<◌, ◌≤◌, Some, OnOk};
 ghost use Rattle.py_tree.specs.Seen.{tree};
-ghost use Rattle.py_values.specs.Heaps.{seen};
-ghost use Rattle.py_values.specs.Elements.{element};
+ghost use Rattle.py_heap.specs.Heaps.{seen};
+ghost use Rattle.py_operators.specs.Elements.{element};
 ghost use Rattle.py_frames.specs.Own.{target_names};
 ghost use Rattle.py_frames.specs.Expr_parts.{comp_begun};
 ghost use Rattle.py_frames.specs.Walk_frames.{comp_of, with_comp, walks_on, element_made};
@@ -16,9 +16,11 @@ use py_frames::going::{Going, wait_for};
 use py_frames::leaf::PartAt;
 use py_frames::scopes::seen_from;
 use py_frames::state::{Got, Halt};
+use py_heap::Frozen;
+use py_operators::element;
 use py_tree::Expr;
 use py_turns::attribute_store::as_row;
-use py_values::{Frozen, OwnNames, ScopeId, Val, Vals};
+use py_values::{OwnNames, ScopeId, Val, Vals};
 
 /// Begins a comprehension: its source, which stands outside its scope.
 #[tactic(auto, using(crate::proofs::CompLaws::begin_rules))]
@@ -99,10 +101,7 @@ pub fn enter_scope(going: &mut Going, frozen: &Frozen, targets: &Expr) -> Result
 pub fn element_at(going: &Going, frozen: &Frozen, walk: &Walk) -> Option<Val>
     ensures { result ≡ element (seen frozen.now going.now.state.heap) walk.now.over walk.now.next }
 {
-    going
-        .state
-        .heap
-        .element(frozen, walk.over, walk.next as usize)
+    element(&going.state.heap, frozen, walk.over, walk.next as usize)
 }
 
 // An element's targets have it.

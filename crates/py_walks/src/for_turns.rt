@@ -22,10 +22,11 @@ use py_frames::functions::Functions;
 use py_frames::going::{Going, MOST, spend, stopped};
 use py_frames::request::Cause;
 use py_frames::state::{Got, Halt};
+use py_heap::Frozen;
 use py_tree::{Block, Expr, ExprKind, Name, Stmt, StmtKind};
 use py_turns::block::{leaves, loop_left};
 use py_turns::expr_values::bind;
-use py_values::{Frozen, Val};
+use py_values::Val;
 
 /// The source of a `for` has come: a thing gives its elements first.
 #[tactic(auto, using(crate::proofs::ForLaws::other_rules))]

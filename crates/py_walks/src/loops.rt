@@ -3,7 +3,7 @@ ghost use Rattle.std.specs.Prelude.{◌≡◌, ◌<◌, ◌≤◌, OnOk};
 ghost use Rattle.py_tree.specs.Seen.{tree};
 ghost use Rattle.py_tree.specs.Programs.{step_of, steps_of};
 ghost use Rattle.py_tree.specs.Steps.{For};
-ghost use Rattle.py_values.specs.Heaps.{seen};
+ghost use Rattle.py_heap.specs.Heaps.{seen};
 ghost use Rattle.py_frames.specs.Expressions.{row_size};
 ghost use Rattle.py_frames.specs.Stmt_begun.{run_after};
 ghost use Rattle.py_frames.specs.Stmt_frames.{for_source, for_bound};
@@ -13,10 +13,11 @@ use py_frames::frame::{Frame, Now, StmtFrame, Walk};
 use py_frames::functions::Functions;
 use py_frames::going::{Going, wait_for};
 use py_frames::state::Halt;
+use py_heap::Frozen;
 use py_tree::{Block, Expr, Stmt};
 use py_turns::attribute_store::as_row;
 use py_turns::block::run_block;
-use py_values::{Frozen, Val};
+use py_values::Val;
 
 /// Begins a `for`: its source.
 #[tactic(auto, using(crate::proofs::ForLaws::begin_rules))]

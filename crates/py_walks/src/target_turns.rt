@@ -16,9 +16,10 @@ use py_frames::going::{Going, spend, stopped};
 use py_frames::leaf::{PartAt, following, place_of};
 use py_frames::request::Cause;
 use py_frames::state::{Got, Halt};
+use py_heap::Frozen;
 use py_tree::{Expr, ExprKind};
 use py_turns::block::leaves;
-use py_values::{Frozen, Val, Vals};
+use py_values::{Val, Vals};
 
 /// A value goes to a target.
 #[tactic(auto, using(crate::proofs::TargetLaws::target_rules))]

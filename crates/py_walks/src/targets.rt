@@ -2,8 +2,8 @@
 ghost use Rattle.std.specs.Prelude.{◌≡◌, ◌<◌, ◌≤◌, map, OnOk};
 ghost use Rattle.py_tree.specs.Seen.{tree, trailer_of};
 ghost use Rattle.py_tree.specs.Tree.{Name as Named, Tuple, Trailed, trees, trailers};
-ghost use Rattle.py_values.specs.Heaps.{seen};
-ghost use Rattle.py_values.specs.Elements.{elements, counts_to};
+ghost use Rattle.py_heap.specs.Heaps.{seen};
+ghost use Rattle.py_operators.specs.Elements.{elements, counts_to};
 ghost use Rattle.py_frames.specs.Expressions.{assign, reach};
 ghost use Rattle.py_walks.specs.Walk_parts.{TellsElements};
 ghost use Rattle.py_frames.specs.Frames.{GoesOn};
@@ -15,11 +15,13 @@ use py_frames::going::{Going, spend, stopped, wait_for};
 use py_frames::leaf::{cost_of, is_trailed};
 use py_frames::request::Cause;
 use py_frames::state::{Got, Halt};
+use py_heap::Frozen;
+use py_operators::elements;
 use py_tree::{Expr, ExprKind, Name, Trailer};
 use py_turns::at_once::wait_or_come;
 use py_turns::attribute_store::as_row;
 use py_turns::expr_values::bind;
-use py_values::{Frozen, Val, Vals, ValueStop};
+use py_values::{Val, Vals, ValueStop};
 
 // A name is bound.
 #[tactic(auto, using(crate::proofs::TargetLaws::name_rules))]
@@ -177,14 +179,14 @@ pub fn reach(
 pub fn counts_to(going: &Going, frozen: &Frozen, v: &Val, n: u64) -> bool
     ensures { result ≡ counts_to (seen frozen.now going.now.state.heap) v.now n }
 {
-    going.state.heap.counts_to(frozen, *v, n as usize)
+    py_operators::counts_to(&going.state.heap, frozen, *v, n as usize)
 }
 
 // The elements of a value, or a stop where it has none.
 pub fn elements_of(going: &Going, frozen: &Frozen, v: &Val, place: Place) -> Result<Vals, Halt>
     ensures { TellsElements result (elements (seen frozen.now going.now.state.heap) v.now) place }
 {
-    match going.state.heap.elements(frozen, *v) {
+    match elements(&going.state.heap, frozen, *v) {
         Ok(vals) => Ok(vals),
         Err(ValueStop::Raised) => Err(stopped(Cause::Raised, place)),
         Err(ValueStop::Width) => Err(stopped(Cause::Width, place)),

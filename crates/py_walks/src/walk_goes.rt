@@ -11,9 +11,10 @@ use py_frames::frame::{Now, WalkFrame};
 use py_frames::functions::Functions;
 use py_frames::going::Going;
 use py_frames::state::{Got, Halt};
+use py_heap::Frozen;
 use py_turns::attribute_store::store_index;
 use py_turns::block::value_come;
-use py_values::{Frozen, Val};
+use py_values::Val;
 
 // Whether a frame waits for more than a value.
 fn takes_any(frame: &WalkFrame) -> bool

@@ -3,7 +3,7 @@ ghost use Rattle.std.specs.Prelude.{◌≡◌, ◌++◌, ◌<◌, map, IfOk, OnO
 ghost use Rattle.py_tree.specs.Seen.{tree, each_of, trailer_of};
 ghost use Rattle.py_tree.specs.Tree.{trees, trailers};
 ghost use Rattle.py_tree.specs.Programs.{step_of};
-ghost use Rattle.py_values.specs.Members.{is_key};
+ghost use Rattle.py_heap.specs.Members.{is_key};
 ghost use Rattle.py_frames.specs.Own.{target_names, targets_names};
 ghost use Rattle.py_frames.specs.Parts.{place_of, tree_count, trailers_from};
 ghost use Rattle.py_frames.specs.Expressions.{is_row};
@@ -15,8 +15,9 @@ ghost use Rattle.py_walks.specs.Walk_parts.{behind_walk, item_seen, comp_here, c
 use amh_host::{Names, NoMemory, Place};
 use py_frames::frame::{Comprehended, Walk};
 use py_frames::leaf::{PartAt, following, part, place_of, shared_at};
+use py_heap::is_key;
 use py_tree::{Comprehension, Expr, ExprKind, Pair, Stmt, StmtKind, Trailer};
-use py_values::{Val, Vals, is_key};
+use py_values::{Val, Vals};
 use std::alloc::Global;
 
 /// What a comprehension makes: an element, or a key with its value.

@@ -16,7 +16,7 @@ use Rattle.design_ir.specs.Pools.{Pooled}
 use Rattle.design_ir.specs.PoolRules.{AreExprs, IsExpr}
 use Rattle.design_ir.specs.Named.{AllBelow}
 use Rattle.design_ir.specs.Values.{form, total_width}
-use Rattle.py_values.specs.Changes.{index_place}
+use Rattle.py_heap.specs.Changes.{index_place}
 use Rattle.py_values.specs.Numbers.{number_of}
 use Rattle.py_values.specs.declared.val.Val.{Val}
 use Rattle.amh_things.specs.declared.thing.Thing.{Thing}

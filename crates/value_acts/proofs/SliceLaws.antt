@@ -7,14 +7,14 @@ use Rattle.std.proofs.lemmas.Option.{slice_get-get_or, slice_get_past, slice_get
 use Rattle.std.proofs.lemmas.List.FromFn.{length-range_with_len, get_or-range_with_len}
 use Rattle.amh_bits.specs.Integers.{IsKept}
 use Rattle.py_values.specs.Ranges.{comes_before}
-use Rattle.py_values.specs.Spans.{way, stepped, span_count, span_numbers, numbers_from}
-use Rattle.py_values.specs.Indices.{picked, item_at}
+use Rattle.py_operators.specs.Spans.{way, stepped, span_count, span_numbers, numbers_from}
+use Rattle.py_builtins.specs.Indices.{picked, item_at}
 use Rattle.std.proofs.Math.Nat.{mul-suc}
 use Rattle.std.proofs.lemmas.Int.{ints}
-use Rattle.py_values.proofs.SpanLaws.{below_div_ceil}
-use Rattle.py_values.proofs.StepLaws.{before_counted, counted_before, before_kept}
-use Rattle.py_values.proofs.ElementLaws.{length-numbers_from}
-use Rattle.py_values.proofs.SliceLaws.{picks_start, picks_turn, picks_end}
+use Rattle.py_operators.proofs.SpanLaws.{below_div_ceil}
+use Rattle.py_operators.proofs.StepLaws.{before_counted, counted_before, before_kept}
+use Rattle.py_operators.proofs.ElementLaws.{length-numbers_from}
+use Rattle.py_builtins.proofs.SliceLaws.{picks_start, picks_turn, picks_end}
 use Rattle.value_acts.specs.Indices.{bits_below, bits_between, IsPlace}
 
 pub slice_get-bits : (width n : ℕ) → n < width → slice_get (bits_below width) n ≡ Some n

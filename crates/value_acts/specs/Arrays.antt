@@ -9,14 +9,14 @@ use Rattle.design_ir.specs.declared.ids.ExprId.{ExprId}
 use Rattle.design_ir.specs.declared.expr.Expr.TheVariants.{Pick}
 use Rattle.design_ir.specs.Pools.{Pooled}
 use Rattle.design_ir.specs.Values.{form}
-use Rattle.py_values.specs.Heaps.{Seen}
+use Rattle.py_heap.specs.Heaps.{Seen}
 use Rattle.py_values.specs.declared.val.Val.{Val}
 use Rattle.py_values.specs.declared.val.Val.TheVariants as val
 use Rattle.py_values.specs.declared.val.ValueStop.{ValueStop}
 use Rattle.py_values.specs.declared.val.ValueStop.TheVariants as stop
 use Rattle.py_values.specs.Numbers.{number_of}
-use Rattle.py_values.specs.Elements.{elements}
-use Rattle.py_values.specs.Indices.{item_of}
+use Rattle.py_operators.specs.Elements.{elements}
+use Rattle.py_builtins.specs.Indices.{item_of}
 use Rattle.py_frames.specs.declared.request.Cause.{Cause}
 use Rattle.py_frames.specs.declared.request.Cause.TheVariants.{Raised, Width, Limit}
 use Rattle.amh_things.specs.declared.thing.Thing.{Thing}

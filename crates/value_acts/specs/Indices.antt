@@ -12,9 +12,9 @@ use Rattle.design_ir.specs.Values.{form}
 use Rattle.py_values.specs.declared.val.Val.{Val}
 use Rattle.py_values.specs.declared.val.Val.TheVariants as val
 use Rattle.py_values.specs.Numbers.{number_of}
-use Rattle.py_values.specs.Changes.{index_place}
-use Rattle.py_values.specs.Indices.{part_of, step_of, cut_of, cut_span, picked}
-use Rattle.py_values.specs.Spans.{span_numbers}
+use Rattle.py_heap.specs.Changes.{index_place}
+use Rattle.py_builtins.specs.Indices.{part_of, step_of, cut_of, cut_span, picked}
+use Rattle.py_operators.specs.Spans.{span_numbers}
 use Rattle.py_frames.specs.declared.request.Answer.TheVariants as answer
 use Rattle.py_frames.specs.declared.request.Cause.{Cause}
 use Rattle.py_frames.specs.declared.request.Cause.TheVariants.{Raised}

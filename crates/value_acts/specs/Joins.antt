@@ -4,11 +4,11 @@ use Rattle.std.specs.Prelude.{ℕ, ◌+◌, ◌||◌, nat_lt, Bool, true, false,
 use Rattle.std.specs.List.{flat_map, filter_map, list_any}
 use Rattle.design_ir.specs.declared.expr.Expr.TheVariants.{Cat}
 use Rattle.design_ir.specs.Pools.{Pooled}
-use Rattle.py_values.specs.Heaps.{Seen}
+use Rattle.py_heap.specs.Heaps.{Seen}
 use Rattle.py_values.specs.declared.val.Val.{Val}
 use Rattle.py_values.specs.declared.val.Val.TheVariants as val
 use Rattle.py_values.specs.declared.val.ValueStop.{ValueStop}
-use Rattle.py_values.specs.Elements.{elements}
+use Rattle.py_operators.specs.Elements.{elements}
 use Rattle.py_frames.specs.declared.request.Cause.{Cause}
 use Rattle.py_frames.specs.declared.request.Cause.TheVariants.{Raised, Width, Limit}
 use Rattle.amh_things.specs.declared.thing.Thing.{Thing}

@@ -5,7 +5,7 @@ use Rattle.shape_rules.specs.Forms.{Form}
 use Rattle.design_ir.specs.declared.ids.ExprId.{ExprId}
 use Rattle.design_ir.specs.declared.expr.Expr.TheVariants.{Matches}
 use Rattle.design_ir.specs.declared.expr.Pattern.{Pattern}
-use Rattle.py_values.specs.Heaps.{Seen}
+use Rattle.py_heap.specs.Heaps.{Seen}
 use Rattle.py_frames.specs.declared.request.Cause.{Cause}
 use Rattle.py_frames.specs.declared.request.Cause.TheVariants.{Raised}
 use Rattle.amh_things.specs.declared.thing.Thing.{Thing}

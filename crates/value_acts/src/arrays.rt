@@ -3,10 +3,10 @@ ghost use Rattle.std.specs.Prelude.{◌≡◌, ◌<◌, ◌≤◌, ◌∷◌, �
 ghost use Rattle.std.specs.Option.{option_and_then};
 ghost use Rattle.std.specs.List.{list_any};
 ghost use Rattle.design_ir.specs.Values.{form};
-ghost use Rattle.py_values.specs.Heaps.{seen};
-ghost use Rattle.py_values.specs.Elements.{elements};
-ghost use Rattle.py_values.specs.Changes.{index_place};
-ghost use Rattle.py_values.specs.Indices.{item_of};
+ghost use Rattle.py_heap.specs.Heaps.{seen};
+ghost use Rattle.py_operators.specs.Elements.{elements};
+ghost use Rattle.py_heap.specs.Changes.{index_place};
+ghost use Rattle.py_builtins.specs.Indices.{item_of};
 ghost use Rattle.py_values.specs.Numbers.{number_of};
 ghost use Rattle.value_acts.specs.Arrays.{array_made, array_of, array_called, element_given, common_from, common_form, picked_where, picked, array_indexed};
 ghost use Rattle.shape_rules.specs.Forms.{common};
@@ -27,6 +27,7 @@ use amh_things::thing::Thing;
 use amh_things::values::Values;
 use design_ir::{Expr, ExprId, Exprs};
 use py_frames::request::Cause;
+use py_operators::elements;
 use py_values::{Hw, Val, ValueStop};
 use shape_rules::{Op, Shape, work_of};
 use std::alloc::Global;
@@ -38,7 +39,7 @@ fn array_made(alloc: Global, ends: Ends, shown: &Shown<'_>, v: Val) -> Result<Pl
     ensures things { IfOk result MakesThings }
     ensures planned { IsPlanned result (array_made ends (elements (seen shown.now.frozen.now shown.now.heap.now) v)) }
 {
-    match shown.heap.elements(shown.frozen, v) {
+    match elements(shown.heap, shown.frozen, v) {
         Ok(vals) => ends.thing(alloc, Thing::Array(vals)),
         Err(ValueStop::NoMemory) => Err(PlanStop::NoMemory),
         Err(ValueStop::Limit) => Err(PlanStop::Refused(Cause::Limit)),

@@ -5,7 +5,7 @@ ghost use Rattle.py_values.specs.declared.val.Val.TheVariants as val;
 ghost use Rattle.amh_things.specs.declared.thing.Thing.TheVariants as thing;
 ghost use Rattle.std.specs.Option.{option_and_then};
 ghost use Rattle.design_ir.specs.Values.{form};
-ghost use Rattle.py_values.specs.Changes.{index_place};
+ghost use Rattle.py_heap.specs.Changes.{index_place};
 ghost use Rattle.py_values.specs.Numbers.{number_of};
 ghost use Rattle.value_acts.specs.Indices.{bits_below, bits_between, is_by_one, IsPlace, bit, ids_from, bit_made, cut_made, run_made, bits_made, value_indexed, thing_indexed, indexed, measured, values_made, bits_given, iterated};
 ghost use Rattle.amh_things.specs.Plans.{ends_of, IsPlanned, IsDrafted};

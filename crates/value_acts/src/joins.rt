@@ -1,8 +1,8 @@
 // `Cat(*parts)`: values one above the other.
 ghost use Rattle.std.specs.Prelude.{◌≡◌, ◌+◌, ◌≤◌, ◌<◌, ◌++◌, ◌||◌, ◌^◌, nat_lt, [], length, is_none, None, IfOk, OnOk, MatchOption, false, Some, true, not, IfSome, Ok};
 ghost use Rattle.std.specs.List.{flat_map, list_any, AllByRecursion};
-ghost use Rattle.py_values.specs.Heaps.{seen};
-ghost use Rattle.py_values.specs.Elements.{elements};
+ghost use Rattle.py_heap.specs.Heaps.{seen};
+ghost use Rattle.py_operators.specs.Elements.{elements};
 ghost use Rattle.value_acts.specs.Joins.{is_no_operand, operands_of, bits_of_all, listed, part_values, is_refused, is_long, joined, joined_where, all_joined, cat_called};
 ghost use Rattle.amh_things.specs.Operands.{IsOperand, constants, operand_ids};
 ghost use Rattle.amh_things.specs.Plans.{ends_of, IsPlanned, IsDrafted};
@@ -17,6 +17,7 @@ use amh_things::values::Values;
 use design_ir::{Expr, Exprs, Ids};
 use lists::{Items, NoMemory};
 use py_frames::request::Cause;
+use py_operators::elements;
 use py_values::{Val, Vals, ValueStop};
 use std::alloc::Global;
 
@@ -125,7 +126,7 @@ struct Parts {
 fn put_row(shown: &Shown<'_>, v: Val, all: &mut Vals) -> Result<(), NoMemory>
     ensures { OnOk result (all.new ≡ all.old ++ listed (elements (seen shown.now.frozen.now shown.now.heap.now) v)) }
 {
-    match shown.heap.elements(shown.frozen, v) {
+    match elements(shown.heap, shown.frozen, v) {
         Ok(vals) => all.extend(vals.as_slice()),
         Err(ValueStop::NoMemory) => Err(NoMemory),
         Err(_) => Ok(()),
@@ -137,7 +138,7 @@ fn put_range(shown: &Shown<'_>, v: Val, all: &mut Vals) -> Result<bool, NoMemory
     ensures vals { OnOk result (all.new ≡ all.old ++ listed (elements (seen shown.now.frozen.now shown.now.heap.now) v)) }
     ensures long { IfOk result (λ long. long ≡ is_refused (elements (seen shown.now.frozen.now shown.now.heap.now) v)) }
 {
-    match shown.heap.elements(shown.frozen, v) {
+    match elements(shown.heap, shown.frozen, v) {
         Ok(vals) => match all.extend(vals.as_slice()) {
             Ok(()) => Ok(false),
             Err(_) => Err(NoMemory),

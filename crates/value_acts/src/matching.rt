@@ -1,7 +1,7 @@
 // `v.matches(*patterns)`: whether a pattern matches the bits of a value.
 ghost use Rattle.std.specs.Prelude.{◌≡◌, ◌<◌, length, IfOk};
 ghost use Rattle.design_ir.specs.Values.{form};
-ghost use Rattle.py_values.specs.Heaps.{seen};
+ghost use Rattle.py_heap.specs.Heaps.{seen};
 ghost use Rattle.value_acts.specs.Matching.{matched, matches_called};
 ghost use Rattle.amh_things.specs.Plans.{ends_of, IsPlanned, IsDrafted};
 

@@ -1,7 +1,7 @@
 // Calls of names: shapes, constants and choices.
 ghost use Rattle.std.specs.Prelude.{◌≡◌, ◌≤◌, ◌<◌, length, false, IfOk, IfSome, Ok};
 ghost use Rattle.shape_rules.specs.Forms.{IsForm, common};
-ghost use Rattle.py_values.specs.Heaps.{seen};
+ghost use Rattle.py_heap.specs.Heaps.{seen};
 ghost use Rattle.amh_things.specs.Meant.{number_shape};
 ghost use Rattle.value_acts.specs.Names.{signed_shape, number_in, shape_made, width_of_call, shape_given, counted_in, constant_made, number_constant, constant_called, operand_in, mux_made, mux_where, mux_called, name_called};
 ghost use Rattle.amh_things.specs.Members.{numbering};

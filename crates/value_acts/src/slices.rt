@@ -5,7 +5,7 @@ ghost use Rattle.std.specs.Option.{option_and_then, option_map, unwrap_or};
 ghost use Rattle.std.specs.Int.{int_min, int_max};
 ghost use Rattle.py_values.specs.Numbers.{is_zero};
 ghost use Rattle.py_values.specs.Ranges.{comes_before};
-ghost use Rattle.py_values.specs.Indices.{part_of, step_of, low_place, high_place, part_place, part_or, first_place, last_place, item_at};
+ghost use Rattle.py_builtins.specs.Indices.{part_of, step_of, low_place, high_place, part_place, part_or, first_place, last_place, item_at};
 ghost use Rattle.value_acts.specs.Indices.{bits_below, bits_between, places_of, step_in, IsPlace};
 
 use amh_bits::Int;

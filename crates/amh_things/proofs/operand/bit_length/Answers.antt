@@ -1,6 +1,6 @@
 use Rattle.std.proofs.Common.{◌≡◌, ◌+◌, ◌-◌, ◌^◌, true, false, sym, ◌∙◌, arith}
 use Rattle.std.specs.Prelude.{nat_lt}
-use Rattle.py_values.proofs.ScalarLaws.{first_turn, first_here, first_past}
+use Rattle.py_builtins.proofs.ScalarLaws.{first_turn, first_here, first_past}
 use Rattle.amh_things.proofs.operand.bit_length.Goals as goal
 
 pub returns-then-is_below_power-clause-least : goal.returns-then-is_below_power-clause-least

@@ -1,6 +1,6 @@
 use Rattle.std.proofs.Common.{◌≡◌, ◌-◌, ◌^◌}
 use Rattle.std.specs.Prelude.{nat_lt}
-use Rattle.py_values.specs.Scalars.{first_from}
+use Rattle.py_builtins.specs.Scalars.{first_from}
 use Rattle.amh_things.proofs.operand.bit_length.Given as goal
 
 abbrev pub invariant-loop-k : goal.invariant-loop-k

@@ -1,6 +1,6 @@
 use Rattle.std.proofs.Common.{◌≡◌, ◌++◌, drop}
 use Rattle.std.specs.List.{flat_map, list_all}
-use Rattle.py_values.specs.Heaps.{seen}
+use Rattle.py_heap.specs.Heaps.{seen}
 use Rattle.amh_things.specs.Patterns.{is_pattern, patterns_of, AreWithin}
 use Rattle.amh_things.proofs.patterns.patterns_meant.Given as goal
 

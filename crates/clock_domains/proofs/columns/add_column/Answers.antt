@@ -1,9 +1,9 @@
 use Rattle.std.proofs.Common.{◌≡◌, ◌∙◌, ◌++◌, ◌∷◌, [], ℕ, List, false, is_some, sym, ap, subst}
 use Rattle.std.specs.BTreeMap.{get_by_text}
 use Rattle.design_ir.specs.declared.port.Column.{Column}
+use Rattle.fragment_walks.proofs.Lists.{map-push}
 use Rattle.clock_domains.specs.Resolved.{has_name}
 use Rattle.clock_domains.specs.Tracked.{names_of, IsPut, Tracks}
-use Rattle.clock_domains.proofs.Lists.{map-push}
 use Rattle.clock_domains.proofs.NameLaws.{fresh_new, tracks_new}
 use Rattle.clock_domains.proofs.columns.add_column.Goals as goal
 

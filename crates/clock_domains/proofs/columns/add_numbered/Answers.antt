@@ -3,9 +3,9 @@ use Rattle.std.specs.Prelude.{string_bytes, bytes_eq, Some}
 use Rattle.std.specs.BTreeMap.{get_by_text}
 use Rattle.std.proofs.lemmas.Map.Text.{btree_map_updates_text}
 use Rattle.design_ir.specs.declared.port.Column.{Column}
+use Rattle.fragment_walks.proofs.Lists.{map-push}
 use Rattle.clock_domains.specs.Resolved.{has_name, numbered_name}
 use Rattle.clock_domains.specs.Tracked.{names_of, IsPut, Tracks}
-use Rattle.clock_domains.proofs.Lists.{map-push}
 use Rattle.clock_domains.proofs.NameLaws.{fresh_is, tracks_numbered}
 use Rattle.clock_domains.proofs.columns.add_numbered.Goals as goal
 

@@ -1,8 +1,8 @@
 use Rattle.std.proofs.Common.{◌≡◌, ◌∙◌, ◌++◌, ◌∷◌, [], ℕ, List, length, take, Some, slice_get, refl, sym, ap}
 use Rattle.std.proofs.lemmas.Option.{slice_get_read}
+use Rattle.fragment_walks.proofs.Lists.{take-push}
 use Rattle.clock_domains.specs.Resolved.{columns_after, fresh_name}
 use Rattle.clock_domains.specs.Tracked.{names_of}
-use Rattle.clock_domains.proofs.Lists.{take-push}
 use Rattle.clock_domains.proofs.NameLaws.{column_turn}
 use Rattle.clock_domains.proofs.columns.add_registers.Goals as goal
 

@@ -2,9 +2,9 @@ use Rattle.std.proofs.Common.{◌≡◌, ◌∙◌, ◌+◌, ℕ, true, List, le
 use Rattle.std.specs.BTreeMap.{get_by_text}
 use Rattle.std.proofs.lemmas.Bool.{cases_lt}
 use Rattle.design_ir.specs.declared.port.Column.{Column}
+use Rattle.fragment_walks.proofs.Lists.{length_map}
 use Rattle.clock_domains.specs.Resolved.{has_name, numbered_name}
 use Rattle.clock_domains.specs.Tracked.{names_of}
-use Rattle.clock_domains.proofs.Lists.{length_map}
 use Rattle.clock_domains.proofs.NameLaws.{last_below}
 use Rattle.clock_domains.proofs.columns.free_number.Goals as goal
 

@@ -1,8 +1,9 @@
 use Rattle.std.proofs.Common.{◌≡◌, ◌&&◌, not, map, is_some}
 use Rattle.std.specs.List.{filter, range_with_len}
 use Rattle.design_ir.specs.declared.ids.SigId.{SigId}
-use Rattle.clock_domains.specs.Marks.{is_marked}
-use Rattle.clock_domains.specs.Firsts.{first_at, path_at}
+use Rattle.fragment_walks.specs.Marks.{is_marked}
+use Rattle.fragment_walks.specs.Numbers.{first_at}
+use Rattle.clock_domains.specs.Firsts.{path_at}
 use Rattle.clock_domains.specs.Resolved.{has_width}
 use Rattle.clock_domains.proofs.columns.named_registers.Given as goal
 

@@ -3,10 +3,10 @@ use Rattle.std.specs.List.{flat_map}
 use Rattle.std.proofs.lemmas.List.{length-replicate}
 use Rattle.design_ir.specs.declared.process.Process.{Process}
 use Rattle.design_ir.specs.Targets.{target_signals}
-use Rattle.clock_domains.specs.Marks.{marked, comes_out}
-use Rattle.clock_domains.specs.Numbers.{process_targets}
-use Rattle.clock_domains.specs.Reads.{block_values, is_driven}
-use Rattle.clock_domains.proofs.Markings.{length_marked}
+use Rattle.fragment_walks.specs.Marks.{marked, comes_out}
+use Rattle.fragment_walks.specs.Numbers.{process_targets}
+use Rattle.fragment_walks.specs.Reads.{block_values, is_driven}
+use Rattle.fragment_walks.proofs.Markings.{length_marked}
 use Rattle.clock_domains.proofs.DriverLaws.{driven_spread}
 use Rattle.clock_domains.proofs.drivers.driven_by.Goals as goal
 

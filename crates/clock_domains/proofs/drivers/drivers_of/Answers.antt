@@ -1,8 +1,8 @@
 use Rattle.std.proofs.Common.{◌∙◌, ℕ, List, Err, IfErr, sym, ap, subst}
 use Rattle.std.proofs.lemmas.Result.{err_from_is_err_and}
 use Rattle.design_ir.specs.Circuits.{is_among}
-use Rattle.clock_domains.specs.Marks.{Flag}
-use Rattle.clock_domains.specs.Reads.{data_signals}
+use Rattle.fragment_walks.specs.Marks.{Flag}
+use Rattle.fragment_walks.specs.Reads.{data_signals}
 use Rattle.clock_domains.specs.Resolved.{data_refusal, driver_refusal, first_of}
 use Rattle.clock_domains.specs.Stops.{IsOwed}
 use Rattle.clock_domains.proofs.drivers.drivers_of.Goals as goal

@@ -2,8 +2,8 @@ use Rattle.std.proofs.Common.{◌≡◌, length, Some, slice_get, refl, sym, sub
 use Rattle.std.proofs.lemmas.Option.{slice_get_read}
 use Rattle.design_ir.specs.Named.{AllBelow}
 use Rattle.design_ir.specs.Guards.{block_exprs}
+use Rattle.fragment_walks.proofs.Lists.{all_at}
 use Rattle.clock_domains.specs.Resolvable.{IsSideOf}
-use Rattle.clock_domains.proofs.Lists.{all_at}
 use Rattle.clock_domains.proofs.DriverLaws.{plain_below}
 use Rattle.clock_domains.proofs.drivers.first_stop.Goals as goal
 

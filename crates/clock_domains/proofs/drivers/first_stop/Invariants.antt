@@ -1,5 +1,5 @@
 use Rattle.std.proofs.Common.{◌≡◌, ◌+◌, drop}
-use Rattle.clock_domains.specs.Numbers.{bounded}
+use Rattle.fragment_walks.specs.Numbers.{bounded}
 use Rattle.clock_domains.specs.Stops.{processes_stop, target_stop}
 use Rattle.clock_domains.proofs.drivers.first_stop.Given as goal
 

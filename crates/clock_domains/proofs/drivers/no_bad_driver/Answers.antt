@@ -5,13 +5,13 @@ use Rattle.design_ir.specs.Pools.{Pooled}
 use Rattle.design_ir.specs.PoolRules.{IsPool}
 use Rattle.design_ir.specs.Targets.{target_signals}
 use Rattle.design_ir.specs.Circuits.{is_among}
+use Rattle.fragment_walks.specs.Marks.{Flag, is_marked}
+use Rattle.fragment_walks.specs.Numbers.{bounded, is_below}
+use Rattle.fragment_walks.specs.Reads.{is_driven}
+use Rattle.fragment_walks.proofs.Lists.{length_map}
 use Rattle.clock_domains.specs.declared.stop.ResolveStop.{ResolveStop}
-use Rattle.clock_domains.specs.Marks.{Flag, is_marked}
-use Rattle.clock_domains.specs.Numbers.{bounded, is_below}
-use Rattle.clock_domains.specs.Reads.{is_driven}
 use Rattle.clock_domains.specs.Resolved.{driver_refusal}
 use Rattle.clock_domains.specs.Stops.{processes_stop, target_stop}
-use Rattle.clock_domains.proofs.Lists.{length_map}
 use Rattle.clock_domains.proofs.DriverLaws.{owed_itself, refusal_same}
 use Rattle.clock_domains.proofs.drivers.no_bad_driver.Goals as goal
 

@@ -1,12 +1,14 @@
 use Rattle.std.proofs.Common.{◌∙◌, ℕ, Option, None, length, take, sym, ap}
 use Rattle.std.specs.List.{filter}
 use Rattle.std.proofs.lemmas.List.{length-replicate}
-use Rattle.clock_domains.specs.Firsts.{first_at, first_clocked}
+use Rattle.fragment_walks.specs.Numbers.{first_at}
+use Rattle.fragment_walks.proofs.Lists.{all_filtered, all_taken}
+use Rattle.fragment_walks.proofs.NumberLaws.{below_same, bounded_at}
+use Rattle.clock_domains.specs.Firsts.{first_clocked}
 use Rattle.clock_domains.specs.Resolvable.{IsSideOf}
 use Rattle.clock_domains.specs.Resolved.{is_clocked}
-use Rattle.clock_domains.proofs.Lists.{all_filtered, all_taken}
 use Rattle.clock_domains.proofs.DriverLaws.{first_known}
-use Rattle.clock_domains.proofs.NumberLaws.{below_first, below_same, bounded_at}
+use Rattle.clock_domains.proofs.ProcessNumbers.{below_first}
 use Rattle.clock_domains.proofs.firsts.first_clocked.Goals as goal
 
 pub number_clocked-requires-clause-size : goal.number_clocked-requires-clause-size

@@ -1,12 +1,12 @@
 use Rattle.std.proofs.Common.{◌∙◌, ◌+◌, ◌||◌, ℕ, Option, None, length, take, sym, ap}
 use Rattle.std.proofs.lemmas.List.{length-replicate}
-use Rattle.clock_domains.specs.Firsts.{first_at}
-use Rattle.clock_domains.specs.Marks.{is_marked}
-use Rattle.clock_domains.specs.Numbers.{is_below}
+use Rattle.fragment_walks.specs.Marks.{is_marked}
+use Rattle.fragment_walks.specs.Numbers.{is_below, first_at}
+use Rattle.fragment_walks.proofs.Lists.{all_taken, length_map}
+use Rattle.fragment_walks.proofs.NumberLaws.{bounded_at}
 use Rattle.clock_domains.specs.Resolvable.{IsSideOf}
-use Rattle.clock_domains.proofs.Lists.{all_taken, length_map}
 use Rattle.clock_domains.proofs.DriverLaws.{first_known}
-use Rattle.clock_domains.proofs.NumberLaws.{bounded_at, given_below}
+use Rattle.clock_domains.proofs.ProcessNumbers.{given_below}
 use Rattle.clock_domains.proofs.firsts.first_drivers.Goals as goal
 
 pub number_targets-requires-clause-size : goal.number_targets-requires-clause-size

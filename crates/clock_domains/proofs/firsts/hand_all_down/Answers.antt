@@ -1,8 +1,8 @@
 use Rattle.std.proofs.Common.{◌≡◌, ◌∙◌, ◌+◌, ◌-◌, length, sym, ap, arith}
 use Rattle.design_ir.specs.Targets.{target_signals}
-use Rattle.clock_domains.specs.Marks.{is_marked, comes_out}
-use Rattle.clock_domains.specs.Numbers.{bounded}
-use Rattle.clock_domains.proofs.Lists.{or_false}
+use Rattle.fragment_walks.specs.Marks.{is_marked, comes_out}
+use Rattle.fragment_walks.specs.Numbers.{bounded}
+use Rattle.fragment_walks.proofs.Lists.{or_false}
 use Rattle.clock_domains.proofs.firsts.hand_all_down.Goals as goal
 
 pub loop-i-preserved : goal.loop-i-preserved

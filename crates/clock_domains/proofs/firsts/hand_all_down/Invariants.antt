@@ -1,7 +1,7 @@
 use Rattle.std.proofs.Common.{◌≡◌, ℕ, ◌<◌, ◌-◌, length}
 use Rattle.design_ir.specs.Targets.{target_signals}
-use Rattle.clock_domains.specs.Marks.{comes_out}
-use Rattle.clock_domains.specs.Numbers.{bounded}
+use Rattle.fragment_walks.specs.Marks.{comes_out}
+use Rattle.fragment_walks.specs.Numbers.{bounded}
 use Rattle.clock_domains.proofs.firsts.hand_all_down.Given as goal
 
 abbrev pub invariant-loop-i : goal.invariant-loop-i

@@ -1,13 +1,12 @@
 use Rattle.std.proofs.Common.{◌≡◌, ◌∙◌, ◌<◌, None, Some, length, slice_get, refl, ap, arith}
 use Rattle.std.proofs.lemmas.Option.{slice_get_read, get_or_from_slice_get}
 use Rattle.design_ir.specs.Targets.{target_signals}
-use Rattle.clock_domains.specs.Firsts.{first_at}
-use Rattle.clock_domains.specs.Marks.{numbers, target_parts, comes_out}
-use Rattle.clock_domains.specs.Numbers.{bounded, lowered}
-use Rattle.clock_domains.specs.Reads.{own_signals}
-use Rattle.clock_domains.proofs.Lists.{all_index}
-use Rattle.clock_domains.proofs.NumberLaws.{down_no, down_yes, length_lowered}
-use Rattle.clock_domains.proofs.Outs.{own_inside, names_inside, parts_there, signals_lead}
+use Rattle.fragment_walks.specs.Marks.{numbers, target_parts, comes_out}
+use Rattle.fragment_walks.specs.Numbers.{bounded, lowered, first_at}
+use Rattle.fragment_walks.specs.Reads.{own_signals}
+use Rattle.fragment_walks.proofs.Lists.{all_index}
+use Rattle.fragment_walks.proofs.NumberLaws.{down_no, down_yes, length_lowered}
+use Rattle.fragment_walks.proofs.Outs.{own_inside, names_inside, parts_there, signals_lead}
 use Rattle.clock_domains.proofs.firsts.hand_down.Goals as goal
 
 pub lower_parts-requires-clause-targets : goal.lower_parts-requires-clause-targets

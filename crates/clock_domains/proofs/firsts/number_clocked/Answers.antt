@@ -5,13 +5,14 @@ use Rattle.std.proofs.lemmas.Option.{slice_get_read}
 use Rattle.design_ir.specs.declared.process.Process.{Process}
 use Rattle.design_ir.specs.Named.{AllBelow}
 use Rattle.design_ir.specs.Guards.{block_exprs}
-use Rattle.clock_domains.specs.Marks.{marked}
-use Rattle.clock_domains.specs.Numbers.{bounded, process_targets}
+use Rattle.fragment_walks.specs.Marks.{marked}
+use Rattle.fragment_walks.specs.Numbers.{bounded, process_targets}
+use Rattle.fragment_walks.proofs.Lists.{all_at, take_end}
+use Rattle.fragment_walks.proofs.NumberLaws.{length_lowered}
 use Rattle.clock_domains.specs.Resolvable.{IsSideOf}
 use Rattle.clock_domains.specs.Resolved.{is_clocked}
-use Rattle.clock_domains.proofs.Lists.{all_at, take_end}
 use Rattle.clock_domains.proofs.DriverLaws.{plain_below}
-use Rattle.clock_domains.proofs.NumberLaws.{length_lowered, numbered_turn}
+use Rattle.clock_domains.proofs.ProcessNumbers.{numbered_turn}
 use Rattle.clock_domains.proofs.firsts.number_clocked.Goals as goal
 
 pub lower_clocked-requires : goal.lower_clocked-requires

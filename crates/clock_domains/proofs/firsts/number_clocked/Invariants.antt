@@ -1,7 +1,7 @@
 use Rattle.std.proofs.Common.{◌≡◌, ℕ, length, take}
 use Rattle.std.specs.List.{filter}
-use Rattle.clock_domains.specs.Marks.{marked}
-use Rattle.clock_domains.specs.Numbers.{bounded, process_targets}
+use Rattle.fragment_walks.specs.Marks.{marked}
+use Rattle.fragment_walks.specs.Numbers.{bounded, process_targets}
 use Rattle.clock_domains.specs.Resolved.{is_clocked}
 use Rattle.clock_domains.proofs.firsts.number_clocked.Given as goal
 

@@ -1,6 +1,6 @@
 use Rattle.std.proofs.Common.{◌≡◌, ◌+◌, ℕ, length, take}
-use Rattle.clock_domains.specs.Marks.{marked}
-use Rattle.clock_domains.specs.Numbers.{bounded, process_targets}
+use Rattle.fragment_walks.specs.Marks.{marked}
+use Rattle.fragment_walks.specs.Numbers.{bounded, process_targets}
 use Rattle.clock_domains.proofs.firsts.number_targets.Given as goal
 
 abbrev pub invariant-loop-number : goal.invariant-loop-number

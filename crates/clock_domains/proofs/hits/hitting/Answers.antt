@@ -5,10 +5,10 @@ use Rattle.design_ir.specs.declared.expr.Expr.{Expr}
 use Rattle.design_ir.specs.Pools.{answers}
 use Rattle.design_ir.proofs.Answers.{turn}
 use Rattle.design_ir.proofs.Equations.{standing}
-use Rattle.clock_domains.specs.Marks.{is_marked, hit_step}
-use Rattle.clock_domains.specs.Reads.{own_signals}
-use Rattle.clock_domains.proofs.Lists.{all_index, below_wider}
-use Rattle.clock_domains.proofs.Outs.{own_inside, hits_is}
+use Rattle.fragment_walks.specs.Marks.{is_marked, hit_step}
+use Rattle.fragment_walks.specs.Reads.{own_signals}
+use Rattle.fragment_walks.proofs.Lists.{all_index, below_wider}
+use Rattle.fragment_walks.proofs.Outs.{own_inside, hits_is}
 use Rattle.clock_domains.proofs.hits.hitting.Goals as goal
 
 pub is_hit-hit-requires-clause-names : goal.is_hit-hit-requires-clause-names

@@ -1,6 +1,6 @@
 use Rattle.std.proofs.Common.{◌≡◌, false, [], drop, vec_len}
 use Rattle.design_ir.specs.Pools.{answers}
-use Rattle.clock_domains.specs.Marks.{is_marked, hit_step}
+use Rattle.fragment_walks.specs.Marks.{is_marked, hit_step}
 use Rattle.clock_domains.proofs.hits.hitting.Given as goal
 
 abbrev pub invariant-loop-k : goal.invariant-loop-k

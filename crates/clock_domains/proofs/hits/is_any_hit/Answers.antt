@@ -1,5 +1,5 @@
 use Rattle.std.proofs.Common.{length, arith}
-use Rattle.clock_domains.proofs.Lists.{below_at}
+use Rattle.fragment_walks.proofs.Lists.{below_at}
 use Rattle.clock_domains.proofs.hits.is_any_hit.Goals as goal
 
 pub bounds-hits-e : goal.bounds-hits-e

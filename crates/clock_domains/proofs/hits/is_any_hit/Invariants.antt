@@ -1,7 +1,7 @@
 use Rattle.std.proofs.Common.{◌≡◌, false, take}
 use Rattle.std.specs.List.{list_any}
 use Rattle.design_ir.specs.declared.ids.ExprId.{ExprId}
-use Rattle.clock_domains.specs.Marks.{is_marked}
+use Rattle.fragment_walks.specs.Marks.{is_marked}
 use Rattle.clock_domains.proofs.hits.is_any_hit.Given as goal
 
 abbrev pub invariant-loop-e : goal.invariant-loop-e

@@ -2,11 +2,10 @@ use Rattle.std.proofs.Common.{◌≡◌, ◌∙◌, ◌∷◌, [], ◌||◌, Boo
 use Rattle.std.specs.List.{list_any}
 use Rattle.std.proofs.lemmas.Option.{slice_get-get_or}
 use Rattle.design_ir.specs.declared.ids.ExprId.{ExprId}
-use Rattle.clock_domains.specs.Firsts.{first_at}
-use Rattle.clock_domains.specs.Marks.{is_marked}
-use Rattle.clock_domains.specs.Numbers.{bounded, is_below}
-use Rattle.clock_domains.proofs.Lists.{any-append, below_at, or_false, take-push}
-use Rattle.clock_domains.proofs.NumberLaws.{below_lesser, bounded_at}
+use Rattle.fragment_walks.specs.Marks.{is_marked}
+use Rattle.fragment_walks.specs.Numbers.{bounded, is_below, first_at}
+use Rattle.fragment_walks.proofs.Lists.{any-append, below_at, or_false, take-push}
+use Rattle.fragment_walks.proofs.NumberLaws.{below_lesser, bounded_at}
 use Rattle.clock_domains.proofs.leasts.least_of.Goals as goal
 
 pub bounds-leasts-e : goal.bounds-leasts-e

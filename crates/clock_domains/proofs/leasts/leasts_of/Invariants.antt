@@ -1,7 +1,7 @@
 use Rattle.std.proofs.Common.{◌≡◌, ℕ, false, [], drop, vec_len}
 use Rattle.design_ir.specs.Pools.{answers}
-use Rattle.clock_domains.specs.Marks.{is_marked, hit_step}
-use Rattle.clock_domains.specs.Numbers.{bounded}
+use Rattle.fragment_walks.specs.Marks.{is_marked, hit_step}
+use Rattle.fragment_walks.specs.Numbers.{bounded}
 use Rattle.clock_domains.proofs.leasts.leasts_of.Given as goal
 
 abbrev pub invariant-loop-k : goal.invariant-loop-k

@@ -1,7 +1,7 @@
 use Rattle.std.proofs.Common.{◌≡◌, ◌∙◌, ◌<◌, ◌+◌, true, false, length, is_some, sym, ap, arith}
 use Rattle.std.specs.BTreeMap.{get_by_text}
-use Rattle.clock_domains.specs.Held.{held_resets, is_within}
-use Rattle.clock_domains.specs.Holders.{all_roots}
+use Rattle.fragment_walks.specs.Held.{held_resets, is_within}
+use Rattle.fragment_walks.specs.Holders.{all_roots}
 use Rattle.clock_domains.specs.Resolved.{reset_refusal}
 use Rattle.clock_domains.proofs.PlacingLaws.{calls_all, calls_to, held_is, refusal_held, refusal_other, refusal_told, stop_owed}
 use Rattle.clock_domains.proofs.placing.no_missing_reset.Goals as goal

@@ -1,5 +1,5 @@
 use Rattle.std.proofs.Common.{◌≡◌, None}
-use Rattle.clock_domains.specs.Holders.{all_roots}
+use Rattle.fragment_walks.specs.Holders.{all_roots}
 use Rattle.clock_domains.specs.Resolved.{reset_refusal}
 use Rattle.clock_domains.proofs.PlacingLaws.{calls_to}
 use Rattle.clock_domains.proofs.placing.no_missing_reset.Given as goal

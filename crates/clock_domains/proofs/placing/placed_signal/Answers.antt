@@ -3,7 +3,7 @@ use Rattle.std.proofs.lemmas.Option.{get_or_from_slice_get, slice_get_read}
 use Rattle.std.proofs.lemmas.List.Quantifiers.{position-Some}
 use Rattle.lists.specs.Texts.{text_eq}
 use Rattle.design_ir.specs.declared.domain.Domain.{Domain}
-use Rattle.clock_domains.specs.Firsts.{first_at}
+use Rattle.fragment_walks.specs.Numbers.{first_at}
 use Rattle.clock_domains.proofs.PlacingLaws.{reset_found, reset_nowhere, signal_is}
 use Rattle.clock_domains.proofs.placing.placed_signal.Goals as goal
 

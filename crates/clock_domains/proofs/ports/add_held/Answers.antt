@@ -3,9 +3,9 @@ use Rattle.std.proofs.lemmas.Option.{slice_get_read}
 use Rattle.std.proofs.lemmas.Option.{get_or_from_slice_get}
 use Rattle.std.specs.List.{filter}
 use Rattle.design_ir.specs.declared.port.Port.{Port}
-use Rattle.clock_domains.specs.Marks.{is_marked}
+use Rattle.fragment_walks.specs.Marks.{is_marked}
+use Rattle.fragment_walks.proofs.Lists.{all_at}
 use Rattle.clock_domains.specs.Chosen.{AreThere, is_new, held_port}
-use Rattle.clock_domains.proofs.Lists.{all_at}
 use Rattle.clock_domains.proofs.PortLaws.{held_turn}
 use Rattle.clock_domains.proofs.ports.add_held.Goals as goal
 

@@ -1,6 +1,6 @@
 use Rattle.std.proofs.Common.{◌≡◌, ◌++◌, map, take}
 use Rattle.std.specs.List.{filter}
-use Rattle.clock_domains.specs.Marks.{is_marked}
+use Rattle.fragment_walks.specs.Marks.{is_marked}
 use Rattle.clock_domains.specs.Chosen.{is_new, held_port}
 use Rattle.clock_domains.proofs.ports.add_held.Given as goal
 

@@ -1,4 +1,4 @@
-use Rattle.clock_domains.specs.Marks.{is_marked}
+use Rattle.fragment_walks.specs.Marks.{is_marked}
 use Rattle.clock_domains.specs.Chosen.{is_new, known_port}
 use Rattle.clock_domains.proofs.PortLaws.{loose_turn}
 use Rattle.clock_domains.proofs.ports.add_loose.Goals as goal

@@ -1,6 +1,6 @@
 use Rattle.std.proofs.Common.{◌≡◌, ◌++◌}
 use Rattle.std.specs.List.{filter, filter_map, range_with_len}
-use Rattle.clock_domains.specs.Marks.{is_marked}
+use Rattle.fragment_walks.specs.Marks.{is_marked}
 use Rattle.clock_domains.specs.Chosen.{is_new, known_port}
 use Rattle.clock_domains.proofs.ports.add_loose.Given as goal
 

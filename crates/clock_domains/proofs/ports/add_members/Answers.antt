@@ -1,8 +1,8 @@
 use Rattle.std.proofs.Common.{◌≡◌, length, Some, slice_get, refl}
 use Rattle.std.proofs.lemmas.Option.{slice_get_read}
-use Rattle.clock_domains.specs.Marks.{is_marked}
+use Rattle.fragment_walks.specs.Marks.{is_marked}
+use Rattle.fragment_walks.proofs.Lists.{all_at}
 use Rattle.clock_domains.specs.Chosen.{AreThere, is_new}
-use Rattle.clock_domains.proofs.Lists.{all_at}
 use Rattle.clock_domains.proofs.PortLaws.{members_turn}
 use Rattle.clock_domains.proofs.ports.add_members.Goals as goal
 

@@ -1,5 +1,5 @@
 use Rattle.std.proofs.Common.{◌≡◌, take}
-use Rattle.clock_domains.specs.Marks.{is_marked}
+use Rattle.fragment_walks.specs.Marks.{is_marked}
 use Rattle.clock_domains.specs.Resolved.{domain_ports}
 use Rattle.clock_domains.proofs.ports.domain_ports.Given as goal
 

@@ -1,8 +1,8 @@
 use Rattle.std.proofs.Common.{◌≡◌, ◌<◌, length, take, Some, slice_get, refl, ap, arith}
 use Rattle.std.proofs.lemmas.Option.{slice_get_read}
 use Rattle.design_ir.specs.declared.domain.Domain.{Domain}
-use Rattle.clock_domains.proofs.Lists.{all_at}
-use Rattle.clock_domains.proofs.Markings.{length_marked}
+use Rattle.fragment_walks.proofs.Lists.{all_at}
+use Rattle.fragment_walks.proofs.Markings.{length_marked}
 use Rattle.clock_domains.proofs.PortLaws.{clocks_of, clocks_turn}
 use Rattle.clock_domains.proofs.ports.mark_clocks.Goals as goal
 

@@ -1,7 +1,7 @@
 use Rattle.std.proofs.Common.{◌<◌, ◌++◌, ◌∙◌, length, ap}
+use Rattle.fragment_walks.proofs.Lists.{all_joined}
+use Rattle.fragment_walks.proofs.Markings.{length_marked}
 use Rattle.clock_domains.specs.Resolvable.{top_inputs}
-use Rattle.clock_domains.proofs.Lists.{all_joined}
-use Rattle.clock_domains.proofs.Markings.{length_marked}
 use Rattle.clock_domains.proofs.PortLaws.{clocks_low, clocks_of, inputs_low, marking_both, marking_flag, small_clocks}
 use Rattle.clock_domains.proofs.ports.mark_design_inputs.Goals as goal
 

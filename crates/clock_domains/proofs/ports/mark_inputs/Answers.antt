@@ -2,9 +2,9 @@ use Rattle.std.proofs.Common.{◌≡◌, ◌<◌, ℕ, List, length, take, Some,
 use Rattle.std.proofs.lemmas.Option.{slice_get_read}
 use Rattle.std.specs.List.{filter}
 use Rattle.design_ir.specs.declared.port.Port.{Port}
+use Rattle.fragment_walks.proofs.Lists.{all_at}
+use Rattle.fragment_walks.proofs.Markings.{length_marked}
 use Rattle.clock_domains.specs.Resolved.{signals_of}
-use Rattle.clock_domains.proofs.Lists.{all_at}
-use Rattle.clock_domains.proofs.Markings.{length_marked}
 use Rattle.clock_domains.proofs.PortLaws.{inputs_turn}
 use Rattle.clock_domains.proofs.ports.mark_inputs.Goals as goal
 

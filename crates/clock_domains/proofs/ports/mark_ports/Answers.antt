@@ -1,9 +1,9 @@
 use Rattle.std.proofs.Common.{◌≡◌, ◌<◌, ℕ, List, length, take, Some, slice_get, refl, ap, subst, arith}
 use Rattle.std.proofs.lemmas.Option.{slice_get_read}
 use Rattle.design_ir.specs.declared.port.Port.{Port}
+use Rattle.fragment_walks.proofs.Lists.{all_at, take_end}
+use Rattle.fragment_walks.proofs.Markings.{length_marked}
 use Rattle.clock_domains.specs.Resolved.{signals_of}
-use Rattle.clock_domains.proofs.Lists.{all_at, take_end}
-use Rattle.clock_domains.proofs.Markings.{length_marked}
 use Rattle.clock_domains.proofs.PortLaws.{IsMarking, marking_flag, small_signals, ports_turn}
 use Rattle.clock_domains.proofs.ports.mark_ports.Goals as goal
 

@@ -2,11 +2,11 @@ use Rattle.std.proofs.Common.{◌≡◌, ◌∙◌, ◌<◌, ◌++◌, Bool, Lis
 use Rattle.std.specs.List.{AllByRecursion, filter}
 use Rattle.design_ir.specs.declared.port.Port.{Port}
 use Rattle.design_ir.specs.Circuits.{is_among}
-use Rattle.clock_domains.specs.Marks.{Flag, is_marked}
-use Rattle.clock_domains.specs.Reads.{is_given, is_read}
+use Rattle.fragment_walks.specs.Marks.{Flag, is_marked}
+use Rattle.fragment_walks.specs.Reads.{is_given, is_read}
+use Rattle.fragment_walks.proofs.Lists.{all_imp}
 use Rattle.clock_domains.specs.Resolved.{signals_of, domain_ports}
 use Rattle.clock_domains.specs.Chosen.{is_new, known_ports}
-use Rattle.clock_domains.proofs.Lists.{all_imp}
 use Rattle.clock_domains.proofs.ChoiceLaws.{chosen_same, domain_there, flags_known}
 use Rattle.clock_domains.proofs.PortLaws.{flag_same}
 use Rattle.clock_domains.proofs.ports.ports_of.Goals as goal

@@ -4,13 +4,13 @@ use Rattle.std.proofs.lemmas.Option.{slice_get_read}
 use Rattle.design_ir.specs.declared.memory.MemRead.{MemRead}
 use Rattle.design_ir.specs.declared.memory.Memory.{Memory}
 use Rattle.design_ir.specs.Circuits.{is_among}
+use Rattle.fragment_walks.specs.Marks.{is_marked, marked}
+use Rattle.fragment_walks.specs.Reads.{data_signals}
+use Rattle.fragment_walks.proofs.Lists.{all_unmapped, take_end}
+use Rattle.fragment_walks.proofs.Markings.{length_marked, marked_at}
 use Rattle.clock_domains.specs.declared.stop.ResolveStop.TheVariants.{TwoDrivers}
 use Rattle.clock_domains.specs.Data.{is_taken, words}
-use Rattle.clock_domains.specs.Marks.{is_marked, marked}
-use Rattle.clock_domains.specs.Reads.{data_signals}
 use Rattle.clock_domains.specs.Resolved.{file_start, has_twice}
-use Rattle.clock_domains.proofs.Lists.{all_unmapped, take_end}
-use Rattle.clock_domains.proofs.Markings.{length_marked, marked_at}
 use Rattle.clock_domains.proofs.DataLaws.{data-append, data_one, item_inside, marked_next, taken_next, taken_told, taken_twice, told_free, told_not}
 use Rattle.clock_domains.proofs.read_data.data_marks.Goals as goal
 

@@ -1,7 +1,7 @@
 use Rattle.std.proofs.Common.{◌≡◌, false, take}
+use Rattle.fragment_walks.specs.Marks.{marked}
+use Rattle.fragment_walks.specs.Reads.{data_signals}
 use Rattle.clock_domains.specs.Data.{is_taken}
-use Rattle.clock_domains.specs.Marks.{marked}
-use Rattle.clock_domains.specs.Reads.{data_signals}
 use Rattle.clock_domains.proofs.read_data.data_marks.Given as goal
 
 abbrev pub invariant-loop-memory : goal.invariant-loop-memory

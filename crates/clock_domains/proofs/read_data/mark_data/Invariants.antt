@@ -1,5 +1,5 @@
 use Rattle.std.proofs.Common.{◌≡◌, ◌&&◌, ◌||◌, ℕ, nat_lt, length}
-use Rattle.clock_domains.specs.Marks.{is_marked}
+use Rattle.fragment_walks.specs.Marks.{is_marked}
 use Rattle.clock_domains.proofs.read_data.mark_data.Given as goal
 
 abbrev pub invariant-loop-s : goal.invariant-loop-s

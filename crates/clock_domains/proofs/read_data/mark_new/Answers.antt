@@ -1,9 +1,9 @@
 use Rattle.std.proofs.Common.{◌≡◌, ◌<◌, ◌∙◌, ◌||◌, not, true, false, length, Some, slice_get, refl, sym, ap}
 use Rattle.std.proofs.lemmas.Option.{slice_get_read, get_or_from_slice_get}
 use Rattle.design_ir.specs.declared.memory.MemRead.{MemRead}
+use Rattle.fragment_walks.specs.Marks.{is_marked}
+use Rattle.fragment_walks.proofs.Lists.{all_mapped}
 use Rattle.clock_domains.specs.Data.{words}
-use Rattle.clock_domains.specs.Marks.{is_marked}
-use Rattle.clock_domains.proofs.Lists.{all_mapped}
 use Rattle.clock_domains.proofs.DataLaws.{item_inside, marked_next, taken_next, taken_told, words-append}
 use Rattle.clock_domains.proofs.read_data.mark_new.Goals as goal
 

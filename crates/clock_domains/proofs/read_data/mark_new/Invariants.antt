@@ -1,6 +1,6 @@
 use Rattle.std.proofs.Common.{◌≡◌, false, take}
+use Rattle.fragment_walks.specs.Marks.{marked}
 use Rattle.clock_domains.specs.Data.{is_taken, words}
-use Rattle.clock_domains.specs.Marks.{marked}
 use Rattle.clock_domains.proofs.read_data.mark_new.Given as goal
 
 abbrev pub invariant-loop-read : goal.invariant-loop-read

@@ -1,6 +1,6 @@
 use Rattle.std.proofs.Common.{◌≡◌, ◌&&◌, ℕ, Some, cond, nat_lt, length}
-use Rattle.clock_domains.specs.Firsts.{first_at}
-use Rattle.clock_domains.specs.Marks.{is_marked}
+use Rattle.fragment_walks.specs.Numbers.{first_at}
+use Rattle.fragment_walks.specs.Marks.{is_marked}
 use Rattle.clock_domains.proofs.read_data.number_data.Given as goal
 
 abbrev pub invariant-loop-s : goal.invariant-loop-s

@@ -2,9 +2,9 @@ use Rattle.std.proofs.Common.{◌≡◌, ◌∙◌, ◌<◌, ◌+◌, length, So
 use Rattle.std.specs.List.{AllByRecursion}
 use Rattle.std.proofs.lemmas.Option.{slice_get_read}
 use Rattle.design_ir.specs.declared.memory.MemRead.{MemRead}
-use Rattle.clock_domains.specs.Numbers.{lowered}
+use Rattle.fragment_walks.specs.Numbers.{lowered}
+use Rattle.fragment_walks.proofs.NumberLaws.{length_lowered}
 use Rattle.clock_domains.proofs.DataLaws.{clocked_inside, clocked_words, data_at, memory_turn}
-use Rattle.clock_domains.proofs.NumberLaws.{length_lowered}
 use Rattle.clock_domains.proofs.read_data.number_memories.Goals as goal
 
 pub number_reads-requires : goal.number_reads-requires

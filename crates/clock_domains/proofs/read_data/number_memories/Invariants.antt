@@ -1,6 +1,7 @@
 use Rattle.std.proofs.Common.{◌≡◌, ◌+◌, ℕ, take, length}
 use Rattle.std.specs.Prelude.{option_map}
-use Rattle.clock_domains.specs.Firsts.{first_at, first_memory, lesser}
+use Rattle.fragment_walks.specs.Numbers.{first_at, lesser}
+use Rattle.clock_domains.specs.Firsts.{first_memory}
 use Rattle.clock_domains.proofs.read_data.number_memories.Given as goal
 
 abbrev pub invariant-loop-number : goal.invariant-loop-number

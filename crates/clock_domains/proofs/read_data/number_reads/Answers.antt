@@ -1,8 +1,8 @@
 use Rattle.std.proofs.Common.{◌≡◌, ◌∙◌, ◌∷◌, [], length, take, Some, slice_get, refl, sym, ap}
 use Rattle.std.proofs.lemmas.Option.{slice_get_read}
-use Rattle.clock_domains.specs.Numbers.{lowered}
+use Rattle.fragment_walks.specs.Numbers.{lowered}
+use Rattle.fragment_walks.proofs.NumberLaws.{lowered_turn}
 use Rattle.clock_domains.proofs.DataLaws.{clocked-append, clocked_no, clocked_words, clocked_yes}
-use Rattle.clock_domains.proofs.NumberLaws.{lowered_turn}
 use Rattle.clock_domains.proofs.read_data.number_reads.Goals as goal
 use Rattle.clock_domains.proofs.read_data.number_reads.Goals.{then-is_some, else-is_some}
 

@@ -1,5 +1,5 @@
 use Rattle.std.proofs.Common.{◌≡◌, take}
-use Rattle.clock_domains.specs.Numbers.{lowered}
+use Rattle.fragment_walks.specs.Numbers.{lowered}
 use Rattle.clock_domains.proofs.DataLaws.{clocked_words}
 use Rattle.clock_domains.proofs.read_data.number_reads.Given as goal
 

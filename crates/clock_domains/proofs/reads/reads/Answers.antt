@@ -3,10 +3,10 @@ use Rattle.std.specs.List.{flat_map}
 use Rattle.std.proofs.lemmas.List.{length-replicate}
 use Rattle.design_ir.specs.declared.ids.ExprId.{ExprId}
 use Rattle.design_ir.specs.declared.process.Process.{Process}
-use Rattle.clock_domains.specs.Held.{memory_exprs}
-use Rattle.clock_domains.specs.Marks.{marked, numbers}
-use Rattle.clock_domains.specs.Reads.{block_targets, block_values}
-use Rattle.clock_domains.proofs.Markings.{length_marked}
+use Rattle.fragment_walks.specs.Held.{memory_exprs}
+use Rattle.fragment_walks.specs.Marks.{marked, numbers}
+use Rattle.fragment_walks.specs.Reads.{block_targets, block_values}
+use Rattle.fragment_walks.proofs.Markings.{length_marked}
 use Rattle.clock_domains.proofs.ReadLaws.{reads_are}
 use Rattle.clock_domains.proofs.reads.reads.Goals as goal
 

@@ -4,8 +4,9 @@ use Rattle.design_ir.specs.declared.ids.SigId.{SigId}
 use Rattle.design_ir.specs.declared.port.Port.{Port}
 use Rattle.design_ir.specs.declared.port.Column.{Column}
 use Rattle.design_ir.specs.Circuits.{is_among}
-use Rattle.clock_domains.specs.Firsts.{IsPlace, first_at, known_column}
-use Rattle.clock_domains.specs.Marks.{Flag}
+use Rattle.fragment_walks.specs.Numbers.{first_at}
+use Rattle.fragment_walks.specs.Marks.{Flag}
+use Rattle.clock_domains.specs.Firsts.{IsPlace, known_column}
 use Rattle.clock_domains.specs.Resolved.{named_registers, signals_of}
 use Rattle.clock_domains.proofs.ReadyLaws.{columns_found, registers_found, registers_there, sites_places, sites_there}
 use Rattle.clock_domains.proofs.resolving.columns_in.Goals as goal

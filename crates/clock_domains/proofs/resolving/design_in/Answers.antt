@@ -6,16 +6,16 @@ use Rattle.design_ir.specs.declared.memory.Memory.{Memory}
 use Rattle.design_ir.specs.declared.process.Process.{Process}
 use Rattle.design_ir.specs.Circuits.{is_among}
 use Rattle.design_ir.specs.Designs.{IsDesign}
+use Rattle.fragment_walks.specs.Marks.{Flag}
+use Rattle.fragment_walks.specs.Reads.{data_signals, is_given}
+use Rattle.fragment_walks.specs.Walks.{all_contents, all_processes}
+use Rattle.fragment_walks.proofs.Lists.{all_imp}
 use Rattle.clock_domains.specs.Firsts.{AreSites}
-use Rattle.clock_domains.specs.Marks.{Flag}
-use Rattle.clock_domains.specs.Reads.{data_signals, is_given}
 use Rattle.clock_domains.specs.Ready.{IsReady}
 use Rattle.clock_domains.specs.Resolvable.{IsSideOf}
 use Rattle.clock_domains.specs.Stops.{IsOwed}
 use Rattle.clock_domains.specs.Chosen.{IsSignal}
 use Rattle.clock_domains.specs.Resolved.{data_refusal, design_inputs, driver_refusal, driver_stop, first_of}
-use Rattle.clock_domains.specs.Walks.{all_contents, all_processes}
-use Rattle.clock_domains.proofs.Lists.{all_imp}
 use Rattle.clock_domains.proofs.ReadyLaws.{accepted_in, ready_data, ready_design, ready_domains, refused_in, whole_made}
 use Rattle.clock_domains.proofs.resolving.design_in.Goals as goal
 

@@ -1,4 +1,4 @@
-use Rattle.clock_domains.specs.Walks.{all_contents}
+use Rattle.fragment_walks.specs.Walks.{all_contents}
 use Rattle.clock_domains.proofs.resolving.design_in.Given as goal
 
 abbrev pub ghost-parts_of : goal.ghost-parts_of

@@ -1,6 +1,6 @@
 use Rattle.std.proofs.Common.{◌≡◌, ◌++◌, ◌∙◌, [], ◌∷◌, ap, append_assoc, length, refl, slice_get, Some, sym, take}
 use Rattle.std.proofs.lemmas.Option.{slice_get_read}
-use Rattle.clock_domains.proofs.Lists.{take-push}
+use Rattle.fragment_walks.proofs.Lists.{take-push}
 use Rattle.clock_domains.proofs.resolving.joined_paths.Goals as goal
 
 pub loop-path-preserved : goal.loop-path-preserved

@@ -5,13 +5,13 @@ use Rattle.design_ir.specs.declared.memory.Memory.{Memory}
 use Rattle.design_ir.specs.declared.port.Port.{Port}
 use Rattle.design_ir.specs.declared.port.Column.{Column}
 use Rattle.design_ir.specs.declared.process.Process.{Process}
+use Rattle.fragment_walks.specs.Held.{memory_exprs}
+use Rattle.fragment_walks.specs.Marks.{Flag}
+use Rattle.fragment_walks.specs.Reads.{is_given}
+use Rattle.fragment_walks.specs.Walks.{Contents}
 use Rattle.clock_domains.specs.Firsts.{AreSites}
-use Rattle.clock_domains.specs.Held.{memory_exprs}
-use Rattle.clock_domains.specs.Marks.{Flag}
-use Rattle.clock_domains.specs.Reads.{is_given}
 use Rattle.clock_domains.specs.Resolvable.{IsSideOf}
 use Rattle.clock_domains.specs.Resolved.{columns_of, named_registers, ports_named, ports_of, process_in}
-use Rattle.clock_domains.specs.Walks.{Contents}
 use Rattle.clock_domains.proofs.ReadyLaws.{columns_enough, ports_alike, ready_clocked, ready_domains, ready_exprs, ready_ports}
 use Rattle.clock_domains.proofs.resolving.parts_of.Goals as goal
 

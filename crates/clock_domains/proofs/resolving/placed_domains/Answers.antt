@@ -8,14 +8,14 @@ use Rattle.design_ir.specs.Forests.{Leaf}
 use Rattle.design_ir.specs.Named.{AllBelow}
 use Rattle.design_ir.specs.Pools.{Pooled}
 use Rattle.design_ir.specs.PoolRules.{IsPool}
-use Rattle.clock_domains.specs.Held.{fragment_exprs, held_resets, leaf_exprs}
-use Rattle.clock_domains.specs.Holders.{AreHolders, all_roots}
-use Rattle.clock_domains.specs.Names.{all_leaves}
+use Rattle.fragment_walks.specs.Held.{fragment_exprs, held_resets, leaf_exprs}
+use Rattle.fragment_walks.specs.Holders.{AreHolders, all_roots}
+use Rattle.fragment_walks.specs.Names.{all_leaves}
+use Rattle.fragment_walks.specs.Walks.{all_definitions, all_paths, plain_names}
+use Rattle.fragment_walks.proofs.Lists.{length_map}
 use Rattle.clock_domains.specs.Resolvable.{IsDomainOf}
 use Rattle.clock_domains.specs.Resolved.{clash_after, domain_names, each_once, is_past_limit, limit_where, made_pool, reset_refusal}
 use Rattle.clock_domains.specs.Stops.{IsOwed}
-use Rattle.clock_domains.specs.Walks.{all_definitions, all_paths, plain_names}
-use Rattle.clock_domains.proofs.Lists.{length_map}
 use Rattle.clock_domains.proofs.NamesOnce.{all_roots_are}
 use Rattle.clock_domains.proofs.PlacedDomains.{AreMadeOf, clash_first, holder_there, lacking_second, limit_of, limit_third, made_of, names_found, none_told, roots_there, whole_is}
 use Rattle.clock_domains.proofs.ReadyLaws.{tree_sound}

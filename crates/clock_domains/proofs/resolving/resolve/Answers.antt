@@ -4,9 +4,9 @@ use Rattle.std.specs.List.{AllByRecursion}
 use Rattle.std.proofs.lemmas.Result.{IfOk-weaker, err_from_is_err_and}
 use Rattle.design_ir.specs.declared.domain.Domain.{Domain}
 use Rattle.design_ir.specs.Pools.{Pooled}
+use Rattle.fragment_walks.specs.Walks.{all_contents}
 use Rattle.clock_domains.specs.Ready.{IsReady}
 use Rattle.clock_domains.specs.Resolved.{IsResolveRefusal, made_domains, resolved, resolved_in, whole_pool}
-use Rattle.clock_domains.specs.Walks.{all_contents}
 use Rattle.clock_domains.proofs.ReadyLaws.{domain_owed, resolved_is, resolved_rising, walked_ready}
 use Rattle.clock_domains.proofs.resolving.resolve.Goals as goal
 

@@ -1,6 +1,6 @@
 use Rattle.std.proofs.Common.{map}
-use Rattle.clock_domains.specs.Held.{leaf_exprs}
-use Rattle.clock_domains.specs.Names.{all_leaves}
+use Rattle.fragment_walks.specs.Held.{leaf_exprs}
+use Rattle.fragment_walks.specs.Names.{all_leaves}
 use Rattle.clock_domains.proofs.resolving.resolve.Given as goal
 
 abbrev pub ghost-placed_domains : goal.ghost-placed_domains

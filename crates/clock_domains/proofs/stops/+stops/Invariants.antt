@@ -1,7 +1,7 @@
 use Rattle.std.proofs.Common.{◌≡◌, drop}
 use Rattle.design_ir.specs.Statements.{statement_of, block_of, choices_of}
 use Rattle.design_ir.specs.Trees.{block_size, choices_size, statement_size}
-use Rattle.clock_domains.specs.Numbers.{bounded}
+use Rattle.fragment_walks.specs.Numbers.{bounded}
 use Rattle.clock_domains.specs.Stops.{block_stop, choices_stop, target_stop}
 use Rattle.clock_domains.proofs.stops.+stops.Given as goal
 

@@ -8,8 +8,8 @@ use Rattle.design_ir.specs.Named.{AllBelow}
 use Rattle.design_ir.specs.Targets.{target_signals}
 use Rattle.design_ir.specs.declared.stmt.Stmt.{Stmt}
 use Rattle.design_ir.specs.declared.stmt.Arm.{Arm}
-use Rattle.clock_domains.specs.Reads.{block_targets, choices_targets}
-use Rattle.clock_domains.proofs.Trees.{statement_names, arm_names}
+use Rattle.fragment_walks.specs.Reads.{block_targets, choices_targets}
+use Rattle.fragment_walks.proofs.Trees.{statement_names, arm_names}
 use Rattle.domain_transforms.proofs.DrivenLaws.{statements_turn, arms_turn, size_after}
 use Rattle.domain_transforms.proofs.driven.+driven.Goals as goal
 

@@ -3,8 +3,8 @@ use Rattle.std.specs.List.{flat_map}
 use Rattle.design_ir.specs.Statements.{statement_of, block_of, choices_of}
 use Rattle.design_ir.specs.Targets.{target_signals}
 use Rattle.design_ir.specs.Trees.{block_size, choices_size, statement_size}
-use Rattle.clock_domains.specs.Marks.{marked}
-use Rattle.clock_domains.specs.Reads.{block_targets, choices_targets}
+use Rattle.fragment_walks.specs.Marks.{marked}
+use Rattle.fragment_walks.specs.Reads.{block_targets, choices_targets}
 use Rattle.domain_transforms.proofs.driven.+driven.Given as goal
 
 abbrev pub decreases-mark_arms : goal.decreases-mark_arms

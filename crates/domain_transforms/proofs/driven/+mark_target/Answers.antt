@@ -6,9 +6,9 @@ use Rattle.design_ir.specs.declared.ids.ExprId.{ExprId}
 use Rattle.design_ir.specs.Named.{AllBelow}
 use Rattle.design_ir.specs.Targets.{signals_step, target_signals}
 use Rattle.design_ir.proofs.Equations.{standing}
-use Rattle.clock_domains.specs.Marks.{marked}
-use Rattle.clock_domains.proofs.Lists.{below_at}
-use Rattle.clock_domains.proofs.Outs.{target_signals_is}
+use Rattle.fragment_walks.specs.Marks.{marked}
+use Rattle.fragment_walks.proofs.Lists.{below_at}
+use Rattle.fragment_walks.proofs.Outs.{target_signals_is}
 use Rattle.domain_transforms.proofs.DrivenLaws.{items_turn, joined_below, joined_signals, other_signals, read_below, read_signals, size_after}
 use Rattle.domain_transforms.proofs.driven.+mark_target.Goals as goal
 

@@ -2,7 +2,7 @@ use Rattle.std.proofs.Common.{◌≡◌, take}
 use Rattle.std.specs.List.{flat_map}
 use Rattle.design_ir.specs.declared.ids.ExprId.{ExprId}
 use Rattle.design_ir.specs.Targets.{target_signals}
-use Rattle.clock_domains.specs.Marks.{marked}
+use Rattle.fragment_walks.specs.Marks.{marked}
 use Rattle.domain_transforms.proofs.driven.+mark_target.Given as goal
 
 abbrev pub decreases-mark_target : goal.decreases-mark_target

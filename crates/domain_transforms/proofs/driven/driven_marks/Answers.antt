@@ -2,9 +2,9 @@ use Rattle.std.proofs.Common.{◌||◌, ◌<◌, length, ap, sym, ◌∙◌, sub
 use Rattle.std.specs.List.{AllByRecursion, flat_map}
 use Rattle.design_ir.specs.Circuits.{is_among}
 use Rattle.design_ir.specs.Targets.{target_signals}
-use Rattle.clock_domains.specs.Marks.{is_marked}
-use Rattle.clock_domains.specs.Reads.{block_targets}
-use Rattle.clock_domains.proofs.Markings.{marked_at}
+use Rattle.fragment_walks.specs.Marks.{is_marked}
+use Rattle.fragment_walks.specs.Reads.{block_targets}
+use Rattle.fragment_walks.proofs.Markings.{marked_at}
 use Rattle.clock_domains.proofs.DriverLaws.{driven_flat}
 use Rattle.domain_transforms.proofs.DrivenLaws.{size_after, targets_low}
 use Rattle.domain_transforms.proofs.driven.driven_marks.Goals as goal

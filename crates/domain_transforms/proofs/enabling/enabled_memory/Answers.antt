@@ -1,6 +1,6 @@
 use Rattle.std.proofs.Common.{length}
 use Rattle.std.specs.List.{flat_map}
-use Rattle.clock_domains.proofs.Lists.{below_split, below_wider}
+use Rattle.fragment_walks.proofs.Lists.{below_split, below_wider}
 use Rattle.domain_transforms.specs.Placed.{write_exprs, read_exprs}
 use Rattle.domain_transforms.proofs.PlacedLaws.{controls_wider}
 use Rattle.domain_transforms.proofs.enabling.enabled_memory.Goals as goal

@@ -4,7 +4,7 @@ use Rattle.design_ir.specs.declared.fragment.Fragment.{Fragment}
 use Rattle.design_ir.specs.Forests.{forest_size}
 use Rattle.design_ir.specs.Fragments.{leaf_of}
 use Rattle.design_ir.specs.Named.{AllBelow}
-use Rattle.clock_domains.proofs.Lists.{below_split, below_wider}
+use Rattle.fragment_walks.proofs.Lists.{below_split, below_wider}
 use Rattle.domain_transforms.specs.Changes.{bound, leaf_change}
 use Rattle.domain_transforms.specs.Placed.{forest_exprs, fragment_exprs, leaf_exprs}
 use Rattle.domain_transforms.proofs.MakingLaws.{forest_in_turn}

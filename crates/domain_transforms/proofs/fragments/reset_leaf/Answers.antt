@@ -2,7 +2,7 @@ use Rattle.std.proofs.Common.{length}
 use Rattle.std.specs.List.{flat_map}
 use Rattle.design_ir.specs.declared.process.Process.{Process}
 use Rattle.design_ir.specs.Guards.{block_exprs}
-use Rattle.clock_domains.proofs.Lists.{below_split}
+use Rattle.fragment_walks.proofs.Lists.{below_split}
 use Rattle.domain_transforms.specs.Placed.{memory_exprs}
 use Rattle.domain_transforms.proofs.fragments.reset_leaf.Goals as goal
 

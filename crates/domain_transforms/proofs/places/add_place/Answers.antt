@@ -1,7 +1,7 @@
 use Rattle.std.proofs.Common.{◌≡◌, ◌<◌, ◌∷◌, [], ◌++◌, All, not, length, Some, None, slice_get, slice_set, refl, sym, ap, ◌∙◌, subst, arith}
 use Rattle.std.proofs.lemmas.Option.{slice_get_read}
 use Rattle.design_ir.specs.declared.expr.Expr.{Expr}
-use Rattle.clock_domains.specs.Reads.{own_signals}
+use Rattle.fragment_walks.specs.Reads.{own_signals}
 use Rattle.domain_transforms.specs.Placed.{ArePlaces}
 use Rattle.domain_transforms.proofs.PlaceLaws.{none_of, some_of, places_fresh, places_found, places_no_signal}
 use Rattle.domain_transforms.proofs.places.add_place.Goals as goal

@@ -1,8 +1,8 @@
 use Rattle.std.proofs.Common.{◌<◌, length, take, sym, subst, arith}
 use Rattle.std.proofs.lemmas.List.{length-take}
-use Rattle.clock_domains.specs.Reads.{own_signals}
-use Rattle.clock_domains.proofs.Lists.{all_index, take-push}
-use Rattle.clock_domains.proofs.Outs.{own_inside}
+use Rattle.fragment_walks.specs.Reads.{own_signals}
+use Rattle.fragment_walks.proofs.Lists.{all_index, take-push}
+use Rattle.fragment_walks.proofs.Outs.{own_inside}
 use Rattle.domain_transforms.specs.Placed.{ArePlaces}
 use Rattle.domain_transforms.proofs.places.places_of.Goals as goal
 

@@ -1,5 +1,5 @@
 use Rattle.std.proofs.Common.{length}
-use Rattle.clock_domains.proofs.Lists.{below_at}
+use Rattle.fragment_walks.proofs.Lists.{below_at}
 use Rattle.domain_transforms.proofs.remaking.any_marked.Goals as goal
 
 pub bounds-marks-e : goal.bounds-marks-e

@@ -1,7 +1,7 @@
 use Rattle.std.proofs.Common.{◌≡◌, drop}
 use Rattle.std.specs.List.{list_any}
 use Rattle.design_ir.specs.declared.ids.ExprId.{ExprId}
-use Rattle.clock_domains.specs.Marks.{is_marked}
+use Rattle.fragment_walks.specs.Marks.{is_marked}
 use Rattle.domain_transforms.proofs.remaking.any_marked.Given as goal
 
 abbrev pub invariant-loop-e : goal.invariant-loop-e

@@ -1,6 +1,6 @@
 use Rattle.std.proofs.Common.{◌≡◌, ◌&&◌, ◌+◌, ◌++◌, ◌∷◌, [], ℕ, Bool, List, length, sym, ap, ◌∙◌, subst, arith}
 use Rattle.design_ir.specs.declared.ids.ExprId.{ExprId}
-use Rattle.clock_domains.specs.Marks.{is_marked}
+use Rattle.fragment_walks.specs.Marks.{is_marked}
 use Rattle.domain_transforms.specs.Anew.{AreAnew}
 use Rattle.domain_transforms.proofs.remaking.remade_ids.Goals as goal
 

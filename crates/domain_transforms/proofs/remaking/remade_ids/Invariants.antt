@@ -1,5 +1,5 @@
 use Rattle.std.proofs.Common.{◌&&◌}
-use Rattle.clock_domains.specs.Marks.{is_marked}
+use Rattle.fragment_walks.specs.Marks.{is_marked}
 use Rattle.domain_transforms.specs.Anew.{AreAnew}
 use Rattle.domain_transforms.proofs.remaking.remade_ids.Given as goal
 

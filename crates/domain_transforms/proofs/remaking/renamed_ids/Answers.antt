@@ -1,6 +1,6 @@
 use Rattle.std.proofs.Common.{length, sym, subst}
 use Rattle.design_ir.specs.Named.{AllBelow}
-use Rattle.clock_domains.proofs.Lists.{below_at}
+use Rattle.fragment_walks.proofs.Lists.{below_at}
 use Rattle.domain_transforms.proofs.remaking.renamed_ids.Goals as goal
 
 pub id_of-requires : goal.id_of-requires

@@ -5,7 +5,7 @@ use Rattle.design_ir.specs.Named.{AllBelow, named}
 use Rattle.design_ir.specs.Pools.{answers}
 use Rattle.design_ir.proofs.Answers.{turn}
 use Rattle.design_ir.proofs.Equations.{standing}
-use Rattle.clock_domains.specs.Marks.{is_marked}
+use Rattle.fragment_walks.specs.Marks.{is_marked}
 use Rattle.domain_transforms.specs.Renamed.{holds_renamed, renamed_test}
 use Rattle.domain_transforms.proofs.remaking.touched_marks.Goals as goal
 

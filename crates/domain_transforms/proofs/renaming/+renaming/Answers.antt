@@ -6,7 +6,7 @@ use Rattle.design_ir.specs.Guards.{block_exprs, choices_exprs}
 use Rattle.design_ir.specs.Named.{AllBelow}
 use Rattle.design_ir.specs.declared.stmt.Stmt.{Stmt}
 use Rattle.design_ir.specs.declared.stmt.Arm.{Arm}
-use Rattle.clock_domains.proofs.Trees.{statement_names, arm_names}
+use Rattle.fragment_walks.proofs.Trees.{statement_names, arm_names}
 use Rattle.domain_transforms.specs.Changes.{id_of}
 use Rattle.domain_transforms.specs.Renamed.{block_append, renamed_block}
 use Rattle.domain_transforms.proofs.RenameLaws.{append_done, arms_turn, block_turn}

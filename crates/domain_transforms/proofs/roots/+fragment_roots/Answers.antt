@@ -4,8 +4,8 @@ use Rattle.design_ir.specs.declared.fragment.Fragment.{Fragment}
 use Rattle.design_ir.specs.Forests.{forest_size}
 use Rattle.design_ir.specs.Fragments.{leaf_of, forest_of}
 use Rattle.design_ir.specs.Named.{AllBelow}
-use Rattle.clock_domains.specs.Marks.{marked, numbers}
-use Rattle.clock_domains.proofs.Lists.{below_split}
+use Rattle.fragment_walks.specs.Marks.{marked, numbers}
+use Rattle.fragment_walks.proofs.Lists.{below_split}
 use Rattle.domain_transforms.specs.Placed.{forest_exprs, fragment_exprs, leaf_exprs}
 use Rattle.domain_transforms.proofs.PlacedLaws.{forest_below}
 use Rattle.domain_transforms.proofs.RootLaws.{forest_turn, marked_both, same_length}

@@ -1,7 +1,7 @@
 use Rattle.std.proofs.Common.{◌≡◌, ◌+◌, ◌*◌, take}
 use Rattle.design_ir.specs.Forests.{forest_size}
 use Rattle.design_ir.specs.Fragments.{forest_of}
-use Rattle.clock_domains.specs.Marks.{marked, numbers}
+use Rattle.fragment_walks.specs.Marks.{marked, numbers}
 use Rattle.domain_transforms.specs.Placed.{forest_exprs}
 use Rattle.domain_transforms.proofs.roots.+fragment_roots.Given as goal
 

@@ -6,9 +6,9 @@ use Rattle.design_ir.specs.Guards.{block_exprs, statement_exprs, choices_exprs}
 use Rattle.design_ir.specs.Named.{AllBelow}
 use Rattle.design_ir.specs.declared.stmt.Stmt.{Stmt}
 use Rattle.design_ir.specs.declared.stmt.Arm.{Arm}
-use Rattle.clock_domains.specs.Marks.{marked, numbers}
-use Rattle.clock_domains.proofs.Markings.{length_marked}
-use Rattle.clock_domains.proofs.Trees.{statement_names, arm_names}
+use Rattle.fragment_walks.specs.Marks.{marked, numbers}
+use Rattle.fragment_walks.proofs.Markings.{length_marked}
+use Rattle.fragment_walks.proofs.Trees.{statement_names, arm_names}
 use Rattle.domain_transforms.proofs.RootLaws.{arms_turn, block_turn, same_length}
 use Rattle.domain_transforms.proofs.roots.+roots.Goals as goal
 

@@ -2,7 +2,7 @@ use Rattle.std.proofs.Common.{◌≡◌, take}
 use Rattle.design_ir.specs.Statements.{statement_of, block_of, choices_of}
 use Rattle.design_ir.specs.Guards.{block_exprs, choices_exprs}
 use Rattle.design_ir.specs.Trees.{block_size, choices_size, statement_size}
-use Rattle.clock_domains.specs.Marks.{marked, numbers}
+use Rattle.fragment_walks.specs.Marks.{marked, numbers}
 use Rattle.domain_transforms.proofs.roots.+roots.Given as goal
 
 abbrev pub decreases-mark_arms : goal.decreases-mark_arms

@@ -1,7 +1,7 @@
 use Rattle.std.proofs.Common.{◌≡◌, Some, slice_get, slice_index_or, length, take, arith}
 use Rattle.std.proofs.lemmas.Option.{slice_get-get_or}
 use Rattle.design_ir.specs.declared.ids.ExprId.{ExprId}
-use Rattle.clock_domains.proofs.Lists.{below_at}
+use Rattle.fragment_walks.proofs.Lists.{below_at}
 use Rattle.domain_transforms.proofs.RootLaws.{items_turn, same_length}
 use Rattle.domain_transforms.proofs.roots.mark_items.Goals as goal
 

@@ -1,5 +1,5 @@
 use Rattle.std.proofs.Common.{◌≡◌, take}
-use Rattle.clock_domains.specs.Marks.{marked, numbers}
+use Rattle.fragment_walks.specs.Marks.{marked, numbers}
 use Rattle.domain_transforms.proofs.roots.mark_items.Given as goal
 
 abbrev pub invariant-loop-e : goal.invariant-loop-e

@@ -5,8 +5,8 @@ use Rattle.design_ir.specs.declared.memory.Memory.{Memory}
 use Rattle.design_ir.specs.declared.process.Process.{Process}
 use Rattle.design_ir.specs.Guards.{block_exprs}
 use Rattle.design_ir.specs.Named.{AllBelow}
-use Rattle.clock_domains.specs.Marks.{marked, numbers}
-use Rattle.clock_domains.proofs.Lists.{below_split}
+use Rattle.fragment_walks.specs.Marks.{marked, numbers}
+use Rattle.fragment_walks.proofs.Lists.{below_split}
 use Rattle.domain_transforms.specs.Placed.{memory_exprs}
 use Rattle.domain_transforms.proofs.RootLaws.{marked_both, same_length}
 use Rattle.domain_transforms.proofs.roots.mark_leaf.Goals as goal

@@ -3,8 +3,8 @@ use Rattle.std.specs.List.{flat_map}
 use Rattle.design_ir.specs.declared.memory.MemWrite.{MemWrite}
 use Rattle.design_ir.specs.declared.memory.MemRead.{MemRead}
 use Rattle.design_ir.specs.Named.{AllBelow}
-use Rattle.clock_domains.specs.Marks.{marked, numbers}
-use Rattle.clock_domains.proofs.Lists.{below_split}
+use Rattle.fragment_walks.specs.Marks.{marked, numbers}
+use Rattle.fragment_walks.proofs.Lists.{below_split}
 use Rattle.domain_transforms.specs.Placed.{read_exprs, write_exprs}
 use Rattle.domain_transforms.proofs.RootLaws.{marked_both, same_length}
 use Rattle.domain_transforms.proofs.roots.mark_memory.Goals as goal

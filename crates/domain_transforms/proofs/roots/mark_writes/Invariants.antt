@@ -1,6 +1,6 @@
 use Rattle.std.proofs.Common.{◌≡◌, take}
 use Rattle.std.specs.List.{flat_map}
-use Rattle.clock_domains.specs.Marks.{marked, numbers}
+use Rattle.fragment_walks.specs.Marks.{marked, numbers}
 use Rattle.domain_transforms.specs.Placed.{write_exprs}
 use Rattle.domain_transforms.proofs.roots.mark_writes.Given as goal
 

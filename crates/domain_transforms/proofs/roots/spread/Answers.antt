@@ -1,9 +1,9 @@
 use Rattle.std.proofs.Common.{◌≡◌, ◌∙◌, ◌<◌, length, refl, true, false, ap, arith, Some, slice_get}
 use Rattle.std.proofs.lemmas.Option.{slice_get_read, get_or_from_slice_get}
 use Rattle.design_ir.specs.Named.{named}
-use Rattle.clock_domains.specs.Marks.{is_marked, numbers, comes_out}
-use Rattle.clock_domains.proofs.Lists.{all_imp}
-use Rattle.clock_domains.proofs.Outs.{spread_yes, named_there, names_inside}
+use Rattle.fragment_walks.specs.Marks.{is_marked, numbers, comes_out}
+use Rattle.fragment_walks.proofs.Lists.{all_imp}
+use Rattle.fragment_walks.proofs.Outs.{spread_yes, named_there, names_inside}
 use Rattle.domain_transforms.specs.Renamed.{inside}
 use Rattle.domain_transforms.proofs.RootLaws.{inside_lead, same_length}
 use Rattle.domain_transforms.proofs.roots.spread.Goals as goal

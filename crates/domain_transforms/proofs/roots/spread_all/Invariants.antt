@@ -1,5 +1,5 @@
 use Rattle.std.proofs.Common.{◌≡◌, ℕ, ◌<◌, ◌-◌, length}
-use Rattle.clock_domains.specs.Marks.{comes_out}
+use Rattle.fragment_walks.specs.Marks.{comes_out}
 use Rattle.domain_transforms.specs.Renamed.{inside}
 use Rattle.domain_transforms.proofs.roots.spread_all.Given as goal
 

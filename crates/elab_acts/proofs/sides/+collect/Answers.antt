@@ -1,6 +1,6 @@
 use Rattle.std.proofs.Common.{rules, ◌≡◌, sym, ◌∙◌, ap, arith}
 use Rattle.std.specs.Option.{option_copied}
-use Rattle.py_values.specs.Heaps.{seen}
+use Rattle.py_heap.specs.Heaps.{seen}
 use Rattle.elab_store.specs.Stores.{kept_of}
 use Rattle.elab_acts.specs.Sides.{equation_of}
 use Rattle.elab_acts.proofs.SideLaws.{one_equation, no_list, no_room, told_none, told_one, row_stops, row_done}

@@ -1,5 +1,5 @@
 use Rattle.std.proofs.Common.{◌≡◌, ◌-◌, drop, ◌++◌, option_map}
-use Rattle.py_values.specs.Heaps.{seen}
+use Rattle.py_heap.specs.Heaps.{seen}
 use Rattle.elab_acts.specs.Sides.{equations_in, joined_all}
 use Rattle.elab_acts.proofs.sides.+collect.Given as goal
 

@@ -1,6 +1,6 @@
 use Rattle.std.proofs.Common.{rules, sym, subst}
 use Rattle.std.specs.List.{AllByRecursion}
-use Rattle.py_values.specs.Heaps.{seen}
+use Rattle.py_heap.specs.Heaps.{seen}
 use Rattle.elab_store.specs.Sound.{IsEquation}
 use Rattle.elab_acts.specs.Sides.{deepest}
 use Rattle.elab_acts.proofs.SideLaws.{equations_stand, collected_some}

@@ -1,5 +1,5 @@
 use Rattle.std.proofs.Common.{◌≡◌, ◌-◌}
-use Rattle.py_values.specs.Heaps.{seen}
+use Rattle.py_heap.specs.Heaps.{seen}
 use Rattle.elab_store.specs.Held.{held_of}
 use Rattle.elab_acts.specs.Tops.{walk, walked}
 use Rattle.elab_acts.proofs.tops.walk.Given as goal

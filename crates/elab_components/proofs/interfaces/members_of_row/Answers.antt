@@ -1,6 +1,6 @@
 use Rattle.std.proofs.Common.{arith, ap, ◌∙◌}
 use Rattle.std.specs.Option.{option_copied}
-use Rattle.py_values.specs.Heaps.{seen}
+use Rattle.py_heap.specs.Heaps.{seen}
 use Rattle.elab_components.specs.ComponentClasses.{member_of}
 use Rattle.elab_components.proofs.ComponentLaws.{row_member}
 use Rattle.elab_components.proofs.ListLaws.{two_first}

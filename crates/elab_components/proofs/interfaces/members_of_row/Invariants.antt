@@ -1,5 +1,5 @@
 use Rattle.std.proofs.Common.{◌≡◌, true, length}
-use Rattle.py_values.specs.Heaps.{seen}
+use Rattle.py_heap.specs.Heaps.{seen}
 use Rattle.elab_components.specs.ComponentClasses.{behind_members}
 use Rattle.elab_components.specs.Interfaces.{members_of_row}
 use Rattle.elab_components.proofs.interfaces.members_of_row.Given as goal

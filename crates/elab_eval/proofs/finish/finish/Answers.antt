@@ -1,6 +1,6 @@
 use Rattle.std.proofs.Common.{sym, ◌∙◌, ap, Some, Ok, Err}
 use Rattle.std.specs.List.{AllByRecursion}
-use Rattle.py_values.specs.Heaps.{seen}
+use Rattle.py_heap.specs.Heaps.{seen}
 use Rattle.clock_domains.specs.Resolved.{resolved}
 use Rattle.elab_store.specs.Sound.{IsNoReset}
 use Rattle.elab_store.specs.Held.{held_of}
@@ -19,8 +19,8 @@ resolve-requires c =
     let plain : AllByRecursion IsNoReset h.pool.exprs = none_found h.pool.exprs (sym c.has_reset.ensures ∙ c.if-has_reset.false) in
     let whole = parted h.store c.part-modules.result.1 c.part-modules.result.0.items c.part-modules.ensures.modules c.part-modules.ensures.rest in
     record {
-      tree = tree_resolvable h c.in-Ok-tree.root plain c.requires.sound (got_of h.store _ (Ok c.in-Ok-tree.root) whole c.in-Ok-tree.ensures);
-      free_data = tree_free h c.in-Ok-tree.root c.in-Some.ports (got_of h.store _ (Ok c.in-Ok-tree.root) whole c.in-Ok-tree.ensures);
+      tree = tree_resolvable h c.in-Ok-tree.root c.known.ensures plain c.requires.sound (got_of h.store _ (Ok c.in-Ok-tree.root) whole c.in-Ok-tree.ensures);
+      free_data = tree_free (seen c.args.frozen.now c.args.machine.going.state.heap) h c.in-Ok-tree.root c.in-Some.ports c.requires.sound (sym c.in-Ok.ensures ∙ c.in-Some.is) (got_of h.store _ (Ok c.in-Ok-tree.root) whole c.in-Ok-tree.ensures);
       apart = tree_apart h c.in-Ok-tree.root c.requires.sound (got_of h.store _ (Ok c.in-Ok-tree.root) whole c.in-Ok-tree.ensures);
       names = c.requires.sound.names;
       ports = top_stands (seen c.args.frozen.now c.args.machine.going.state.heap) h h.store.top.object c.in-Some.ports c.requires.sound c.known.ensures (sym c.in-Ok.ensures ∙ c.in-Some.is);

@@ -1,5 +1,5 @@
 use Rattle.std.proofs.Common.{◌≡◌, ◌++◌, length}
-use Rattle.py_values.specs.Heaps.{seen}
+use Rattle.py_heap.specs.Heaps.{seen}
 use Rattle.elab_eval.specs.ObjectTops.{attribute_signals}
 use Rattle.elab_store.specs.Held.{held_of}
 use Rattle.elab_eval.proofs.object_tops.attribute_signals.Given as goal

@@ -1,6 +1,6 @@
 use Rattle.std.proofs.Common.{◌<◌, length, sym, ◌∙◌, subst}
 use Rattle.std.specs.List.{AllByRecursion}
-use Rattle.py_values.specs.Heaps.{seen}
+use Rattle.py_heap.specs.Heaps.{seen}
 use Rattle.design_ir.specs.declared.ids.SigId.{SigId}
 use Rattle.elab_store.specs.Held.{held_of}
 use Rattle.elab_eval.proofs.ObjectLaws.{signals_there}

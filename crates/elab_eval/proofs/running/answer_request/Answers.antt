@@ -1,6 +1,6 @@
 use Rattle.std.proofs.Common.{sym, ◌∙◌, ap, subst}
 use Rattle.std.specs.Option.{option_copied}
-use Rattle.py_values.specs.Heaps.{Seen, seen}
+use Rattle.py_heap.specs.Heaps.{Seen, seen}
 use Rattle.amh_values.specs.Acts.{acted, Acts}
 use Rattle.elab_store.specs.Stores.{Stored, Held, Answered}
 use Rattle.elab_store.specs.Sound.{IsSound}

@@ -1,7 +1,7 @@
 use Rattle.std.proofs.Common.{Err, ◌≡◌, ◌∙◌, sym, ap, subst}
 use Rattle.std.specs.Option.{option_copied}
 use Rattle.py_tree.specs.Programs.{program_of}
-use Rattle.py_values.specs.Heaps.{Made, seen}
+use Rattle.py_heap.specs.Heaps.{Made, seen}
 use Rattle.py_frames.specs.declared.request.Turn.TheVariants as turn
 use Rattle.py_machine.specs.Lives.{Resumed, again}
 use Rattle.elab_store.specs.Stores.{Held}

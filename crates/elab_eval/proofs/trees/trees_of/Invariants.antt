@@ -10,4 +10,4 @@ ghost-grown g a = g.built
 abbrev pub invariant-loop-i : goal.invariant-loop-i
 invariant-loop-i g l =
     let behind = drop (length l.nodes - l.i) l.nodes in
-    (list_any (is_open_at g.built) behind ≡ false) × (l.trees ≡ forest_of_nodes g.built l.clock_domains l.additions behind)
+    (list_any (is_open_at g.built l.memories) behind ≡ false) × (l.trees ≡ forest_of_nodes g.built l.memories l.clock_domains l.additions behind)

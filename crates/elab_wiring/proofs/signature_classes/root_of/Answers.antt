@@ -1,6 +1,6 @@
 use Rattle.std.proofs.Common.{◌≡◌, suc, ◌+◌, ◌-◌, sym, ◌∙◌, refl, ap, arith, Some, None}
 use Rattle.py_values.specs.declared.val.Val.TheVariants as val
-use Rattle.py_values.specs.Heaps.{seen}
+use Rattle.py_heap.specs.Heaps.{seen}
 use Rattle.elab_store.specs.Calls.{first_or}
 use Rattle.elab_wiring.specs.SignatureClasses.{root_in}
 use Rattle.elab_wiring.proofs.RootLaws.{root_next, root_out, root_other}

@@ -1,5 +1,5 @@
 use Rattle.std.proofs.Common.{◌≡◌, ◌+◌, ◌-◌}
-use Rattle.py_values.specs.Heaps.{seen}
+use Rattle.py_heap.specs.Heaps.{seen}
 use Rattle.elab_wiring.specs.SignatureClasses.{root_in}
 use Rattle.elab_wiring.proofs.signature_classes.root_of.Given as goal
 

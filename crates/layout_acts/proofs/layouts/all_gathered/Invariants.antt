@@ -1,7 +1,7 @@
 use Rattle.std.proofs.Common.{◌≡◌, ◌++◌, drop, map}
 use Rattle.std.specs.Prelude.{◌||◌}
 use Rattle.std.specs.List.{list_any}
-use Rattle.py_values.specs.Heaps.{seen}
+use Rattle.py_heap.specs.Heaps.{seen}
 use Rattle.layout_acts.specs.Layouts.{is_no_member, has_wide_shape, member_of, reading_of}
 use Rattle.layout_acts.proofs.layouts.all_gathered.Given as goal
 

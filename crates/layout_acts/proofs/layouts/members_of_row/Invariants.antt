@@ -1,5 +1,5 @@
 use Rattle.std.proofs.Common.{◌≡◌, ◌++◌, length}
-use Rattle.py_values.specs.Heaps.{seen}
+use Rattle.py_heap.specs.Heaps.{seen}
 use Rattle.layout_acts.specs.Layouts.{members_of_row}
 use Rattle.layout_acts.proofs.layouts.members_of_row.Given as goal
 

@@ -14,3 +14,6 @@ told-requires-in-Err-expr c =
     let rules : IsPool q = rw kept.1 at c.in-Err-expr.ensures.rules in
     let stops : IsRefusal (limit_where (nat_le 262144 (length q.exprs))) c.in-Err-expr.stop = rw (signal_expr q c.in-Ok.sig rules) at kept.0 in
     counted (nat_le 262144 (length q.exprs)) c.in-Err-expr.stop stops
+
+pub returns-then-count-ge262144-clause-grown : goal.returns-then-count-ge262144-clause-grown
+returns-then-count-ge262144-clause-grown c = grown_not c.args.pool.now

@@ -1,6 +1,6 @@
 use Rattle.std.proofs.Common.{◌≡◌, Some, None}
-use Rattle.py_values.specs.Heaps.{seen, row_at}
-use Rattle.py_values.specs.Objects.{attributes, attribute_in}
+use Rattle.py_heap.specs.Heaps.{seen, row_at}
+use Rattle.py_heap.specs.Objects.{attributes, attribute_in}
 use Rattle.py_callables.proofs.AttributeLaws.{object_has, object_lacks}
 use Rattle.py_callables.proofs.attribute.object_attribute.Goals as goal
 

@@ -1,6 +1,6 @@
 use Rattle.std.proofs.Common.{◌≡◌}
-use Rattle.py_values.specs.Heaps.{seen}
-use Rattle.py_values.specs.Objects.{inherited as inherits}
+use Rattle.py_heap.specs.Heaps.{seen}
+use Rattle.py_heap.specs.Objects.{inherited as inherits}
 use Rattle.py_callables.proofs.AttributeLaws.{of_class_read}
 use Rattle.py_callables.proofs.attribute.of_this_class.Goals as goal
 

@@ -1,6 +1,6 @@
 use Rattle.std.proofs.Common.{◌≡◌}
-use Rattle.py_values.specs.Heaps.{seen}
-use Rattle.py_values.specs.Objects.{inherited as inherits}
+use Rattle.py_heap.specs.Heaps.{seen}
+use Rattle.py_heap.specs.Objects.{inherited as inherits}
 use Rattle.py_callables.proofs.AttributeLaws.{above_read}
 use Rattle.py_callables.proofs.attribute_super.above_base.Goals as goal
 

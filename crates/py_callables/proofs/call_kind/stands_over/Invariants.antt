@@ -1,5 +1,5 @@
 use Rattle.std.proofs.Common.{◌≡◌, ◌-◌}
-use Rattle.py_values.specs.Heaps.{seen}
+use Rattle.py_heap.specs.Heaps.{seen}
 use Rattle.py_frames.specs.Values.{stands_over}
 use Rattle.py_callables.proofs.call_kind.stands_over.Given as goal
 

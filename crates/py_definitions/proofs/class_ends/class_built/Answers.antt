@@ -1,5 +1,5 @@
 use Rattle.std.proofs.Common.{◌≡◌, refl, true, false}
-use Rattle.py_values.specs.Heaps.{seen}
+use Rattle.py_heap.specs.Heaps.{seen}
 use Rattle.py_frames.specs.Statements.{over_thing}
 use Rattle.py_definitions.proofs.ClassEnds.{built_over, built_plain, built_refused}
 use Rattle.py_definitions.proofs.class_ends.class_built.Goals as goal

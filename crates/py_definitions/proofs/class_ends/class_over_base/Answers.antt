@@ -1,5 +1,5 @@
 use Rattle.std.proofs.Common.{◌≡◌, true, false}
-use Rattle.py_values.specs.Heaps.{seen}
+use Rattle.py_heap.specs.Heaps.{seen}
 use Rattle.py_frames.specs.Statements.{are_keywords, over_thing}
 use Rattle.py_definitions.proofs.ClassEnds.{checked_lacks}
 use Rattle.py_definitions.proofs.class_ends.class_over_base.Goals as goal

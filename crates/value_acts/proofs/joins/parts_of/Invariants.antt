@@ -1,7 +1,7 @@
 use Rattle.std.proofs.Common.{◌≡◌, ◌++◌, drop}
 use Rattle.std.specs.Prelude.{◌||◌}
 use Rattle.std.specs.List.{flat_map, list_any}
-use Rattle.py_values.specs.Heaps.{seen}
+use Rattle.py_heap.specs.Heaps.{seen}
 use Rattle.value_acts.specs.Joins.{part_values, is_long}
 use Rattle.value_acts.proofs.joins.parts_of.Given as goal
 

@@ -1,6 +1,6 @@
 use Rattle.std.proofs.Common.{◌≡◌, ◌-◌, ◌++◌}
-use Rattle.py_values.specs.Spans.{stepped, span_count, numbers_from}
-use Rattle.py_values.specs.Indices.{picked}
+use Rattle.py_operators.specs.Spans.{stepped, span_count, numbers_from}
+use Rattle.py_builtins.specs.Indices.{picked}
 use Rattle.value_acts.specs.Indices.{bits_below, bits_between}
 use Rattle.value_acts.proofs.slices.bits_between.Given as goal
 

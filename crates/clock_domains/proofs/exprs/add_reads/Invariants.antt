@@ -1,7 +1,0 @@
-use Rattle.std.proofs.Common.{◌≡◌, ◌++◌, take}
-use Rattle.std.specs.List.{flat_map}
-use Rattle.clock_domains.specs.Held.{read_exprs}
-use Rattle.clock_domains.proofs.exprs.add_reads.Given as goal
-
-abbrev pub invariant-loop-read : goal.invariant-loop-read
-invariant-loop-read l = l.ids ≡ l.fn.ids ++ flat_map read_exprs (take l.read-index l.reads)

@@ -1,6 +1,0 @@
-use Rattle.std.proofs.Common.{◌≡◌, take}
-use Rattle.clock_domains.specs.Marks.{marked, numbers}
-use Rattle.clock_domains.proofs.marks.mark_all.Given as goal
-
-abbrev pub invariant-loop-e : goal.invariant-loop-e
-invariant-loop-e l = l.marks.items ≡ marked (numbers (take l.e-index l.items)) l.fn.marks.items

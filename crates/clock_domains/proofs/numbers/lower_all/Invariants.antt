@@ -1,7 +1,0 @@
-use Rattle.std.proofs.Common.{◌≡◌, take}
-use Rattle.clock_domains.specs.Marks.{numbers}
-use Rattle.clock_domains.specs.Numbers.{lowered}
-use Rattle.clock_domains.proofs.numbers.lower_all.Given as goal
-
-abbrev pub invariant-loop-e : goal.invariant-loop-e
-invariant-loop-e l = l.firsts.items ≡ lowered (numbers (take l.e-index l.items)) l.number l.fn.firsts.items

@@ -1,7 +1,0 @@
-use Rattle.std.proofs.Common.{◌≡◌, ◌++◌, take}
-use Rattle.std.specs.List.{flat_map}
-use Rattle.clock_domains.specs.Walks.{port_names}
-use Rattle.clock_domains.proofs.walk.add_ports.Given as goal
-
-abbrev pub invariant-loop-memory : goal.invariant-loop-memory
-invariant-loop-memory l = l.names ≡ l.fn.names ++ flat_map port_names (take l.memory-index l.memories)

@@ -1,0 +1,10 @@
+pub mod Samples
+pub mod Lists
+pub mod Markings
+pub mod Trees
+pub mod Outs
+pub mod WalkLaws
+pub mod NumberLaws
+pub mod ExprLists
+pub mod HolderLaws
+pub mod ResetNames

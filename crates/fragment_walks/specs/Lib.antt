@@ -1,0 +1,8 @@
+pub mod Held
+pub mod Holders
+pub mod Walks
+pub mod Names
+pub mod Reads
+pub mod Marks
+pub mod Numbers
+pub mod Walked

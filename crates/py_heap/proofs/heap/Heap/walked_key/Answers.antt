@@ -1,0 +1,14 @@
+use Rattle.std.proofs.Common.{◌≡◌, ◌*◌, false, sym, ◌∙◌, arith}
+use Rattle.py_heap.specs.Heaps.{seen}
+use Rattle.py_heap.specs.Members.{same_key}
+use Rattle.py_heap.proofs.MemberLaws.{place_more, place_end}
+use Rattle.py_heap.proofs.heap.Heap.walked_key.Goals as goal
+
+pub loop-i-preserved : goal.loop-i-preserved
+loop-i-preserved c =
+    let h : same_key (seen c.args.frozen.now c.args.self.now) c.args.k.now c.index-row-i.result ≡ false = cc in
+    sym (place_more (same_key (seen c.args.frozen.now c.args.self.now) c.args.k.now) c.args.row.now c.loop-i.i c.index-row-i.result (omega arith) c.index-row-i.is h) ∙ c.loop-i.invariant
+
+pub returns-clause-place : goal.returns-clause-place
+returns-clause-place c =
+    sym (sym c.loop-i.invariant ∙ place_end (same_key (seen c.args.frozen.now c.args.self.now) c.args.k.now) (2 * c.loop-i.i) c.args.row.now (2 * c.loop-i.i) (omega arith))

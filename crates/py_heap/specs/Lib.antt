@@ -1,0 +1,9 @@
+pub mod Heaps
+pub mod Equality
+pub mod Places
+pub mod Members
+pub mod Keys
+pub mod Changes
+pub mod Names
+pub mod Objects
+pub mod Dicts

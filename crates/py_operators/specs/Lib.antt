@@ -1,0 +1,5 @@
+pub mod Truths
+pub mod Sums
+pub mod Spans
+pub mod Elements
+pub mod Operators

@@ -1,8 +1,0 @@
-use Rattle.std.proofs.Common.{◌≡◌, ◌-◌}
-use Rattle.py_values.specs.Heaps.{seen}
-use Rattle.py_values.specs.Names.{in_chain}
-use Rattle.py_values.proofs.heap.Heap.in_chain.Given as goal
-
-abbrev pub invariant-loop-turn : goal.invariant-loop-turn
-invariant-loop-turn l =
-    in_chain (l.scopes - l._turn) (seen l.frozen l.self) l.name l.at ≡ in_chain l.scopes (seen l.frozen l.self) l.name l.fn.first
