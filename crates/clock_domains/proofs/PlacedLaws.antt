@@ -18,7 +18,7 @@ use Rattle.design_ir.specs.Pools.{Pooled, answer, answers}
 use Rattle.design_ir.specs.PoolRules.{AreExprs, IsExpr, IsPool, most_exprs, shape_stop}
 use Rattle.design_ir.specs.Circuits.{is_among}
 use Rattle.design_ir.specs.Designs.{holds_reset, reset_test}
-use Rattle.design_ir.specs.Targets.{is_target, target_test}
+use Rattle.design_ir.specs.Targets.{is_target, target_test, is_open_target, open_target_test}
 use Rattle.design_ir.specs.Values.{form, form_step, signal_form}
 use Rattle.design_ir.proofs.Answers.{answer_past}
 use Rattle.design_ir.proofs.Congruence.{AreSame, same_below}
@@ -30,7 +30,7 @@ use Rattle.fragment_walks.proofs.HolderLaws.{inside_lead}
 use Rattle.fragment_walks.proofs.Lists.{any-append, any_none}
 use Rattle.fragment_walks.proofs.Outs.{among_flat}
 use Rattle.clock_domains.specs.Placed.{or_signal, placed_expr, placed_from, placed_pool, reset_of}
-use Rattle.clock_domains.specs.Resolvable.{IsBit, IsDomainOf, IsResetOf, is_open_target, open_target_test}
+use Rattle.clock_domains.specs.Resolvable.{IsBit, IsDomainOf, IsResetOf}
 
 -- ---- past the end
 

@@ -32,7 +32,8 @@ use Rattle.fragment_walks.specs.Walks.{memory_named}
 use Rattle.fragment_walks.proofs.Lists.{all_both, all_imp, all_joined, any-append}
 use Rattle.clock_domains.specs.Placed.{or_signal, placed_expr, placed_from, placed_pool, reset_of}
 use Rattle.clock_domains.specs.Ready.{IsPlainMemory}
-use Rattle.clock_domains.specs.Resolvable.{AreTopPorts, IsAddressOf, IsBit, IsClockingOf, IsDataOf, IsDomainOf, IsMemoryOf, IsOpenSide, IsPlain, IsPortOf, IsReadOf, IsResetOf, IsShaped, IsSideOf, IsThere, IsWriteOf, is_open_target}
+use Rattle.design_ir.specs.Targets.{is_open_target}
+use Rattle.clock_domains.specs.Resolvable.{AreTopPorts, IsAddressOf, IsBit, IsClockingOf, IsDataOf, IsDomainOf, IsMemoryOf, IsOpenSide, IsPlain, IsPortOf, IsReadOf, IsResetOf, IsShaped, IsSideOf, IsThere, IsWriteOf}
 use Rattle.clock_domains.specs.Resolved.{domain_signals, with_domains}
 use Rattle.clock_domains.proofs.GivenDomains.{old_form}
 use Rattle.clock_domains.proofs.MadeDomains.{length_with}

@@ -9,8 +9,6 @@ use Rattle.shape_rules.specs.Forms.{Form, unsigned}
 use Rattle.design_ir.specs.declared.ids.ExprId.{ExprId}
 use Rattle.design_ir.specs.declared.ids.SigId.{SigId}
 use Rattle.design_ir.specs.declared.signal.Sig.{Sig}
-use Rattle.design_ir.specs.declared.expr.Expr.{Expr}
-use Rattle.design_ir.specs.declared.expr.Expr.TheVariants.{Reset}
 use Rattle.design_ir.specs.declared.domain.Domain.{Domain}
 use Rattle.design_ir.specs.declared.domain.DomainDef.{DomainDef}
 use Rattle.design_ir.specs.declared.memory.MemWrite.{MemWrite}
@@ -23,9 +21,9 @@ use Rattle.design_ir.specs.declared.process.Process.{Process}
 use Rattle.design_ir.specs.declared.fragment.Fragment.{Fragment}
 use Rattle.design_ir.specs.Forests.{Leaf, Forest, bare, grown}
 use Rattle.design_ir.specs.Fragments.{leaf_of}
-use Rattle.design_ir.specs.Pools.{Pooled, answer}
+use Rattle.design_ir.specs.Pools.{Pooled}
 use Rattle.design_ir.specs.Values.{form, signal_form}
-use Rattle.design_ir.specs.Targets.{is_target, target_test}
+use Rattle.design_ir.specs.Targets.{is_target, is_open_target}
 use Rattle.design_ir.specs.Guards.{Guarded, guarded, block_exprs}
 use Rattle.design_ir.specs.Rows.{granules}
 use Rattle.design_ir.specs.Circuits.{is_among}
@@ -89,14 +87,6 @@ pub record IsSideOf (q : Pooled) (p : Process) : Type 0 where
 
 abbrev pub IsThere : Pooled → ExprId → Type 0
 IsThere q e = e.0 < length q.exprs
-
--- a target, where a reset is one as the signal that it is
-abbrev pub open_target_test : (ℕ → Bool) → Expr → Bool
-open_target_test is (Reset domain place) = true
-open_target_test is e = target_test is e
-
-unfoldable pub is_open_target : Pooled → ℕ → Bool
-is_open_target q k = answer false open_target_test q.exprs k
 
 -- the statements of a side
 pub record IsOpenSide (q : Pooled) (p : Process) : Type 0 where

@@ -37,6 +37,15 @@ target_test is (Reset domain place) = false
 unfoldable pub is_target : Pooled → ℕ → Bool
 is_target pool k = answer false target_test pool.exprs k
 
+-- the same before domains are resolved, where a reset is one as the signal that it is to be
+
+abbrev pub open_target_test : (ℕ → Bool) → Expr → Bool
+open_target_test is (Reset domain place) = true
+open_target_test is e = target_test is e
+
+unfoldable pub is_open_target : Pooled → ℕ → Bool
+is_open_target pool k = answer false open_target_test pool.exprs k
+
 -- the signals of which a target stands for a part
 abbrev pub signals_step : (ℕ → List ℕ) → Expr → List ℕ
 signals_step signals (expr.TheVariants.Sig s) = s.0 ∷ []

@@ -11,12 +11,12 @@ use Rattle.design_ir.specs.Forests.{Forest, bare, grown}
 use Rattle.design_ir.specs.Fragments.{leaf_of}
 use Rattle.design_ir.specs.Guards.{Guarded, guarded}
 use Rattle.design_ir.specs.Pools.{Pooled}
-use Rattle.design_ir.specs.Targets.{is_target}
+use Rattle.design_ir.specs.Targets.{is_target, is_open_target}
 use Rattle.module_dsl.specs.Sided as dsl
 use Rattle.module_dsl.specs.Sided.{givens, sides_of, process_of, processes_of}
 use Rattle.module_dsl.specs.Blocks.{Given, Entries, entries_of}
 use Rattle.module_dsl.specs.Builders.{Built, built_blocks, fragment_of}
-use Rattle.clock_domains.specs.Resolvable.{IsNamedSide, IsThere, IsOpenSide, IsDefinition, IsMemoryOf, IsModule, AreModules, IsTree, is_open_target}
+use Rattle.clock_domains.specs.Resolvable.{IsNamedSide, IsThere, IsOpenSide, IsDefinition, IsMemoryOf, IsModule, AreModules, IsTree}
 use Rattle.elab_store.specs.Sound.{IsNoReset, IsBuilt, AreClockDomains}
 use Rattle.elab_store.specs.ClockDomains.{ClockDomains, defined_by}
 use Rattle.elab_store.specs.declared.hierarchy.Addition.{Addition}

@@ -6,9 +6,9 @@ use Rattle.design_ir.specs.declared.ids.ExprId.{ExprId}
 use Rattle.design_ir.specs.declared.expr.Expr.{Expr}
 use Rattle.design_ir.specs.declared.expr.Expr.TheVariants as expr
 use Rattle.design_ir.specs.Pools.{Pooled, answers}
-use Rattle.design_ir.specs.Targets.{is_target, target_test}
+use Rattle.design_ir.specs.Targets.{is_target, target_test, open_target_test, is_open_target}
 use Rattle.fragment_walks.specs.Held.{reset_call, held_resets}
-use Rattle.clock_domains.specs.Resolvable.{IsNamedReset, open_target_test, is_open_target}
+use Rattle.clock_domains.specs.Resolvable.{IsNamedReset}
 use Rattle.elab_store.specs.Sound.{IsNoReset}
 
 -- ---- resets that are held
