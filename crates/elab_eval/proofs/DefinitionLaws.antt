@@ -169,6 +169,10 @@ order_at (z ∷ made) (suc k) (suc j) x y h lt e f = order_at made k j x y h.1 (
 some_same : (x y : ClockDomain) → Some x ≡ Some y → x ≡ y
 some_same x y e = cc
 
+-- a definition is itself under its own name
+own_name : (x y : Domain) → x ≡ y → record x { name = y.name } ≡ y
+own_name x y e = ap (λ (z : Domain). record z { name = y.name }) e
+
 two_apart : (q : Pooled) (made : List ClockDomain) (d e : DomainDef) → AreClockDomains q made → IsFrom made d → IsFrom made e → AreApart d e
 two_apart q made d e h f g = by_order (cases_order f.number g.number)
   where
@@ -182,7 +186,7 @@ two_apart q made d e h f g = by_order (cases_order f.number g.number)
     numbers s = ap (λ (z : Domain). share (domain_numbers z) (domain_numbers e.domain)) f.domain ∙ ap (λ (z : Domain). share (domain_numbers f.x.domain) (domain_numbers z)) g.domain ∙ s
 
     by_order : (f.number ≡ g.number) ⊎ ((f.number < g.number) ⊎ (g.number < f.number)) → AreApart d e
-    by_order (inl same) = inl (f.domain ∙ ap (λ (z : ClockDomain). z.domain) (some_same f.x g.x (sym f.at ∙ ap (slice_get made) same ∙ g.at)) ∙ sym g.domain)
+    by_order (inl same) = inl (own_name d.domain e.domain (f.domain ∙ ap (λ (z : ClockDomain). z.domain) (some_same f.x g.x (sym f.at ∙ ap (slice_get made) same ∙ g.at)) ∙ sym g.domain))
     by_order (inr (inl lt)) = inr (numbers (before_apart q f.x g.x here there (order_at made f.number g.number f.x g.x h.order lt f.at g.at)))
     by_order (inr (inr lt)) = inr (numbers (behind_apart q f.x g.x here there (order_at made g.number f.number g.x f.x h.order lt g.at f.at)))
 
