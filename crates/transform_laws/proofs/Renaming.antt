@@ -38,7 +38,7 @@ use Rattle.domain_transforms.specs.declared.controls.NamePair.{NamePair}
 use Rattle.domain_transforms.specs.Controlled.{name_after}
 use Rattle.domain_transforms.specs.Making.{forest_in}
 use Rattle.domain_transforms.specs.Placed.{fragment_exprs}
-use Rattle.domain_transforms.specs.Renamed.{anew, holds_renamed, is_within, new_exprs, remade, renamed, renamed_block, renamed_definition, renamed_expr, renamed_leaf, renamed_memory, renamed_pool, renamed_processes, renamed_read, renamed_side, renamed_sides, renamed_write, side_eq, side_statements, sides_once}
+use Rattle.domain_transforms.specs.Renamed.{anew, block_append, holds_renamed, is_within, new_exprs, remade, renamed_block, renamed_definition, renamed_expr, renamed_leaf, renamed_memory, renamed_pool, renamed_processes, renamed_read, renamed_side, renamed_sides, renamed_write, side_eq, side_statements, sides_once}
 use Rattle.domain_transforms.specs.Laws.{new_id}
 use Rattle.domain_transforms.proofs.AnewLaws.{anew_same, form_renamed}
 use Rattle.domain_transforms.proofs.RenamedMeaning.{stands}
@@ -148,16 +148,16 @@ module _ (names : List NamePair) (q : Pooled) (roots : List ExprId) (rules : IsP
   -- by the number of the expression
   is_as : (bound k : ℕ) → k < bound → k < length q.exprs → IsAs k (to (record { 0 = k })).0
   is_as zero k less there = absurd (omega (arith, less))
-  is_as (suc bound) k less there = by (is_within q roots k) refl
+  is_as (suc bound) k less there = by (λ a under. is_as bound a.0 (omega (arith, under, less)) (omega (arith, under, there))) (is_within q roots k) refl
     where
-      by : (b : Bool) → is_within q roots k ≡ b → IsAs k (to (record { 0 = k })).0
-      by false out = subst (λ (x : ExprId). IsAs k x.0) (sym (stays k out)) (itself k there)
-      by true within =
+      by : ((a : ExprId) → a.0 < k → IsAs a.0 (to a).0) → (b : Bool) → is_within q roots k ≡ b → IsAs k (to (record { 0 = k })).0
+      by earlier false out = subst (λ (x : ExprId). IsAs k x.0) (sym (stays k out)) (itself k there)
+      by earlier true within =
           let x = element q.exprs k there in
           let j : ℕ = (to (record { 0 = k })).0 in
           let here : slice_get p.exprs j ≡ Some (renamed_expr names to x.0) = stands names q roots rules k x.0 x.1 within in
           let parts : AllByRecursion (λ (a : ExprId). IsAs a.0 (to a).0) (named x.0) =
-          each_part (λ (a : ExprId). IsAs a.0 (to a).0) k (named x.0) (standing q k x.0 rules x.1).names (λ a under. is_as bound a.0 (omega (arith, under, less)) (omega (arith, under, there))) in
+          each_part (λ (a : ExprId). IsAs a.0 (to a).0) k (named x.0) (standing q k x.0 rules x.1).names earlier in
           record {
             there = place_below p.exprs j (renamed_expr names to x.0) here;
             shape =
