@@ -28,6 +28,7 @@ use crate::names::is_text;
 use crate::objects::first_object;
 use crate::own_machine::OwnMachine;
 use crate::simulation::Simulation;
+use crate::wrappings::{Wrapped, Wrapping};
 use amh_bits::Int;
 use amh_host::{Items, Place, Text};
 use amh_things::comparing::counted;
@@ -60,6 +61,8 @@ pub struct Store {
     pub clock_domains: ClockDomains,
     pub machines: Vec<OwnMachine>,
     pub memories: Vec<OwnMemory>,
+    pub wrappings: Vec<Wrapping>,
+    pub wrapped: Vec<Wrapped>,
     pub domains: Items<Text>,
     pub told: Option<Place>,
     pub simulation: Simulation,
@@ -72,7 +75,7 @@ impl Model for Store {
 
     ghost Value = { Stored };
 
-    ghost view = { λ a. record { things = a.things; kept = a.kept.items; modules = a.modules.items; patterns = a.patterns.items; top = a.top; components = a.components; hierarchy = a.hierarchy; clock_domains = a.clock_domains; machines = a.machines.items; memories = a.memories.items; domains = a.domains; told = a.told; simulation = a.simulation } };
+    ghost view = { λ a. record { things = a.things; kept = a.kept.items; modules = a.modules.items; patterns = a.patterns.items; top = a.top; components = a.components; hierarchy = a.hierarchy; clock_domains = a.clock_domains; machines = a.machines.items; memories = a.memories.items; wrappings = a.wrappings.items; wrapped = a.wrapped.items; domains = a.domains; told = a.told; simulation = a.simulation } };
 
     ghost invariant = { λ a. IsStore a.statements a.modules.items a.patterns.items };
 }
@@ -80,7 +83,7 @@ impl Model for Store {
 impl Store {
     /// Nothing yet, which takes no memory.
     fn new(alloc: Global) -> Store
-        ensures { result ≡ record { things = []; kept = []; modules = []; patterns = []; top = no_top; components = no_components; hierarchy = no_hierarchy; clock_domains = no_clock_domains; machines = []; memories = []; domains = []; told = None; simulation = no_simulation } }
+        ensures { result ≡ record { things = []; kept = []; modules = []; patterns = []; top = no_top; components = no_components; hierarchy = no_hierarchy; clock_domains = no_clock_domains; machines = []; memories = []; wrappings = []; wrapped = []; domains = []; told = None; simulation = no_simulation } }
     {
         Store {
             things: Values::new(alloc),
@@ -97,6 +100,8 @@ impl Store {
             clock_domains: ClockDomains::new(alloc),
             machines: Vec::new(alloc),
             memories: Vec::new(alloc),
+            wrappings: Vec::new(alloc),
+            wrapped: Vec::new(alloc),
             domains: Items::new(alloc),
             told: None,
             simulation: Simulation::new(alloc),
