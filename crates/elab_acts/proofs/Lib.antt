@@ -26,4 +26,5 @@ pub mod SubmoduleSamples
 pub mod SubmoduleSound
 pub mod ToldLaws
 pub mod WalkLaws
+pub mod WrapperSound
 pub mod GlobalLaws
