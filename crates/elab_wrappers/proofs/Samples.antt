@@ -51,7 +51,7 @@ turned = renamer_called heap (call (dict 0)) to_pix.held
 
 turned_is : (turned.answer ≡ answer.Give (val.Hw (record { 0 = 1 }))) × (turned.held.store.kept ≡ kept.Wrapping 0 ∷ kept.Wrapping 1 ∷ [])
     × (turned.held.store.wrappings ≡ wrapping.Rename (record { before = codes "sync"; after = codes "pix" } ∷ [])
-        ∷ wrapping.Rename (record { before = codes "sync"; after = codes "pix" } ∷ record { before = codes "pix"; after = codes "sync" } ∷ []) ∷ [])
+    ∷ wrapping.Rename (record { before = codes "sync"; after = codes "pix" } ∷ record { before = codes "pix"; after = codes "sync" } ∷ []) ∷ [])
 unfolding identifiers text int dict heap call to_pix turned
 turned_is = (refl, refl, refl)
 
