@@ -26,5 +26,7 @@ pub mod SubmoduleSamples
 pub mod SubmoduleSound
 pub mod ToldLaws
 pub mod WalkLaws
-pub mod WrapperSound
+pub mod WrapperCallSound
 pub mod GlobalLaws
+mod WrapperSamples
+pub mod WrapperSound

@@ -44,11 +44,11 @@ first_made name q x c is rest =
 
 pub controls_made : (ts : List Thing) (q : Pooled) (xs : List NamedVal) → AreHeld (length q.exprs) ts → AreMade q (controls_from ts q xs)
 controls_made ts q [] held = record { more = []; pool = same_pool q; controls = tt }
-controls_made ts q (x ∷ xs) held = by_meant (expr_meant q ts x.val) (expr_there q ts x.val held)
+controls_made ts q (x ∷ xs) held = by_meant (expr_meant q ts x.val) (expr_there q ts x.val held) (λ es. controls_made ts (grown_by q es) xs (held_grown q es ts held))
   where
-    by_meant : (r : Result (ExprId × List Expr) Cause) → IfOk r (IsMeant q) → AreMade q (control_by x.name q (λ p. controls_from ts p xs) r)
-    by_meant (Ok y) is = first_made x.name q y (controls_from ts (grown_by q y.1) xs) is (controls_made ts (grown_by q y.1) xs (held_grown q y.1 ts held))
-    by_meant (Err why) is = record { more = []; pool = same_pool q; controls = tt }
+    by_meant : (r : Result (ExprId × List Expr) Cause) → IfOk r (IsMeant q) → ((es : List Expr) → AreMade (grown_by q es) (controls_from ts (grown_by q es) xs)) → AreMade q (control_by x.name q (λ p. controls_from ts p xs) r)
+    by_meant (Ok y) is rest = first_made x.name q y (controls_from ts (grown_by q y.1) xs) is (rest y.1)
+    by_meant (Err why) is rest = record { more = []; pool = same_pool q; controls = tt }
 
 -- what inserts them keeps to the pool
 pub inserting_sound : (q : Pooled) (i : Inserter) (cs : List Control) → AreControls (length q.exprs) cs → IsWrapping q (inserting i cs)

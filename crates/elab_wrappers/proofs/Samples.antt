@@ -7,6 +7,7 @@ use Rattle.py_values.specs.declared.val.Val.TheVariants as val
 use Rattle.py_heap.specs.Heaps.{Seen, seen, nothing}
 use Rattle.py_frames.specs.declared.request.Answer.TheVariants as answer
 use Rattle.py_frames.specs.declared.request.Cause.TheVariants.{Raised}
+use Rattle.py_builtins.specs.Scalars.{first_from}
 use Rattle.design_ir.specs.declared.expr.Expr.TheVariants.{Const}
 use Rattle.amh_things.specs.declared.thing.Thing.TheVariants as thing
 use Rattle.elab_store.specs.declared.kept.Kept.TheVariants as kept
@@ -80,7 +81,7 @@ always = inserter_called heap Enable (call (int 1)) nothing_held
 
 always_is : (always.answer ≡ answer.Give (val.Hw (record { 0 = 0 }))) × (always.held.pool.exprs ≡ Const (pos 1) (record { width = 1; signed = false }) ∷ [])
     × (always.held.store.wrappings ≡ wrapping.Enable (record { domain = codes "sync"; condition = record { 0 = 0 } } ∷ []) ∷ [])
-unfolding identifiers text int dict heap call always
+unfolding identifiers first_from text int dict heap call always
 always_is = (refl, refl, refl)
 
 -- each value of a dict gets its own
@@ -89,7 +90,7 @@ both = inserter_called heap Reset (call (dict 1)) nothing_held
 
 both_is : (both.held.pool.exprs ≡ Const (pos 1) (record { width = 1; signed = false }) ∷ Const (pos 0) (record { width = 1; signed = false }) ∷ [])
     × (both.held.store.wrappings ≡ wrapping.Reset (record { domain = codes "pix"; condition = record { 0 = 0 } } ∷ record { domain = codes "sync"; condition = record { 0 = 1 } } ∷ []) ∷ [])
-unfolding identifiers text int dict heap call both
+unfolding identifiers first_from text int dict heap call both
 both_is = (refl, refl)
 
 -- thing 0 of what stands before is a wrapping, which is no value; a refusal leaves the pool as it was
