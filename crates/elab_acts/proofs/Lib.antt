@@ -26,4 +26,7 @@ pub mod SubmoduleSamples
 pub mod SubmoduleSound
 pub mod ToldLaws
 pub mod WalkLaws
+pub mod WrapperCallSound
 pub mod GlobalLaws
+mod WrapperSamples
+pub mod WrapperSound

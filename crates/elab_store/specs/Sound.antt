@@ -32,6 +32,10 @@ use Rattle.elab_store.specs.declared.kept.Equation.{Equation}
 use Rattle.elab_store.specs.declared.kept.Kept.{Kept}
 use Rattle.elab_store.specs.declared.kept.MemoryPort.{MemoryPort}
 use Rattle.elab_store.specs.declared.memories.OwnMemory.{OwnMemory}
+use Rattle.elab_store.specs.declared.wrappings.Wrapping.{Wrapping}
+use Rattle.elab_store.specs.declared.wrappings.Wrapping.TheVariants as wrapping
+use Rattle.domain_transforms.specs.declared.controls.NamePair.{NamePair}
+use Rattle.domain_transforms.specs.Placed.{AreControls}
 use Rattle.elab_store.specs.declared.kept.Kept.TheVariants as kept
 use Rattle.design_ir.specs.Settling.{is_signal}
 use Rattle.fsm_lowering.specs.Machines.{Machine, HasRegister}
@@ -106,6 +110,8 @@ IsKept q sigs ends (kept.ClockDomain k) = ⊤
 IsKept q sigs ends (kept.Memory k) = ⊤
 IsKept q sigs ends (kept.OfMemory k m) = ⊤
 IsKept q sigs ends (kept.MemoryPort x) = IsMemoryPort q x
+IsKept q sigs ends (kept.Wrapping k) = ⊤
+IsKept q sigs ends (kept.Wrapped k) = ⊤
 IsKept q sigs ends (kept.Port is_out shape init) = ⊤
 IsKept q sigs ends (kept.Nested is_out n) = ⊤
 IsKept q sigs ends (kept.Signature n) = ⊤
@@ -226,6 +232,14 @@ pub record IsOwnMemory (q : Pooled) (made : List ClockDomain) (objects : List (�
 abbrev pub HasOwnRegister : Pooled → List OwnMemory → OwnMachine → Type 0
 HasOwnRegister q memories m = AllByRecursion (λ (x : OwnMemory). IsApart q m.machine.signal.0 x.spec) memories
 
+-- ---- wrappers
+
+-- new names are names of domains, and controls stand in the pool
+abbrev pub IsWrapping : Pooled → Wrapping → Type 0
+IsWrapping q (wrapping.Rename names) = AllByRecursion (λ (p : NamePair). IsName p.after) names
+IsWrapping q (wrapping.Reset controls) = AreControls (length q.exprs) controls
+IsWrapping q (wrapping.Enable controls) = AreControls (length q.exprs) controls
+
 pub record IsSound (h : Held) : Type 0 where
   pub names : AllByRecursion (λ (x : Sig). IsName x.name) h.pool.signals
   pub things : AreHeld (length h.pool.exprs) h.store.things
@@ -238,3 +252,4 @@ pub record IsSound (h : Held) : Type 0 where
   pub components : AreComponents h.pool h.store.components
   pub memories : AllByRecursion (IsOwnMemory h.pool h.store.clock_domains.made h.store.components.objects) h.store.memories
   pub registers : AllByRecursion (HasOwnRegister h.pool h.store.memories) h.store.machines
+  pub wrappings : AllByRecursion (IsWrapping h.pool) h.store.wrappings
