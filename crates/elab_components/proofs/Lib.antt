@@ -1,3 +1,4 @@
 pub mod ComponentLaws
 pub mod FaceLaws
 pub mod ListLaws
+pub mod ResetSamples

@@ -16,7 +16,7 @@ use py_values::{FuncId, Val};
 use std::alloc::Global;
 
 /// How many names a star brings.
-const STAR: usize = 13;
+const STAR: usize = 14;
 
 // The name that is served here and is spelled so.
 fn own_named(name: &str) -> Option<HdlName>
@@ -34,6 +34,8 @@ fn own_named(name: &str) -> Option<HdlName>
         Some(HdlName::Value)
     } else if is_text(name, "ClockDomain") {
         Some(HdlName::ClockDomain)
+    } else if is_text(name, "ResetSignal") {
+        Some(HdlName::ResetSignal)
     } else {
         None
     }
@@ -54,7 +56,7 @@ fn is_value_name(name: &str) -> bool
 
 // The names that a star brings, in order.
 fn star_name(i: usize) -> &'static str
-    requires { i < 13 }
+    requires { i < 14 }
     ensures { slice_get star_names i ≡ Some result.now }
 {
     match i {
@@ -70,7 +72,8 @@ fn star_name(i: usize) -> &'static str
         9 => "unsigned",
         10 => "signed",
         11 => "Elaboratable",
-        _ => "ClockDomain",
+        12 => "ClockDomain",
+        _ => "ResetSignal",
     }
 }
 
