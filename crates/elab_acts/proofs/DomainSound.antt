@@ -23,14 +23,14 @@ use Rattle.elab_store.proofs.MemoryLaws.{HasDataBelow, data_below, with_clock, a
 use Rattle.clock_domains.specs.Resolvable.{domain_numbers}
 use Rattle.elab_acts.proofs.EachLaws.{all_each}
 use Rattle.elab_components.specs.declared.signals.SignalArguments.{SignalArguments}
-use Rattle.elab_components.specs.Signals.{call_name, signal_reset_less, signal_passes}
+use Rattle.elab_components.specs.Signals.{call_name, domain_formed, signal_reset_less, signal_passes}
 use Rattle.elab_acts.specs.Submodules.{found_given}
-use Rattle.elab_acts.specs.ClockDomains.{without_cd, domain_formed, clock_domain_name, clock_signal, reset_signal, next_signal, with_bit, clock_domain, keeping_domain, clock_domain_kept, reset_made, clock_made, clock_domain_said, clock_domain_from, own_attribute, clock_domain_attribute, clock_domain_of, domain_defined, definition_added, has_domain_name, definition_stored, is_definitions_of, definitions_stored}
+use Rattle.elab_acts.specs.ClockDomains.{without_cd, clock_domain_name, clock_signal, reset_signal, next_signal, with_bit, clock_domain, keeping_domain, clock_domain_kept, reset_made, clock_made, clock_domain_said, clock_domain_from, own_attribute, clock_domain_attribute, clock_domain_of, domain_defined, definition_added, has_domain_name, definition_stored, is_definitions_of, definitions_stored}
 use Rattle.elab_acts.proofs.GrownLaws.{keeping_sound, name_more}
 use Rattle.elab_acts.proofs.DomainLaws.{bit_stays, new_bit, domains_more}
 use Rattle.elab_acts.proofs.SignalSound.{unlimited_sound}
 
-if_sound : (b : Bool) (x y : Answered) → IsSound x.held → IsSound y.held → IsSound (if b then x else y).held
+pub if_sound : (b : Bool) (x y : Answered) → IsSound x.held → IsSound y.held → IsSound (if b then x else y).held
 if_sound true x y h g = h
 if_sound false x y h g = g
 

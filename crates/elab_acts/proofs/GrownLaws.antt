@@ -38,7 +38,7 @@ use Rattle.elab_store.specs.declared.wrappings.Wrapping.TheVariants as wrapping
 use Rattle.domain_transforms.specs.declared.controls.Control.{Control}
 use Rattle.domain_transforms.specs.Placed.{AreControls}
 use Rattle.memory_ports.specs.Ports as ports
-use Rattle.elab_store.proofs.Pools.{IsGrown, target_stays, there_stays}
+use Rattle.elab_store.proofs.Pools.{IsGrown, target_stays, open_target_stays, there_stays}
 use Rattle.elab_store.proofs.MemoryLaws.{memory_stays, register_stays}
 use Rattle.elab_acts.proofs.EachLaws.{all_each}
 use Rattle.elab_acts.proofs.DomainLaws.{bit_stays, domains_stay}
@@ -56,7 +56,7 @@ assigned_stays : (p q : Pooled) (t v : ExprId) → IsGrown p q → IsAssigned p 
 assigned_stays p q t v g h = record {
   target_there = there_stays p q t.0 g h.target_there;
   value_there = there_stays p q v.0 g h.value_there;
-  is_target = target_stays p q t.0 g h.target_there ∙ h.is_target;
+  is_target = open_target_stays p q t.0 g h.target_there ∙ h.is_target;
 }
 
 begin_stays : (p q : Pooled) → IsGrown p q → (b : Begin) → IsBegin p b → IsBegin q b

@@ -14,6 +14,7 @@ pub mod MachineSound
 pub mod MemoryPortSound
 pub mod MemorySound
 pub mod PortLaws
+pub mod ResetSound
 pub mod ShapeSamples
 pub mod SideLaws
 pub mod SignalSound

@@ -40,6 +40,7 @@ use Rattle.elab_machines.specs.declared.state_machines.MachineArguments.{Machine
 use Rattle.identifiers.specs.Identifiers.{is_identifier}
 use Rattle.identifiers.proofs.NameLaws.{identifier_is_name}
 use Rattle.elab_store.specs.Calls.{Called}
+use Rattle.module_dsl.proofs.OpenTargets.{target_is_open}
 use Rattle.elab_store.specs.Stores.{Held, Answered, refused}
 use Rattle.elab_acts.specs.Sides.{part_given}
 use Rattle.elab_store.specs.OpenMachines.{innermost}
@@ -342,7 +343,7 @@ next_move_sound h m name p t x b y own apart built e =
             record {
               target_there = below q.exprs x.machine.register.0 _ stays.register;
               value_there = omega (arith, length-append h.pool.exprs (made ∷ []));
-              is_target = stays.target;
+              is_target = target_is_open q x.machine.register.0 stays.target;
             },
           ),
           refl,

@@ -20,7 +20,7 @@ use Rattle.design_ir.specs.declared.ids.ExprId.{ExprId}
 use Rattle.design_ir.specs.declared.expr.Expr.{Expr}
 use Rattle.design_ir.specs.declared.expr.Expr.TheVariants as expr
 use Rattle.design_ir.specs.Pools.{Pooled}
-use Rattle.design_ir.specs.Targets.{is_target}
+use Rattle.design_ir.specs.Targets.{is_open_target}
 use Rattle.design_ir.specs.declared.process.Side.{Side}
 use Rattle.design_ir.specs.declared.process.Side.TheVariants.{Comb, Clocked}
 use Rattle.design_ir.specs.declared.expr.Pattern.{Pattern}
@@ -71,7 +71,7 @@ use Rattle.elab_store.specs.Stores.{object_in, first_object, module_of, inner_of
 use Rattle.elab_components.specs.Libraries.{is_enum, is_data, library_named, thing_name_given}
 use Rattle.elab_components.specs.Likes.{liked, like_placed, like_init, own_reset_less, liked_shape, liked_signal}
 use Rattle.elab_store.specs.Sound.{IsEquation, IsBegin, IsKept, IsOpening, IsTold, IsBuilt, IsSound}
-use Rattle.elab_store.proofs.Pools.{IsGrown, target_stays, there_stays}
+use Rattle.elab_store.proofs.Pools.{IsGrown, open_target_stays, there_stays}
 use Rattle.elab_acts.proofs.GrownLaws.{all_and, pool_grown, things_grown, read_held, keeping_sound, built_stays, told_module, module_built, with_top_sound}
 use Rattle.elab_store.specs.OpenMachines.{in_machine}
 use Rattle.elab_acts.proofs.ComponentSound as component
@@ -262,9 +262,9 @@ expr_sound p ts v x held e = by_operand (operand_of p ts v) (λ y is. operand_th
     by_operand (Some y) f e = meant_by p y x (f y refl) e
 
 equated_sound : (h : Held) (target : ExprId) (v : Val) (place : Place) → IsSound h → target.0 < length h.pool.exprs → IsSound (equation_made target v place h).held
-equated_sound h target v place s there = by_test (is_target h.pool target.0) refl
+equated_sound h target v place s there = by_test (is_open_target h.pool target.0) refl
   where
-    given_sound : is_target h.pool target.0 ≡ true → (r : Result (ExprId × List Expr) Cause) → ((x : ExprId × List Expr) → r ≡ Ok x → IsMeant h.pool x) → IsSound (equation_given target place h r).held
+    given_sound : is_open_target h.pool target.0 ≡ true → (r : Result (ExprId × List Expr) Cause) → ((x : ExprId × List Expr) → r ≡ Ok x → IsMeant h.pool x) → IsSound (equation_given target place h r).held
     given_sound yes_target (Err why) f = s
     given_sound yes_target (Ok x) f =
         let m : IsMeant h.pool x = f x refl in
@@ -275,10 +275,10 @@ equated_sound h target v place s there = by_test (is_target h.pool target.0) ref
         record {
           target_there = there_stays h.pool q target.0 g there;
           value_there = omega (arith, m.there, length-append h.pool.exprs x.1);
-          is_target = target_stays h.pool q target.0 g there ∙ yes_target;
+          is_target = open_target_stays h.pool q target.0 g there ∙ yes_target;
         }
 
-    by_test : (b : Bool) → is_target h.pool target.0 ≡ b → IsSound (if b then equation_given target place h (expr_meant h.pool h.store.things v) else refused Raised h).held
+    by_test : (b : Bool) → is_open_target h.pool target.0 ≡ b → IsSound (if b then equation_given target place h (expr_meant h.pool h.store.things v) else refused Raised h).held
     by_test true e = given_sound e (expr_meant h.pool h.store.things v) (λ x is. expr_sound h.pool h.store.things v x s.things is)
     by_test false e = s
 

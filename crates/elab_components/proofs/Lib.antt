@@ -2,3 +2,4 @@ pub mod ComponentLaws
 pub mod FaceLaws
 pub mod ImportSamples
 pub mod ListLaws
+pub mod ResetSamples

@@ -36,13 +36,14 @@ own_named n =
     else (if text_eq n (codes "Elaboratable") then Some hdl.Elaboratable
     else (if text_eq n (codes "Shape") then Some hdl.Shape
     else (if text_eq n (codes "Value") then Some hdl.Value
-    else (if text_eq n (codes "ClockDomain") then Some hdl.ClockDomain else wrapper_named n)))))
+    else (if text_eq n (codes "ClockDomain") then Some hdl.ClockDomain
+    else (if text_eq n (codes "ResetSignal") then Some hdl.ResetSignal else wrapper_named n))))))
 
 -- the names that a star brings
 abbrev pub star_names : List (List ℕ)
 star_names =
     codes "Module" ∷ codes "Signal" ∷ codes "Const" ∷ codes "C" ∷ codes "Cat" ∷ codes "Mux" ∷ codes "Array" ∷ codes "Shape" ∷ codes "Value"
-    ∷ codes "unsigned" ∷ codes "signed" ∷ codes "Elaboratable" ∷ codes "ClockDomain" ∷ codes "DomainRenamer" ∷ codes "ResetInserter" ∷ codes "EnableInserter" ∷ []
+    ∷ codes "unsigned" ∷ codes "signed" ∷ codes "Elaboratable" ∷ codes "ClockDomain" ∷ codes "ResetSignal" ∷ codes "DomainRenamer" ∷ codes "ResetInserter" ∷ codes "EnableInserter" ∷ []
 
 abbrev pub hdl_thing : Option HdlName → Option ThingName → Held → Answered
 hdl_thing (Some n) t h = kept_given (kept.Name n) h

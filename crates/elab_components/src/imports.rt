@@ -16,7 +16,7 @@ use py_values::{FuncId, Val};
 use std::alloc::Global;
 
 /// How many names a star brings.
-const STAR: usize = 16;
+const STAR: usize = 17;
 
 // The name of a wrapper of clock domains that is spelled so.
 fn wrapper_named(name: &str) -> Option<HdlName>
@@ -49,6 +49,8 @@ fn own_named(name: &str) -> Option<HdlName>
         Some(HdlName::Value)
     } else if is_text(name, "ClockDomain") {
         Some(HdlName::ClockDomain)
+    } else if is_text(name, "ResetSignal") {
+        Some(HdlName::ResetSignal)
     } else {
         wrapper_named(name)
     }
@@ -69,7 +71,7 @@ fn is_value_name(name: &str) -> bool
 
 // The names that a star brings, in order.
 fn star_name(i: usize) -> &'static str
-    requires { i < 16 }
+    requires { i < 17 }
     ensures { slice_get star_names i ≡ Some result.now }
 {
     match i {
@@ -86,8 +88,9 @@ fn star_name(i: usize) -> &'static str
         10 => "signed",
         11 => "Elaboratable",
         12 => "ClockDomain",
-        13 => "DomainRenamer",
-        14 => "ResetInserter",
+        13 => "ResetSignal",
+        14 => "DomainRenamer",
+        15 => "ResetInserter",
         _ => "EnableInserter",
     }
 }

@@ -18,12 +18,13 @@ use Rattle.fragment_walks.specs.Walks.{all_definitions, all_memories}
 use Rattle.clock_domains.specs.Resolved.{IsResolveRefusal, resolved, file_start}
 use Rattle.elab_store.specs.Stores.{Stored, Held}
 use Rattle.elab_store.specs.declared.memories.OwnMemory.{OwnMemory}
-use Rattle.elab_store.specs.Sound.{IsNoReset, IsOwnMemory, IsSound, is_reset}
+use Rattle.elab_store.specs.Sound.{IsOwnMemory, IsSound}
 use Rattle.elab_eval.specs.declared.refusal.ElabStop.{ElabStop}
 use Rattle.elab_eval.specs.declared.refusal.ElabStop.TheVariants as stops
-use Rattle.elab_eval.specs.Elaborates.{Found, IsFound, is_open, is_open_at, root_module, ports_of, top_ports, tree_of, found_by, found_with, module_found, design_of, unresolved_stop, without_modules}
+use Rattle.elab_eval.specs.Elaborates.{Found, IsFound, is_nameless, is_open, is_open_at, root_module, ports_of, top_ports, tree_of, found_by, found_with, module_found, design_of, unresolved_stop, without_modules}
 use Rattle.elab_eval.specs.Trees.{unless_open, tree_found, IsGot}
 use Rattle.elab_acts.proofs.EachLaws.{all_each}
+use Rattle.elab_eval.proofs.NamedResets.{IsNamed}
 use Rattle.elab_eval.proofs.Modules.{root_built, tree_stands}
 use Rattle.elab_eval.proofs.OwnMemories.{memory_stands, memories_free}
 use Rattle.elab_eval.proofs.DefinitionLaws.{definitions_apart}
@@ -46,8 +47,8 @@ tree_made s (Some b) f e = by_test (is_any_open s b) refl e
     by_test true t e = cc
     by_test false t e = let same : tree_of s b ≡ f = cc in record { built = b; is = refl; closed = t; tree = sym same }
 
--- where nothing is a reset, the modules tell
-past_resets : (h : Held) (heap : Made) → list_any is_reset h.pool.exprs ≡ false → design_of h heap ≡ module_found h heap (root_module h.store)
+-- where each reset has a name, the modules tell
+past_resets : (h : Held) (heap : Made) → list_any is_nameless h.pool.exprs ≡ false → design_of h heap ≡ module_found h heap (root_module h.store)
 past_resets h heap none = ap (λ (b : Bool). if b then Err (stops.Refused Raised file_start) else module_found h heap (root_module h.store)) none
 
 -- a refusal by tree and by design
@@ -69,7 +70,7 @@ refused_as h heap x (Some b) e = by_test (is_any_open h.store b) e
     by_test false e = cc
 
 -- where there is no tree
-pub refused_design : (h : Held) (heap : Made) (stop : ElabStop) → list_any is_reset h.pool.exprs ≡ false → IsGot (Err stop) (tree_found h.store (root_module h.store)) → IsFound (Err stop) (design_of h heap)
+pub refused_design : (h : Held) (heap : Made) (stop : ElabStop) → list_any is_nameless h.pool.exprs ≡ false → IsGot (Err stop) (tree_found h.store (root_module h.store)) → IsFound (Err stop) (design_of h heap)
 refused_design h heap stops.NoMemory none e = tt
 refused_design h heap (stops.Spent p) none e = past_resets h heap none ∙ refused_as h heap (stops.Spent p) (root_module h.store) e
 refused_design h heap (stops.Refused k p) none e = past_resets h heap none ∙ refused_as h heap (stops.Refused k p) (root_module h.store) e
@@ -79,7 +80,7 @@ abbrev pub design_by : Held → Made → Fragment → Option TopPorts → Result
 design_by h heap f None = Err (stops.Refused Raised file_start)
 design_by h heap f (Some ports) = found_with h heap (resolved h.pool f ports)
 
-pub made_design : (h : Held) (heap : Made) (f : Fragment) (ports : Option TopPorts) → list_any is_reset h.pool.exprs ≡ false → tree_found h.store (root_module h.store) ≡ Ok f → ports ≡ top_ports (seen nothing heap) h
+pub made_design : (h : Held) (heap : Made) (f : Fragment) (ports : Option TopPorts) → list_any is_nameless h.pool.exprs ≡ false → tree_found h.store (root_module h.store) ≡ Ok f → ports ≡ top_ports (seen nothing heap) h
     → design_of h heap ≡ design_by h heap f ports
 made_design h heap f ports none e same =
     let made = tree_made h.store (root_module h.store) f e in
@@ -102,7 +103,7 @@ parted s rest bs e f = ap (λ (r : Stored). record r { modules = bs }) f ∙ ap 
 pub got_of : (s t : Stored) (r : Result Fragment ElabStop) → t ≡ s → IsGot r (tree_found t (root_module t)) → IsGot r (tree_found s (root_module s))
 got_of s t r e h = subst (λ u. IsGot r (tree_found u (root_module u))) e h
 
-pub tree_resolvable : (h : Held) (f : Fragment) → IsPool h.pool → AllByRecursion IsNoReset h.pool.exprs → IsSound h → tree_found h.store (root_module h.store) ≡ Ok f → IsTree h.pool f
+pub tree_resolvable : (h : Held) (f : Fragment) → IsPool h.pool → AllByRecursion IsNamed h.pool.exprs → IsSound h → tree_found h.store (root_module h.store) ≡ Ok f → IsTree h.pool f
 tree_resolvable h f rules plain sound e =
     let made = tree_made h.store (root_module h.store) f e in
     let own = all_each (IsOwnMemory h.pool h.store.clock_domains.made h.store.components.objects) (λ (x : OwnMemory). IsMemoryOf h.pool x.spec) h.store.memories (memory_stands h.pool rules h.store.clock_domains.made h.store.components.objects) sound.memories in

@@ -5,7 +5,7 @@ pub mod DefinitionLaws
 pub mod DesignLaws
 pub mod Modules
 pub mod NameSamples
-pub mod NoResets
+pub mod NamedResets
 pub mod OwnMemories
 pub mod ObjectLaws
 pub mod ObjectSamples

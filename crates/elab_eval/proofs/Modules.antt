@@ -9,15 +9,13 @@ use Rattle.design_ir.specs.declared.domain.DomainDef.{DomainDef}
 use Rattle.design_ir.specs.declared.process.Side.{Side}
 use Rattle.design_ir.specs.Forests.{Forest, bare, grown}
 use Rattle.design_ir.specs.Fragments.{leaf_of}
-use Rattle.design_ir.specs.Guards.{Guarded, guarded}
 use Rattle.design_ir.specs.Pools.{Pooled}
-use Rattle.design_ir.specs.Targets.{is_target, is_open_target}
 use Rattle.module_dsl.specs.Sided as dsl
 use Rattle.module_dsl.specs.Sided.{givens, sides_of, process_of, processes_of}
 use Rattle.module_dsl.specs.Blocks.{Given, Entries, entries_of}
 use Rattle.module_dsl.specs.Builders.{Built, built_blocks, fragment_of}
 use Rattle.clock_domains.specs.Resolvable.{IsNamedSide, IsThere, IsOpenSide, IsDefinition, IsMemoryOf, IsModule, AreModules, IsTree}
-use Rattle.elab_store.specs.Sound.{IsNoReset, IsBuilt, AreClockDomains}
+use Rattle.elab_store.specs.Sound.{IsBuilt, AreClockDomains}
 use Rattle.elab_store.specs.ClockDomains.{ClockDomains, defined_by}
 use Rattle.elab_store.specs.declared.hierarchy.Addition.{Addition}
 use Rattle.elab_store.specs.declared.hierarchy.Node.{Node}
@@ -28,7 +26,7 @@ use Rattle.elab_store.specs.Stores.{Stored}
 use Rattle.elab_eval.specs.Elaborates.{module_in, root_module, node_name, leaf_in, first_trees, other_trees, forest_of_nodes, root_domains, tree_of}
 use Rattle.elab_acts.proofs.EachLaws.{all_map, all_filter, all_each}
 use Rattle.elab_eval.proofs.DefinitionLaws.{definitions_stand, root_definitions_stand}
-use Rattle.elab_eval.proofs.NoResets.{resets_named, target_opened}
+use Rattle.elab_eval.proofs.NamedResets.{IsNamed, resets_named}
 use Rattle.elab_eval.proofs.OwnMemories.{spec_at}
 use Rattle.elab_store.proofs.Standing.{IsGiven, Stand, entries_stand, blocks_stand, givens_stand, targets_stand, exprs_stand}
 
@@ -66,14 +64,14 @@ leaf_named bs ms t name (node.Memory k) = refl
 
 -- ---- statements
 
-module _ (q : Pooled) (plain : AllByRecursion IsNoReset q.exprs) where
+module _ (q : Pooled) (formed : AllByRecursion IsNamed q.exprs) where
   side_stands : (es : Entries) (side : Side) → Stand q es → IsNamedSide side → IsOpenSide q (process_of es side)
   side_stands es side h named =
       let p = process_of es side in
       record {
         side = named;
         expressions = exprs_stand q (IsThere q) (λ e there. there) side es h;
-        targets = all_each (λ (g : Guarded). IsTrue (is_target q g.target.0)) (λ (g : Guarded). IsTrue (is_open_target q g.target.0)) (guarded [] p.body) (λ g is. target_opened q g.target.0 plain is) (targets_stand q side [] es h);
+        targets = targets_stand q side [] es h;
       }
 
   -- the sides of a module are named, and its statements stand
@@ -87,11 +85,11 @@ module _ (q : Pooled) (plain : AllByRecursion IsNoReset q.exprs) where
   -- under whatever name it stands
   module_stands : (b : Built) (name : List ℕ) (ds : List DomainDef) → IsBuilt q b → AllByRecursion (IsDefinition q) ds → IsModule q (record (leaf_of (fragment_of b)) { name = name; domains = ds })
   unfolding fragment_of
-  module_stands b name ds h defined = record { domains = defined; memories = tt; processes = sides_stand b h; resets = resets_named q _ plain }
+  module_stands b name ds h defined = record { domains = defined; memories = tt; processes = sides_stand b h; resets = resets_named q _ formed }
 
   root_stands : (b : Built) (ds : List DomainDef) → IsBuilt q b → AllByRecursion (IsDefinition q) ds → IsModule q (record (leaf_of (fragment_of b)) { domains = ds })
   unfolding fragment_of
-  root_stands b ds h defined = record { domains = defined; memories = tt; processes = sides_stand b h; resets = resets_named q _ plain }
+  root_stands b ds h defined = record { domains = defined; memories = tt; processes = sides_stand b h; resets = resets_named q _ formed }
 
   -- ---- the tree: each module below the top stands under the name of its addition
 
@@ -108,7 +106,7 @@ module _ (q : Pooled) (plain : AllByRecursion IsNoReset q.exprs) where
   -- a module, or a memory alone
   leaf_stands : (bs : List Built) (ms : List OwnMemory) (t : ClockDomains) (name : List ℕ) (o : NodeOf) → AllByRecursion (IsBuilt q) bs → AllByRecursion (λ (x : OwnMemory). IsMemoryOf q x.spec) ms → AreClockDomains q t.made → IsModule q (leaf_in bs ms t name o)
   leaf_stands bs ms t name (node.Module m) h own clocked = module_stands (module_or_none bs m) name (defined_by m t) (built_or_none q bs m h) (definitions_stand q t m clocked)
-  leaf_stands bs ms t name (node.Memory k) h own clocked = record { domains = tt; memories = spec_at (IsMemoryOf q) ms k own; processes = tt; resets = resets_named q _ plain }
+  leaf_stands bs ms t name (node.Memory k) h own clocked = record { domains = tt; memories = spec_at (IsMemoryOf q) ms k own; processes = tt; resets = resets_named q _ formed }
 
   nodes_stand : (bs : List Built) (ms : List OwnMemory) (t : ClockDomains) (additions : List Addition) (xs : List Node) → AllByRecursion (IsBuilt q) bs → AllByRecursion (λ (x : OwnMemory). IsMemoryOf q x.spec) ms → AreClockDomains q t.made
       → AllByRecursion (λ (a : Addition). IsName a.name) additions → AreModules q (forest_of_nodes bs ms t additions xs)

@@ -39,6 +39,7 @@ use Rattle.elab_acts.proofs.MachineSound as machine
 use Rattle.elab_acts.proofs.ComponentSound as component
 use Rattle.elab_acts.proofs.SubmoduleSound as submodule
 use Rattle.elab_acts.proofs.DomainSound as clocked
+use Rattle.elab_acts.proofs.ResetSound.{reset_sound}
 use Rattle.elab_acts.proofs.SimulatorSound as simulator
 use Rattle.elab_acts.proofs.SignatureSound as signed
 use Rattle.elab_acts.proofs.MemorySound as memory
@@ -65,6 +66,7 @@ name_sound s hdl.Module c h t = module_sound c h t
 name_sound s hdl.Signal c h t = signal_sound s c.name (signal_arguments c) h t
 name_sound s hdl.Like c h t = like_sound s c.name (like_arguments c) c.placed h t
 name_sound s hdl.ClockDomain c h t = clocked.call_sound s c.name (domain_arguments c) h t
+name_sound s hdl.ResetSignal c h t = t
 name_sound s hdl.Elaboratable c h t = t
 name_sound s hdl.Shape c h t = t
 name_sound s hdl.Value c h t = t
@@ -85,6 +87,7 @@ name_sound s hdl.Memory c h t = memory.memory_call_sound s c h t
 
 placed_sound : (s : Seen) (n : HdlName) (c : Called) (p : Place) (h : Held) → IsSound h → IsSound (placed_called s n c p h).held
 placed_sound s hdl.Connect c p h t = connect_sound c p h t
+placed_sound s hdl.ResetSignal c p h t = reset_sound s c p h t
 placed_sound s hdl.Module c p h t = name_sound s hdl.Module c h t
 placed_sound s hdl.Signal c p h t = name_sound s hdl.Signal c h t
 placed_sound s hdl.Like c p h t = name_sound s hdl.Like c h t
@@ -146,6 +149,7 @@ library_name_sound hdl.Module name h t = t
 library_name_sound hdl.Signal name h t = if_sound (text_eq name (codes "like")) _ _ (keeping_sound h (kept_as.Name hdl.Like) t tt) t
 library_name_sound hdl.Like name h t = t
 library_name_sound hdl.ClockDomain name h t = t
+library_name_sound hdl.ResetSignal name h t = t
 library_name_sound hdl.Elaboratable name h t = t
 library_name_sound hdl.Shape name h t = t
 library_name_sound hdl.Value name h t = t

@@ -22,6 +22,9 @@ use Rattle.design_ir.specs.declared.fragment.Fragment.{Fragment}
 use Rattle.design_ir.specs.Forests.{Leaf, Forest, bare, grown}
 use Rattle.design_ir.specs.Fragments.{leaf_of}
 use Rattle.design_ir.specs.Circuits.{Circuit}
+use Rattle.design_ir.specs.declared.expr.Expr.{Expr}
+use Rattle.design_ir.specs.declared.expr.Expr.TheVariants as expr
+use Rattle.identifiers.specs.Identifiers.{is_identifier}
 use Rattle.module_dsl.specs.Blocks.{is_outermost}
 use Rattle.module_dsl.specs.Builders.{Built, built_blocks, fragment_of}
 use Rattle.clock_domains.specs.declared.top.TopPorts.{TopPorts}
@@ -44,7 +47,6 @@ use Rattle.elab_acts.specs.Simulators.{with_simulation}
 use Rattle.elab_store.specs.Simulations.{no_simulation}
 use Rattle.elab_store.specs.ClockDomains.{ClockDomains, defined_by}
 use Rattle.elab_store.specs.Stores.{Stored, Held}
-use Rattle.elab_store.specs.Sound.{is_reset}
 use Rattle.elab_eval.specs.Reaches.{Reaches, world}
 
 -- ---- the ports of the top
@@ -164,11 +166,26 @@ module_found h heap (Some b) =
     if is_open b || list_any (is_open_at h.store.modules h.store.memories) h.store.hierarchy.nodes then Err (Refused kind.Raised file_start)
     else found_by h heap b (top_ports (seen nothing heap) h)
 
--- What is held at the end of a program, with the heap that it made, as a design. A reset would raise; `ResetSignal` comes with domains that
--- modules define, and until then no expression is one.
+-- a reset of a domain that has no name
+abbrev pub is_nameless : Expr → Bool
+is_nameless (expr.Reset domain place) = not (is_identifier domain)
+is_nameless (expr.Const n s) = false
+is_nameless (expr.Sig s) = false
+is_nameless (expr.Unary o a) = false
+is_nameless (expr.Binary o a b) = false
+is_nameless (expr.Mux s a b) = false
+is_nameless (expr.Slice a low width) = false
+is_nameless (expr.Cat es) = false
+is_nameless (expr.Part a offset width stride) = false
+is_nameless (expr.Pick index es) = false
+is_nameless (expr.Cast a signed) = false
+is_nameless (expr.Matches a patterns) = false
+
+-- What is held at the end of a program, with the heap that it made, as a design. A nameless reset would raise; a call of `ResetSignal` has refused
+-- such a name before, so this is never told.
 abbrev pub design_of : Held → Made → Result Found ElabStop
 design_of h heap =
-    if list_any is_reset h.pool.exprs then Err (Refused kind.Raised file_start) else module_found h heap (root_module h.store)
+    if list_any is_nameless h.pool.exprs then Err (Refused kind.Raised file_start) else module_found h heap (root_module h.store)
 
 -- ---- where a program stops: a false `assert` raises
 

@@ -27,6 +27,7 @@ use Rattle.elab_store.specs.Calls.{Called, called}
 use Rattle.elab_components.specs.Signals.{module_called, signal_called}
 use Rattle.elab_components.specs.Likes.{like_given, like_called}
 use Rattle.elab_components.specs.Equations.{equated}
+use Rattle.elab_components.specs.Resets.{reset_called}
 use Rattle.elab_acts.specs.Blocks.{block_called, block_entered, block_left}
 use Rattle.amh_host.specs.declared.place.Place.{Place}
 use Rattle.elab_machines.specs.StateMachines.{part_attribute, next_stored, part_called, part_entered, part_left}
@@ -62,9 +63,10 @@ name_called s hdl.StreamSignature c h = stream_signature_called s c h
 name_called s hdl.Flipped c h = flipped_called c h
 name_called s n c h = refused Raised h
 
--- `connect` puts statements where it is called
+-- `connect` puts statements where it is called, and a reset is told of where it was made
 abbrev pub placed_called : Seen → HdlName → Called → Place → Held → Answered
 placed_called s hdl.Connect c p h = connect_called c p h
+placed_called s hdl.ResetSignal c p h = reset_called s c p h
 placed_called s n c p h = name_called s n c h
 
 abbrev pub kept_called : Seen → Option Kept → Called → Place → Held → Answered

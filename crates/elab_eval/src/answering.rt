@@ -28,6 +28,7 @@ use elab_components::libraries::{
 };
 use elab_components::likes::{give_like, make_like};
 use elab_components::member_calls::call_member;
+use elab_components::resets::make_reset;
 use elab_components::signals::{make_module, make_signal};
 use elab_components::signatures::{
     call_signature, call_signature_method, call_stream_signature, signature_attribute,
@@ -91,6 +92,7 @@ fn call_placed(
 {
     match name {
         HdlName::Connect => connect_interfaces(elaboration, call, place),
+        HdlName::ResetSignal => make_reset(elaboration, heap, frozen, call, place),
         _ => call_name(elaboration, heap, frozen, name, call),
     }
 }

@@ -12,7 +12,7 @@ use Rattle.design_ir.specs.Values.{signal_form}
 use Rattle.design_ir.specs.declared.expr.Expr.{Expr}
 use Rattle.design_ir.specs.declared.expr.Expr.TheVariants as expr
 use Rattle.design_ir.specs.Pools.{Pooled}
-use Rattle.design_ir.specs.Targets.{is_target}
+use Rattle.design_ir.specs.Targets.{is_target, is_open_target}
 use Rattle.module_dsl.specs.declared.step.Opening.{Opening}
 use Rattle.module_dsl.specs.declared.step.Opening.TheVariants as opening
 use Rattle.module_dsl.specs.declared.step.Step.{Step}
@@ -50,29 +50,11 @@ use Rattle.elab_store.specs.Faces.{IsFace}
 use Rattle.elab_store.specs.Components.{Components}
 use Rattle.elab_store.specs.Stores.{Held}
 
--- a reset; `ResetSignal` comes with domains that modules define
-abbrev pub is_reset : Expr → Bool
-is_reset (expr.Reset domain place) = true
-is_reset (expr.Const n s) = false
-is_reset (expr.Sig s) = false
-is_reset (expr.Unary o a) = false
-is_reset (expr.Binary o a b) = false
-is_reset (expr.Mux s a b) = false
-is_reset (expr.Slice a low width) = false
-is_reset (expr.Cat es) = false
-is_reset (expr.Part a offset width stride) = false
-is_reset (expr.Pick index es) = false
-is_reset (expr.Cast a signed) = false
-is_reset (expr.Matches a patterns) = false
-
-abbrev pub IsNoReset : Expr → Type 0
-IsNoReset e = is_reset e ≡ false
-
--- a target and a value of the pool
+-- a target, which may stand for resets, and a value of the pool
 pub record IsAssigned (q : Pooled) (target value : ExprId) : Type 0 where
   pub target_there : target.0 < length q.exprs
   pub value_there : value.0 < length q.exprs
-  pub is_target : is_target q target.0 ≡ true
+  pub is_target : is_open_target q target.0 ≡ true
 
 abbrev pub IsEquation : Pooled → Equation → Type 0
 IsEquation q x = IsAssigned q x.target x.value

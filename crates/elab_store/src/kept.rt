@@ -36,6 +36,7 @@ pub enum HdlName {
     Stream,
     StreamSignature,
     ClockDomain,
+    ResetSignal,
     /// The module `amaranth.lib.memory`, and its `Memory`.
     MemoryLibrary,
     Memory,
