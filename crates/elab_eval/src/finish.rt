@@ -73,6 +73,8 @@ fn part(store: Store, alloc: Global) -> (Vec<Builder>, Store)
         clock_domains,
         machines,
         memories,
+        wrappings,
+        wrapped,
         domains,
         told,
         simulation,
@@ -89,6 +91,8 @@ fn part(store: Store, alloc: Global) -> (Vec<Builder>, Store)
         clock_domains,
         machines,
         memories,
+        wrappings,
+        wrapped,
         domains,
         told,
         simulation,
@@ -114,12 +118,13 @@ pub(crate) fn finish(
         return Err(ElabStop::NoMemory);
     };
     let Elaboration { alloc, pool, store } = elaboration;
-    pool.known();
+    let mut pool = pool;
     let (modules, store) = part(store, alloc);
-    let root = match tree(alloc, modules, &store) {
+    let root = match tree(alloc, &mut pool, modules, &store) {
         Ok(root) => root,
         Err(stop) => return Err(stop),
     };
+    pool.known();
     let Some(ports) = ports else {
         return Err(raised());
     };
