@@ -23,11 +23,6 @@ finished b = if is_open b then None else Some (fragment_of b)
 abbrev pub fragment_with : List ℕ → List DomainDef → List Process → List Memory → Forest → Fragment
 fragment_with name ds ps ms below = record { name = name; is_part = false; domains = ds; processes = ps; memories = ms; submodules = below }
 
--- a top that is done with, with the domains that it defines, before the trees below it
-abbrev pub rooted : Option Fragment → List DomainDef → Forest → Result Fragment ElabStop
-rooted None ds below = Err (Refused Raised file_start)
-rooted (Some root) ds below = Ok (fragment_with root.name ds root.processes [] below)
-
 -- the top, with all that stands below it, and the pool behind its wrappers
 abbrev pub tree_found : Stored → Option Built → Pooled → Result (Fragment × Pooled) ElabStop
 tree_found s None q = Err (Refused Raised file_start)

@@ -294,11 +294,13 @@ fn trees_of(
     let nodes = store.hierarchy.nodes();
     let mut trees = Trees::new(alloc);
     let count = nodes.len();
+    pool.known();
     for i in 0..count {
         match put_node(alloc, pool, modules, store, nodes[count - 1 - i], trees) {
             Ok(more) => trees = more,
             Err(stop) => return Err(stop),
         }
+        pool.known();
     }
     Ok(trees)
 }
@@ -445,11 +447,13 @@ fn root_wrapped(
     let wraps = store.hierarchy.root_wraps();
     let mut root = root;
     let count = wraps.len();
+    pool.known();
     for i in 0..count {
         match wrapped(alloc, pool, store, wraps[count - 1 - i], root) {
             Ok(made) => root = made,
             Err(stop) => return Err(stop),
         }
+        pool.known();
     }
     Ok(root)
 }
