@@ -27,3 +27,5 @@ pub mod SubmoduleSound
 pub mod ToldLaws
 pub mod WalkLaws
 pub mod GlobalLaws
+mod WrapperSamples
+pub mod WrapperSound

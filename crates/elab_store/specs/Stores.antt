@@ -205,6 +205,13 @@ inner_of s v = option_map_or (λ (w : Wrapped). w.inner) (option_and_then (slice
 abbrev pub wraps_in : Stored → Val → List ℕ
 wraps_in s v = option_map_or (wraps_of s.wrapped) (wrapped_of s v) []
 
+-- what a wrapper does, and what it made, which is a new thing
+abbrev pub store_with_wrapping : Wrapping → Stored → Stored
+store_with_wrapping w s = record s { wrappings = s.wrappings ++ w ∷ [] }
+
+abbrev pub store_with_wrapped : Wrapped → Stored → Stored
+store_with_wrapped w s = store_keeping (kept.Wrapped (length s.wrapped)) (record s { wrapped = s.wrapped ++ w ∷ [] })
+
 -- ---- memories
 
 abbrev pub store_with_memory : OwnMemory → Stored → Stored

@@ -2,7 +2,7 @@
 ghost use Rattle.std.specs.Prelude.{◌≡◌, ◌++◌, length, reverse, IfOk, OnOk, codes};
 ghost use Rattle.std.specs.Fmt.{decimal};
 ghost use Rattle.std.specs.Option.{option_copied};
-ghost use Rattle.elab_store.specs.Hierarchies.{no_hierarchy, numbers_of, numbers_below, is_of_module, addition_name, added_as, with_addition, waiting_for, top_entered, wraps_taken, root_wrapped, node_taken, first_waiting, thing_waiting, is_node};
+ghost use Rattle.elab_store.specs.Hierarchies.{no_hierarchy, numbers_of, numbers_below, is_of_module, addition_name, added_as, with_addition, waiting_for, top_entered, wrapper_nodes, wraps_taken, root_wrapped, node_taken, first_waiting, thing_waiting, is_node};
 
 use amh_host::Text;
 use lists::NoMemory;
@@ -128,6 +128,20 @@ fn wait_below(
     }
 }
 
+// Wrappers stand before what waits, each with one below it.
+fn push_wrappers(bys: &[u32], waiting: Waiting, nodes: &mut Vec<Node>) -> Result<(), NoMemory>
+    ensures { OnOk result (nodes.new.items ≡ nodes.old.items ++ wrapper_nodes bys.now waiting) }
+{
+    for by in bys {
+        nodes.push(Node {
+            addition: waiting.addition,
+            of: NodeOf::Wrapper(*by),
+            below: 1,
+        })?;
+    }
+    Ok(())
+}
+
 fn is_of_module(m: u32, of: NodeOf) -> bool
     ensures { result ≡ is_of_module m of }
 {
@@ -242,23 +256,14 @@ impl Hierarchy {
         let Some(first) = self.first_waiting() else {
             return Ok(());
         };
-        for by in bys {
-            self.nodes.push(Node {
-                addition: first.addition,
-                of: NodeOf::Wrapper(*by),
-                below: 1,
-            })?;
-        }
-        Ok(())
+        push_wrappers(bys, first, &mut self.nodes)
     }
 
     /// The top is wrapped by these too, within the ones before.
     pub fn wrap_root(&mut self, bys: &[u32]) -> Result<(), NoMemory>
         ensures { OnOk result (self.new ≡ root_wrapped bys.now self.old) }
     {
-        for by in bys {
-            self.root_wraps.push(*by)?;
-        }
+        self.root_wraps.extend_from_slice(bys)?;
         Ok(())
     }
 

@@ -8,11 +8,11 @@ ghost use Rattle.amh_things.specs.Things.{name_called, thing_of, base_called, la
 ghost use Rattle.amh_things.specs.Meant.{shape_meant, expr_meant, Gives as Meant};
 ghost use Rattle.amh_things.specs.Held.{AreHeld};
 ghost use Rattle.amh_things.specs.Members.{counted};
-ghost use Rattle.elab_store.specs.Stores.{store_and_module, store_with_memory, naming_domain, side_of, is_domain};
+ghost use Rattle.elab_store.specs.Stores.{store_and_module, store_with_memory, store_with_wrapping, store_with_wrapped, wrapped_of, inner_of, wraps_in, naming_domain, side_of, is_domain};
 ghost use Rattle.elab_store.specs.declared.kept.DomainName.TheVariants as domain;
 ghost use Rattle.elab_store.specs.Components.{no_components};
 ghost use Rattle.elab_store.specs.ClockDomains.{no_clock_domains, with_clock_domain, with_definition};
-ghost use Rattle.elab_store.specs.Hierarchies.{no_hierarchy, with_addition, top_entered, node_taken};
+ghost use Rattle.elab_store.specs.Hierarchies.{no_hierarchy, with_addition, top_entered, node_taken, wraps_taken, root_wrapped};
 ghost use Rattle.elab_store.specs.Simulations.{no_simulation};
 ghost use Rattle.elab_store.specs.Stores.{nothing_held, no_top, kept_of, store_with, store_keeping, kept_given, given, refused, refused_at};
 ghost use Rattle.elab_store.specs.Stores.{with_root, with_object, module_of, memory_of, node_in, signature_in, signature_of, face_in, face_of};
@@ -28,7 +28,7 @@ use crate::names::is_text;
 use crate::objects::first_object;
 use crate::own_machine::OwnMachine;
 use crate::simulation::Simulation;
-use crate::wrappings::{Wrapped, Wrapping};
+use crate::wrappings::{Wrapped, Wrapping, wraps_of};
 use amh_bits::Int;
 use amh_host::{Items, Place, Text};
 use amh_things::comparing::counted;
@@ -244,6 +244,31 @@ impl Store {
         Ok(number as u32)
     }
 
+    /// What a wrapper does.
+    pub fn add_wrapping(&mut self, wrapping: Wrapping) -> Result<u32, NoMemory>
+        ensures { IfOk result (λ k. (k ≡ length self.old.wrappings) × (self.new ≡ store_with_wrapping wrapping self.old)) }
+    {
+        let number = self.wrappings.len();
+        if number >= 4_294_967_295 {
+            drop(wrapping);
+            return Err(NoMemory);
+        }
+        self.wrappings.push(wrapping)?;
+        Ok(number as u32)
+    }
+
+    /// What a wrapper made, as a new thing.
+    pub fn add_wrapped(&mut self, wrapped: Wrapped) -> Result<Val, NoMemory>
+        ensures { IfOk result (λ v. (v ≡ val.Hw (record { 0 = length self.old.things })) × (self.new ≡ store_with_wrapped wrapped self.old)) }
+    {
+        let number = self.wrapped.len();
+        if number >= 4_294_967_295 {
+            return Err(NoMemory);
+        }
+        self.wrapped.push(wrapped)?;
+        self.keep(Kept::Wrapped(number as u32))
+    }
+
     /// What was added to modules, and the tree of it.
     pub fn hierarchy(&self) -> &Hierarchy
         ensures { result.now ≡ self.now.hierarchy }
@@ -300,6 +325,20 @@ impl Store {
         self.hierarchy.take_node(of)
     }
 
+    /// What waits first is wrapped by these, the outermost first.
+    pub fn take_wraps(&mut self, bys: &[u32]) -> Result<(), NoMemory>
+        ensures { OnOk result (self.new ≡ record self.old { hierarchy = wraps_taken bys.now self.old.hierarchy }) }
+    {
+        self.hierarchy.take_wraps(bys)
+    }
+
+    /// The top is wrapped by these too, within the ones before.
+    pub fn wrap_root(&mut self, bys: &[u32]) -> Result<(), NoMemory>
+        ensures { OnOk result (self.new ≡ record self.old { hierarchy = root_wrapped bys.now self.old.hierarchy }) }
+    {
+        self.hierarchy.wrap_root(bys)
+    }
+
     /// `elaborate` of an object is called.
     pub fn ask_object(&mut self, v: Val)
         ensures { self.new ≡ with_object v self.old }
@@ -350,6 +389,39 @@ impl Store {
             Some(Kept::Module(m)) => Some(NodeOf::Module(m)),
             Some(Kept::Memory(k)) => Some(NodeOf::Memory(k)),
             _ => None,
+        }
+    }
+
+    /// The number of the wrapped thing that a value is.
+    pub fn wrapped_of(&self, v: &Val) -> Option<u32>
+        ensures { result ≡ wrapped_of self.now v.now }
+    {
+        match self.kept_of(*v) {
+            Some(Kept::Wrapped(k)) => Some(k),
+            _ => None,
+        }
+    }
+
+    /// What stands within a value: itself, where it is not wrapped.
+    pub fn inner_of(&self, v: &Val) -> Val
+        ensures { result ≡ inner_of self.now v.now }
+    {
+        let Some(number) = self.wrapped_of(v) else {
+            return *v;
+        };
+        match self.wrapped.get(number as usize) {
+            Some(one) => one.inner,
+            None => *v,
+        }
+    }
+
+    /// The wrappings of a value, the outermost first.
+    pub fn wraps_in(&self, alloc: Global, v: &Val) -> Result<Vec<u32>, NoMemory>
+        ensures { IfOk result (λ bys. bys.items ≡ wraps_in self.now v.now) }
+    {
+        match self.wrapped_of(v) {
+            Some(number) => wraps_of(alloc, self.wrapped.as_slice(), number),
+            None => Ok(Vec::new(alloc)),
         }
     }
 

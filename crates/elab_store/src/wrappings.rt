@@ -29,7 +29,7 @@ pub fn wraps_of(alloc: Global, wrapped: &[Wrapped], number: u32) -> Result<Vec<u
 {
     let mut bys = Vec::new(alloc);
     let mut next = Some(number);
-    for _ in 0..wrapped.len() {
+    for i in 0..wrapped.len() {
         let Some(number) = next else {
             return Ok(bys);
         };
