@@ -15,7 +15,7 @@ use Rattle.module_dsl.specs.Builders.{Built, fragment_of}
 use Rattle.flat_design.specs.Growing.{IsMore}
 use Rattle.flat_design.proofs.Growing.{more_refl, more_trans}
 use Rattle.fragment_walks.specs.Reads.{data_signals}
-use Rattle.fragment_walks.specs.Walks.{gathered, definitions_of}
+use Rattle.fragment_walks.specs.Walks.{definitions_of, all_memories}
 use Rattle.clock_domains.specs.Resolvable.{IsMemoryOf, IsTree, AreModules}
 use Rattle.domain_transforms.specs.Making.{fragment_with}
 use Rattle.domain_transforms.specs.Placed.{leaf_exprs, forest_exprs}
@@ -198,3 +198,21 @@ wraps_more ws (k ∷ ks) t made e = then_more t.1 (root_wrapped ws ks t) (wrappe
 pub tree_more : (s : Stored) (b : Built) (q : Pooled) (made : Fragment × Pooled) → tree_of s b q ≡ Ok made → IsMore q made.1
 tree_more s b q made e =
     then_more q (forest_of_nodes s s.hierarchy.nodes q) (λ t. root_wrapped s.wrappings s.hierarchy.root_wraps (root_before s b t)) made (nodes_more s s.hierarchy.nodes q) (λ t h. wraps_more s.wrappings s.hierarchy.root_wraps (root_before s b t) made h) e
+
+-- ---- whatever modules a store has
+
+pub with_modules : (s : Stored) (bs : List Built) (p : Pooled) (f : Fragment) → StandsFor s p f → StandsFor (record s { modules = bs }) p f
+with_modules s bs p f h = record {
+  resets = h.resets;
+  tree = h.tree;
+  definitions = h.definitions;
+  data = all_each (IsFree s) (IsFree (record s { modules = bs })) (data_signals (all_memories f)) (λ k free. record { clocks = free.clocks; ports = free.ports }) h.data;
+}
+
+pub without_modules : (s : Stored) (bs : List Built) (p : Pooled) (f : Fragment) → StandsFor (record s { modules = bs }) p f → StandsFor s p f
+without_modules s bs p f h = record {
+  resets = h.resets;
+  tree = h.tree;
+  definitions = h.definitions;
+  data = all_each (IsFree (record s { modules = bs })) (IsFree s) (data_signals (all_memories f)) (λ k free. record { clocks = free.clocks; ports = free.ports }) h.data;
+}

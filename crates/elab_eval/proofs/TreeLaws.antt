@@ -95,6 +95,15 @@ open_at (b ∷ bs) zero = by_test (is_open b)
     by_test false = refl
 open_at (b ∷ bs) (suc m) = open_at bs m
 
+both_false : (a b : Bool) → (a || b) ≡ false → (a ≡ false) × (b ≡ false)
+both_false true b e = absurd (true≢false e)
+both_false false b e = (refl, e)
+
+pub none_open : {X : Type 0} (p : X → Bool) (xs : List X) (k : ℕ) (x : X) → list_any p xs ≡ false → slice_get xs k ≡ Some x → p x ≡ false
+none_open p [] k x e at = absurd (true≢false (ap is_some (sym at)))
+none_open p (y ∷ xs) zero x e at = let same : y ≡ x = cc in subst (λ z. p z ≡ false) same (both_false (p y) (list_any p xs) e).0
+none_open p (y ∷ xs) (suc k) x e at = none_open p xs k x (both_false (p y) (list_any p xs) e).1 at
+
 -- ---- what is got, and what is refused
 
 pub still_refused : {A B : Type 0} (stop : ElabStop) (q p : Pooled) (r : Result (A × Pooled) ElabStop) (t : Result (B × Pooled) ElabStop) → ((x : ElabStop) → r ≡ Err x → t ≡ Err x) → IsGot {A = A} (Err stop) q r → IsGot {A = B} (Err stop) p t
@@ -193,10 +202,6 @@ pub record IsTop (s : Stored) (o : Option Built) : Type 0 where
   pub closed : is_open built ≡ false
   pub nodes : list_any (is_open_at s) s.hierarchy.nodes ≡ false
   pub wraps : list_any (is_open_wrap s) s.hierarchy.root_wraps ≡ false
-
-both_false : (a b : Bool) → (a || b) ≡ false → (a ≡ false) × (b ≡ false)
-both_false true b e = absurd (true≢false e)
-both_false false b e = (refl, e)
 
 pub top_there : (s : Stored) (o : Option Built) → option_map_or is_open o true ≡ false → list_any (is_open_at s) s.hierarchy.nodes || list_any (is_open_wrap s) s.hierarchy.root_wraps ≡ false → IsTop s o
 top_there s None e f = absurd (true≢false e)

@@ -32,11 +32,11 @@ pub record IsStanding (s : Stored) (q p : Pooled) (f : Forest) : Type 0 where
   pub resets : AreNamedResets p
   pub modules : AreModules p f
   pub definitions : AllByRecursion (IsFrom s.clock_domains.made) (definitions_of f)
-  pub data : AllByRecursion (IsFree s) (data_signals (memories_of [] f))
+  pub free_data : AllByRecursion (IsFree s) (data_signals (memories_of [] f))
 
 -- the top with all that stands below it
 pub record StandsFor (s : Stored) (p : Pooled) (f : Fragment) : Type 0 where
   pub resets : AreNamedResets p
   pub tree : IsTree p f
   pub definitions : AllByRecursion (IsFrom s.clock_domains.made) (all_definitions f)
-  pub data : AllByRecursion (IsFree s) (data_signals (all_memories f))
+  pub free_data : AllByRecursion (IsFree s) (data_signals (all_memories f))

@@ -119,12 +119,12 @@ pub(crate) fn finish(
     };
     let Elaboration { alloc, pool, store } = elaboration;
     let mut pool = pool;
+    pool.known();
     let (modules, store) = part(store, alloc);
     let root = match tree(alloc, &mut pool, modules, &store) {
         Ok(root) => root,
         Err(stop) => return Err(stop),
     };
-    pool.known();
     let Some(ports) = ports else {
         return Err(raised());
     };
