@@ -1,0 +1,23 @@
+// The laws of trees. The functions do nothing: their clauses are the laws.
+ghost use Rattle.transform_laws.specs.Laws.{EnabledTrees, GrownTrees, RenamedTrees, ResetTrees};
+
+/// A tree of modules of a pool is one of the pool that grew by expressions, in which resets have the names of domains; and what
+/// stands in its statements and memory ports is of the pool.
+pub fn growth_keeps_trees()
+    ensures { GrownTrees }
+{}
+
+/// So is the tree whose domains were renamed, each to a name.
+pub fn renaming_keeps_trees()
+    ensures { RenamedTrees }
+{}
+
+/// So is the tree whose registers a reset inserter resets.
+pub fn resetting_keeps_trees()
+    ensures { ResetTrees }
+{}
+
+/// So is the tree whose registers and memory ports an enable inserter gates.
+pub fn enabling_keeps_trees()
+    ensures { EnabledTrees }
+{}
