@@ -126,7 +126,7 @@ tree_resolvable s h p f found sound rules stands e asked =
     let more = tree_more h.store made.built h.pool (f, p) made.tree in
     record {
       tree = stands.tree;
-      free_data = data_free s h h.store.top.object found f asked stands.definitions stands.data;
+      free_data = data_free s h h.store.top.object found f asked stands.definitions stands.free_data;
       apart = all_apart h.pool h.store.clock_domains.made (all_definitions f) sound.clock_domains stands.definitions;
       names = subst (AllByRecursion (λ (x : Sig). IsName x.name)) (sym more.signals) sound.names;
       ports = top_more h.pool p found more (top_stands s h h.store.top.object found sound rules asked);

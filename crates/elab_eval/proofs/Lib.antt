@@ -14,7 +14,6 @@ pub mod PortSamples
 pub mod RunLaws
 pub mod StandingLaws
 pub mod TableSound
-pub mod TransformFacts
 pub mod TreeLaws
 pub mod TreeSamples
 pub mod Unique

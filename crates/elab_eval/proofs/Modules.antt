@@ -30,7 +30,7 @@ use Rattle.elab_acts.proofs.EachLaws.{all_map, all_filter, all_each}
 use Rattle.elab_eval.proofs.DefinitionLaws.{definitions_stand}
 use Rattle.elab_eval.proofs.NoResets.{target_opened}
 use Rattle.elab_eval.proofs.OwnMemories.{spec_at}
-use Rattle.elab_eval.proofs.TransformFacts.{grown_trees}
+use Rattle.transform_laws.proofs.GrowthLaws.{grown_trees}
 use Rattle.elab_store.proofs.Standing.{IsGiven, Stand, entries_stand, blocks_stand, givens_stand, targets_stand, exprs_stand}
 
 -- ---- sides

@@ -36,7 +36,7 @@ use Rattle.elab_eval.proofs.DefinitionLaws.{defined_from, root_from, root_defini
 use Rattle.elab_eval.proofs.GatheredLaws.{all_front, all_back, grown_gathered, leaf_data, forest_data, data_gathered, all_data}
 use Rattle.elab_eval.proofs.Modules.{leaf_name, leaf_stands, root_stands}
 use Rattle.elab_eval.proofs.OwnMemories.{memory_stands, memory_free}
-use Rattle.elab_eval.proofs.TransformFacts.{grown_trees}
+use Rattle.transform_laws.proofs.GrowthLaws.{grown_trees}
 use Rattle.elab_eval.proofs.WrappedLaws.{IsWrapped, wrapped_stands, wrapped_more, wrapping_at, wrappings_more}
 
 -- ---- what stands in statements and memory ports is of the pool
@@ -58,13 +58,13 @@ module _ (s : Stored) (q : Pooled) where
   first_alone p l below rest h =
       let from = IsFrom s.clock_domains.made in
       let behind : List DomainDef = definitions_of below ++ definitions_of rest in
-      let data = subst (AllByRecursion (IsFree s)) (data_gathered [] (grown l below rest)) h.data in
+      let given = subst (AllByRecursion (IsFree s)) (data_gathered [] (grown l below rest)) h.free_data in
       record {
         resets = h.resets;
         tree = record { own = h.modules.1.0; below = h.modules.1.1.0 };
         definitions = all_and from l.domains (definitions_of below) (all_front from l.domains behind h.definitions) (all_front from (definitions_of below) (definitions_of rest) (all_back from l.domains behind h.definitions));
-        data = subst (AllByRecursion (IsFree s)) (sym (all_data _ l.memories below))
-        (all_and (IsFree s) (leaf_data l) (forest_data below) (all_front (IsFree s) (leaf_data l) (forest_data below ++ forest_data rest) data) (all_front (IsFree s) (forest_data below) (forest_data rest) (all_back (IsFree s) (leaf_data l) (forest_data below ++ forest_data rest) data)));
+        free_data = subst (AllByRecursion (IsFree s)) (sym (all_data _ l.memories below))
+        (all_and (IsFree s) (leaf_data l) (forest_data below) (all_front (IsFree s) (leaf_data l) (forest_data below ++ forest_data rest) given) (all_front (IsFree s) (forest_data below) (forest_data rest) (all_back (IsFree s) (leaf_data l) (forest_data below ++ forest_data rest) given)));
       }
 
   first_back : (p : Pooled) (l : Leaf) (below rest : Forest) (t : Fragment × Pooled) → IsPool p → IsStanding s q p (grown l below rest) → IsWrapped s (fragment_with l below, p) t → IsStanding s q t.1 (grown (leaf_of t.0) t.0.submodules rest)
@@ -73,17 +73,17 @@ module _ (s : Stored) (q : Pooled) where
       let first = leaf_of t.0 in
       let stands = made.stands in
       let behind : List DomainDef = definitions_of below ++ definitions_of rest in
-      let old = subst (AllByRecursion (IsFree s)) (data_gathered [] (grown l below rest)) h.data in
-      let data = subst (AllByRecursion (IsFree s)) (all_data _ first.memories t.0.submodules) stands.data in
+      let old = subst (AllByRecursion (IsFree s)) (data_gathered [] (grown l below rest)) h.free_data in
+      let given = subst (AllByRecursion (IsFree s)) (all_data _ first.memories t.0.submodules) stands.free_data in
       record {
         more = more_trans q p t.1 h.more made.more;
         resets = stands.resets;
         modules = (subst IsName (sym made.name) h.modules.0, (stands.tree.own, (stands.tree.below, grown_trees.forests p t.1 rest rules made.more stands.resets h.modules.1.1.1)));
         definitions = all_and from first.domains (definitions_of t.0.submodules ++ definitions_of rest) (all_front from first.domains (definitions_of t.0.submodules) stands.definitions)
         (all_and from (definitions_of t.0.submodules) (definitions_of rest) (all_back from first.domains (definitions_of t.0.submodules) stands.definitions) (all_back from (definitions_of below) (definitions_of rest) (all_back from l.domains behind h.definitions)));
-        data = subst (AllByRecursion (IsFree s)) (sym (data_gathered [] (grown first t.0.submodules rest)))
-        (all_and (IsFree s) (leaf_data first) (forest_data t.0.submodules ++ forest_data rest) (all_front (IsFree s) (leaf_data first) (forest_data t.0.submodules) data)
-        (all_and (IsFree s) (forest_data t.0.submodules) (forest_data rest) (all_back (IsFree s) (leaf_data first) (forest_data t.0.submodules) data) (all_back (IsFree s) (forest_data below) (forest_data rest) (all_back (IsFree s) (leaf_data l) (forest_data below ++ forest_data rest) old))));
+        free_data = subst (AllByRecursion (IsFree s)) (sym (data_gathered [] (grown first t.0.submodules rest)))
+        (all_and (IsFree s) (leaf_data first) (forest_data t.0.submodules ++ forest_data rest) (all_front (IsFree s) (leaf_data first) (forest_data t.0.submodules) given)
+        (all_and (IsFree s) (forest_data t.0.submodules) (forest_data rest) (all_back (IsFree s) (leaf_data first) (forest_data t.0.submodules) given) (all_back (IsFree s) (forest_data below) (forest_data rest) (all_back (IsFree s) (leaf_data l) (forest_data below ++ forest_data rest) old))));
       }
 
   some_trees : (f : Forest) (p : Pooled) (made : Forest × Pooled) → Ok (f, p) ≡ Ok made → (f, p) ≡ made
@@ -137,14 +137,14 @@ module _ (s : Stored) (q : Pooled) (rules : IsPool q) (sound : IsSound (record {
         resets = h.resets;
         modules = (leaf_name s x sound.additions, (own, (first_modules p x.below f h.modules, other_modules p x.below f h.modules)));
         definitions = grown_gathered (IsFrom s.clock_domains.made) (λ (k : Leaf). k.domains) l x.below f (leaf_definitions (node_name s x) x.of) h.definitions;
-        data = subst (AllByRecursion (IsFree s)) (sym (data_gathered [] (grown l (first_trees x.below f) (other_trees x.below f))))
-        (grown_gathered (IsFree s) leaf_data l x.below f (leaf_free (node_name s x) x.of) (subst (AllByRecursion (IsFree s)) (data_gathered [] f) h.data));
+        free_data = subst (AllByRecursion (IsFree s)) (sym (data_gathered [] (grown l (first_trees x.below f) (other_trees x.below f))))
+        (grown_gathered (IsFree s) leaf_data l x.below f (leaf_free (node_name s x) x.of) (subst (AllByRecursion (IsFree s)) (data_gathered [] f) h.free_data));
       }
 
   -- ---- the nodes
 
   pub none_stand : IsStanding s q q bare
-  none_stand = record { more = more_refl q; resets = named; modules = tt; definitions = tt; data = tt }
+  none_stand = record { more = more_refl q; resets = named; modules = tt; definitions = tt; free_data = tt }
 
   asked : (p : Pooled) (k : ℕ) → IsMore q p → IfSome (slice_get s.wrappings k) (IsWrapping p)
   asked p k more = wrapping_at p s.wrappings k (wrappings_more q p s.wrappings more sound.wrappings)
@@ -164,7 +164,7 @@ module _ (s : Stored) (q : Pooled) (rules : IsPool q) (sound : IsSound (record {
         resets = h.resets;
         tree = record { own = own; below = h.modules };
         definitions = all_and (IsFrom s.clock_domains.made) (root_domains s) (definitions_of below) (root_from s) h.definitions;
-        data = h.data;
+        free_data = h.free_data;
       }
 
 -- ---- the pool behind all of it
@@ -206,7 +206,7 @@ with_modules s bs p f h = record {
   resets = h.resets;
   tree = h.tree;
   definitions = h.definitions;
-  data = all_each (IsFree s) (IsFree (record s { modules = bs })) (data_signals (all_memories f)) (λ k free. record { clocks = free.clocks; ports = free.ports }) h.data;
+  free_data = all_each (IsFree s) (IsFree (record s { modules = bs })) (data_signals (all_memories f)) (λ k free. record { clocks = free.clocks; ports = free.ports }) h.free_data;
 }
 
 pub without_modules : (s : Stored) (bs : List Built) (p : Pooled) (f : Fragment) → StandsFor (record s { modules = bs }) p f → StandsFor s p f
@@ -214,5 +214,5 @@ without_modules s bs p f h = record {
   resets = h.resets;
   tree = h.tree;
   definitions = h.definitions;
-  data = all_each (IsFree (record s { modules = bs })) (IsFree s) (data_signals (all_memories f)) (λ k free. record { clocks = free.clocks; ports = free.ports }) h.data;
+  free_data = all_each (IsFree (record s { modules = bs })) (IsFree s) (data_signals (all_memories f)) (λ k free. record { clocks = free.clocks; ports = free.ports }) h.free_data;
 }

@@ -23,7 +23,9 @@ use Rattle.elab_eval.specs.Elaborates.{wrapped_by, is_past_by, within_counts, wr
 use Rattle.elab_eval.specs.Standing.{IsFrom, IsFree, StandsFor}
 use Rattle.elab_acts.proofs.EachLaws.{all_map, all_each}
 use Rattle.elab_eval.proofs.DefinitionLaws.{renamed_from}
-use Rattle.elab_eval.proofs.TransformFacts.{renamed_trees, reset_trees, enabled_trees}
+use Rattle.transform_laws.proofs.RenamedTrees.{renamed_trees}
+use Rattle.transform_laws.proofs.ResetTrees.{reset_trees}
+use Rattle.transform_laws.proofs.EnabledTrees.{enabled_trees}
 
 -- ---- wrappings of a pool that grows
 
@@ -84,7 +86,7 @@ made_stands s w p f h asks before after =
         resets = all.resets p f asks h.resets;
         tree = all.trees p f asks before after h.resets h.tree;
         definitions = subst (AllByRecursion from) (sym (all.definitions p f)) (all_map from (definition_by w) (all_definitions f) (all_each from (λ d. from (definition_by w d)) (all_definitions f) (from_by s.clock_domains.made w) h.definitions));
-        data = subst (AllByRecursion (IsFree s)) (sym (all.data p f)) h.data;
+        free_data = subst (AllByRecursion (IsFree s)) (sym (all.read_data p f)) h.free_data;
       };
       more = all.pools p f;
       name = name_by w p f;
