@@ -3,6 +3,7 @@ pub mod ClockLaws
 pub mod ClockSamples
 pub mod DefinitionLaws
 pub mod DesignLaws
+pub mod GatheredLaws
 pub mod Modules
 pub mod NameSamples
 pub mod NamedResets
@@ -11,7 +12,9 @@ pub mod ObjectLaws
 pub mod ObjectSamples
 pub mod PortSamples
 pub mod RunLaws
+pub mod StandingLaws
 pub mod TableSound
 pub mod TreeLaws
 pub mod TreeSamples
 pub mod Unique
+pub mod WrappedLaws

@@ -76,6 +76,8 @@ fn part(store: Store, alloc: Global) -> (Vec<Builder>, Store)
         clock_domains,
         machines,
         memories,
+        wrappings,
+        wrapped,
         domains,
         told,
         simulation,
@@ -92,6 +94,8 @@ fn part(store: Store, alloc: Global) -> (Vec<Builder>, Store)
         clock_domains,
         machines,
         memories,
+        wrappings,
+        wrapped,
         domains,
         told,
         simulation,
@@ -120,9 +124,10 @@ pub(crate) fn finish(
         return Err(ElabStop::NoMemory);
     };
     let Elaboration { alloc, pool, store } = elaboration;
+    let mut pool = pool;
     pool.known();
     let (modules, store) = part(store, alloc);
-    let root = match tree(alloc, modules, &store) {
+    let root = match tree(alloc, &mut pool, modules, &store) {
         Ok(root) => root,
         Err(stop) => return Err(stop),
     };
