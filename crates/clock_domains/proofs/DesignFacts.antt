@@ -1,6 +1,6 @@
 -- Domains of which no two have a signal in common.
 use Rattle.std.proofs.Common.{◌≡◌, ◌⊎◌, inl, inr, ℕ, ◌==◌, nat_eq, Bool, true, false, ◌&&◌, ◌||◌, if◌then◌else◌, List, [], ◌∷◌, ◌++◌, map, Option, Some, None, refl, sym, ap, ◌∙◌, subst}
-use Rattle.std.specs.List.{AllByRecursion, IsDistinct, list_any, filter_map}
+use Rattle.std.specs.List.{AllByRecursion, IsDistinct, list_any, filter_map, flat_map}
 use Rattle.std.specs.Option.{option_map_or}
 use Rattle.std.proofs.lemmas.Bool.{eq-eqb}
 use Rattle.design_ir.specs.declared.ids.SigId.{SigId}

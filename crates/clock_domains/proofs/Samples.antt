@@ -1,5 +1,6 @@
 -- Small modules and what they come to, by computation.
-use Rattle.std.specs.Prelude.{◌≡◌, inl, refl, ℕ, true, false, List, [], ◌∷◌, ◌++◌, map, pos, Option, Some, None, Result, Ok, Err, codes}
+use Rattle.std.proofs.Common.{inl}
+use Rattle.std.specs.Prelude.{◌≡◌, refl, ℕ, true, false, List, [], ◌∷◌, ◌++◌, map, pos, Option, Some, None, Result, Ok, Err, codes}
 use Rattle.std.specs.Fmt.{digits}
 use Rattle.shape_rules.specs.Forms.{unsigned}
 use Rattle.amh_host.specs.declared.place.Place.{Place}

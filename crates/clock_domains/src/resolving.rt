@@ -86,14 +86,7 @@ fn columns_in(
     pool.known();
     let is_port = mark_ports(alloc, ports.as_slice())?;
     let registers = named_registers(alloc, pool, paths, sites, is_port.as_slice())?;
-    let named = register_columns(
-        alloc,
-        pool,
-        domains,
-        paths,
-        sites,
-        registers.as_slice(),
-    )?;
+    let named = register_columns(alloc, pool, domains, paths, sites, registers.as_slice())?;
     columns_of(alloc, ports.as_slice(), named.as_slice())
 }
 
