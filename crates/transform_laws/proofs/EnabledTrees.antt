@@ -60,13 +60,15 @@ module _ (controls : List Control) where
     definitions = fragment_definitions (enabled_leaf controls) (λ (d : DomainDef). d) (λ p l. same_mapped l.domains) q f
 
 pub enabled_trees : EnabledTrees
-enabled_trees controls = record {
-  pools = pools controls;
-  resets = λ q f there named. resets controls q f named;
-  trees = trees controls;
-  read_data = reads controls;
-  definitions = definitions controls;
-  resolvable = λ q f top there rules rules' named h.
-      resolvable_from q (enabled controls q f).1 (pools controls q f).signals (λ (d : DomainDef). d) (λ d. refl) (λ d e k. k) f (enabled controls q f).0 top (reads controls q f) (definitions controls q f)
-      (trees controls q f there rules rules' named h.tree) h;
+enabled_trees = record {
+  keeps = λ controls. record {
+    pools = pools controls;
+    resets = λ q f there named. resets controls q f named;
+    trees = trees controls;
+    read_data = reads controls;
+    resolvable = λ q f top there rules rules' named h.
+        resolvable_from q (enabled controls q f).1 (pools controls q f).signals (λ (d : DomainDef). d) (λ d. refl) (λ d e k. k) f (enabled controls q f).0 top (reads controls q f) (definitions controls q f)
+        (trees controls q f there rules rules' named h.tree) h;
+  };
+  definitions = λ controls q f. definitions controls q f ∙ sym (same_mapped (all_definitions f));
 }

@@ -47,6 +47,7 @@ use Rattle.transform_laws.proofs.Blocks.{exprs-append, exprs_moved, targets-appe
 use Rattle.transform_laws.proofs.Carried.{AreOpen, IsCarried, domain_kept, memory_carried, port_domains, read_carried, shaped_carried, side_from, side_targets, transparent_carried, write_carried}
 use Rattle.transform_laws.proofs.Definitions.{apart_first, apart_second, fragment_data, fragment_definitions, own_data, resolvable_from}
 use Rattle.transform_laws.proofs.Growth.{carried_more, open_is, open_more, open_there}
+use Rattle.transform_laws.proofs.HeldMore.{each_part}
 use Rattle.transform_laws.proofs.Making.{fragment_keeps, fragment_stands}
 use Rattle.transform_laws.proofs.Resets.{all_taken_from, held_named}
 
@@ -117,10 +118,6 @@ open_renamed names to f g (expr.Part a offset width stride) h = h.0
 open_renamed names to f g (expr.Pick index es) h = all_moved_same f g to es h.1
 open_renamed names to f g (expr.Cast a signed) h = h.0
 open_renamed names to f g (expr.Matches a patterns) h = refl
-
-each_part : (P : ExprId → Type 0) (k : ℕ) (es : List ExprId) → AllBelow k es → ((a : ExprId) → a.0 < k → P a) → AllByRecursion P es
-each_part P k [] low each = tt
-each_part P k (e ∷ es) low each = (each e low.0, each_part P k es low.1 each)
 
 module _ (names : List NamePair) (q : Pooled) (roots : List ExprId) (rules : IsPool q) (rules' : IsPool (renamed_pool names q (remade names q roots))) where
   abbrev p : Pooled

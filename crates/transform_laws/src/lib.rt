@@ -8,4 +8,7 @@
 
 mod laws;
 
-pub use laws::{enabling_keeps_trees, growth_keeps_trees, renaming_keeps_trees, resetting_keeps_trees};
+pub use laws::{
+    enabling_keeps_trees, growth_keeps_trees, renaming_keeps_trees, resetting_keeps_trees,
+    trees_stand_in_pools,
+};
