@@ -1,20 +1,15 @@
 -- A tree that an enable inserter gates can be resolved where the tree before could.
-use Rattle.std.proofs.Common.{◌≡◌, ℕ, List, [], ◌∷◌, ◌++◌, map, length, refl, sym, ap, ◌∙◌, subst}
+use Rattle.std.proofs.Common.{◌≡◌, List, [], ◌∷◌, ◌++◌, map, length, refl, sym, ap, ◌∙◌}
 use Rattle.std.specs.Prelude.{pos}
-use Rattle.std.specs.List.{flat_map}
-use Rattle.shape_rules.specs.Forms.{Form}
-use Rattle.design_ir.specs.declared.ids.ExprId.{ExprId}
-use Rattle.design_ir.specs.declared.expr.Expr.{Expr}
 use Rattle.design_ir.specs.declared.expr.Expr.TheVariants.{Const, Mux}
 use Rattle.design_ir.specs.declared.domain.DomainDef.{DomainDef}
 use Rattle.design_ir.specs.declared.memory.MemRead.{MemRead}
 use Rattle.design_ir.specs.declared.memory.Memory.{Memory}
 use Rattle.design_ir.specs.declared.fragment.Fragment.{Fragment}
-use Rattle.design_ir.specs.Forests.{Leaf}
 use Rattle.design_ir.specs.Pools.{Pooled}
-use Rattle.design_ir.specs.PoolRules.{IsPool, expr_added}
+use Rattle.design_ir.specs.PoolRules.{IsPool}
 use Rattle.flat_design.specs.Growing.{IsMore}
-use Rattle.flat_design.proofs.Growing.{more_added, more_refl, more_trans}
+use Rattle.flat_design.proofs.Growing.{more_refl, more_trans}
 use Rattle.fragment_walks.specs.Reads.{data_signals}
 use Rattle.fragment_walks.specs.Walks.{all_definitions, all_memories}
 use Rattle.fragment_walks.proofs.Lists.{all_joined}

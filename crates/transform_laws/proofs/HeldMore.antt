@@ -1,12 +1,12 @@
 -- In the expressions of a module stand the resets that stood in them, where the pool grew.
-use Rattle.std.proofs.Common.{◌≡◌, ℕ, zero, suc, ◌+◌, ◌<◌, ◌≤◌, ◌==◌, Bool, false, cond, List, [], ◌∷◌, ◌++◌, length, Option, Some, None, slice_get, refl, sym, ap, ◌∙◌, subst, arith, length-append, append-nil}
+use Rattle.std.proofs.Common.{◌≡◌, ℕ, zero, suc, ◌+◌, ◌<◌, ◌≤◌, ◌==◌, false, cond, List, [], ◌∷◌, ◌++◌, length, Option, slice_get, refl, sym, ap, ◌∙◌, subst, arith, length-append, append-nil}
 use Rattle.std.specs.Prelude.{option_and_then}
 use Rattle.std.specs.List.{AllByRecursion, cons_option, filter, filter_map, flat_map, range_with_len}
 use Rattle.std.proofs.lemmas.Bool.Decides.{nat_tests}
 use Rattle.std.proofs.lemmas.List.Elements.{filter-append}
 use Rattle.design_ir.specs.declared.ids.ExprId.{ExprId}
 use Rattle.design_ir.specs.Named.{named, AllBelow}
-use Rattle.design_ir.specs.Pools.{Pooled, answer}
+use Rattle.design_ir.specs.Pools.{Pooled}
 use Rattle.design_ir.specs.PoolRules.{IsPool}
 use Rattle.design_ir.specs.Circuits.{is_among}
 use Rattle.design_ir.proofs.Equations.{standing}
@@ -18,13 +18,9 @@ use Rattle.fragment_walks.specs.Marks.{numbers}
 use Rattle.fragment_walks.proofs.HolderLaws.{inside_is}
 use Rattle.fragment_walks.proofs.Lists.{all_imp, all_joined, any_none, below_all, below_wider}
 use Rattle.fragment_walks.proofs.ResetNames.{range_parted}
-use Rattle.domain_transforms.proofs.AnewLaws.{passing_low}
+use Rattle.domain_transforms.proofs.AnewLaws.{all_below, passing_low}
 
 -- ---- lists
-
-pub each_part : (P : ExprId → Type 0) (k : ℕ) (es : List ExprId) → AllBelow k es → ((a : ExprId) → a.0 < k → P a) → AllByRecursion P es
-each_part P k [] low each = tt
-each_part P k (e ∷ es) low each = (each e low.0, each_part P k es low.1 each)
 
 flat_all : {A : Type 0} (P : ℕ → Type 0) (f : A → List ℕ) (xs : List A) → AllByRecursion (λ x. AllByRecursion P (f x)) xs → AllByRecursion P (flat_map f xs)
 flat_all P f [] h = tt
@@ -66,7 +62,7 @@ module _ (q p : Pooled) (rules : IsPool q) (more : IsMore q p) where
       let names = (standing q k x.0 rules x.1).names in
       subst (AllByRecursion Low) (sym (inside_is q k x.0 rules x.1))
       (all_joined Low (numbers (named x.0)) (flat_map (λ (a : ExprId). inside q a.0) (named x.0)) (below_all (length q.exprs) (named x.0) (below_wider k (length q.exprs) (named x.0) (omega (arith, there)) names))
-      (flat_all Low (λ (a : ExprId). inside q a.0) (named x.0) (each_part (λ (a : ExprId). AllByRecursion Low (inside q a.0)) k (named x.0) names (λ a under. inside_low bound a.0 (omega (arith, under, less)) (omega (arith, under, there))))))
+      (flat_all Low (λ (a : ExprId). inside q a.0) (named x.0) (all_below {P = λ (a : ExprId). AllByRecursion Low (inside q a.0)} k (named x.0) names (λ a under. inside_low bound a.0 (omega (arith, under, less)) (omega (arith, under, there))))))
 
   call_at : Pooled → ℕ → Option ResetCall
   call_at x k = option_and_then reset_call (slice_get x.exprs k)

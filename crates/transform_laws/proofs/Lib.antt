@@ -13,3 +13,4 @@ pub mod Enabling
 pub mod EnabledTrees
 pub mod Resetting
 pub mod ResetTrees
+pub mod Samples

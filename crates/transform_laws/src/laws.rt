@@ -1,7 +1,8 @@
 // The laws of trees. The functions do nothing: their clauses are the laws.
 ghost use Rattle.transform_laws.specs.Laws.{EnabledTrees, GrownTrees, RenamedTrees, ResetTrees, StandingTrees};
 
-/// What stands in the statements and memory ports of a tree of modules is of its pool, and so are the names of its resets.
+/// What stands in the statements and memory ports of a tree of modules is of its pool, and where each reset of the pool has the
+/// name of a domain, each that stands in some of its expressions has.
 pub fn trees_stand_in_pools()
     ensures { StandingTrees }
 {}
