@@ -1,5 +1,5 @@
 -- Small pools and definitions, by computation.
-use Rattle.std.specs.Prelude.{◌≡◌, refl, ℕ, false, IsTrue, List, [], ◌∷◌, pos, Option, Some, None, codes}
+use Rattle.std.specs.Prelude.{◌≡◌, refl, ℕ, false, IsTrue, List, [], ◌∷◌, pos, is_some, Option, Some, None, codes}
 use Rattle.std.proofs.Common.{sym, ap, ◌∙◌, inl, inr}
 use Rattle.std.proofs.lemmas.Bool.{false≢true}
 use Rattle.std.proofs.lemmas.List.Elements.{All-nil}
@@ -7,10 +7,10 @@ use Rattle.lists.specs.Names.{IsName, continues_name, starts_name}
 use Rattle.shape_rules.specs.Forms.{unsigned}
 use Rattle.design_ir.specs.declared.ids.SigId.{SigId}
 use Rattle.design_ir.specs.declared.expr.Expr.TheVariants.{Const, Reset}
+use Rattle.design_ir.specs.declared.domain.Domain.{Domain}
 use Rattle.design_ir.specs.declared.domain.DomainDef.{DomainDef}
 use Rattle.design_ir.proofs.SanityParts.{here}
 use Rattle.clock_domains.specs.Resolvable.{AreApart}
-use Rattle.domain_transforms.specs.declared.controls.NamePair.{NamePair}
 use Rattle.domain_transforms.specs.Renamed.{renamed_definition}
 use Rattle.transform_laws.specs.Laws.{AreNamedResets, AreNewNames, IsNamedExpr}
 
@@ -46,5 +46,5 @@ new_names = inl refl
 
 two_resets : AreApart (define (codes "a") None) (define (codes "a") (Some (record { 0 = 3 }))) → ⊥
 unfolding define
-two_resets (inl same) = cc
+two_resets (inl same) = false≢true (ap (λ (x : Domain). is_some x.rst) same)
 two_resets (inr apart) = false≢true (sym apart)

@@ -1,4 +1,3 @@
-use Rattle.transform_laws.proofs.Samples as samples
 use Rattle.transform_laws.proofs.GrowthLaws.{standing_trees}
 use Rattle.transform_laws.proofs.laws.trees_stand_in_pools.Goals as goal
 
