@@ -1,5 +1,5 @@
 -- What is asked of a module stands over another pool that has something for each of its expressions.
-use Rattle.std.proofs.Common.{◌≡◌, ℕ, zero, suc, ◌+◌, ◌<◌, ◌≤◌, IsTrue, List, [], ◌∷◌, map, length, Option, Some, None, slice_get, refl, sym, ap, ◌∙◌, subst, arith}
+use Rattle.std.proofs.Common.{◌≡◌, ℕ, zero, suc, ◌<◌, IsTrue, List, [], ◌∷◌, map, length, Option, Some, None, slice_get, sym, ap, ◌∙◌, subst, arith}
 use Rattle.std.specs.Prelude.{IsSomeAnd, option_map, pos}
 use Rattle.std.specs.List.{AllByRecursion}
 use Rattle.lists.specs.Names.{IsName}

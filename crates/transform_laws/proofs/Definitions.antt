@@ -1,5 +1,5 @@
 -- The definitions and the data of read ports of a tree that was made of another one; and that it can be resolved as that could.
-use Rattle.std.proofs.Common.{◌≡◌, ◌⊎◌, inl, inr, ℕ, ◌<◌, false, List, [], ◌∷◌, ◌++◌, map, length, refl, sym, ap, ◌∙◌, subst, append_assoc, codes}
+use Rattle.std.proofs.Common.{◌≡◌, inl, inr, ℕ, ◌<◌, false, List, [], ◌∷◌, ◌++◌, map, length, refl, sym, ap, ◌∙◌, subst, codes}
 use Rattle.std.specs.List.{AllByRecursion, flat_map}
 use Rattle.std.proofs.lemmas.List.Concat.{flat_map-append}
 use Rattle.lists.specs.Names.{IsName}
@@ -19,7 +19,7 @@ use Rattle.fragment_walks.specs.Walks.{all_definitions, all_memories, definition
 use Rattle.fragment_walks.proofs.Lists.{all_imp, all_mapped, map-append}
 use Rattle.clock_domains.specs.declared.top.TopPorts.{TopPorts}
 use Rattle.clock_domains.specs.declared.top.TopPorts.TheVariants.{Members, Held, Loose}
-use Rattle.clock_domains.specs.Resolvable.{AreApart, ArePorts, AreTopPorts, IsPortOf, IsResolvable, IsTree, domain_numbers, outer_signals, top_inputs}
+use Rattle.clock_domains.specs.Resolvable.{AreApart, ArePorts, AreTopPorts, IsResolvable, IsTree, domain_numbers, outer_signals, top_inputs}
 use Rattle.domain_transforms.specs.declared.controls.NamePair.{NamePair}
 use Rattle.domain_transforms.specs.Controlled.{name_after}
 use Rattle.domain_transforms.specs.Making.{forest_in, fragment_in}

@@ -1,20 +1,15 @@
 -- A tree that an enable inserter gates can be resolved where the tree before could.
-use Rattle.std.proofs.Common.{◌≡◌, ℕ, List, [], ◌∷◌, ◌++◌, map, length, refl, sym, ap, ◌∙◌, subst}
+use Rattle.std.proofs.Common.{◌≡◌, List, [], ◌∷◌, ◌++◌, map, length, refl, sym, ap, ◌∙◌}
 use Rattle.std.specs.Prelude.{pos}
-use Rattle.std.specs.List.{flat_map}
-use Rattle.shape_rules.specs.Forms.{Form}
-use Rattle.design_ir.specs.declared.ids.ExprId.{ExprId}
-use Rattle.design_ir.specs.declared.expr.Expr.{Expr}
 use Rattle.design_ir.specs.declared.expr.Expr.TheVariants.{Const, Mux}
 use Rattle.design_ir.specs.declared.domain.DomainDef.{DomainDef}
 use Rattle.design_ir.specs.declared.memory.MemRead.{MemRead}
 use Rattle.design_ir.specs.declared.memory.Memory.{Memory}
 use Rattle.design_ir.specs.declared.fragment.Fragment.{Fragment}
-use Rattle.design_ir.specs.Forests.{Leaf}
 use Rattle.design_ir.specs.Pools.{Pooled}
-use Rattle.design_ir.specs.PoolRules.{IsPool, expr_added}
+use Rattle.design_ir.specs.PoolRules.{IsPool}
 use Rattle.flat_design.specs.Growing.{IsMore}
-use Rattle.flat_design.proofs.Growing.{more_added, more_refl, more_trans}
+use Rattle.flat_design.proofs.Growing.{more_refl, more_trans}
 use Rattle.fragment_walks.specs.Reads.{data_signals}
 use Rattle.fragment_walks.specs.Walks.{all_definitions, all_memories}
 use Rattle.fragment_walks.proofs.Lists.{all_joined}
@@ -60,13 +55,15 @@ module _ (controls : List Control) where
     definitions = fragment_definitions (enabled_leaf controls) (λ (d : DomainDef). d) (λ p l. same_mapped l.domains) q f
 
 pub enabled_trees : EnabledTrees
-enabled_trees controls = record {
-  pools = pools controls;
-  resets = λ q f there named. resets controls q f named;
-  trees = trees controls;
-  read_data = reads controls;
-  definitions = definitions controls;
-  resolvable = λ q f top there rules rules' named h.
-      resolvable_from q (enabled controls q f).1 (pools controls q f).signals (λ (d : DomainDef). d) (λ d. refl) (λ d e k. k) f (enabled controls q f).0 top (reads controls q f) (definitions controls q f)
-      (trees controls q f there rules rules' named h.tree) h;
+enabled_trees = record {
+  keeps = λ controls. record {
+    pools = pools controls;
+    resets = λ q f there named. resets controls q f named;
+    trees = trees controls;
+    read_data = reads controls;
+    resolvable = λ q f top there rules rules' named h.
+        resolvable_from q (enabled controls q f).1 (pools controls q f).signals (λ (d : DomainDef). d) (λ d. refl) (λ d e k. k) f (enabled controls q f).0 top (reads controls q f) (definitions controls q f)
+        (trees controls q f there rules rules' named h.tree) h;
+  };
+  definitions = λ controls q f. definitions controls q f ∙ sym (same_mapped (all_definitions f));
 }

@@ -1,5 +1,5 @@
 -- A tree whose statements and memory ports an enable inserter gates is a tree of modules of the pool that it got.
-use Rattle.std.proofs.Common.{◌≡◌, ℕ, suc, ◌+◌, ◌<◌, IsTrue, false, List, [], ◌∷◌, ◌++◌, map, length, Option, Some, None, slice_get, refl, sym, ap, ◌∙◌, subst, arith, length-append}
+use Rattle.std.proofs.Common.{◌≡◌, ℕ, suc, IsTrue, List, [], ◌∷◌, ◌++◌, map, length, Option, Some, None, slice_get, refl, sym, ap, ◌∙◌, arith, length-append}
 use Rattle.std.specs.Prelude.{max, option_and_then, option_map, pos}
 use Rattle.std.specs.List.{AllByRecursion}
 use Rattle.shape_rules.specs.Forms.{Form, common, unsigned}
@@ -12,7 +12,6 @@ use Rattle.design_ir.specs.declared.memory.Memory.{Memory}
 use Rattle.design_ir.specs.declared.process.Side.{Side}
 use Rattle.design_ir.specs.declared.process.Side.TheVariants.{Comb, Clocked}
 use Rattle.design_ir.specs.declared.process.Process.{Process}
-use Rattle.design_ir.specs.declared.fragment.Fragment.{Fragment}
 use Rattle.design_ir.specs.Forests.{Leaf}
 use Rattle.design_ir.specs.Trees.{Block, arm, choose, none}
 use Rattle.design_ir.specs.Pools.{Pooled}
@@ -31,7 +30,7 @@ use Rattle.fragment_walks.proofs.Lists.{all_imp, all_joined, all_mapped, length_
 use Rattle.clock_domains.specs.Resolvable.{IsClockingOf, IsMemoryOf, IsModule, IsOpenSide, IsReadOf, IsShaped, IsThere, IsWriteOf}
 use Rattle.domain_transforms.specs.declared.controls.Control.{Control}
 use Rattle.domain_transforms.specs.Controlled.{control_of}
-use Rattle.domain_transforms.specs.Enabling.{enabled, enabled_leaf, enabled_memory, enabled_process, enabled_read, enabled_write, gated, gated_by, gated_option, side_control, under, zero_of}
+use Rattle.domain_transforms.specs.Enabling.{enabled_leaf, enabled_memory, enabled_process, enabled_read, enabled_write, gated, gated_by, gated_option, side_control, under, zero_of}
 use Rattle.domain_transforms.specs.Making.{each_in}
 use Rattle.domain_transforms.specs.Placed.{AreControls, OptionBelow}
 use Rattle.domain_transforms.proofs.GateLaws.{get_last}

@@ -1,11 +1,9 @@
 -- A tree of modules stands over a pool that grew.
-use Rattle.std.proofs.Common.{◌≡◌, ℕ, ◌<◌, ◌≤◌, IsTrue, true, false, List, [], ◌∷◌, ◌++◌, length, Option, Some, None, slice_get, refl, sym, ap, ◌∙◌, subst, arith, ⊎_elim}
-use Rattle.std.specs.List.{AllByRecursion, flat_map}
+use Rattle.std.proofs.Common.{◌≡◌, ℕ, ◌<◌, ◌≤◌, IsTrue, false, List, length, Option, Some, None, slice_get, refl, sym, ap, ◌∙◌, subst, ⊎_elim}
+use Rattle.std.specs.List.{AllByRecursion}
 use Rattle.std.proofs.lemmas.Bool.{false≢true, cases_lt}
-use Rattle.lists.specs.Names.{IsName}
 use Rattle.shape_rules.specs.Forms.{Form, unsigned}
 use Rattle.design_ir.specs.declared.ids.ExprId.{ExprId}
-use Rattle.design_ir.specs.declared.signal.Sig.{Sig}
 use Rattle.design_ir.specs.declared.domain.DomainDef.{DomainDef}
 use Rattle.design_ir.specs.declared.memory.MemWrite.{MemWrite}
 use Rattle.design_ir.specs.declared.memory.MemRead.{MemRead}
@@ -15,8 +13,8 @@ use Rattle.design_ir.specs.declared.fragment.Fragment.{Fragment}
 use Rattle.design_ir.specs.declared.expr.Expr.{Expr}
 use Rattle.design_ir.specs.Forests.{Leaf, Forest, bare, grown}
 use Rattle.design_ir.specs.Fragments.{leaf_of}
-use Rattle.design_ir.specs.Named.{named, AllBelow}
-use Rattle.design_ir.specs.Pools.{Pooled, answer}
+use Rattle.design_ir.specs.Named.{named}
+use Rattle.design_ir.specs.Pools.{Pooled}
 use Rattle.design_ir.specs.PoolRules.{IsPool}
 use Rattle.design_ir.specs.Targets.{is_open_target, open_target_test}
 use Rattle.design_ir.specs.Guards.{block_exprs}
@@ -29,11 +27,11 @@ use Rattle.flat_design.proofs.Growing.{answer_kept, form_more, get_kept, there_m
 use Rattle.fragment_walks.specs.Held.{leaf_exprs}
 use Rattle.fragment_walks.specs.Reads.{block_targets}
 use Rattle.fragment_walks.proofs.Lists.{all_imp}
-use Rattle.clock_domains.specs.Resolvable.{AreModules, IsClockingOf, IsDefinition, IsMemoryOf, IsModule, IsOpenSide, IsReadOf, IsShaped, IsThere, IsTree, IsWriteOf}
+use Rattle.clock_domains.specs.Resolvable.{AreModules, IsClockingOf, IsDefinition, IsMemoryOf, IsModule, IsNamedReset, IsOpenSide, IsReadOf, IsShaped, IsThere, IsTree, IsWriteOf}
 use Rattle.clock_domains.proofs.PlacedLaws.{open_same}
-use Rattle.transform_laws.specs.Laws.{AreNamedResets}
-use Rattle.transform_laws.proofs.Resets.{held_named}
 use Rattle.transform_laws.proofs.Carried.{IsCarried, domain_kept, read_carried, shaped_carried, side_from, side_targets, write_carried}
+use Rattle.transform_laws.proofs.HeldMore.{held_more}
+use Rattle.transform_laws.proofs.Standing.{module_there}
 
 -- ---- open targets
 
@@ -99,18 +97,17 @@ module _ (q p : Pooled) (rules : IsPool q) (more : IsMore q p) where
   pub side_stays : (s : Process) → IsOpenSide q s → IsOpenSide p s
   side_stays s h = side_from p s.side s.body h.side (there_stays (block_exprs s.body) h.expressions) (all_imp open_stays (block_targets s.body) (side_targets q s h))
 
-  module _ (named : AreNamedResets p) where
-    pub module_stays : (l : Leaf) → IsModule q l → IsModule p l
-    module_stays l h = record {
-      domains = all_imp definition_stays l.domains h.domains;
-      memories = all_imp memory_stays l.memories h.memories;
-      processes = all_imp side_stays l.processes h.processes;
-      resets = held_named p (leaf_exprs l) named;
-    }
+  pub module_stays : (l : Leaf) → IsModule q l → IsModule p l
+  module_stays l h = record {
+    domains = all_imp definition_stays l.domains h.domains;
+    memories = all_imp memory_stays l.memories h.memories;
+    processes = all_imp side_stays l.processes h.processes;
+    resets = subst (AllByRecursion IsNamedReset) (sym (held_more q p rules more (leaf_exprs l) (module_there q l h))) h.resets;
+  }
 
-    pub modules_stay : (f : Forest) → AreModules q f → AreModules p f
-    modules_stay bare h = tt
-    modules_stay (grown l below rest) h = (h.0, (module_stays l h.1.0, (modules_stay below h.1.1.0, modules_stay rest h.1.1.1)))
+  pub modules_stay : (f : Forest) → AreModules q f → AreModules p f
+  modules_stay bare h = tt
+  modules_stay (grown l below rest) h = (h.0, (module_stays l h.1.0, (modules_stay below h.1.1.0, modules_stay rest h.1.1.1)))
 
-    pub tree_stays : (f : Fragment) → IsTree q f → IsTree p f
-    tree_stays f h = record { own = module_stays (leaf_of f) h.own; below = modules_stay f.submodules h.below }
+  pub tree_stays : (f : Fragment) → IsTree q f → IsTree p f
+  tree_stays f h = record { own = module_stays (leaf_of f) h.own; below = modules_stay f.submodules h.below }

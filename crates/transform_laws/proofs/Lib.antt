@@ -1,7 +1,8 @@
 pub mod Resets
+pub mod HeldMore
 pub mod Carried
-pub mod Growth
 pub mod Standing
+pub mod Growth
 pub mod Definitions
 pub mod GrowthLaws
 pub mod Making
@@ -12,3 +13,4 @@ pub mod Enabling
 pub mod EnabledTrees
 pub mod Resetting
 pub mod ResetTrees
+pub mod Samples

@@ -1,5 +1,5 @@
 -- Things that are made one after another over a pool that grows: what is kept of the pool, and what holds of all that is made.
-use Rattle.std.proofs.Common.{◌≡◌, ℕ, List, [], ◌∷◌, map, refl, ap}
+use Rattle.std.proofs.Common.{◌≡◌, List, [], ◌∷◌, map, refl}
 use Rattle.std.specs.List.{AllByRecursion}
 use Rattle.lists.specs.Names.{IsName}
 use Rattle.design_ir.specs.declared.fragment.Fragment.{Fragment}
@@ -62,14 +62,16 @@ module _ (q r : Pooled) where
         let inner : Forest × Pooled = forest_in make next below in
         let others : Forest × Pooled = forest_in make inner.1 rest in
         let begun : IsMore q next = more_trans q p next before (adds p l) in
-        let from_inner : IsMore inner.1 r = more_trans inner.1 others.1 r (forest_adds inner.1 rest) after in
-        (subst IsName (sym (named p l)) h.0, (
-          one p l before (more_trans next inner.1 r (forest_adds next below) from_inner) h.1.0,
+        let from_inner : IsMore inner.1 r = more_trans inner.1 others.1 r (forest_adds inner.1 rest) after in (
+          subst IsName (sym (named p l)) h.0,
           (
-            forest_stands next below begun from_inner h.1.1.0,
-            forest_stands inner.1 rest (more_trans q next inner.1 begun (forest_adds next below)) after h.1.1.1,
+            one p l before (more_trans next inner.1 r (forest_adds next below) from_inner) h.1.0,
+            (
+              forest_stands next below begun from_inner h.1.1.0,
+              forest_stands inner.1 rest (more_trans q next inner.1 begun (forest_adds next below)) after h.1.1.1,
+            ),
           ),
-        ))
+        )
 
     pub fragment_stands : (p : Pooled) (f : Fragment) → IsMore q p → IsMore (fragment_in make p f).1 r → IsTree q f → IsTree r (fragment_in make p f).0
     fragment_stands p f before after h =

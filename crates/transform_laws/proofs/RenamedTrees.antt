@@ -1,7 +1,6 @@
 -- A renamed tree can be resolved where the tree before could.
 use Rattle.std.proofs.Common.{◌≡◌, ℕ, List, [], ◌∷◌, ◌++◌, map, length, refl, sym, ap, ◌∙◌, subst}
 use Rattle.design_ir.specs.declared.ids.ExprId.{ExprId}
-use Rattle.design_ir.specs.declared.domain.DomainDef.{DomainDef}
 use Rattle.design_ir.specs.declared.memory.MemRead.{MemRead}
 use Rattle.design_ir.specs.declared.memory.Memory.{Memory}
 use Rattle.design_ir.specs.declared.fragment.Fragment.{Fragment}
@@ -65,11 +64,11 @@ renamed_trees = record {
     resets = resets names;
     trees = trees names;
     read_data = reads names;
-    definitions = definitions names;
     resolvable = λ q f top news rules rules' named h.
         resolvable_from q (renamed names q f).1 (pools names q f).signals (renamed_definition names) (λ d. refl) (λ d e k. apart_second names (renamed_definition names d) e (apart_first names d e k)) f (renamed names q f).0 top
         (reads names q f) (definitions names q f) (trees names q f news rules rules' named h.tree) h;
   };
+  definitions = definitions;
   apart_first = apart_first;
   apart_second = apart_second;
 }

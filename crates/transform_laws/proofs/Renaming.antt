@@ -1,7 +1,7 @@
 -- A tree whose domains were renamed is a tree of modules of the pool that it got.
-use Rattle.std.proofs.Common.{◌≡◌, ℕ, zero, suc, ◌<◌, ◌&&◌, IsTrue, Bool, true, false, cond, List, [], ◌∷◌, ◌++◌, map, length, Option, Some, None, slice_get, refl, sym, ap, ◌∙◌, subst, arith}
+use Rattle.std.proofs.Common.{◌≡◌, ℕ, zero, suc, ◌<◌, ◌&&◌, IsTrue, Bool, true, false, cond, List, [], ◌∷◌, map, length, Option, Some, None, slice_get, refl, sym, ap, ◌∙◌, subst, arith}
 use Rattle.std.specs.Prelude.{not, option_map, unwrap_or}
-use Rattle.std.specs.List.{AllByRecursion, cons_option, filter, filter_map, find, list_all}
+use Rattle.std.specs.List.{AllByRecursion, find, list_all}
 use Rattle.lists.specs.Names.{IsName}
 use Rattle.lists.specs.Texts.{text_eq}
 use Rattle.shape_rules.specs.Forms.{unsigned}
@@ -15,39 +15,32 @@ use Rattle.design_ir.specs.declared.memory.Memory.{Memory}
 use Rattle.design_ir.specs.declared.process.Side.{Side}
 use Rattle.design_ir.specs.declared.process.Side.TheVariants.{Comb, Clocked}
 use Rattle.design_ir.specs.declared.process.Process.{Process}
-use Rattle.design_ir.specs.declared.fragment.Fragment.{Fragment}
 use Rattle.design_ir.specs.Forests.{Leaf}
-use Rattle.design_ir.specs.Named.{named, AllBelow}
+use Rattle.design_ir.specs.Named.{named}
 use Rattle.design_ir.specs.Trees.{Block}
 use Rattle.design_ir.specs.Pools.{Pooled}
 use Rattle.design_ir.specs.PoolRules.{IsPool}
-use Rattle.design_ir.specs.Values.{form, form_step}
+use Rattle.design_ir.specs.Values.{form}
 use Rattle.design_ir.specs.Targets.{is_open_target, open_target_test}
 use Rattle.design_ir.specs.Guards.{block_exprs}
 use Rattle.design_ir.specs.Rows.{granules}
 use Rattle.design_ir.proofs.Equations.{form_is, place_below, standing}
 use Rattle.design_ir.proofs.NumbersFit.{element}
 use Rattle.flat_design.specs.Growing.{IsMore}
-use Rattle.flat_design.proofs.Growing.{more_refl}
 use Rattle.fragment_walks.specs.Held.{leaf_exprs}
-use Rattle.fragment_walks.specs.Reads.{block_targets, data_signals}
-use Rattle.fragment_walks.specs.Walks.{all_definitions, all_memories}
+use Rattle.fragment_walks.specs.Reads.{block_targets}
 use Rattle.fragment_walks.proofs.Lists.{all_filtered, all_imp, all_joined, all_mapped, length_map, map_map}
-use Rattle.clock_domains.specs.Resolvable.{IsClockingOf, IsDefinition, IsMemoryOf, IsModule, IsNamedSide, IsOpenSide, IsReadOf, IsShaped, IsThere, IsTree, IsWriteOf}
+use Rattle.clock_domains.specs.Resolvable.{IsClockingOf, IsDefinition, IsMemoryOf, IsModule, IsNamedSide, IsOpenSide, IsReadOf, IsThere, IsWriteOf}
 use Rattle.domain_transforms.specs.declared.controls.NamePair.{NamePair}
 use Rattle.domain_transforms.specs.Controlled.{name_after}
-use Rattle.domain_transforms.specs.Making.{forest_in}
-use Rattle.domain_transforms.specs.Placed.{fragment_exprs}
 use Rattle.domain_transforms.specs.Renamed.{anew, block_append, holds_renamed, is_within, new_exprs, remade, renamed_block, renamed_definition, renamed_expr, renamed_leaf, renamed_memory, renamed_pool, renamed_processes, renamed_read, renamed_side, renamed_sides, renamed_write, side_eq, side_statements, sides_once}
 use Rattle.domain_transforms.specs.Laws.{new_id}
-use Rattle.domain_transforms.proofs.AnewLaws.{anew_same, form_renamed}
+use Rattle.domain_transforms.proofs.AnewLaws.{all_below, anew_same, form_renamed}
 use Rattle.domain_transforms.proofs.RenamedMeaning.{stands}
-use Rattle.transform_laws.specs.Laws.{AreNamedResets, AreNewNames, IsNamedExpr, KeepsTrees, RenamedTrees}
+use Rattle.transform_laws.specs.Laws.{AreNamedResets, AreNewNames, IsNamedExpr}
 use Rattle.transform_laws.proofs.Blocks.{exprs-append, exprs_moved, targets-append, targets_moved}
 use Rattle.transform_laws.proofs.Carried.{AreOpen, IsCarried, domain_kept, memory_carried, port_domains, read_carried, shaped_carried, side_from, side_targets, transparent_carried, write_carried}
-use Rattle.transform_laws.proofs.Definitions.{apart_first, apart_second, fragment_data, fragment_definitions, own_data, resolvable_from}
 use Rattle.transform_laws.proofs.Growth.{carried_more, open_is, open_more, open_there}
-use Rattle.transform_laws.proofs.Making.{fragment_keeps, fragment_stands}
 use Rattle.transform_laws.proofs.Resets.{all_taken_from, held_named}
 
 -- ---- names
@@ -118,10 +111,6 @@ open_renamed names to f g (expr.Pick index es) h = all_moved_same f g to es h.1
 open_renamed names to f g (expr.Cast a signed) h = h.0
 open_renamed names to f g (expr.Matches a patterns) h = refl
 
-each_part : (P : ExprId → Type 0) (k : ℕ) (es : List ExprId) → AllBelow k es → ((a : ExprId) → a.0 < k → P a) → AllByRecursion P es
-each_part P k [] low each = tt
-each_part P k (e ∷ es) low each = (each e low.0, each_part P k es low.1 each)
-
 module _ (names : List NamePair) (q : Pooled) (roots : List ExprId) (rules : IsPool q) (rules' : IsPool (renamed_pool names q (remade names q roots))) where
   abbrev p : Pooled
   p = renamed_pool names q (remade names q roots)
@@ -157,7 +146,7 @@ module _ (names : List NamePair) (q : Pooled) (roots : List ExprId) (rules : IsP
           let j : ℕ = (to (record { 0 = k })).0 in
           let here : slice_get p.exprs j ≡ Some (renamed_expr names to x.0) = stands names q roots rules k x.0 x.1 within in
           let parts : AllByRecursion (λ (a : ExprId). IsAs a.0 (to a).0) (named x.0) =
-          each_part (λ (a : ExprId). IsAs a.0 (to a).0) k (named x.0) (standing q k x.0 rules x.1).names earlier in
+          all_below {P = λ (a : ExprId). IsAs a.0 (to a).0} k (named x.0) (standing q k x.0 rules x.1).names earlier in
           record {
             there = place_below p.exprs j (renamed_expr names to x.0) here;
             shape =

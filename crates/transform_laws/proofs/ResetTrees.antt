@@ -1,5 +1,5 @@
 -- A tree whose registers are reset can be resolved where the tree before could.
-use Rattle.std.proofs.Common.{◌≡◌, List, [], ◌∷◌, map, length, refl}
+use Rattle.std.proofs.Common.{◌≡◌, List, [], ◌∷◌, map, length, refl, sym, ◌∙◌}
 use Rattle.design_ir.specs.declared.expr.Expr.TheVariants as expr
 use Rattle.design_ir.specs.declared.domain.DomainDef.{DomainDef}
 use Rattle.design_ir.specs.declared.fragment.Fragment.{Fragment}
@@ -39,13 +39,15 @@ module _ (controls : List Control) (q : Pooled) (f : Fragment) where
   definitions = fragment_definitions (reset_leaf controls) (λ (d : DomainDef). d) (λ p l. same_mapped l.domains) q f
 
 pub reset_trees : ResetTrees
-reset_trees controls = record {
-  pools = pools controls;
-  resets = λ q f there named. resets controls q f named;
-  trees = trees controls;
-  read_data = reads controls;
-  definitions = definitions controls;
-  resolvable = λ q f top there rules rules' named h.
-      resolvable_from q (reset_inserted controls q f).1 (pools controls q f).signals (λ (d : DomainDef). d) (λ d. refl) (λ d e k. k) f (reset_inserted controls q f).0 top (reads controls q f) (definitions controls q f)
-      (trees controls q f there rules rules' named h.tree) h;
+reset_trees = record {
+  keeps = λ controls. record {
+    pools = pools controls;
+    resets = λ q f there named. resets controls q f named;
+    trees = trees controls;
+    read_data = reads controls;
+    resolvable = λ q f top there rules rules' named h.
+        resolvable_from q (reset_inserted controls q f).1 (pools controls q f).signals (λ (d : DomainDef). d) (λ d. refl) (λ d e k. k) f (reset_inserted controls q f).0 top (reads controls q f) (definitions controls q f)
+        (trees controls q f there rules rules' named h.tree) h;
+  };
+  definitions = λ controls q f. definitions controls q f ∙ sym (same_mapped (all_definitions f));
 }

@@ -1,5 +1,5 @@
 -- Where each reset of a pool has the name of a domain, those that stand in a module have.
-use Rattle.std.proofs.Common.{◌≡◌, ℕ, zero, suc, List, [], ◌∷◌, ◌++◌, Option, Some, None, slice_get, refl, subst}
+use Rattle.std.proofs.Common.{◌≡◌, ℕ, zero, suc, List, [], ◌∷◌, Option, Some, None, slice_get, refl, subst}
 use Rattle.std.specs.Prelude.{length, option_and_then}
 use Rattle.std.specs.List.{AllByRecursion, cons_option, filter, filter_map, range_with_len}
 use Rattle.design_ir.specs.declared.ids.ExprId.{ExprId}

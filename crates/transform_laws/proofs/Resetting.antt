@@ -1,7 +1,6 @@
 -- A tree whose registers a reset inserter resets is a tree of modules of the pool that it got.
-use Rattle.std.proofs.Common.{◌≡◌, ℕ, ◌<◌, IsTrue, List, [], ◌∷◌, ◌++◌, map, length, Option, Some, None, slice_get, refl, sym, ap, ◌∙◌, subst}
+use Rattle.std.proofs.Common.{◌≡◌, ℕ, ◌<◌, IsTrue, List, length, Option, Some, None, slice_get, sym, subst}
 use Rattle.std.specs.List.{AllByRecursion, range_with_len}
-use Rattle.amh_host.specs.declared.place.Place.{Place}
 use Rattle.design_ir.specs.declared.ids.ExprId.{ExprId}
 use Rattle.design_ir.specs.declared.expr.Expr.{Expr}
 use Rattle.design_ir.specs.declared.expr.Expr.TheVariants as expr
@@ -90,8 +89,7 @@ module _ (controls : List Control) (q r : Pooled) (rules : IsPool q) (rules' : I
       let inside : AllByRecursion (IsThere r) (block_exprs (block_in_order inits.0)) =
       exprs_in_order (IsThere r) inits.0 (each_stands p r init_statement inits_add (IsAimed r rules') (λ s. AllByRecursion (IsThere r) (statement_exprs s)) (λ x y begun ended k. init_there r rules' p x y begun ended k) p xs (more_refl p) after aimed) in
       let at : AreOpen r (block_targets (block_in_order inits.0)) =
-      subst (AreOpen r) (sym (init_targets p xs)) (all_mapped (λ k. IsTrue (is_open_target r k)) (λ (x : Register). x.target.0) xs (all_imp (λ (x : Register) (k : IsAimed r rules' x). k.aim) xs aimed)) in
-      (
+      subst (AreOpen r) (sym (init_targets p xs)) (all_mapped (λ k. IsTrue (is_open_target r k)) (λ (x : Register). x.target.0) xs (all_imp (λ (x : Register) (k : IsAimed r rules' x). k.aim) xs aimed)) in (
         subst (AllByRecursion (IsThere r)) (sym (exprs-and b reset))
             (all_joined (IsThere r) (block_exprs b) (statement_exprs reset) (there_stays q r rules more (block_exprs b) here) (exprs_under (IsThere r) c (block_in_order inits.0) (carried_more q r rules more c low).0 inside)),
         subst (AreOpen r) (sym (targets-and b reset))

@@ -1,5 +1,5 @@
 -- What stands in a tree of modules is of the pool.
-use Rattle.std.proofs.Common.{◌≡◌, ℕ, ◌<◌, List, [], ◌∷◌, ◌++◌, length, Option, Some, None}
+use Rattle.std.proofs.Common.{ℕ, List, [], ◌∷◌, ◌++◌, length, Option, Some, None}
 use Rattle.std.specs.List.{AllByRecursion, flat_map}
 use Rattle.std.specs.Option.{option_map_or}
 use Rattle.design_ir.specs.declared.ids.ExprId.{ExprId}
@@ -50,7 +50,7 @@ module _ (q : Pooled) where
       below_joined room (flat_map write_exprs m.writes) (flat_map read_exprs m.reads) (flat_there room write_exprs m.writes (all_imp (write_there m) m.writes h.writes))
       (flat_there room read_exprs m.reads (all_imp (read_there m) m.reads h.reads))
 
-  module_there : (l : Leaf) → IsModule q l → AllBelow room (leaf_exprs l)
+  pub module_there : (l : Leaf) → IsModule q l → AllBelow room (leaf_exprs l)
   module_there l h =
       below_joined room (flat_map (λ (p : Process). block_exprs p.body) l.processes) (flat_map memory_exprs l.memories)
       (flat_there room (λ (p : Process). block_exprs p.body) l.processes (all_imp (λ (p : Process) k. statements_there (block_exprs p.body) k.expressions) l.processes h.processes))

@@ -40,26 +40,26 @@ AreNamedResets q = AllByRecursion IsNamedExpr q.exprs
 
 -- over a pool that has more expressions behind those that it had, a tree of modules is what it was
 pub record GrownTrees : Type 0 where
-  pub resets : (q : Pooled) (roots : List ExprId) → AreNamedResets q → AllByRecursion IsNamedReset (held_resets q roots)
-  pub modules : (q p : Pooled) (l : Leaf) → IsPool q → IsMore q p → AreNamedResets p → IsModule q l → IsModule p l
-  pub forests : (q p : Pooled) (f : Forest) → IsPool q → IsMore q p → AreNamedResets p → AreModules q f → AreModules p f
-  pub trees : (q p : Pooled) (f : Fragment) → IsPool q → IsMore q p → AreNamedResets p → IsTree q f → IsTree p f
-  pub resolvable : (q p : Pooled) (f : Fragment) (top : TopPorts) → IsPool q → IsMore q p → AreNamedResets p → IsResolvable q f top → IsResolvable p f top
+  pub modules : (q p : Pooled) (l : Leaf) → IsPool q → IsMore q p → IsModule q l → IsModule p l
+  pub forests : (q p : Pooled) (f : Forest) → IsPool q → IsMore q p → AreModules q f → AreModules p f
+  pub trees : (q p : Pooled) (f : Fragment) → IsPool q → IsMore q p → IsTree q f → IsTree p f
+  pub resolvable : (q p : Pooled) (f : Fragment) (top : TopPorts) → IsPool q → IsMore q p → IsResolvable q f top → IsResolvable p f top
+
+-- what stands in the statements and memory ports of a tree is of the pool, and where each reset of the pool has the name of a
+-- domain, each that stands in some expressions has
+pub record StandingTrees : Type 0 where
   pub there : (q : Pooled) (f : Fragment) → IsTree q f → AllBelow (length q.exprs) (fragment_exprs f)
+  pub resets : (q : Pooled) (roots : List ExprId) → AreNamedResets q → AllByRecursion IsNamedReset (held_resets q roots)
 
 -- ---- wrappers: what one makes of a tree is one of modules of the pool that it leaves, where it was so before
 
--- a wrapper that asks something of the pool, and what it makes of a definition
-pub record KeepsTrees (Asks : Pooled → Type 0) (made : Pooled → Fragment → Fragment × Pooled) (definition : DomainDef → DomainDef) : Type 0 where
+-- by what it asks of the pool, and what it makes
+pub record KeepsTrees (Asks : Pooled → Type 0) (made : Pooled → Fragment → Fragment × Pooled) : Type 0 where
   pub pools : (q : Pooled) (f : Fragment) → IsMore q (made q f).1
   pub resets : (q : Pooled) (f : Fragment) → Asks q → AreNamedResets q → AreNamedResets (made q f).1
   pub trees : (q : Pooled) (f : Fragment) → Asks q → IsPool q → IsPool (made q f).1 → AreNamedResets q → IsTree q f → IsTree (made q f).1 (made q f).0
   pub read_data : (q : Pooled) (f : Fragment) → data_signals (all_memories (made q f).0) ≡ data_signals (all_memories f)
-  pub definitions : (q : Pooled) (f : Fragment) → all_definitions (made q f).0 ≡ map definition (all_definitions f)
   pub resolvable : (q : Pooled) (f : Fragment) (top : TopPorts) → Asks q → IsPool q → IsPool (made q f).1 → AreNamedResets q → IsResolvable q f top → IsResolvable (made q f).1 (made q f).0 top
-
-abbrev same_definition : DomainDef → DomainDef
-same_definition d = d
 
 -- the new names of domains are names
 abbrev pub AreNewNames : List NamePair → Type 0
@@ -67,12 +67,16 @@ AreNewNames names = AllByRecursion (λ (x : NamePair). IsName x.after) names
 
 -- and two definitions that were apart are, whichever of them are renamed
 pub record RenamedTrees : Type 0 where
-  pub keeps : (names : List NamePair) → KeepsTrees (λ q. AreNewNames names) (renamed names) (renamed_definition names)
+  pub keeps : (names : List NamePair) → KeepsTrees (λ q. AreNewNames names) (renamed names)
+  pub definitions : (names : List NamePair) (q : Pooled) (f : Fragment) → all_definitions (renamed names q f).0 ≡ map (renamed_definition names) (all_definitions f)
   pub apart_first : (names : List NamePair) (d e : DomainDef) → AreApart d e → AreApart (renamed_definition names d) e
   pub apart_second : (names : List NamePair) (d e : DomainDef) → AreApart d e → AreApart d (renamed_definition names e)
 
-abbrev pub ResetTrees : Type 0
-ResetTrees = (controls : List Control) → KeepsTrees (λ q. AreControls (length q.exprs) controls) (reset_inserted controls) same_definition
+-- controls are of the pool, and definitions stay
+pub record ResetTrees : Type 0 where
+  pub keeps : (controls : List Control) → KeepsTrees (λ q. AreControls (length q.exprs) controls) (reset_inserted controls)
+  pub definitions : (controls : List Control) (q : Pooled) (f : Fragment) → all_definitions (reset_inserted controls q f).0 ≡ all_definitions f
 
-abbrev pub EnabledTrees : Type 0
-EnabledTrees = (controls : List Control) → KeepsTrees (λ q. AreControls (length q.exprs) controls) (enabled controls) same_definition
+pub record EnabledTrees : Type 0 where
+  pub keeps : (controls : List Control) → KeepsTrees (λ q. AreControls (length q.exprs) controls) (enabled controls)
+  pub definitions : (controls : List Control) (q : Pooled) (f : Fragment) → all_definitions (enabled controls q f).0 ≡ all_definitions f

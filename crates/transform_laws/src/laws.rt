@@ -1,8 +1,13 @@
 // The laws of trees. The functions do nothing: their clauses are the laws.
-ghost use Rattle.transform_laws.specs.Laws.{EnabledTrees, GrownTrees, RenamedTrees, ResetTrees};
+ghost use Rattle.transform_laws.specs.Laws.{EnabledTrees, GrownTrees, RenamedTrees, ResetTrees, StandingTrees};
 
-/// A tree of modules of a pool is one of the pool that grew by expressions, in which resets have the names of domains; and what
-/// stands in its statements and memory ports is of the pool.
+/// What stands in the statements and memory ports of a tree of modules is of its pool, and where each reset of the pool has the
+/// name of a domain, each that stands in some of its expressions has.
+pub fn trees_stand_in_pools()
+    ensures { StandingTrees }
+{}
+
+/// A tree of modules of a pool is one of the pool that grew by expressions.
 pub fn growth_keeps_trees()
     ensures { GrownTrees }
 {}
