@@ -63,8 +63,8 @@ pub fn call_wrapping(
 pub fn wrapped_attribute(elaboration: &mut Elaboration, j: u32) -> Result<Answer, NoMemory>
     ensures { Gives result elaboration.new (wrapped_attribute j (held_of elaboration.old)) }
 {
-    match elaboration.store.wrapped.get(j as usize) {
+    match elaboration.store.wrapped_at(j) {
         Some(one) => Ok(Answer::Through(one.inner)),
-        None => Ok(Answer::Refuse(Cause::Raised)),
+        None => elaboration.refuse(Cause::Raised),
     }
 }
