@@ -1,5 +1,5 @@
 -- What is held stays sound by what wrappers do, and by what they make.
-use Rattle.std.proofs.Common.{Bool, true, false, List, [], ◌∷◌, ◌++◌, length, Option, Some, None}
+use Rattle.std.proofs.Common.{ℕ, Bool, true, false, List, [], ◌∷◌, ◌++◌, length, Option, Some, None}
 use Rattle.std.specs.Prelude.{slice_get, if◌then◌else◌}
 use Rattle.py_values.specs.declared.val.Val.{Val}
 use Rattle.py_heap.specs.Heaps.{Seen}

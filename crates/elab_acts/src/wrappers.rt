@@ -1,10 +1,8 @@
 // Calls of what `DomainRenamer(..)` and the inserters give, and attributes of what such a call gives.
-ghost use Rattle.std.specs.Prelude.{◌≡◌, Some, None, true, slice_get};
 ghost use Rattle.py_heap.specs.Heaps.{seen};
 ghost use Rattle.elab_store.specs.Seen.{called_of};
-ghost use Rattle.elab_store.specs.Stores.{wrapped_of, inner_of};
 ghost use Rattle.elab_store.specs.Held.{held_of, Gives};
-ghost use Rattle.elab_acts.specs.Wrappers.{wrapped_by, wrapped_given, argument_wrapped, arguments_wrapped, wrapping_called, within_asked, wrapped_attribute};
+ghost use Rattle.elab_acts.specs.Wrappers.{wrapped_by, wrapped_given, argument_wrapped, wrapping_called, wrapped_attribute};
 
 use crate::submodules::is_elaboratable;
 use elab_store::calls::Called;
@@ -65,8 +63,8 @@ pub fn call_wrapping(
 pub fn wrapped_attribute(elaboration: &mut Elaboration, j: u32) -> Result<Answer, NoMemory>
     ensures { Gives result elaboration.new (wrapped_attribute j (held_of elaboration.old)) }
 {
-    match elaboration.store.wrapped.get(j as usize) {
+    match elaboration.store.wrapped_at(j) {
         Some(one) => Ok(Answer::Through(one.inner)),
-        None => Ok(Answer::Refuse(Cause::Raised)),
+        None => elaboration.refuse(Cause::Raised),
     }
 }

@@ -289,10 +289,10 @@ impl Hierarchy {
         let Some(first) = self.waiting.pop() else {
             return Ok(());
         };
-        if below > 4_294_967_295 || first.depth == u32::MAX {
+        if below > 4_294_967_295 || first.depth == u32::MAX || self.taken == usize::MAX {
             return Err(NoMemory);
         }
-        self.taken = self.taken.saturating_add(1);
+        self.taken += 1;
         self.nodes.push(Node {
             addition: first.addition,
             of,

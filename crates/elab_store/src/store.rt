@@ -392,6 +392,13 @@ impl Store {
         }
     }
 
+    /// A wrapped thing by its number.
+    pub fn wrapped_at(&self, number: u32) -> Option<Wrapped>
+        ensures { result ≡ slice_get self.now.wrapped number }
+    {
+        self.wrapped.get(number as usize).copied()
+    }
+
     /// The number of the wrapped thing that a value is.
     pub fn wrapped_of(&self, v: &Val) -> Option<u32>
         ensures { result ≡ wrapped_of self.now v.now }

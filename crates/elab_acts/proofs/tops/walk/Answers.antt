@@ -50,14 +50,15 @@ returns-in_default-node c =
     let step : j ≡ suc n = omega (arith, c.loop-i-test.true) in
     let first : first_waiting h.store.hierarchy ≡ Some w = ap first_waiting (sym c.hierarchy-in-loop-i.ensures) ∙ sym c.first_waiting.ensures ∙ c.in-Some.is in
     let deep : nat_lt deepest_submodule w.depth ≡ false = le-ltb deepest_submodule w.depth c.if-next-gt-DEEPEST_SUBMODULE.false in
-    let is : IsNext h v c.inner_of.result None (held_of c.take_wraps.new.elaboration) = record {
-      thing = cc;
-      inner = c.inner_of.ensures;
-      node = sym c.in_default-node.is ∙ c.node_of.ensures;
+    let thing : thing_waiting h.store.hierarchy ≡ Some v = cc in
+    let is : IsNext h v c.inner_of-inner.result None (held_of c.take_wraps.new.elaboration) = record {
+      thing = thing;
+      inner = c.inner_of-inner.ensures;
+      node = sym c.in_default-node.is ∙ c.node_of-node.ensures;
       taken = c.in_ok-take_wraps.ensures;
     } in
     subst (Gives c.call_below.result c.call_below.new.elaboration)
-    (walked_called j n (seen c.args.frozen.now c.args.heap.now) h w v c.inner_of.result _ _ step first deep is c.loop-i.invariant)
+    (walked_called j n (seen c.args.frozen.now c.args.heap.now) h w v c.inner_of-inner.result _ _ step first deep is c.loop-i.invariant)
     c.call_below.ensures
 
 pub loop-i-preserved : goal.loop-i-preserved
@@ -73,14 +74,15 @@ loop-i-preserved c =
     let step : j ≡ suc n = omega (arith, c.loop-i-test.true) in
     let first : first_waiting h.store.hierarchy ≡ Some w = ap first_waiting (sym c.hierarchy-in-loop-i.ensures) ∙ sym c.first_waiting.ensures ∙ c.in-Some.is in
     let deep : nat_lt deepest_submodule w.depth ≡ false = le-ltb deepest_submodule w.depth c.if-next-gt-DEEPEST_SUBMODULE.false in
-    let is : IsNext h v c.inner_of.result (Some m) g = record {
-      thing = cc;
-      inner = c.inner_of.ensures;
-      node = sym c.in-Some-node.is ∙ c.node_of.ensures;
+    let thing : thing_waiting h.store.hierarchy ≡ Some v = cc in
+    let is : IsNext h v c.inner_of-inner.result (Some m) g = record {
+      thing = thing;
+      inner = c.inner_of-inner.ensures;
+      node = sym c.in-Some-node.is ∙ c.node_of-node.ensures;
       taken = c.in_ok-take_wraps.ensures;
     } in
     ap (λ (store : Stored). walked n s (record { pool = g.pool; store = store })) c.in_ok-take_node.ensures
-    ∙ walked_more j n s h w v c.inner_of.result m g _ step first deep is c.loop-i.invariant
+    ∙ walked_more j n s h w v c.inner_of-inner.result m g _ step first deep is c.loop-i.invariant
 
 pub returns-in-Some-first_waiting : goal.returns-in-Some-first_waiting
 returns-in-Some-first_waiting c =
