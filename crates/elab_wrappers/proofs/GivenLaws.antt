@@ -91,11 +91,12 @@ control_next ts p q xs i x e domain before after whole h is meant named pushed s
         let c : Control = record { domain = x.name; condition = y.0 } in
         let rest : Controlled = controls_from ts (grown_by p y.1) (drop (i + 1) xs) in
         let grown : after ≡ before ++ c ∷ [] =
-            pushed ∙ ap (λ (n : List ℕ). before ++ record { domain = n; condition = e } ∷ []) named ∙ ap (λ (d : ExprId). before ++ record { domain = x.name; condition = d } ∷ []) m.0 in
-        (subst (λ (g : Pooled). AreHeld (length g.exprs) ts) (sym m.1) (held_grown p y.1 ts so_far.0),
-        ap (λ (g : Pooled). controlled_so after (controls_from ts g (drop (i + 1) xs))) m.1
-        ∙ ap (λ (cs : List Control). controlled_so cs rest) grown
-        ∙ ap (so_made rest.pool) (behind_next before c rest.made)
-        ∙ ap (λ (o : Result (ExprId × List Expr) Cause). controlled_so before (control_by x.name p (λ g. controls_from ts g (drop (i + 1) xs)) o)) (sym same)
-        ∙ ap (λ (zs : List NamedVal). controlled_so before (controls_from ts p zs)) (sym (item_at xs i x h is))
-        ∙ so_far.1)
+        pushed ∙ ap (λ (n : List ℕ). before ++ record { domain = n; condition = e } ∷ []) named ∙ ap (λ (d : ExprId). before ++ record { domain = x.name; condition = d } ∷ []) m.0 in (
+          subst (λ (g : Pooled). AreHeld (length g.exprs) ts) (sym m.1) (held_grown p y.1 ts so_far.0),
+          ap (λ (g : Pooled). controlled_so after (controls_from ts g (drop (i + 1) xs))) m.1
+              ∙ ap (λ (cs : List Control). controlled_so cs rest) grown
+              ∙ ap (so_made rest.pool) (behind_next before c rest.made)
+              ∙ ap (λ (o : Result (ExprId × List Expr) Cause). controlled_so before (control_by x.name p (λ g. controls_from ts g (drop (i + 1) xs)) o)) (sym same)
+              ∙ ap (λ (zs : List NamedVal). controlled_so before (controls_from ts p zs)) (sym (item_at xs i x h is))
+              ∙ so_far.1,
+        )
