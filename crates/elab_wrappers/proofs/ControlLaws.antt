@@ -1,5 +1,5 @@
 -- Controls stand in the pool that they leave.
-use Rattle.std.proofs.Common.{◌≡◌, ℕ, ◌+◌, ◌<◌, refl, ap, sym, ◌∙◌, List, [], ◌∷◌, ◌++◌, length, Result, Ok, Err, append_assoc, append-nil, arith}
+use Rattle.std.proofs.Common.{◌≡◌, ℕ, ◌<◌, ap, sym, ◌∙◌, List, [], ◌∷◌, ◌++◌, length, Result, Ok, Err, append_assoc, append-nil, arith}
 use Rattle.std.specs.Prelude.{IfOk}
 use Rattle.std.proofs.lemmas.List.{length-append}
 use Rattle.py_frames.specs.declared.request.Cause.{Cause}
@@ -13,7 +13,6 @@ use Rattle.amh_things.specs.declared.thing.Thing.{Thing}
 use Rattle.amh_things.specs.Meant.{expr_meant}
 use Rattle.amh_things.specs.Plans.{grown_by}
 use Rattle.amh_things.specs.Held.{AreHeld}
-use Rattle.elab_store.specs.declared.wrappings.Wrapping.{Wrapping}
 use Rattle.elab_store.specs.Sound.{IsWrapping}
 use Rattle.elab_wrappers.specs.declared.wrappers.Inserter.{Inserter}
 use Rattle.elab_wrappers.specs.declared.wrappers.Inserter.TheVariants.{Reset, Enable}

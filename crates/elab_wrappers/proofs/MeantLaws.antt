@@ -1,11 +1,10 @@
 -- What a value of the program means as an expression stands in the pool with what it brings.
-use Rattle.std.proofs.Common.{◌≡◌, ℕ, ◌+◌, ◌<◌, refl, Bool, true, false, List, [], ◌∷◌, ◌++◌, length, Option, option_map, Some, None, Result, Ok, Err, arith, nat_lt}
+use Rattle.std.proofs.Common.{◌≡◌, ℕ, ◌+◌, ◌<◌, refl, Bool, true, false, List, [], ◌∷◌, length, Option, option_map, Some, None, Ok, Err, arith, nat_lt}
 use Rattle.std.specs.Prelude.{if◌then◌else◌, IfSome, IfOk, slice_get, ℤ}
 use Rattle.std.proofs.lemmas.List.{length-append}
 use Rattle.py_values.specs.declared.val.Val.{Val}
 use Rattle.py_values.specs.declared.val.Val.TheVariants as val
 use Rattle.py_values.specs.Numbers.{number_of}
-use Rattle.py_frames.specs.declared.request.Cause.{Cause}
 use Rattle.py_frames.specs.declared.request.Cause.TheVariants.{Limit}
 use Rattle.design_ir.specs.declared.ids.ExprId.{ExprId}
 use Rattle.design_ir.specs.declared.expr.Expr.{Expr}

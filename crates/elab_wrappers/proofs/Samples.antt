@@ -1,6 +1,6 @@
 -- Wrappings, worked out where nothing was made before. The strings of the heap are `sync`, `pix`, `comb` and `2x`, and its dicts
 -- `{"sync": "pix", "pix": "sync"}`, `{"pix": 1, "sync": 0}`, `{"comb": 1}`, `{"sync": 1, "pix": "sync"}`, `{}`, `{"pix": "comb"}` and `{1: "pix"}`.
-use Rattle.std.specs.Prelude.{◌≡◌, refl, ℕ, pos, false, List, [], ◌∷◌, codes}
+use Rattle.std.specs.Prelude.{◌≡◌, refl, ℕ, pos, false, [], ◌∷◌, codes}
 use Rattle.identifiers.proofs.Computing.{identifiers}
 use Rattle.py_values.specs.declared.val.Val.{Val}
 use Rattle.py_values.specs.declared.val.Val.TheVariants as val
@@ -9,7 +9,6 @@ use Rattle.py_frames.specs.declared.request.Answer.TheVariants as answer
 use Rattle.py_frames.specs.declared.request.Cause.TheVariants.{Raised}
 use Rattle.py_builtins.specs.Scalars.{first_from}
 use Rattle.design_ir.specs.declared.expr.Expr.TheVariants.{Const}
-use Rattle.amh_things.specs.declared.thing.Thing.TheVariants as thing
 use Rattle.elab_store.specs.declared.kept.Kept.TheVariants as kept
 use Rattle.elab_store.specs.declared.wrappings.Wrapping.TheVariants as wrapping
 use Rattle.elab_store.specs.Calls.{Called}
