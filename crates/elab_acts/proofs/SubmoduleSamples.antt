@@ -9,6 +9,7 @@ use Rattle.py_heap.specs.Heaps.{Seen, seen, nothing}
 use Rattle.py_frames.specs.declared.request.Answer.TheVariants as answer
 use Rattle.py_frames.specs.declared.request.Cause.TheVariants.{Raised, Limit}
 use Rattle.elab_store.specs.declared.hierarchy.Addition.{Addition}
+use Rattle.elab_store.specs.declared.hierarchy.NodeOf.TheVariants as node
 use Rattle.elab_store.specs.Calls.{called}
 use Rattle.elab_store.specs.Stores.{Held, Answered, nothing_held}
 use Rattle.elab_components.specs.Signals.{module_called}
@@ -69,7 +70,7 @@ ended = body_ended None heap (thing 0 ∷ []) (codes "top" ∷ []) with_third.he
 -- module 1 stands by addition 0 and has one below it, which is module 3 by addition 2; then module 2 by addition 1
 tree_walked : (ended.answer ≡ answer.Give val.None)
     × (ended.held.store.hierarchy.nodes
-    ≡ record { addition = 0; «module» = 1; below = 1 } ∷ record { addition = 2; «module» = 3; below = 0 } ∷ record { addition = 1; «module» = 2; below = 0 } ∷ [])
+    ≡ record { addition = 0; of = node.Module 1; below = 1 } ∷ record { addition = 2; of = node.Module 3; below = 0 } ∷ record { addition = 1; of = node.Module 2; below = 0 } ∷ [])
     × (ended.held.store.hierarchy.waiting ≡ []) × (ended.held.store.top.root ≡ Some 0)
 unfolding identifiers thing heap module_more modules with_first with_second with_third ended walked
 tree_walked = (refl, refl, refl, refl)
