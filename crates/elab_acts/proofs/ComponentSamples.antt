@@ -61,7 +61,7 @@ names_given = (refl, refl, refl, refl)
 
 -- there are no others yet
 other_names : ((imported (codes "amaranth.lib.wiring") (codes "Interface") nothing_held).answer ≡ answer.Refuse Raised) × ((imported (codes "amaranth.lib.wiring") (codes "*") nothing_held).answer ≡ answer.Refuse Raised)
-    × ((imported (codes "amaranth.lib") (codes "memory") nothing_held).answer ≡ answer.Refuse Raised)
+    × ((imported (codes "amaranth.lib") (codes "fifo") nothing_held).answer ≡ answer.Refuse Raised)
 other_names = (refl, refl, refl)
 
 -- ---- the members: things 4 to 6
