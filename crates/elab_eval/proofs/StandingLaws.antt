@@ -53,6 +53,12 @@ forest_there p (grown l below rest) h =
 
 -- ---- the first tree of some, taken alone and put back
 
+abbrev got_trees : Forest × Pooled → Result (Forest × Pooled) ElabStop
+got_trees t = Ok t
+
+some_trees : (t made : Forest × Pooled) → got_trees t ≡ got_trees made → t ≡ made
+some_trees t made e = cc
+
 module _ (s : Stored) (q : Pooled) where
   first_alone : (p : Pooled) (l : Leaf) (below rest : Forest) → IsStanding s q p (grown l below rest) → StandsFor s p (fragment_with l below)
   first_alone p l below rest h =
@@ -86,17 +92,14 @@ module _ (s : Stored) (q : Pooled) where
         (all_and (IsFree s) (forest_data t.0.submodules) (forest_data rest) (all_back (IsFree s) (leaf_data first) (forest_data t.0.submodules) given) (all_back (IsFree s) (forest_data below) (forest_data rest) (all_back (IsFree s) (leaf_data l) (forest_data below ++ forest_data rest) old))));
       }
 
-  some_trees : (f : Forest) (p : Pooled) (made : Forest × Pooled) → Ok (f, p) ≡ Ok made → (f, p) ≡ made
-  some_trees f p made e = cc
-
   first_stands : (o : Option Wrapping) (p : Pooled) (f : Forest) (made : Forest × Pooled) → IsPool p → IsPool made.1 → IfSome o (IsWrapping p) → IsStanding s q p f → first_wrapped o f p ≡ Ok made → IsStanding s q made.1 made.0
-  first_stands o p bare made before after asks h e = subst (λ (m : Forest × Pooled). IsStanding s q m.1 m.0) (some_trees bare p made e) h
+  first_stands o p bare made before after asks h e = subst (λ (m : Forest × Pooled). IsStanding s q m.1 m.0) (some_trees (bare, p) made e) h
   first_stands o p (grown l below rest) made before after asks h e = by_made (wrapped o (fragment_with l below, p)) refl e
     where
       by_made : (r : Result (Fragment × Pooled) ElabStop) → wrapped o (fragment_with l below, p) ≡ r → and_then r (put_before rest) ≡ Ok made → IsStanding s q made.1 made.0
       by_made (Err x) is e = cc
       by_made (Ok t) is e =
-          let same = some_trees (grown (leaf_of t.0) t.0.submodules rest) t.1 made e in
+          let same = some_trees (grown (leaf_of t.0) t.0.submodules rest, t.1) made e in
           let there = wrapped_stands s o (fragment_with l below, p) t (first_alone p l below rest h) asks before (subst (λ (m : Forest × Pooled). IsPool m.1) (sym same) after) is in
           subst (λ (m : Forest × Pooled). IsStanding s q m.1 m.0) same (first_back p l below rest t before h there)
 
@@ -150,8 +153,8 @@ module _ (s : Stored) (q : Pooled) (rules : IsPool q) (sound : IsSound (record {
   asked p k more = wrapping_at p s.wrappings k (wrappings_more q p s.wrappings more sound.wrappings)
 
   pub node_stands : (p : Pooled) (x : Node) (o : NodeOf) (f : Forest) (made : Forest × Pooled) → IsPool p → IsPool made.1 → IsStanding s q p f → node_put s x o (f, p) ≡ Ok made → IsStanding s q made.1 made.0
-  node_stands p x (node.Module m) f made before after h e = subst (λ (t : Forest × Pooled). IsStanding s q t.1 t.0) (some_trees s q _ p made e) (leaf_put p x f h)
-  node_stands p x (node.Memory k) f made before after h e = subst (λ (t : Forest × Pooled). IsStanding s q t.1 t.0) (some_trees s q _ p made e) (leaf_put p x f h)
+  node_stands p x (node.Module m) f made before after h e = subst (λ (t : Forest × Pooled). IsStanding s q t.1 t.0) (some_trees (grown (leaf_at s x) (first_trees x.below f) (other_trees x.below f), p) made e) (leaf_put p x f h)
+  node_stands p x (node.Memory k) f made before after h e = subst (λ (t : Forest × Pooled). IsStanding s q t.1 t.0) (some_trees (grown (leaf_at s x) (first_trees x.below f) (other_trees x.below f), p) made e) (leaf_put p x f h)
   node_stands p x (node.Wrapper k) f made before after h e = first_stands s q (slice_get s.wrappings k) p f made before after (asked p k h.more) h e
 
   -- ---- the top
