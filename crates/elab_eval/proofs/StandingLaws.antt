@@ -70,7 +70,7 @@ module _ (s : Stored) (q : Pooled) where
         tree = record { own = h.modules.1.0; below = h.modules.1.1.0 };
         definitions = all_and from l.domains (definitions_of below) (all_front from l.domains behind h.definitions) (all_front from (definitions_of below) (definitions_of rest) (all_back from l.domains behind h.definitions));
         free_data = subst (AllByRecursion (IsFree s)) (sym (all_data _ l.memories below))
-        (all_and (IsFree s) (leaf_data l) (forest_data below) (all_front (IsFree s) (leaf_data l) (forest_data below ++ forest_data rest) given) (all_front (IsFree s) (forest_data below) (forest_data rest) (all_back (IsFree s) (leaf_data l) (forest_data below ++ forest_data rest) given)));
+            (all_and (IsFree s) (leaf_data l) (forest_data below) (all_front (IsFree s) (leaf_data l) (forest_data below ++ forest_data rest) given) (all_front (IsFree s) (forest_data below) (forest_data rest) (all_back (IsFree s) (leaf_data l) (forest_data below ++ forest_data rest) given)));
       }
 
   first_back : (p : Pooled) (l : Leaf) (below rest : Forest) (t : Fragment × Pooled) → IsPool p → IsStanding s q p (grown l below rest) → IsWrapped s (fragment_with l below, p) t → IsStanding s q t.1 (grown (leaf_of t.0) t.0.submodules rest)
@@ -86,10 +86,10 @@ module _ (s : Stored) (q : Pooled) where
         resets = stands.resets;
         modules = (subst IsName (sym made.name) h.modules.0, (stands.tree.own, (stands.tree.below, grown_trees.forests p t.1 rest rules made.more stands.resets h.modules.1.1.1)));
         definitions = all_and from first.domains (definitions_of t.0.submodules ++ definitions_of rest) (all_front from first.domains (definitions_of t.0.submodules) stands.definitions)
-        (all_and from (definitions_of t.0.submodules) (definitions_of rest) (all_back from first.domains (definitions_of t.0.submodules) stands.definitions) (all_back from (definitions_of below) (definitions_of rest) (all_back from l.domains behind h.definitions)));
+            (all_and from (definitions_of t.0.submodules) (definitions_of rest) (all_back from first.domains (definitions_of t.0.submodules) stands.definitions) (all_back from (definitions_of below) (definitions_of rest) (all_back from l.domains behind h.definitions)));
         free_data = subst (AllByRecursion (IsFree s)) (sym (data_gathered [] (grown first t.0.submodules rest)))
-        (all_and (IsFree s) (leaf_data first) (forest_data t.0.submodules ++ forest_data rest) (all_front (IsFree s) (leaf_data first) (forest_data t.0.submodules) given)
-        (all_and (IsFree s) (forest_data t.0.submodules) (forest_data rest) (all_back (IsFree s) (leaf_data first) (forest_data t.0.submodules) given) (all_back (IsFree s) (forest_data below) (forest_data rest) (all_back (IsFree s) (leaf_data l) (forest_data below ++ forest_data rest) old))));
+            (all_and (IsFree s) (leaf_data first) (forest_data t.0.submodules ++ forest_data rest) (all_front (IsFree s) (leaf_data first) (forest_data t.0.submodules) given)
+            (all_and (IsFree s) (forest_data t.0.submodules) (forest_data rest) (all_back (IsFree s) (leaf_data first) (forest_data t.0.submodules) given) (all_back (IsFree s) (forest_data below) (forest_data rest) (all_back (IsFree s) (leaf_data l) (forest_data below ++ forest_data rest) old))));
       }
 
   first_stands : (o : Option Wrapping) (p : Pooled) (f : Forest) (made : Forest × Pooled) → IsPool p → IsPool made.1 → IfSome o (IsWrapping p) → IsStanding s q p f → first_wrapped o f p ≡ Ok made → IsStanding s q made.1 made.0
@@ -141,7 +141,7 @@ module _ (s : Stored) (q : Pooled) (rules : IsPool q) (sound : IsSound (record {
         modules = (leaf_name s x sound.additions, (own, (first_modules p x.below f h.modules, other_modules p x.below f h.modules)));
         definitions = grown_gathered (IsFrom s.clock_domains.made) (λ (k : Leaf). k.domains) l x.below f (leaf_definitions (node_name s x) x.of) h.definitions;
         free_data = subst (AllByRecursion (IsFree s)) (sym (data_gathered [] (grown l (first_trees x.below f) (other_trees x.below f))))
-        (grown_gathered (IsFree s) leaf_data l x.below f (leaf_free (node_name s x) x.of) (subst (AllByRecursion (IsFree s)) (data_gathered [] f) h.free_data));
+            (grown_gathered (IsFree s) leaf_data l x.below f (leaf_free (node_name s x) x.of) (subst (AllByRecursion (IsFree s)) (data_gathered [] f) h.free_data));
       }
 
   -- ---- the nodes

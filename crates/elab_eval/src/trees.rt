@@ -20,8 +20,7 @@ ghost use Rattle.elab_eval.specs.Trees.{finished, fragment_with, tree_found, IsG
 
 use crate::refusal::ElabStop;
 use amh_host::{Items, Kind, Place, Text};
-use design_ir::{DomainDefs, Fragment, Fragments, Memories, Process, Processes};
-use design_ir::Pool;
+use design_ir::{DomainDefs, Fragment, Fragments, Memories, Pool, Process, Processes};
 use domain_transforms::{ControlStop, insert_enable, insert_reset, rename};
 use elab_store::hierarchy::{Node, NodeOf};
 use elab_store::memories::OwnMemory;
@@ -371,7 +370,15 @@ fn put_module(
     let domains = store.clock_domains.defined_by(alloc, m)?;
     let processes = copied_processes(alloc, fragment.processes.as_slice())?;
     let none = Memories::new(alloc);
-    with_node(alloc, node_name(store, node), domains, processes, none, node.below, behind)
+    with_node(
+        alloc,
+        node_name(store, node),
+        domains,
+        processes,
+        none,
+        node.below,
+        behind,
+    )
 }
 
 // A memory under its name, which is all that its fragment has.
@@ -391,7 +398,15 @@ fn put_memory(
     let own = only_memory(alloc, memory)?;
     let domains = DomainDefs::new(alloc);
     let processes = Processes::new(alloc);
-    with_node(alloc, node_name(store, node), domains, processes, own, node.below, behind)
+    with_node(
+        alloc,
+        node_name(store, node),
+        domains,
+        processes,
+        own,
+        node.below,
+        behind,
+    )
 }
 
 // ---- wrappers
