@@ -53,6 +53,12 @@ forest_there p (grown l below rest) h =
 
 -- ---- the first tree of some, taken alone and put back
 
+abbrev got_trees : Forest × Pooled → Result (Forest × Pooled) ElabStop
+got_trees t = Ok t
+
+some_trees : (t made : Forest × Pooled) → got_trees t ≡ got_trees made → t ≡ made
+some_trees t made e = cc
+
 module _ (s : Stored) (q : Pooled) where
   first_alone : (p : Pooled) (l : Leaf) (below rest : Forest) → IsStanding s q p (grown l below rest) → StandsFor s p (fragment_with l below)
   first_alone p l below rest h =
@@ -64,7 +70,7 @@ module _ (s : Stored) (q : Pooled) where
         tree = record { own = h.modules.1.0; below = h.modules.1.1.0 };
         definitions = all_and from l.domains (definitions_of below) (all_front from l.domains behind h.definitions) (all_front from (definitions_of below) (definitions_of rest) (all_back from l.domains behind h.definitions));
         free_data = subst (AllByRecursion (IsFree s)) (sym (all_data _ l.memories below))
-        (all_and (IsFree s) (leaf_data l) (forest_data below) (all_front (IsFree s) (leaf_data l) (forest_data below ++ forest_data rest) given) (all_front (IsFree s) (forest_data below) (forest_data rest) (all_back (IsFree s) (leaf_data l) (forest_data below ++ forest_data rest) given)));
+            (all_and (IsFree s) (leaf_data l) (forest_data below) (all_front (IsFree s) (leaf_data l) (forest_data below ++ forest_data rest) given) (all_front (IsFree s) (forest_data below) (forest_data rest) (all_back (IsFree s) (leaf_data l) (forest_data below ++ forest_data rest) given)));
       }
 
   first_back : (p : Pooled) (l : Leaf) (below rest : Forest) (t : Fragment × Pooled) → IsPool p → IsStanding s q p (grown l below rest) → IsWrapped s (fragment_with l below, p) t → IsStanding s q t.1 (grown (leaf_of t.0) t.0.submodules rest)
@@ -80,23 +86,20 @@ module _ (s : Stored) (q : Pooled) where
         resets = stands.resets;
         modules = (subst IsName (sym made.name) h.modules.0, (stands.tree.own, (stands.tree.below, grown_trees.forests p t.1 rest rules made.more stands.resets h.modules.1.1.1)));
         definitions = all_and from first.domains (definitions_of t.0.submodules ++ definitions_of rest) (all_front from first.domains (definitions_of t.0.submodules) stands.definitions)
-        (all_and from (definitions_of t.0.submodules) (definitions_of rest) (all_back from first.domains (definitions_of t.0.submodules) stands.definitions) (all_back from (definitions_of below) (definitions_of rest) (all_back from l.domains behind h.definitions)));
+            (all_and from (definitions_of t.0.submodules) (definitions_of rest) (all_back from first.domains (definitions_of t.0.submodules) stands.definitions) (all_back from (definitions_of below) (definitions_of rest) (all_back from l.domains behind h.definitions)));
         free_data = subst (AllByRecursion (IsFree s)) (sym (data_gathered [] (grown first t.0.submodules rest)))
-        (all_and (IsFree s) (leaf_data first) (forest_data t.0.submodules ++ forest_data rest) (all_front (IsFree s) (leaf_data first) (forest_data t.0.submodules) given)
-        (all_and (IsFree s) (forest_data t.0.submodules) (forest_data rest) (all_back (IsFree s) (leaf_data first) (forest_data t.0.submodules) given) (all_back (IsFree s) (forest_data below) (forest_data rest) (all_back (IsFree s) (leaf_data l) (forest_data below ++ forest_data rest) old))));
+            (all_and (IsFree s) (leaf_data first) (forest_data t.0.submodules ++ forest_data rest) (all_front (IsFree s) (leaf_data first) (forest_data t.0.submodules) given)
+            (all_and (IsFree s) (forest_data t.0.submodules) (forest_data rest) (all_back (IsFree s) (leaf_data first) (forest_data t.0.submodules) given) (all_back (IsFree s) (forest_data below) (forest_data rest) (all_back (IsFree s) (leaf_data l) (forest_data below ++ forest_data rest) old))));
       }
 
-  some_trees : (f : Forest) (p : Pooled) (made : Forest × Pooled) → Ok (f, p) ≡ Ok made → (f, p) ≡ made
-  some_trees f p made e = cc
-
   first_stands : (o : Option Wrapping) (p : Pooled) (f : Forest) (made : Forest × Pooled) → IsPool p → IsPool made.1 → IfSome o (IsWrapping p) → IsStanding s q p f → first_wrapped o f p ≡ Ok made → IsStanding s q made.1 made.0
-  first_stands o p bare made before after asks h e = subst (λ (m : Forest × Pooled). IsStanding s q m.1 m.0) (some_trees bare p made e) h
+  first_stands o p bare made before after asks h e = subst (λ (m : Forest × Pooled). IsStanding s q m.1 m.0) (some_trees (bare, p) made e) h
   first_stands o p (grown l below rest) made before after asks h e = by_made (wrapped o (fragment_with l below, p)) refl e
     where
       by_made : (r : Result (Fragment × Pooled) ElabStop) → wrapped o (fragment_with l below, p) ≡ r → and_then r (put_before rest) ≡ Ok made → IsStanding s q made.1 made.0
       by_made (Err x) is e = cc
       by_made (Ok t) is e =
-          let same = some_trees (grown (leaf_of t.0) t.0.submodules rest) t.1 made e in
+          let same = some_trees (grown (leaf_of t.0) t.0.submodules rest, t.1) made e in
           let there = wrapped_stands s o (fragment_with l below, p) t (first_alone p l below rest h) asks before (subst (λ (m : Forest × Pooled). IsPool m.1) (sym same) after) is in
           subst (λ (m : Forest × Pooled). IsStanding s q m.1 m.0) same (first_back p l below rest t before h there)
 
@@ -138,7 +141,7 @@ module _ (s : Stored) (q : Pooled) (rules : IsPool q) (sound : IsSound (record {
         modules = (leaf_name s x sound.additions, (own, (first_modules p x.below f h.modules, other_modules p x.below f h.modules)));
         definitions = grown_gathered (IsFrom s.clock_domains.made) (λ (k : Leaf). k.domains) l x.below f (leaf_definitions (node_name s x) x.of) h.definitions;
         free_data = subst (AllByRecursion (IsFree s)) (sym (data_gathered [] (grown l (first_trees x.below f) (other_trees x.below f))))
-        (grown_gathered (IsFree s) leaf_data l x.below f (leaf_free (node_name s x) x.of) (subst (AllByRecursion (IsFree s)) (data_gathered [] f) h.free_data));
+            (grown_gathered (IsFree s) leaf_data l x.below f (leaf_free (node_name s x) x.of) (subst (AllByRecursion (IsFree s)) (data_gathered [] f) h.free_data));
       }
 
   -- ---- the nodes
@@ -150,8 +153,8 @@ module _ (s : Stored) (q : Pooled) (rules : IsPool q) (sound : IsSound (record {
   asked p k more = wrapping_at p s.wrappings k (wrappings_more q p s.wrappings more sound.wrappings)
 
   pub node_stands : (p : Pooled) (x : Node) (o : NodeOf) (f : Forest) (made : Forest × Pooled) → IsPool p → IsPool made.1 → IsStanding s q p f → node_put s x o (f, p) ≡ Ok made → IsStanding s q made.1 made.0
-  node_stands p x (node.Module m) f made before after h e = subst (λ (t : Forest × Pooled). IsStanding s q t.1 t.0) (some_trees s q _ p made e) (leaf_put p x f h)
-  node_stands p x (node.Memory k) f made before after h e = subst (λ (t : Forest × Pooled). IsStanding s q t.1 t.0) (some_trees s q _ p made e) (leaf_put p x f h)
+  node_stands p x (node.Module m) f made before after h e = subst (λ (t : Forest × Pooled). IsStanding s q t.1 t.0) (some_trees (grown (leaf_at s x) (first_trees x.below f) (other_trees x.below f), p) made e) (leaf_put p x f h)
+  node_stands p x (node.Memory k) f made before after h e = subst (λ (t : Forest × Pooled). IsStanding s q t.1 t.0) (some_trees (grown (leaf_at s x) (first_trees x.below f) (other_trees x.below f), p) made e) (leaf_put p x f h)
   node_stands p x (node.Wrapper k) f made before after h e = first_stands s q (slice_get s.wrappings k) p f made before after (asked p k h.more) h e
 
   -- ---- the top

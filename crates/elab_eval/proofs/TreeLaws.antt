@@ -162,7 +162,7 @@ pub node_more : (s : Stored) (xs : List Node) (q : Pooled) (i : ℕ) (d : Node) 
 node_more s xs q i d behind lt e = one_before (λ ys. forest_of_nodes s ys q) (λ x. node_put s x x.of) (λ y ys. refl) xs i d behind lt e
 
 -- a node that is refused
-pub node_refused : {A : Type 0} (s : Stored) (xs : List Node) (q p r : Pooled) (i : ℕ) (d : Node) (stop : ElabStop) (behind : Forest × Pooled) → i < length xs → forest_of_nodes s (drop (length xs - i) xs) q ≡ Ok behind
+pub node_refused : (s : Stored) (xs : List Node) (q p r : Pooled) (i : ℕ) (d : Node) (stop : ElabStop) (behind : Forest × Pooled) → i < length xs → forest_of_nodes s (drop (length xs - i) xs) q ≡ Ok behind
     → (let x = get_or xs (length xs - 1 - i) d in IsGot {A = Forest} (Err stop) p (node_put s x x.of behind)) → IsGot {A = Forest} (Err stop) r (forest_of_nodes s xs q)
 node_refused s xs q p r i d stop behind lt e h =
     let x = get_or xs (length xs - 1 - i) d in

@@ -20,8 +20,7 @@ ghost use Rattle.elab_eval.specs.Trees.{finished, fragment_with, tree_found, IsG
 
 use crate::refusal::ElabStop;
 use amh_host::{Items, Kind, Place, Text};
-use design_ir::{DomainDefs, Fragment, Fragments, Memories, Process, Processes};
-use design_ir::Pool;
+use design_ir::{DomainDefs, Fragment, Fragments, Memories, Pool, Process, Processes};
 use domain_transforms::{ControlStop, insert_enable, insert_reset, rename};
 use elab_store::hierarchy::{Node, NodeOf};
 use elab_store::memories::OwnMemory;
@@ -145,24 +144,41 @@ fn is_open_in(modules: &[Option<Fragment>], store: &Store, of: NodeOf) -> bool
     }
 }
 
+// Whether it is so of one of these nodes.
+fn is_node_open(modules: &[Option<Fragment>], store: &Store, nodes: &[Node]) -> bool
+    ghost built: { List Built }
+    requires { modules.now ≡ map finished built }
+    ensures { result ≡ list_any (is_open_at (record store.now { modules = built })) nodes.now }
+{
+    for node in nodes {
+        if is_open_in(modules, store, node.of) {
+            return true;
+        }
+    }
+    false
+}
+
+// Whether one of these wrappings is not there.
+fn is_wrap_open(store: &Store, wraps: &[u32]) -> bool
+    ensures { result ≡ list_any (is_open_wrap store.now) wraps.now }
+{
+    let count = store.wrappings.len();
+    for k in wraps {
+        if *k as usize >= count {
+            return true;
+        }
+    }
+    false
+}
+
 // Whether it is so of a node below the top, or of a wrapping of the top.
 fn is_any_open(modules: &[Option<Fragment>], store: &Store) -> bool
     ghost built: { List Built }
     requires { modules.now ≡ map finished built }
     ensures { let s = record store.now { modules = built } in result ≡ list_any (is_open_at s) s.hierarchy.nodes || list_any (is_open_wrap s) s.hierarchy.root_wraps }
 {
-    let hierarchy = &store.hierarchy;
-    for node in hierarchy.nodes() {
-        if is_open_in(modules, store, node.of) {
-            return true;
-        }
-    }
-    for k in hierarchy.root_wraps() {
-        if *k as usize >= store.wrappings.len() {
-            return true;
-        }
-    }
-    false
+    is_node_open(modules, store, store.hierarchy().nodes())
+        || is_wrap_open(store, store.hierarchy().root_wraps())
 }
 
 // ---- modules that are done with
@@ -291,7 +307,7 @@ fn trees_of(
     ensures trees { let s = record store.now { modules = built } in IsGot result pool.new (forest_of_nodes s s.hierarchy.nodes pool.old) }
     ensures stand { IfOk result (λ f. IsStanding (record store.now { modules = built }) pool.old pool.new f) }
 {
-    let nodes = store.hierarchy.nodes();
+    let nodes = store.hierarchy().nodes();
     let mut trees = Trees::new(alloc);
     let count = nodes.len();
     pool.known();
@@ -354,7 +370,15 @@ fn put_module(
     let domains = store.clock_domains.defined_by(alloc, m)?;
     let processes = copied_processes(alloc, fragment.processes.as_slice())?;
     let none = Memories::new(alloc);
-    with_node(alloc, node_name(store, node), domains, processes, none, node.below, behind)
+    with_node(
+        alloc,
+        node_name(store, node),
+        domains,
+        processes,
+        none,
+        node.below,
+        behind,
+    )
 }
 
 // A memory under its name, which is all that its fragment has.
@@ -374,7 +398,15 @@ fn put_memory(
     let own = only_memory(alloc, memory)?;
     let domains = DomainDefs::new(alloc);
     let processes = Processes::new(alloc);
-    with_node(alloc, node_name(store, node), domains, processes, own, node.below, behind)
+    with_node(
+        alloc,
+        node_name(store, node),
+        domains,
+        processes,
+        own,
+        node.below,
+        behind,
+    )
 }
 
 // ---- wrappers
@@ -444,7 +476,7 @@ fn root_wrapped(
     ensures tree { IsGot result pool.new (root_wrapped store.now.wrappings store.now.hierarchy.root_wraps (root, pool.old)) }
     ensures stands { IfOk result (λ f. StandsFor store.now pool.new f) }
 {
-    let wraps = store.hierarchy.root_wraps();
+    let wraps = store.hierarchy().root_wraps();
     let mut root = root;
     let count = wraps.len();
     pool.known();
@@ -498,7 +530,7 @@ fn with_node(
 fn node_name(store: &Store, node: Node) -> &str
     ensures { result.now ≡ node_name store.now node }
 {
-    match store.hierarchy.additions().get(node.addition as usize) {
+    match store.hierarchy().additions().get(node.addition as usize) {
         Some(addition) => addition.name.as_str(),
         None => "u",
     }
