@@ -21,10 +21,10 @@ use Rattle.clock_domains.specs.declared.stop.ResolveStop.TheVariants as unresolv
 use Rattle.clock_domains.specs.Resolvable.{IsPortOf, ArePorts, AreTopPorts, IsResolvable}
 use Rattle.clock_domains.specs.Resolved.{IsResolveRefusal, resolved, file_start}
 use Rattle.elab_store.specs.Stores.{Stored, Held}
-use Rattle.elab_store.specs.Sound.{IsSound, is_reset}
+use Rattle.elab_store.specs.Sound.{IsSound}
 use Rattle.elab_eval.specs.declared.refusal.ElabStop.{ElabStop}
 use Rattle.elab_eval.specs.declared.refusal.ElabStop.TheVariants as stops
-use Rattle.elab_eval.specs.Elaborates.{Found, IsFound, is_any_open, and_then, root_module, ports_of, top_ports, tree_of, found_by, found_with, module_found, design_of, unresolved_stop, without_modules}
+use Rattle.elab_eval.specs.Elaborates.{Found, IsFound, is_any_open, and_then, root_module, ports_of, top_ports, tree_of, found_by, found_with, module_found, design_of, unresolved_stop, without_modules, is_nameless}
 use Rattle.elab_eval.specs.Standing.{StandsFor}
 use Rattle.elab_eval.specs.Trees.{tree_found, IsGot}
 use Rattle.elab_acts.proofs.EachLaws.{all_each}
@@ -49,7 +49,7 @@ tree_made s (Some b) q p f e = by_test (is_any_open s b) refl e
     by_test false t e = record { built = b; is = refl; closed = t; tree = e }
 
 -- where nothing is a reset, the modules tell
-past_resets : (h : Held) (heap : Made) → list_any is_reset h.pool.exprs ≡ false → design_of h heap ≡ module_found h heap (root_module h.store)
+past_resets : (h : Held) (heap : Made) → list_any is_nameless h.pool.exprs ≡ false → design_of h heap ≡ module_found h heap (root_module h.store)
 past_resets h heap none = ap (λ (b : Bool). if b then Err (stops.Refused Raised file_start) else module_found h heap (root_module h.store)) none
 
 -- a refusal by tree and by design
@@ -72,7 +72,7 @@ refused_as h heap x (Some b) e = by_test (is_any_open h.store b) e
     by_test false e = ap (λ r. and_then r (found_by h heap (top_ports (seen nothing heap) h))) e
 
 -- where there is no tree
-pub refused_design : (h : Held) (heap : Made) (p : Pooled) (stop : ElabStop) → list_any is_reset h.pool.exprs ≡ false → IsGot {A = Fragment} (Err stop) p (tree_found h.store (root_module h.store) h.pool) → IsFound (Err stop) (design_of h heap)
+pub refused_design : (h : Held) (heap : Made) (p : Pooled) (stop : ElabStop) → list_any is_nameless h.pool.exprs ≡ false → IsGot {A = Fragment} (Err stop) p (tree_found h.store (root_module h.store) h.pool) → IsFound (Err stop) (design_of h heap)
 refused_design h heap p stops.NoMemory none e = tt
 refused_design h heap p (stops.Spent at) none e = past_resets h heap none ∙ refused_as h heap (stops.Spent at) (root_module h.store) e
 refused_design h heap p (stops.Refused k at) none e = past_resets h heap none ∙ refused_as h heap (stops.Refused k at) (root_module h.store) e
@@ -82,7 +82,7 @@ abbrev pub design_by : Held → Made → Pooled → Fragment → Option TopPorts
 design_by h heap p f None = Err (stops.Refused Raised file_start)
 design_by h heap p f (Some ports) = found_with h heap (resolved p f ports)
 
-pub made_design : (h : Held) (heap : Made) (p : Pooled) (f : Fragment) (ports : Option TopPorts) → list_any is_reset h.pool.exprs ≡ false → tree_found h.store (root_module h.store) h.pool ≡ Ok (f, p) → ports ≡ top_ports (seen nothing heap) h
+pub made_design : (h : Held) (heap : Made) (p : Pooled) (f : Fragment) (ports : Option TopPorts) → list_any is_nameless h.pool.exprs ≡ false → tree_found h.store (root_module h.store) h.pool ≡ Ok (f, p) → ports ≡ top_ports (seen nothing heap) h
     → design_of h heap ≡ design_by h heap p f ports
 made_design h heap p f ports none e same =
     let made = tree_made h.store (root_module h.store) h.pool p f e in

@@ -8,9 +8,7 @@ use Rattle.lists.specs.Names.{IsName, continues_name}
 use Rattle.design_ir.specs.declared.domain.DomainDef.{DomainDef}
 use Rattle.design_ir.specs.declared.process.Side.{Side}
 use Rattle.design_ir.specs.Fragments.{leaf_of}
-use Rattle.design_ir.specs.Guards.{Guarded, guarded}
 use Rattle.design_ir.specs.Pools.{Pooled}
-use Rattle.design_ir.specs.Targets.{is_target, is_open_target}
 use Rattle.module_dsl.specs.Sided as dsl
 use Rattle.module_dsl.specs.Sided.{givens, sides_of, process_of, processes_of}
 use Rattle.module_dsl.specs.Blocks.{Given, Entries, entries_of}
@@ -28,7 +26,6 @@ use Rattle.elab_store.specs.Stores.{Stored}
 use Rattle.elab_eval.specs.Elaborates.{module_in, root_module, node_name, leaf_in, leaf_at}
 use Rattle.elab_acts.proofs.EachLaws.{all_map, all_filter, all_each}
 use Rattle.elab_eval.proofs.DefinitionLaws.{definitions_stand}
-use Rattle.elab_eval.proofs.NoResets.{target_opened}
 use Rattle.elab_eval.proofs.OwnMemories.{spec_at}
 use Rattle.transform_laws.proofs.GrowthLaws.{grown_trees}
 use Rattle.elab_store.proofs.Standing.{IsGiven, Stand, entries_stand, blocks_stand, givens_stand, targets_stand, exprs_stand}
@@ -75,7 +72,7 @@ module _ (q : Pooled) (named : AreNamedResets q) where
       record {
         side = own;
         expressions = exprs_stand q (IsThere q) (λ e there. there) side es h;
-        targets = all_each (λ (g : Guarded). IsTrue (is_target q g.target.0)) (λ (g : Guarded). IsTrue (is_open_target q g.target.0)) (guarded [] p.body) (λ g is. target_opened q g.target.0 is) (targets_stand q side [] es h);
+        targets = targets_stand q side [] es h;
       }
 
   -- the sides of a module are named, and its statements stand
