@@ -27,7 +27,7 @@ use Rattle.elab_eval.specs.Elaborates.{module_in, root_module, node_name, leaf_i
 use Rattle.elab_acts.proofs.EachLaws.{all_map, all_filter, all_each}
 use Rattle.elab_eval.proofs.DefinitionLaws.{definitions_stand}
 use Rattle.elab_eval.proofs.OwnMemories.{spec_at}
-use Rattle.transform_laws.proofs.GrowthLaws.{grown_trees}
+use Rattle.transform_laws.proofs.GrowthLaws.{standing_trees}
 use Rattle.elab_store.proofs.Standing.{IsGiven, Stand, entries_stand, blocks_stand, givens_stand, targets_stand, exprs_stand}
 
 -- ---- sides
@@ -86,17 +86,17 @@ module _ (q : Pooled) (named : AreNamedResets q) where
   -- under whatever name it stands
   module_stands : (b : Built) (name : List ℕ) (ds : List DomainDef) → IsBuilt q b → AllByRecursion (IsDefinition q) ds → IsModule q (record (leaf_of (fragment_of b)) { name = name; domains = ds })
   unfolding fragment_of
-  module_stands b name ds h defined = record { domains = defined; memories = tt; processes = sides_stand b h; resets = grown_trees.resets q _ named }
+  module_stands b name ds h defined = record { domains = defined; memories = tt; processes = sides_stand b h; resets = standing_trees.resets q _ named }
 
   pub root_stands : (b : Built) (ds : List DomainDef) → IsBuilt q b → AllByRecursion (IsDefinition q) ds → IsModule q (record (leaf_of (fragment_of b)) { domains = ds })
   unfolding fragment_of
-  root_stands b ds h defined = record { domains = defined; memories = tt; processes = sides_stand b h; resets = grown_trees.resets q _ named }
+  root_stands b ds h defined = record { domains = defined; memories = tt; processes = sides_stand b h; resets = standing_trees.resets q _ named }
 
   -- a module, or a memory alone
   pub leaf_stands : (s : Stored) (name : List ℕ) (o : NodeOf) → AllByRecursion (IsBuilt q) s.modules → AllByRecursion (λ (x : OwnMemory). IsMemoryOf q x.spec) s.memories → AreClockDomains q s.clock_domains.made → IsModule q (leaf_in s name o)
   leaf_stands s name (node.Module m) h own clocked = module_stands (module_or_none s.modules m) name (defined_by m s.clock_domains) (built_or_none q s.modules m h) (definitions_stand q s.clock_domains m clocked)
-  leaf_stands s name (node.Memory k) h own clocked = record { domains = tt; memories = spec_at (IsMemoryOf q) s.memories k own; processes = tt; resets = grown_trees.resets q _ named }
-  leaf_stands s name (node.Wrapper k) h own clocked = record { domains = tt; memories = tt; processes = tt; resets = grown_trees.resets q _ named }
+  leaf_stands s name (node.Memory k) h own clocked = record { domains = tt; memories = spec_at (IsMemoryOf q) s.memories k own; processes = tt; resets = standing_trees.resets q _ named }
+  leaf_stands s name (node.Wrapper k) h own clocked = record { domains = tt; memories = tt; processes = tt; resets = standing_trees.resets q _ named }
 
 -- the module of a number is as sound as all of them
 pub built_at : (q : Pooled) (bs : List Built) (m : Option ℕ) (b : Built) → AllByRecursion (IsBuilt q) bs → module_in bs m ≡ Some b → IsBuilt q b

@@ -36,7 +36,7 @@ use Rattle.elab_eval.proofs.DefinitionLaws.{defined_from, root_from, root_defini
 use Rattle.elab_eval.proofs.GatheredLaws.{all_front, all_back, grown_gathered, leaf_data, forest_data, data_gathered, all_data}
 use Rattle.elab_eval.proofs.Modules.{leaf_name, leaf_stands, root_stands}
 use Rattle.elab_eval.proofs.OwnMemories.{memory_stands, memory_free}
-use Rattle.transform_laws.proofs.GrowthLaws.{grown_trees}
+use Rattle.transform_laws.proofs.GrowthLaws.{grown_trees, standing_trees}
 use Rattle.elab_eval.proofs.WrappedLaws.{IsWrapped, wrapped_stands, wrapped_more, wrapping_at, wrappings_more}
 
 -- ---- what stands in statements and memory ports is of the pool
@@ -49,7 +49,7 @@ pub forest_there : (p : Pooled) (f : Forest) → AreModules p f → AllBelow (le
 forest_there p bare h = tt
 forest_there p (grown l below rest) h =
     subst (AllBelow (length p.exprs)) (append_assoc (leaf_exprs l) (forest_exprs below) (forest_exprs rest))
-    (below_and (length p.exprs) (leaf_exprs l ++ forest_exprs below) (forest_exprs rest) (grown_trees.there p (fragment_with l below) (record { own = h.1.0; below = h.1.1.0 })) (forest_there p rest h.1.1.1))
+    (below_and (length p.exprs) (leaf_exprs l ++ forest_exprs below) (forest_exprs rest) (standing_trees.there p (fragment_with l below) (record { own = h.1.0; below = h.1.1.0 })) (forest_there p rest h.1.1.1))
 
 -- ---- the first tree of some, taken alone and put back
 
@@ -84,7 +84,7 @@ module _ (s : Stored) (q : Pooled) where
       record {
         more = more_trans q p t.1 h.more made.more;
         resets = stands.resets;
-        modules = (subst IsName (sym made.name) h.modules.0, (stands.tree.own, (stands.tree.below, grown_trees.forests p t.1 rest rules made.more stands.resets h.modules.1.1.1)));
+        modules = (subst IsName (sym made.name) h.modules.0, (stands.tree.own, (stands.tree.below, grown_trees.forests p t.1 rest rules made.more h.modules.1.1.1)));
         definitions = all_and from first.domains (definitions_of t.0.submodules ++ definitions_of rest) (all_front from first.domains (definitions_of t.0.submodules) stands.definitions)
             (all_and from (definitions_of t.0.submodules) (definitions_of rest) (all_back from first.domains (definitions_of t.0.submodules) stands.definitions) (all_back from (definitions_of below) (definitions_of rest) (all_back from l.domains behind h.definitions)));
         free_data = subst (AllByRecursion (IsFree s)) (sym (data_gathered [] (grown first t.0.submodules rest)))
@@ -134,7 +134,7 @@ module _ (s : Stored) (q : Pooled) (rules : IsPool q) (sound : IsSound (record {
   leaf_put : (p : Pooled) (x : Node) (f : Forest) → IsStanding s q p f → IsStanding s q p (grown (leaf_at s x) (first_trees x.below f) (other_trees x.below f))
   leaf_put p x f h =
       let l = leaf_at s x in
-      let own = grown_trees.modules q p l rules h.more h.resets (leaf_stands q named s (node_name s x) x.of sound.modules own_memories sound.clock_domains) in
+      let own = grown_trees.modules q p l rules h.more (leaf_stands q named s (node_name s x) x.of sound.modules own_memories sound.clock_domains) in
       record {
         more = h.more;
         resets = h.resets;
@@ -162,7 +162,7 @@ module _ (s : Stored) (q : Pooled) (rules : IsPool q) (sound : IsSound (record {
   pub top_stands : (p : Pooled) (b : Built) (below : Forest) → IsBuilt q b → IsStanding s q p below → StandsFor s p (root_before s b (below, p)).0
   unfolding fragment_of
   top_stands p b below built h =
-      let own = grown_trees.modules q p _ rules h.more h.resets (root_stands q named b (root_domains s) built (root_definitions_stand q s sound.clock_domains)) in
+      let own = grown_trees.modules q p _ rules h.more (root_stands q named b (root_domains s) built (root_definitions_stand q s sound.clock_domains)) in
       record {
         resets = h.resets;
         tree = record { own = own; below = h.modules };

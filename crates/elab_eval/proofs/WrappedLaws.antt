@@ -23,6 +23,7 @@ use Rattle.elab_eval.specs.Elaborates.{wrapped_by, is_past_by, within_counts, wr
 use Rattle.elab_eval.specs.Standing.{IsFrom, IsFree, StandsFor}
 use Rattle.elab_acts.proofs.EachLaws.{all_map, all_each}
 use Rattle.elab_eval.proofs.DefinitionLaws.{renamed_from}
+use Rattle.transform_laws.proofs.GrowthLaws.{same_mapped}
 use Rattle.transform_laws.proofs.RenamedTrees.{renamed_trees}
 use Rattle.transform_laws.proofs.ResetTrees.{reset_trees}
 use Rattle.transform_laws.proofs.EnabledTrees.{enabled_trees}
@@ -54,11 +55,16 @@ definition_by (wrapping.Rename names) d = renamed_definition names d
 definition_by (wrapping.Reset controls) d = d
 definition_by (wrapping.Enable controls) d = d
 
-keeps : (w : Wrapping) → KeepsTrees (λ q. IsWrapping q w) (wrapped_by w) (definition_by w)
-unfolding definition_by
+keeps : (w : Wrapping) → KeepsTrees (λ q. IsWrapping q w) (wrapped_by w)
 keeps (wrapping.Rename names) = renamed_trees.keeps names
-keeps (wrapping.Reset controls) = reset_trees controls
-keeps (wrapping.Enable controls) = enabled_trees controls
+keeps (wrapping.Reset controls) = reset_trees.keeps controls
+keeps (wrapping.Enable controls) = enabled_trees.keeps controls
+
+definitions_by : (w : Wrapping) (q : Pooled) (f : Fragment) → all_definitions (wrapped_by w q f).0 ≡ map (definition_by w) (all_definitions f)
+unfolding definition_by
+definitions_by (wrapping.Rename names) q f = renamed_trees.definitions names q f
+definitions_by (wrapping.Reset controls) q f = reset_trees.definitions controls q f ∙ same_mapped (all_definitions f)
+definitions_by (wrapping.Enable controls) q f = enabled_trees.definitions controls q f ∙ same_mapped (all_definitions f)
 
 from_by : (made : List ClockDomain) (w : Wrapping) (d : DomainDef) → IsFrom made d → IsFrom made (definition_by w d)
 unfolding definition_by
@@ -79,13 +85,13 @@ pub record IsWrapped (s : Stored) (t made : Fragment × Pooled) : Type 0 where
 
 made_stands : (s : Stored) (w : Wrapping) (p : Pooled) (f : Fragment) → StandsFor s p f → IsWrapping p w → IsPool p → IsPool (wrapped_by w p f).1 → IsWrapped s (f, p) (wrapped_by w p f)
 made_stands s w p f h asks before after =
-    let all : KeepsTrees (λ q. IsWrapping q w) (wrapped_by w) (definition_by w) = keeps w in
+    let all : KeepsTrees (λ q. IsWrapping q w) (wrapped_by w) = keeps w in
     let from = IsFrom s.clock_domains.made in
     record {
       stands = record {
         resets = all.resets p f asks h.resets;
         tree = all.trees p f asks before after h.resets h.tree;
-        definitions = subst (AllByRecursion from) (sym (all.definitions p f)) (all_map from (definition_by w) (all_definitions f) (all_each from (λ d. from (definition_by w d)) (all_definitions f) (from_by s.clock_domains.made w) h.definitions));
+        definitions = subst (AllByRecursion from) (sym (definitions_by w p f)) (all_map from (definition_by w) (all_definitions f) (all_each from (λ d. from (definition_by w d)) (all_definitions f) (from_by s.clock_domains.made w) h.definitions));
         free_data = subst (AllByRecursion (IsFree s)) (sym (all.read_data p f)) h.free_data;
       };
       more = all.pools p f;
