@@ -18,7 +18,7 @@ use Rattle.fragment_walks.specs.Reads.{data_signals}
 use Rattle.fragment_walks.specs.Walks.{definitions_of, all_memories}
 use Rattle.clock_domains.specs.Resolvable.{IsMemoryOf, IsTree, AreModules}
 use Rattle.domain_transforms.specs.Making.{fragment_with}
-use Rattle.domain_transforms.specs.Placed.{leaf_exprs, forest_exprs}
+use Rattle.domain_transforms.specs.Placed.{leaf_exprs, forest_exprs, fragment_exprs}
 use Rattle.transform_laws.specs.Laws.{AreNamedResets}
 use Rattle.elab_store.specs.declared.hierarchy.Node.{Node}
 use Rattle.elab_store.specs.declared.hierarchy.NodeOf.{NodeOf}
@@ -50,6 +50,24 @@ forest_there p bare h = tt
 forest_there p (grown l below rest) h =
     subst (AllBelow (length p.exprs)) (append_assoc (leaf_exprs l) (forest_exprs below) (forest_exprs rest))
     (below_and (length p.exprs) (leaf_exprs l ++ forest_exprs below) (forest_exprs rest) (standing_trees.there p (fragment_with l below) (record { own = h.1.0; below = h.1.1.0 })) (forest_there p rest h.1.1.1))
+
+pub root_there : (s : Stored) (p : Pooled) (f : Fragment) → StandsFor s p f → AllBelow (length p.exprs) (fragment_exprs f)
+root_there s p f h = standing_trees.there p f h.tree
+
+below_front : (n : ℕ) (xs ys : List ExprId) → AllBelow n (xs ++ ys) → AllBelow n xs
+below_front n [] ys h = tt
+below_front n (x ∷ xs) ys h = (h.0, below_front n xs ys h.1)
+
+below_back : (n : ℕ) (xs ys : List ExprId) → AllBelow n (xs ++ ys) → AllBelow n ys
+below_back n [] ys h = h
+below_back n (x ∷ xs) ys h = below_back n xs ys h.1
+
+pub first_below : (n : ℕ) (behind rest : Forest) (f : Fragment) → behind ≡ grown (leaf_of f) f.submodules rest → AllBelow n (forest_exprs behind) → AllBelow n (fragment_exprs f)
+first_below n behind rest f is h =
+    let own = leaf_exprs (leaf_of f) in
+    let below = forest_exprs f.submodules in
+    let whole = subst (λ g. AllBelow n (forest_exprs g)) is h in
+    below_and n own below (below_front n own (below ++ forest_exprs rest) whole) (below_front n below (forest_exprs rest) (below_back n own (below ++ forest_exprs rest) whole))
 
 -- ---- the first tree of some, taken alone and put back
 

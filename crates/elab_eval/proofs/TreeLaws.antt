@@ -11,6 +11,11 @@ use Rattle.design_ir.specs.Fragments.{leaf_of, forest_of}
 use Rattle.design_ir.specs.Pools.{Pooled}
 use Rattle.design_ir.specs.declared.fragment.Fragment.{Fragment}
 use Rattle.module_dsl.specs.Builders.{Built, fragment_of}
+use Rattle.design_ir.specs.declared.domain.DomainDef.{DomainDef}
+use Rattle.design_ir.specs.declared.memory.Memory.{Memory}
+use Rattle.design_ir.specs.declared.process.Process.{Process}
+use Rattle.domain_transforms.specs.declared.stop.ControlStop.{ControlStop}
+use Rattle.domain_transforms.specs.declared.stop.ControlStop.TheVariants as control
 use Rattle.elab_store.specs.declared.hierarchy.Node.{Node}
 use Rattle.elab_store.specs.declared.hierarchy.NodeOf.TheVariants as node
 use Rattle.elab_store.specs.declared.memories.OwnMemory.{OwnMemory}
@@ -20,8 +25,8 @@ use Rattle.elab_store.specs.Stores.{Stored}
 use Rattle.lists.specs.declared.items.NoMemory.{NoMemory}
 use Rattle.elab_eval.specs.declared.refusal.ElabStop.{ElabStop}
 use Rattle.elab_eval.specs.declared.refusal.ElabStop.TheVariants as stops
-use Rattle.elab_eval.specs.Elaborates.{module_in, is_open, is_open_at, is_open_wrap, is_any_open, fragment_at, node_name, spec_of, leaf_in, first_trees, other_trees, first_wrapped, wrapped, and_then, node_put, forest_of_nodes, root_domains, root_before, root_wrapped, tree_of}
-use Rattle.elab_eval.specs.Trees.{finished, fragment_with, tree_found, IsGot}
+use Rattle.elab_eval.specs.Elaborates.{module_in, is_open, is_open_at, is_open_wrap, is_any_open, fragment_at, node_name, spec_of, leaf_in, first_trees, other_trees, first_wrapped, wrapped_by, is_past_by, within_counts, wrapped, and_then, put_before, node_put, forest_of_nodes, root_domains, root_before, root_wrapped, tree_of}
+use Rattle.elab_eval.specs.Trees.{finished, is_missing, fragment_with, wrapper_stop, tree_found, IsGot}
 
 -- ---- one tree more
 
@@ -61,6 +66,11 @@ all_taken (Err e) fs f after n is count h = tt
 all_taken (Ok g) fs f after n is count h =
     h.0 ∙ ap (first_trees n) (sym is) ∙ every_tree (reverse fs) n (count ∙ sym (length-reverse fs)) ∙ is
 
+pub none_past : {X : Type 0} (xs : List X) (k : ℕ) → length xs ≤ k → slice_get xs k ≡ None
+none_past [] k h = refl
+none_past (x ∷ xs) zero h = absurd (omega (arith, h))
+none_past (x ∷ xs) (suc k) h = none_past xs k (omega (arith, h))
+
 -- ---- modules that are done with
 
 found_at : (bs : List Built) (m : ℕ) (f : Fragment) → slice_get (map finished bs) m ≡ Some (Some f) → fragment_of (slice_index_or bs m (record { name = []; steps = [] })) ≡ f
@@ -80,17 +90,35 @@ module_leaf s name m f at = ap (λ (g : Fragment). leaf_of (fragment_with name (
 pub memory_leaf : (s : Stored) (name : List ℕ) (k : ℕ) (own : OwnMemory) → slice_get s.memories k ≡ Some own → leaf_in s name (node.Memory k) ≡ leaf_of (fragment_with name [] [] (own.spec ∷ []) bare)
 memory_leaf s name k own at = ap (λ o. leaf_of (fragment_with name [] [] (spec_of o) bare)) at
 
--- there is none, or a block of it is open
-abbrev pub is_not_done : Option (Option Fragment) → Bool
-is_not_done None = true
-is_not_done (Some None) = true
-is_not_done (Some (Some f)) = false
+-- a module or a memory before the trees behind it, by what its fragment is made of
+pub module_got : (s : Stored) (x : Node) (m : ℕ) (f : Fragment) (name : List ℕ) (ds : List DomainDef) (ps : List Process) (ms : List Memory) (behind : Forest) (r : Result Forest NoMemory) → slice_get (map finished s.modules) m ≡ Some (Some f)
+    → name ≡ node_name s x → ds ≡ defined_by m s.clock_domains → ps ≡ f.processes → ms ≡ []
+    → IfOk r (λ ts. ts ≡ grown (leaf_of (fragment_with name ds ps ms bare)) (first_trees x.below behind) (other_trees x.below behind))
+    → IfOk r (λ ts. ts ≡ grown (leaf_in s (node_name s x) (node.Module m)) (first_trees x.below behind) (other_trees x.below behind))
+module_got s x m f name ds ps ms behind r at named defined processed none h =
+    let one = leaf_of (fragment_with name ds ps ms bare) in
+    let leaf : one ≡ leaf_in s (node_name s x) (node.Module m) =
+    ap (λ n. leaf_of (fragment_with n ds ps ms bare)) named ∙ ap (λ d. leaf_of (fragment_with (node_name s x) d ps ms bare)) defined ∙ ap (λ p. leaf_of (fragment_with (node_name s x) (defined_by m s.clock_domains) p ms bare)) processed
+    ∙ ap (λ own. leaf_of (fragment_with (node_name s x) (defined_by m s.clock_domains) f.processes own bare)) none ∙ sym (module_leaf s (node_name s x) m f at) in
+    subst (λ l. IfOk r (λ ts. ts ≡ grown l (first_trees x.below behind) (other_trees x.below behind))) leaf h
 
-pub open_at : (bs : List Built) (m : ℕ) → option_map_or is_open (slice_get bs m) true ≡ is_not_done (slice_get (map finished bs) m)
+pub memory_got : (s : Stored) (x : Node) (k : ℕ) (own : OwnMemory) (name : List ℕ) (ds : List DomainDef) (ps : List Process) (ms : List Memory) (behind : Forest) (r : Result Forest NoMemory) → slice_get s.memories k ≡ Some own
+    → name ≡ node_name s x → ds ≡ [] → ps ≡ [] → ms ≡ own.spec ∷ []
+    → IfOk r (λ ts. ts ≡ grown (leaf_of (fragment_with name ds ps ms bare)) (first_trees x.below behind) (other_trees x.below behind))
+    → IfOk r (λ ts. ts ≡ grown (leaf_in s (node_name s x) (node.Memory k)) (first_trees x.below behind) (other_trees x.below behind))
+memory_got s x k own name ds ps ms behind r at named defined processed mine h =
+    let one = leaf_of (fragment_with name ds ps ms bare) in
+    let leaf : one ≡ leaf_in s (node_name s x) (node.Memory k) =
+    ap (λ n. leaf_of (fragment_with n ds ps ms bare)) named ∙ ap (λ d. leaf_of (fragment_with (node_name s x) d ps ms bare)) defined ∙ ap (λ p. leaf_of (fragment_with (node_name s x) [] p ms bare)) processed
+    ∙ ap (λ spec. leaf_of (fragment_with (node_name s x) [] [] spec bare)) mine ∙ sym (memory_leaf s (node_name s x) k own at) in
+    subst (λ l. IfOk r (λ ts. ts ≡ grown l (first_trees x.below behind) (other_trees x.below behind))) leaf h
+
+-- there is none, or a block of it is open
+pub open_at : (bs : List Built) (m : ℕ) → option_map_or is_open (slice_get bs m) true ≡ is_missing (slice_get (map finished bs) m)
 open_at [] m = refl
 open_at (b ∷ bs) zero = by_test (is_open b)
   where
-    by_test : (o : Bool) → o ≡ is_not_done (Some (if o then None else Some (fragment_of b)))
+    by_test : (o : Bool) → o ≡ is_missing (Some (if o then None else Some (fragment_of b)))
     by_test true = refl
     by_test false = refl
 open_at (b ∷ bs) (suc m) = open_at bs m
@@ -111,7 +139,43 @@ still_refused stops.NoMemory q p r t f h = tt
 still_refused (stops.Refused k place) q p r t f h = f (stops.Refused k place) h
 still_refused (stops.Spent place) q p r t f h = f (stops.Spent place) h
 
+pub stopped_as : {A : Type 0} (x stop : ElabStop) (q : Pooled) (owed : Result (A × Pooled) ElabStop) → x ≡ stop → IsGot {A = A} (Err stop) q owed → IsGot {A = A} (Err x) q owed
+stopped_as {A = A} x stop q owed is h = subst (λ y. IsGot {A = A} (Err y) q owed) (sym is) h
+
+-- ---- what a wrapping makes
+
+pub wrapped_none : (o : Option Wrapping) (t : Fragment × Pooled) → o ≡ None → wrapped o t ≡ Err (stops.Refused Raised file_start)
+wrapped_none o t e = ap (λ x. wrapped x t) e
+
+pub wrapped_got : (o : Option Wrapping) (w : Wrapping) (f g : Fragment) (q p : Pooled) → o ≡ Some w → (g, p) ≡ wrapped_by w q f → is_past_by w (wrapped_by w q f) ≡ false → wrapped o (f, q) ≡ Ok (g, p)
+wrapped_got o w f g q p is made few = ap (λ x. wrapped x (f, q)) is ∙ ap (λ (b : Bool). within_counts b (wrapped_by w q f)) few ∙ ap (λ (t : Fragment × Pooled). Ok t) (sym made)
+
+pub wrapped_stopped : (o : Option Wrapping) (w : Wrapping) (f : Fragment) (q p : Pooled) (stop : ControlStop) → o ≡ Some w → (stop ≡ control.Limit → is_past_by w (wrapped_by w q f) ≡ true) → IsGot {A = Fragment} (Err (wrapper_stop stop)) p (wrapped o (f, q))
+wrapped_stopped o w f q p control.Limit is past = ap (λ x. wrapped x (f, q)) is ∙ ap (λ (b : Bool). within_counts b (wrapped_by w q f)) (past refl)
+wrapped_stopped o w f q p control.NoMemory is past = tt
+
+-- of the first tree
+pub first_none : (o : Option Wrapping) (behind after : Forest) (q : Pooled) → behind ≡ bare → after ≡ bare → first_wrapped o behind q ≡ Ok (after, q)
+first_none o behind after q before none = ap (λ f. first_wrapped o f q) before ∙ ap (λ (f : Forest). Ok (f, q)) (sym none)
+
+pub first_got : (o : Option Wrapping) (behind rest trees : Forest) (f made : Fragment) (q p : Pooled) → behind ≡ grown (leaf_of f) f.submodules rest → wrapped o (f, q) ≡ Ok (made, p) → trees ≡ grown (leaf_of made) made.submodules rest → first_wrapped o behind q ≡ Ok (trees, p)
+first_got o behind rest trees f made q p before got back = ap (λ g. first_wrapped o g q) before ∙ ap (λ r. and_then r (put_before rest)) got ∙ ap (λ (g : Forest). Ok (g, p)) (sym back)
+
+pub first_refused : (o : Option Wrapping) (behind rest : Forest) (f : Fragment) (q p r : Pooled) (stop : ElabStop) → behind ≡ grown (leaf_of f) f.submodules rest → IsGot {A = Fragment} (Err stop) p (wrapped o (f, q)) → IsGot {A = Forest} (Err stop) r (first_wrapped o behind q)
+first_refused o behind rest f q p r stop before h =
+    still_refused stop p r (wrapped o (f, q)) (first_wrapped o behind q) (λ x e. ap (λ g. first_wrapped o g q) before ∙ ap (λ y. and_then y (put_before rest)) e) h
+
 -- ---- what acts from the last one on
+
+drop_length : {X : Type 0} (xs : List X) → drop (length xs) xs ≡ []
+drop_length [] = refl
+drop_length (x ∷ xs) = drop_length xs
+
+all_dropped : {X : Type 0} (xs : List X) → drop (length xs - 0) xs ≡ []
+all_dropped xs = let all : length xs - 0 ≡ length xs = omega arith in ap (λ n. drop n xs) all ∙ drop_length xs
+
+none_dropped : {X : Type 0} (xs : List X) (i : ℕ) → length xs ≤ i → drop (length xs - i) xs ≡ xs
+none_dropped xs i h = let none : length xs - i ≡ 0 = omega (arith, h) in ap (λ n. drop n xs) none
 
 dropped : {X : Type 0} (xs : List X) (k : ℕ) (x : X) → slice_get xs k ≡ Some x → drop k xs ≡ x ∷ drop (suc k) xs
 dropped [] k x e = absurd (true≢false (ap is_some (sym e)))
@@ -156,6 +220,13 @@ memory_put s x k behind trees q is made =
 pub wrapper_put : (s : Stored) (x : Node) (k : ℕ) (behind : Forest) (q p : Pooled) (r : Result Forest ElabStop) → x.of ≡ node.Wrapper k → IsGot r p (first_wrapped (slice_get s.wrappings k) behind q) → IsGot r p (node_put s x x.of (behind, q))
 wrapper_put s x k behind q p r is h = subst (λ o. IsGot r p (node_put s x o (behind, q))) (sym is) h
 
+-- none yet, and all
+pub nodes_none : (s : Stored) (xs : List Node) (q : Pooled) (f : Forest) → f ≡ bare → forest_of_nodes s (drop (length xs - 0) xs) q ≡ Ok (f, q)
+nodes_none s xs q f e = ap (λ ys. forest_of_nodes s ys q) (all_dropped xs) ∙ ap (λ (g : Forest). Ok (g, q)) (sym e)
+
+pub nodes_done : (s : Stored) (xs ys : List Node) (q : Pooled) (r : Result (Forest × Pooled) ElabStop) (i : ℕ) → length xs ≤ i → xs ≡ ys → forest_of_nodes s (drop (length xs - i) xs) q ≡ r → forest_of_nodes s ys q ≡ r
+nodes_done s xs ys q r i h same e = ap (λ zs. forest_of_nodes s zs q) (sym same ∙ sym (none_dropped xs i h)) ∙ e
+
 -- a node more, and what stands behind it
 pub node_more : (s : Stored) (xs : List Node) (q : Pooled) (i : ℕ) (d : Node) (behind : Forest × Pooled) → i < length xs → forest_of_nodes s (drop (length xs - i) xs) q ≡ Ok behind
     → (let x = get_or xs (length xs - 1 - i) d in forest_of_nodes s (drop (length xs - (i + 1)) xs) q ≡ node_put s x x.of behind)
@@ -169,6 +240,12 @@ node_refused s xs q p r i d stop behind lt e h =
     still_refused stop p r (node_put s x x.of behind) (forest_of_nodes s xs q) (λ y g. one_refused (λ ys. forest_of_nodes s ys q) (λ z. node_put s z z.of) (λ z zs. refl) xs i d behind y lt e g) h
 
 -- ---- the wrappings of the top
+
+pub wraps_none : (ws : List Wrapping) (ks : List ℕ) (t : Fragment × Pooled) → root_wrapped ws (drop (length ks - 0) ks) t ≡ Ok t
+wraps_none ws ks t = ap (λ js. root_wrapped ws js t) (all_dropped ks)
+
+pub wraps_done : (ws : List Wrapping) (ks js : List ℕ) (t : Fragment × Pooled) (r : Result (Fragment × Pooled) ElabStop) (i : ℕ) → length ks ≤ i → ks ≡ js → root_wrapped ws (drop (length ks - i) ks) t ≡ r → root_wrapped ws js t ≡ r
+wraps_done ws ks js t r i h same e = ap (λ ls. root_wrapped ws ls t) (sym same ∙ sym (none_dropped ks i h)) ∙ e
 
 pub wrap_more : (ws : List Wrapping) (ks : List ℕ) (t : Fragment × Pooled) (i d : ℕ) (inner : Fragment × Pooled) → i < length ks → root_wrapped ws (drop (length ks - i) ks) t ≡ Ok inner
     → root_wrapped ws (drop (length ks - (i + 1)) ks) t ≡ wrapped (slice_get ws (get_or ks (length ks - 1 - i) d)) inner

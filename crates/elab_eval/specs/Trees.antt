@@ -1,13 +1,15 @@
 -- What the tree of modules is made of, piece by piece.
-use Rattle.std.specs.Prelude.{◌≡◌, ⊤, ℕ, ◌||◌, Bool, false, if◌then◌else◌, List, [], Option, Some, None, Result, Ok, Err}
+use Rattle.std.specs.Prelude.{◌≡◌, ⊤, ℕ, ◌||◌, Bool, true, false, if◌then◌else◌, List, [], Option, Some, None, Result, Ok, Err}
 use Rattle.std.specs.List.{list_any}
-use Rattle.amh_host.specs.declared.place.Kind.TheVariants.{Raised}
+use Rattle.amh_host.specs.declared.place.Kind.TheVariants.{Raised, Limit}
 use Rattle.design_ir.specs.declared.domain.DomainDef.{DomainDef}
 use Rattle.design_ir.specs.declared.memory.Memory.{Memory}
 use Rattle.design_ir.specs.declared.process.Process.{Process}
 use Rattle.design_ir.specs.declared.fragment.Fragment.{Fragment}
 use Rattle.design_ir.specs.Forests.{Forest}
 use Rattle.module_dsl.specs.Builders.{Built, fragment_of}
+use Rattle.domain_transforms.specs.declared.stop.ControlStop.{ControlStop}
+use Rattle.domain_transforms.specs.declared.stop.ControlStop.TheVariants as control
 use Rattle.clock_domains.specs.Resolved.{file_start}
 use Rattle.elab_store.specs.Stores.{Stored}
 use Rattle.elab_eval.specs.declared.refusal.ElabStop.{ElabStop}
@@ -19,9 +21,20 @@ use Rattle.elab_eval.specs.Elaborates.{is_open, is_any_open, tree_of}
 abbrev pub finished : Built → Option Fragment
 finished b = if is_open b then None else Some (fragment_of b)
 
+-- none is done with
+abbrev pub is_missing : Option (Option Fragment) → Bool
+is_missing None = true
+is_missing (Some None) = true
+is_missing (Some (Some f)) = false
+
 -- domains, processes and memories under a name, with fragments below them
 abbrev pub fragment_with : List ℕ → List DomainDef → List Process → List Memory → Forest → Fragment
 fragment_with name ds ps ms below = record { name = name; is_part = false; domains = ds; processes = ps; memories = ms; submodules = below }
+
+-- what a refusal of a wrapper is told as
+abbrev pub wrapper_stop : ControlStop → ElabStop
+wrapper_stop control.Limit = Refused Limit file_start
+wrapper_stop control.NoMemory = NoMemory
 
 -- the top, with all that stands below it, and the pool behind its wrappers
 abbrev pub tree_found : Stored → Option Built → Pooled → Result (Fragment × Pooled) ElabStop

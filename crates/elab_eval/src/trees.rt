@@ -1,22 +1,23 @@
 // The tree of modules and memories, with what wrappers make of it: the top, with all that stands below it.
-ghost use Rattle.std.specs.Prelude.{◌≡◌, ◌||◌, true, false, [], ◌∷◌, map, length, slice_get, IfOk, OnOk, MatchOption, option_and_then, List};
+ghost use Rattle.std.specs.Prelude.{◌≡◌, ◌||◌, true, false, [], ◌∷◌, map, length, slice_get, IfOk, IfErr, OnOk, MatchOption, option_and_then, List};
 ghost use Rattle.std.specs.List.{AllByRecursion, list_any};
 ghost use Rattle.std.specs.Option.{option_map_or};
-ghost use Rattle.amh_host.specs.declared.place.Kind.TheVariants.{Raised, Limit};
+ghost use Rattle.amh_host.specs.declared.place.Kind.TheVariants.{Raised};
 ghost use Rattle.design_ir.specs.Forests.{Forest, bare, grown};
 ghost use Rattle.design_ir.specs.Fragments.{leaf_of};
 ghost use Rattle.design_ir.specs.Named.{AllBelow};
 ghost use Rattle.module_dsl.specs.Builders.{Built};
 ghost use Rattle.clock_domains.specs.Resolved.{file_start};
+ghost use Rattle.domain_transforms.specs.declared.stop.ControlStop.TheVariants.{Limit};
 ghost use Rattle.domain_transforms.specs.Placed.{forest_exprs, fragment_exprs};
 ghost use Rattle.transform_laws.specs.Laws.{AreNamedResets};
 ghost use Rattle.elab_eval.specs.declared.refusal.ElabStop.TheVariants.{Refused};
 ghost use Rattle.elab_store.specs.declared.hierarchy.NodeOf.TheVariants.{Module, Memory};
 ghost use Rattle.elab_store.specs.declared.memories.OwnMemory.{OwnMemory};
 ghost use Rattle.elab_store.specs.Sound.{IsSound, IsWrapping};
-ghost use Rattle.elab_eval.specs.Elaborates.{module_in, root_module, is_open, is_open_in, is_open_at, is_open_wrap, node_name, leaf_in, first_trees, other_trees, node_put, forest_of_nodes, wrapped, first_wrapped, root_wrapped, root_domains};
+ghost use Rattle.elab_eval.specs.Elaborates.{module_in, root_module, is_open, is_open_in, is_open_at, is_open_wrap, node_name, leaf_in, first_trees, other_trees, node_put, forest_of_nodes, wrapped, wrapped_by, is_past_by, first_wrapped, root_wrapped, root_domains};
 ghost use Rattle.elab_eval.specs.Standing.{IsStanding, StandsFor};
-ghost use Rattle.elab_eval.specs.Trees.{finished, fragment_with, tree_found, IsGot};
+ghost use Rattle.elab_eval.specs.Trees.{finished, is_missing, fragment_with, wrapper_stop, tree_found, IsGot};
 
 use crate::refusal::ElabStop;
 use amh_host::{Items, Kind, Place, Text};
@@ -40,13 +41,6 @@ pub(crate) fn raised() -> ElabStop
     ElabStop::Refused(Kind::Raised, Place { line: 1, col: 1 })
 }
 
-// What a wrapper refuses that passes a count.
-fn past_limit() -> ElabStop
-    ensures { result ≡ Refused Limit file_start }
-{
-    ElabStop::Refused(Kind::Limit, Place { line: 1, col: 1 })
-}
-
 /// The top with all that stands below it, of the modules of a store, and in the pool what its wrappers made. It raises exactly where there is
 /// no top, or where a block is open of it or of a module below it; `Limit` comes exactly where a wrapper passes a count.
 pub(crate) fn tree(
@@ -65,7 +59,12 @@ pub(crate) fn tree(
     let Ok(modules) = all_finished(alloc, modules) else {
         return Err(ElabStop::NoMemory);
     };
-    if is_root_open(modules.as_slice(), store) || is_any_open(modules.as_slice(), store) {
+    let absent = is_root_open(modules.as_slice(), store);
+    if absent {
+        return Err(raised());
+    }
+    let opened = is_any_open(modules.as_slice(), store);
+    if opened {
         return Err(raised());
     }
     let below = match trees_of(alloc, pool, modules.as_slice(), store) {
@@ -113,6 +112,17 @@ fn with_root(
 
 // ---- what may not stand in the tree
 
+// Whether no module of a number is done with.
+fn is_missing(modules: &[Option<Fragment>], m: u32) -> bool
+    ensures { result ≡ is_missing (slice_get modules.now m) }
+{
+    match modules.get(m as usize) {
+        Some(Some(_)) => false,
+        Some(None) => true,
+        None => true,
+    }
+}
+
 // Whether there is no top, or a block of it is open.
 fn is_root_open(modules: &[Option<Fragment>], store: &Store) -> bool
     ghost built: { List Built }
@@ -122,10 +132,7 @@ fn is_root_open(modules: &[Option<Fragment>], store: &Store) -> bool
     let Some(m) = store.top.root else {
         return true;
     };
-    match modules.get(m as usize) {
-        Some(Some(_)) => false,
-        _ => true,
-    }
+    is_missing(modules, m)
 }
 
 // Whether what stands at a node is not there, or is a module of which a block is open.
@@ -135,10 +142,7 @@ fn is_open_in(modules: &[Option<Fragment>], store: &Store, of: NodeOf) -> bool
     ensures { result ≡ is_open_in (record store.now { modules = built }) of }
 {
     match of {
-        NodeOf::Module(m) => match modules.get(m as usize) {
-            Some(Some(_)) => false,
-            _ => true,
-        },
+        NodeOf::Module(m) => is_missing(modules, m),
         NodeOf::Memory(k) => k as usize >= store.memories.len(),
         NodeOf::Wrapper(k) => k as usize >= store.wrappings.len(),
     }
@@ -412,6 +416,36 @@ fn put_memory(
 // ---- wrappers
 
 // What a wrapping makes of a module and of all below it.
+fn wrapped_by(
+    alloc: Global,
+    pool: &mut Pool,
+    wrapping: &Wrapping,
+    f: Fragment,
+) -> Result<Fragment, ControlStop>
+    requires wrapping { IsWrapping pool.old wrapping.now }
+    requires there { AllBelow (length pool.old.exprs) (fragment_exprs f) }
+    ensures made { IfOk result (λ g. (g, pool.new) ≡ wrapped_by wrapping.now pool.old f) }
+    ensures room { OnOk result (is_past_by wrapping.now (wrapped_by wrapping.now pool.old f) ≡ false) }
+    ensures limit { IfErr result (λ stop. stop ≡ Limit → is_past_by wrapping.now (wrapped_by wrapping.now pool.old f) ≡ true) }
+{
+    match wrapping {
+        Wrapping::Rename(names) => rename(alloc, pool, f, names),
+        Wrapping::Reset(controls) => insert_reset(alloc, pool, f, controls),
+        Wrapping::Enable(controls) => insert_enable(alloc, pool, f, controls),
+    }
+}
+
+// What a refusal of a wrapper is told as: it passes a count.
+fn wrapper_stop(stop: ControlStop) -> ElabStop
+    ensures { result ≡ wrapper_stop stop }
+{
+    match stop {
+        ControlStop::Limit => ElabStop::Refused(Kind::Limit, Place { line: 1, col: 1 }),
+        ControlStop::NoMemory => ElabStop::NoMemory,
+    }
+}
+
+// What a wrapping of a number makes, where there is one.
 fn wrapped(
     alloc: Global,
     pool: &mut Pool,
@@ -426,15 +460,9 @@ fn wrapped(
     let Some(wrapping) = store.wrappings.get(k as usize) else {
         return Err(raised());
     };
-    let made = match wrapping {
-        Wrapping::Rename(names) => rename(alloc, pool, f, names),
-        Wrapping::Reset(controls) => insert_reset(alloc, pool, f, controls),
-        Wrapping::Enable(controls) => insert_enable(alloc, pool, f, controls),
-    };
-    match made {
+    match wrapped_by(alloc, pool, wrapping, f) {
         Ok(f) => Ok(f),
-        Err(ControlStop::Limit) => Err(past_limit()),
-        Err(ControlStop::NoMemory) => Err(ElabStop::NoMemory),
+        Err(stop) => Err(wrapper_stop(stop)),
     }
 }
 
