@@ -1,6 +1,6 @@
 -- What trees keep to stays from node to node, so that the whole tree can be resolved.
 use Rattle.std.proofs.Common.{◌≡◌, ℕ, zero, suc, refl, ap, ◌∙◌, sym, subst, List, [], ◌∷◌, ◌++◌, map, length, Option, Some, None, Result, Ok, Err, append_assoc}
-use Rattle.std.specs.Prelude.{slice_get, IfSome}
+use Rattle.std.specs.Prelude.{slice_get, IfSome, IfOk}
 use Rattle.std.specs.List.{AllByRecursion}
 use Rattle.lists.specs.Names.{IsName}
 use Rattle.design_ir.specs.declared.ids.ExprId.{ExprId}
@@ -28,13 +28,15 @@ use Rattle.elab_store.specs.declared.wrappings.Wrapping.{Wrapping}
 use Rattle.elab_store.specs.Sound.{IsBuilt, IsOwnMemory, IsSound, IsWrapping}
 use Rattle.elab_store.specs.Stores.{Stored}
 use Rattle.elab_eval.specs.declared.refusal.ElabStop.{ElabStop}
-use Rattle.elab_eval.specs.Elaborates.{node_name, leaf_in, leaf_at, first_trees, other_trees, and_then, put_before, wrapped, first_wrapped, node_put, forest_of_nodes, root_domains, root_before, root_wrapped, tree_of}
+use Rattle.elab_eval.specs.Elaborates.{node_name, leaf_in, leaf_at, first_trees, other_trees, and_then, put_before, wrapped, first_wrapped, node_put, forest_of_nodes, root_module, root_domains, root_before, root_wrapped, tree_of}
+use Rattle.elab_eval.specs.Trees as parts
 use Rattle.elab_eval.specs.Standing.{IsFrom, IsFree, IsStanding, StandsFor}
 use Rattle.elab_acts.proofs.EachLaws.{all_each}
 use Rattle.elab_acts.proofs.GrownLaws.{all_and}
 use Rattle.elab_eval.proofs.DefinitionLaws.{defined_from, root_from, root_definitions_stand}
 use Rattle.elab_eval.proofs.GatheredLaws.{all_front, all_back, grown_gathered, leaf_data, forest_data, data_gathered, all_data}
-use Rattle.elab_eval.proofs.Modules.{leaf_name, leaf_stands, root_stands}
+use Rattle.elab_eval.proofs.Modules.{leaf_name, leaf_stands, root_stands, root_built}
+use Rattle.elab_eval.proofs.TreeLaws.{top_before}
 use Rattle.elab_eval.proofs.OwnMemories.{memory_stands, memory_free}
 use Rattle.transform_laws.proofs.GrowthLaws.{grown_trees, standing_trees}
 use Rattle.elab_eval.proofs.WrappedLaws.{IsWrapped, wrapped_stands, wrapped_more, wrapping_at, wrappings_more}
@@ -237,3 +239,14 @@ without_modules s bs p f h = record {
   definitions = h.definitions;
   free_data = all_each (IsFree (record s { modules = bs })) (IsFree s) (data_signals (all_memories f)) (λ k free. record { clocks = free.clocks; ports = free.ports }) h.free_data;
 }
+
+pub all_with_modules : (s : Stored) (bs : List Built) (p : Pooled) (r : Result Fragment ElabStop) → IfOk r (λ f. StandsFor s p f) → IfOk r (λ f. StandsFor (record s { modules = bs }) p f)
+all_with_modules s bs p (Err e) h = tt
+all_with_modules s bs p (Ok f) h = with_modules s bs p f h
+
+-- the top before the trees below it, whose store has lost its modules
+pub top_there_stands : (s : Stored) (bs : List Built) (q p : Pooled) (b : Built) (below : Forest) (root : Fragment) → IsPool q → IsSound (record { pool = q; store = record s { modules = bs } }) → AreNamedResets q → root_module (record s { modules = bs }) ≡ Some b
+    → root ≡ parts.fragment_with (fragment_of b).name (root_domains s) (fragment_of b).processes [] below → IsStanding (record s { modules = bs }) q p below → StandsFor s p root
+top_there_stands s bs q p b below root rules sound named at is h =
+    let whole : Stored = record s { modules = bs } in
+    without_modules s bs p root (subst (StandsFor whole p) (top_before whole b below root is) (top_stands whole q rules sound named p b below (root_built q whole b sound.modules at) h))

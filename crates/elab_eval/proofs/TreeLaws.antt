@@ -315,3 +315,16 @@ top_got s o q p r below root made t nodes is h =
     found_of_top s o q t ∙ ap (λ y. and_then y (λ f. root_wrapped s.wrappings s.hierarchy.root_wraps (root_before s t.built f))) nodes
     ∙ ap (λ f. root_wrapped s.wrappings s.hierarchy.root_wraps (f, p)) (top_before s t.built below root is) in
     subst (IsGot made r) (sym whole) h
+
+-- its module is there
+pub top_module : (s : Stored) (o : Option Built) (t : IsTop s o) (found : Option Fragment) (f : Fragment) → found ≡ option_and_then finished o → found ≡ Some f → f ≡ fragment_of t.built
+top_module s o t found f e some = by_some (sym some ∙ e ∙ top_done s o t)
+  where
+    by_some : Some f ≡ Some (fragment_of t.built) → f ≡ fragment_of t.built
+    by_some same = cc
+
+pub top_absent : {A : Type 0} (s : Stored) (o : Option Built) (t : IsTop s o) (found : Option Fragment) → found ≡ option_and_then finished o → found ≡ None → A
+top_absent s o t found e none = absurd (true≢false (ap is_some (sym (top_done s o t) ∙ sym e ∙ none)))
+
+pub top_made : (s : Stored) (b : Built) (below : Forest) (f root : Fragment) → f ≡ fragment_of b → root ≡ fragment_with f.name (root_domains s) f.processes [] below → root ≡ fragment_with (fragment_of b).name (root_domains s) (fragment_of b).processes [] below
+top_made s b below f root same e = e ∙ ap (λ (g : Fragment). fragment_with g.name (root_domains s) g.processes [] below) same

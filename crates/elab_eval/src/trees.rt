@@ -56,6 +56,7 @@ pub(crate) fn tree(
     ensures tree { let s = record store.now { modules = built } in IsGot result pool.new (tree_found s (root_module s) pool.old) }
     ensures stands { IfOk result (λ f. StandsFor (record store.now { modules = built }) pool.new f) }
 {
+    pool.known();
     let Ok(modules) = all_finished(alloc, modules) else {
         return Err(ElabStop::NoMemory);
     };
