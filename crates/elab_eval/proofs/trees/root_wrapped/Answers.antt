@@ -22,8 +22,7 @@ loop-i-preserved c =
     let k = get_or wraps (length wraps - 1 - c.loop-i.i) _ in
     let inner = (c.loop-i.root, p) in
     let made = (c.in-Ok.made, c.wrapped.new.pool) in
-    let there = wrapped_stands s (slice_get s.wrappings k) inner made c.loop-i.invariant.1.1.0 (wrapping_at p s.wrappings k c.loop-i.invariant.1.1.1) c.loop-i.invariant.0 c.known-in-loop-i.ensures c.in-Ok.ensures in
-    (
+    let there = wrapped_stands s (slice_get s.wrappings k) inner made c.loop-i.invariant.1.1.0 (wrapping_at p s.wrappings k c.loop-i.invariant.1.1.1) c.loop-i.invariant.0 c.known-in-loop-i.ensures c.in-Ok.ensures in (
       c.known-in-loop-i.ensures,
       (
         wrap_more s.wrappings wraps (c.args.root, c.args.pool.now) c.loop-i.i _ inner c.loop-i-test.true c.loop-i.invariant.1.0 ∙ c.in-Ok.ensures,

@@ -37,8 +37,7 @@ loop-i-preserved g c =
     let nodes = c.nodes-nodes.result.now in
     let behind = (c.loop-i.trees, c.loop-i.pool) in
     let x = get_or nodes (length nodes - 1 - c.loop-i.i) _ in
-    let made = (c.in-Ok.more, c.put_node.new.pool) in
-    (
+    let made = (c.in-Ok.more, c.put_node.new.pool) in (
       c.known-in-loop-i.ensures,
       (
         node_more s nodes q c.loop-i.i _ behind c.loop-i-test.true c.loop-i.invariant.1.0 ∙ c.in-Ok.ensures,
