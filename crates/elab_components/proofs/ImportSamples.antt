@@ -26,6 +26,6 @@ names_in a = []
 
 all_are : (names_in all_given.answer ≡ star_names)
     × (all_given.held.store.kept ≡ kept.Name hdl.Module ∷ kept.Name hdl.Signal ∷ kept.Name hdl.Shape ∷ kept.Name hdl.Value ∷ kept.Name hdl.Elaboratable ∷ kept.Name hdl.ClockDomain
-    ∷ kept.Name hdl.DomainRenamer ∷ kept.Name hdl.ResetInserter ∷ kept.Name hdl.EnableInserter ∷ [])
+    ∷ kept.Name hdl.ResetSignal ∷ kept.Name hdl.DomainRenamer ∷ kept.Name hdl.ResetInserter ∷ kept.Name hdl.EnableInserter ∷ [])
 unfolding all_given names_in
 all_are = (refl, refl)

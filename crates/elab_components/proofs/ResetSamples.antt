@@ -17,7 +17,7 @@ use Rattle.elab_store.specs.declared.kept.Kept.TheVariants as kept
 use Rattle.elab_store.specs.Calls.{Called}
 use Rattle.elab_store.specs.Stores.{Answered, nothing_held}
 use Rattle.elab_components.specs.Equations.{equated}
-use Rattle.elab_components.specs.Imports.{imported, star_names}
+use Rattle.elab_components.specs.Imports.{imported}
 use Rattle.elab_components.specs.Resets.{domain_argument, reset_domain, reset_said, reset_called}
 use Rattle.elab_components.specs.Signals.{domain_formed}
 
