@@ -1,6 +1,6 @@
 -- The ports that are chosen by marks are those of the definition.
 use Rattle.std.proofs.Common.{◌≡◌, inl, inr, ℕ, zero, suc, ◌+◌, ◌-◌, ◌<◌, ◌≤◌, Bool, true, false, ◌&&◌, if◌then◌else◌, not, List, [], ◌∷◌, ◌++◌, map, length, Option, Some, None, refl, sym, ap, ◌∙◌, subst, arith, append-nil}
-use Rattle.std.specs.List.{AllByRecursion, filter, filter_map, range_with_len}
+use Rattle.std.specs.List.{AllByRecursion, filter, filter_map, flat_map, range_with_len}
 use Rattle.std.specs.Option.{option_map_or}
 use Rattle.std.proofs.lemmas.Bool.{false≢true, cases_lt}
 use Rattle.std.proofs.lemmas.List.{get_or_past}
@@ -19,8 +19,8 @@ use Rattle.fragment_walks.proofs.Lists.{all_imp, all_joined, all_mapped}
 use Rattle.clock_domains.specs.declared.top.TopPorts.{TopPorts}
 use Rattle.clock_domains.specs.declared.top.TopPorts.TheVariants.{Members, Held, Loose}
 use Rattle.clock_domains.specs.Resolvable.{AreTopPorts}
-use Rattle.clock_domains.specs.Resolved.{has_width, loose_port, port_of, top_ports, signals_of, reset_port, domain_ports, ports_of_domain, ports_of, and_new}
-use Rattle.clock_domains.specs.Chosen.{is_new, held_port, known_port, known_ports, IsKnown, IsSignal, IsResetThere}
+use Rattle.clock_domains.specs.Resolved.{has_width, held_port, loose_port, name_among, port_of, top_ports, signals_of, reset_port, domain_ports, ports_of_domain, ports_of, and_new}
+use Rattle.clock_domains.specs.Chosen.{is_new, known_port, known_ports, IsKnown, IsSignal, IsResetThere}
 use Rattle.clock_domains.proofs.DriverLaws.{is_driven_none, read_none}
 
 -- ---- what is marked is a signal of the pool
@@ -83,94 +83,102 @@ range_shorter f n m le none =
 
 -- ---- the ports
 
-port_by : (q : Pooled) (s : ℕ) (a b c a' b' c' : Bool) → a ≡ a' → b ≡ b' → c ≡ c'
-    → (if a then Some (port_of q false s) else (if b && not c then Some (port_of q true s) else None)) ≡ (if a' then Some (port_of q false s) else (if b' && not c' then Some (port_of q true s) else None))
-port_by q s a b c a' b' c' e f g =
-    ap (λ x. if x then Some (port_of q false s) else (if b && not c then Some (port_of q true s) else None)) e
-    ∙ ap (λ x. if a' then Some (port_of q false s) else (if x && not c then Some (port_of q true s) else None)) f
-    ∙ ap (λ x. if a' then Some (port_of q false s) else (if b' && not x then Some (port_of q true s) else None)) g
+port_by : (q : Pooled) (ds : List Domain) (s : ℕ) (a b c a' b' c' : Bool) → a ≡ a' → b ≡ b' → c ≡ c'
+    → (if a then Some (port_of q ds false s) else (if b && not c then Some (port_of q ds true s) else None)) ≡ (if a' then Some (port_of q ds false s) else (if b' && not c' then Some (port_of q ds true s) else None))
+port_by q ds s a b c a' b' c' e f g =
+    ap (λ x. if x then Some (port_of q ds false s) else (if b && not c then Some (port_of q ds true s) else None)) e
+    ∙ ap (λ x. if a' then Some (port_of q ds false s) else (if x && not c then Some (port_of q ds true s) else None)) f
+    ∙ ap (λ x. if a' then Some (port_of q ds false s) else (if b' && not x then Some (port_of q ds true s) else None)) g
 
-loose_none : (q : Pooled) (own : List Process) (all : Contents) (s : ℕ) → IsPool q → length q.signals ≤ s → loose_port q own all s ≡ None
-loose_none q own all s rules le =
-    port_by q s (is_driven q own s) (is_read q all.processes all.memories s) (is_given q all.processes all.memories s) false false (is_given q all.processes all.memories s) (is_driven_none q own s rules le) (read_none q (read_roots q all.processes all.memories) s rules le) refl
+loose_none : (q : Pooled) (ds : List Domain) (own : List Process) (all : Contents) (s : ℕ) → IsPool q → length q.signals ≤ s → loose_port q ds own all s ≡ None
+loose_none q ds own all s rules le =
+    port_by q ds s (is_driven q own s) (is_read q all.processes all.memories s) (is_given q all.processes all.memories s) false false (is_given q all.processes all.memories s) (is_driven_none q own s rules le) (read_none q (read_roots q all.processes all.memories) s rules le) refl
 
-loose_same : (q : Pooled) (own : List Process) (all : Contents) (mine driven read : List Bool) → IsPool q → Flag mine (is_driven q own) → Flag driven (is_given q all.processes all.memories) → Flag read (is_read q all.processes all.memories)
-    → filter_map (known_port q (is_marked mine) (is_marked driven) (is_marked read)) (range_with_len 0 (length mine)) ≡ top_ports q own all Loose
-loose_same q own all mine driven read rules o d r =
-    let same : (s : ℕ) → s < length mine → known_port q (is_marked mine) (is_marked driven) (is_marked read) s ≡ loose_port q own all s =
-    λ s low. port_by q s (is_marked mine s) (is_marked read s) (is_marked driven s) (is_driven q own s) (is_read q all.processes all.memories s) (is_given q all.processes all.memories s) (o.each s (omega (arith, low, o.size))) (r.each s (omega (arith, low, o.size))) (d.each s (omega (arith, low, o.size))) in
-    filter_map_agree (known_port q (is_marked mine) (is_marked driven) (is_marked read)) (loose_port q own all) (range_with_len 0 (length mine)) (range_all (λ s. known_port q (is_marked mine) (is_marked driven) (is_marked read) s ≡ loose_port q own all s) 0 (length mine) (λ s low high. same s (omega (arith, high))))
-    ∙ range_shorter (loose_port q own all) (length q.signals) (length mine) (omega (arith, rules.few_signals, o.size)) (λ s le. loose_none q own all s rules le)
+loose_same : (q : Pooled) (ds : List Domain) (own : List Process) (all : Contents) (mine driven read : List Bool) → IsPool q → Flag mine (is_driven q own) → Flag driven (is_given q all.processes all.memories) → Flag read (is_read q all.processes all.memories)
+    → filter_map (known_port q ds (is_marked mine) (is_marked driven) (is_marked read)) (range_with_len 0 (length mine)) ≡ top_ports q ds own all Loose
+loose_same q ds own all mine driven read rules o d r =
+    let same : (s : ℕ) → s < length mine → known_port q ds (is_marked mine) (is_marked driven) (is_marked read) s ≡ loose_port q ds own all s =
+    λ s low. port_by q ds s (is_marked mine s) (is_marked read s) (is_marked driven s) (is_driven q own s) (is_read q all.processes all.memories s) (is_given q all.processes all.memories s) (o.each s (omega (arith, low, o.size))) (r.each s (omega (arith, low, o.size))) (d.each s (omega (arith, low, o.size))) in
+    filter_map_agree (known_port q ds (is_marked mine) (is_marked driven) (is_marked read)) (loose_port q ds own all) (range_with_len 0 (length mine)) (range_all (λ s. known_port q ds (is_marked mine) (is_marked driven) (is_marked read) s ≡ loose_port q ds own all s) 0 (length mine) (λ s low high. same s (omega (arith, high))))
+    ∙ range_shorter (loose_port q ds own all) (length q.signals) (length mine) (omega (arith, rules.few_signals, o.size)) (λ s le. loose_none q ds own all s rules le)
 
-known_same : (q : Pooled) (own : List Process) (all : Contents) (mine driven read : List Bool) (top : TopPorts) → IsPool q → AreTopPorts q top → Flag mine (is_driven q own) → Flag driven (is_given q all.processes all.memories) → Flag read (is_read q all.processes all.memories) → known_ports q mine driven read top ≡ top_ports q own all top
-known_same q own all mine driven read (Members given) rules h o d r = refl
-known_same q own all mine driven read (Held given) rules h o d r =
-    map_on (held_port (is_marked driven)) (λ (p : Port). record p { is_input = not (is_given q all.processes all.memories p.sig.0) }) given
-    (all_imp (λ p k. ap (λ (b : Bool). record p { is_input = not b }) (d.each p.sig.0 (omega (arith, k.there, rules.few_signals)))) given h.each)
-known_same q own all mine driven read Loose rules h o d r = loose_same q own all mine driven read rules o d r
+known_same : (q : Pooled) (ds : List Domain) (own : List Process) (all : Contents) (mine driven read : List Bool) (top : TopPorts) → IsPool q → AreTopPorts q top → Flag mine (is_driven q own) → Flag driven (is_given q all.processes all.memories) → Flag read (is_read q all.processes all.memories) → known_ports q ds mine driven read top ≡ top_ports q ds own all top
+known_same q ds own all mine driven read (Members given) rules h o d r = refl
+known_same q ds own all mine driven read (Held given) rules h o d r =
+    map_on (held_port ds (is_marked driven)) (held_port ds (is_given q all.processes all.memories)) given
+    (all_imp (λ p k. ap (λ (b : Bool). record p { name = name_among ds p.sig.0 p.name; is_input = not b }) (d.each p.sig.0 (omega (arith, k.there, rules.few_signals)))) given h.each)
+known_same q ds own all mine driven read Loose rules h o d r = loose_same q ds own all mine driven read rules o d r
 
 AreSmall : Pooled → List Port → Type 0
 AreSmall q ports = AllByRecursion (λ (p : Port). p.sig.0 < length q.signals) ports
 
-loose_there : (q : Pooled) (own : List Process) (all : Contents) (a n : ℕ) → a + n ≤ length q.signals → AreSmall q (filter_map (loose_port q own all) (range_with_len a n))
+loose_there : (q : Pooled) (ds : List Domain) (own : List Process) (all : Contents) (a n : ℕ) → a + n ≤ length q.signals → AreSmall q (filter_map (loose_port q ds own all) (range_with_len a n))
 unfolding AreSmall
-loose_there q own all a zero le = tt
-loose_there q own all a (suc n) le = by_port (loose_port q own all a) refl (loose_there q own all (a + 1) n (omega (arith, le)))
+loose_there q ds own all a zero le = tt
+loose_there q ds own all a (suc n) le = by_port (loose_port q ds own all a) refl (loose_there q ds own all (a + 1) n (omega (arith, le)))
   where
-    by_test : (p : Port) (x y : Bool) → (if x then Some (port_of q false a) else (if y then Some (port_of q true a) else None)) ≡ Some p → p.sig.0 < length q.signals
-    by_test p true y e = let same : port_of q false a ≡ p = cc in subst (λ (x : Port). x.sig.0 < length q.signals) same (omega (arith, le))
-    by_test p false true e = let same : port_of q true a ≡ p = cc in subst (λ (x : Port). x.sig.0 < length q.signals) same (omega (arith, le))
+    by_test : (p : Port) (x y : Bool) → (if x then Some (port_of q ds false a) else (if y then Some (port_of q ds true a) else None)) ≡ Some p → p.sig.0 < length q.signals
+    by_test p true y e = let same : port_of q ds false a ≡ p = cc in subst (λ (x : Port). x.sig.0 < length q.signals) same (omega (arith, le))
+    by_test p false true e = let same : port_of q ds true a ≡ p = cc in subst (λ (x : Port). x.sig.0 < length q.signals) same (omega (arith, le))
     by_test p false false e = cc
 
-    by_port : (o : Option Port) → loose_port q own all a ≡ o → AllByRecursion (λ (p : Port). p.sig.0 < length q.signals) (filter_map (loose_port q own all) (range_with_len (a + 1) n)) → AllByRecursion (λ (p : Port). p.sig.0 < length q.signals) (filter_map (loose_port q own all) (range_with_len a (suc n)))
+    by_port : (o : Option Port) → loose_port q ds own all a ≡ o → AllByRecursion (λ (p : Port). p.sig.0 < length q.signals) (filter_map (loose_port q ds own all) (range_with_len (a + 1) n)) → AllByRecursion (λ (p : Port). p.sig.0 < length q.signals) (filter_map (loose_port q ds own all) (range_with_len a (suc n)))
     by_port None e rest = subst (λ xs. AllByRecursion (λ (p : Port). p.sig.0 < length q.signals) xs) (sym (cons_none e)) rest
       where
-        cons_none : loose_port q own all a ≡ None → filter_map (loose_port q own all) (range_with_len a (suc n)) ≡ filter_map (loose_port q own all) (range_with_len (a + 1) n)
-        cons_none e = let r = filter_map (loose_port q own all) (range_with_len (a + 1) n) in cc
+        cons_none : loose_port q ds own all a ≡ None → filter_map (loose_port q ds own all) (range_with_len a (suc n)) ≡ filter_map (loose_port q ds own all) (range_with_len (a + 1) n)
+        cons_none e = let r = filter_map (loose_port q ds own all) (range_with_len (a + 1) n) in cc
     by_port (Some p) e rest = subst (λ xs. AllByRecursion (λ (p : Port). p.sig.0 < length q.signals) xs) (sym (cons_some e)) (by_test p (is_driven q own a) (is_read q all.processes all.memories a && not (is_given q all.processes all.memories a)) e, rest)
       where
-        cons_some : loose_port q own all a ≡ Some p → filter_map (loose_port q own all) (range_with_len a (suc n)) ≡ p ∷ filter_map (loose_port q own all) (range_with_len (a + 1) n)
-        cons_some e = let r = filter_map (loose_port q own all) (range_with_len (a + 1) n) in cc
+        cons_some : loose_port q ds own all a ≡ Some p → filter_map (loose_port q ds own all) (range_with_len a (suc n)) ≡ p ∷ filter_map (loose_port q ds own all) (range_with_len (a + 1) n)
+        cons_some e = let r = filter_map (loose_port q ds own all) (range_with_len (a + 1) n) in cc
 
-pub top_there : (q : Pooled) (own : List Process) (all : Contents) (top : TopPorts) → AreTopPorts q top → AllByRecursion (λ (p : Port). p.sig.0 < length q.signals) (top_ports q own all top)
+pub top_there : (q : Pooled) (ds : List Domain) (own : List Process) (all : Contents) (top : TopPorts) → AreTopPorts q top → AllByRecursion (λ (p : Port). p.sig.0 < length q.signals) (top_ports q ds own all top)
 unfolding AreSmall
-top_there q own all (Members given) h = all_imp (λ p k. k.there) given h.each
-top_there q own all (Held given) h = all_mapped (λ (p : Port). p.sig.0 < length q.signals) (λ (p : Port). record p { is_input = not (is_given q all.processes all.memories p.sig.0) }) given (all_imp (λ p k. k.there) given h.each)
-top_there q own all Loose h = loose_there q own all 0 (length q.signals) (omega arith)
+top_there q ds own all (Members given) h = all_imp (λ p k. k.there) given h.each
+top_there q ds own all (Held given) h = all_mapped (λ (p : Port). p.sig.0 < length q.signals) (held_port ds (is_given q all.processes all.memories)) given (all_imp (λ p k. k.there) given h.each)
+top_there q ds own all Loose h = loose_there q ds own all 0 (length q.signals) (omega arith)
 
 -- ---- the ports of domains
 
-resets_same : (q : Pooled) (driven : List Bool) (test : ℕ → Bool) (o : Option SigId) → IsPool q → Flag driven test → IsResetThere q o → option_map_or (reset_port q (is_marked driven)) o [] ≡ option_map_or (reset_port q test) o []
-resets_same q driven test None rules f h = refl
-resets_same q driven test (Some s) rules f h = ap (λ (b : Bool). if b then [] else port_of q true s.0 ∷ []) (f.each s.0 (omega (arith, h, rules.few_signals)))
+resets_same : (q : Pooled) (ds : List Domain) (driven : List Bool) (test : ℕ → Bool) (o : Option SigId) → IsPool q → Flag driven test → IsResetThere q o → option_map_or (reset_port q ds (is_marked driven)) o [] ≡ option_map_or (reset_port q ds test) o []
+resets_same q ds driven test None rules f h = refl
+resets_same q ds driven test (Some s) rules f h = ap (λ (b : Bool). if b then [] else port_of q ds true s.0 ∷ []) (f.each s.0 (omega (arith, h, rules.few_signals)))
+
+-- of some of all domains
+some_same : (q : Pooled) (ds : List Domain) (driven : List Bool) (test : ℕ → Bool) (some : List Domain) → IsPool q → Flag driven test → AllByRecursion (IsSignal q) some → flat_map (ports_of_domain q ds (is_marked driven)) some ≡ flat_map (ports_of_domain q ds test) some
+some_same q ds driven test [] rules f h = refl
+some_same q ds driven test (d ∷ some) rules f h =
+    ap (λ ps. (port_of q ds true d.clk.0 ∷ ps) ++ flat_map (ports_of_domain q ds (is_marked driven)) some) (resets_same q ds driven test d.rst rules f h.0.reset)
+    ∙ ap (λ ps. ports_of_domain q ds test d ++ ps) (some_same q ds driven test some rules f h.1)
 
 pub domains_same : (q : Pooled) (driven : List Bool) (test : ℕ → Bool) (ds : List Domain) → IsPool q → Flag driven test → AllByRecursion (IsSignal q) ds → domain_ports q (is_marked driven) ds ≡ domain_ports q test ds
-domains_same q driven test [] rules f h = refl
-domains_same q driven test (d ∷ ds) rules f h =
-    ap (λ ps. (port_of q true d.clk.0 ∷ ps) ++ domain_ports q (is_marked driven) ds) (resets_same q driven test d.rst rules f h.0.reset)
-    ∙ ap (λ ps. ports_of_domain q test d ++ ps) (domains_same q driven test ds rules f h.1)
+domains_same q driven test ds = some_same q ds driven test ds
 
-reset_there : (q : Pooled) (driven : ℕ → Bool) (o : Option SigId) → IsResetThere q o → AllByRecursion (λ (p : Port). p.sig.0 < length q.signals) (option_map_or (reset_port q driven) o [])
-reset_there q driven None h = tt
-reset_there q driven (Some s) h = split (driven s.0)
+reset_there : (q : Pooled) (ds : List Domain) (driven : ℕ → Bool) (o : Option SigId) → IsResetThere q o → AllByRecursion (λ (p : Port). p.sig.0 < length q.signals) (option_map_or (reset_port q ds driven) o [])
+reset_there q ds driven None h = tt
+reset_there q ds driven (Some s) h = split (driven s.0)
   where
-    split : (b : Bool) → AllByRecursion (λ (p : Port). p.sig.0 < length q.signals) (if b then [] else port_of q true s.0 ∷ [])
+    split : (b : Bool) → AllByRecursion (λ (p : Port). p.sig.0 < length q.signals) (if b then [] else port_of q ds true s.0 ∷ [])
     split true = tt
     split false = (h, tt)
 
 -- they are signals
+some_there : (q : Pooled) (ds : List Domain) (driven : ℕ → Bool) (some : List Domain) → AllByRecursion (IsSignal q) some → AllByRecursion (λ (p : Port). p.sig.0 < length q.signals) (flat_map (ports_of_domain q ds driven) some)
+some_there q ds driven [] h = tt
+some_there q ds driven (d ∷ some) h =
+    all_joined (λ (p : Port). p.sig.0 < length q.signals) (ports_of_domain q ds driven d) (flat_map (ports_of_domain q ds driven) some) (h.0.clock, reset_there q ds driven d.rst h.0.reset) (some_there q ds driven some h.1)
+
 pub domain_there : (q : Pooled) (driven : ℕ → Bool) (ds : List Domain) → AllByRecursion (IsSignal q) ds → AllByRecursion (λ (p : Port). p.sig.0 < length q.signals) (domain_ports q driven ds)
-domain_there q driven [] h = tt
-domain_there q driven (d ∷ ds) h = all_joined (λ (p : Port). p.sig.0 < length q.signals) (ports_of_domain q driven d) (domain_ports q driven ds) (h.0.clock, reset_there q driven d.rst h.0.reset) (domain_there q driven ds h.1)
+domain_there q driven ds = some_there q ds driven ds
 
 -- ---- all ports
 
 pub chosen_same : (q : Pooled) (domains : List Domain) (own : List Process) (all : Contents) (is_port mine driven read : List Bool) (top : TopPorts) → IsPool q → AreTopPorts q top → AllByRecursion (IsSignal q) domains → Flag is_port (is_among (signals_of (domain_ports q (is_marked driven) domains)))
-    → Flag mine (is_driven q own) → Flag driven (is_given q all.processes all.memories) → Flag read (is_read q all.processes all.memories) → domain_ports q (is_marked driven) domains ++ filter (is_new q (is_marked is_port)) (known_ports q mine driven read top) ≡ ports_of q domains own all top
+    → Flag mine (is_driven q own) → Flag driven (is_given q all.processes all.memories) → Flag read (is_read q all.processes all.memories) → domain_ports q (is_marked driven) domains ++ filter (is_new q (is_marked is_port)) (known_ports q domains mine driven read top) ≡ ports_of q domains own all top
 chosen_same q domains own all is_port mine driven read top rules h signals f o d r =
     let before = domain_ports q (is_marked driven) domains in
-    ap (λ xs. before ++ filter (is_new q (is_marked is_port)) xs) (known_same q own all mine driven read top rules h o d r)
+    ap (λ xs. before ++ filter (is_new q (is_marked is_port)) xs) (known_same q domains own all mine driven read top rules h o d r)
     ∙ ap (λ xs. before ++ xs)
-    (filter_agree (is_new q (is_marked is_port)) (λ (p : Port). not (is_among (signals_of before) p.sig.0) && has_width q p.sig.0) (top_ports q own all top)
-    (all_imp (λ p low. ap (λ (b : Bool). not b && has_width q p.sig.0) (f.each p.sig.0 (omega (arith, low, rules.few_signals)))) (top_ports q own all top) (top_there q own all top h)))
-    ∙ ap (λ xs. and_new q xs (top_ports q own all top)) (domains_same q driven (is_given q all.processes all.memories) domains rules d signals)
+    (filter_agree (is_new q (is_marked is_port)) (λ (p : Port). not (is_among (signals_of before) p.sig.0) && has_width q p.sig.0) (top_ports q domains own all top)
+    (all_imp (λ p low. ap (λ (b : Bool). not b && has_width q p.sig.0) (f.each p.sig.0 (omega (arith, low, rules.few_signals)))) (top_ports q domains own all top) (top_there q domains own all top h)))
+    ∙ ap (λ xs. and_new q xs (top_ports q domains own all top)) (domains_same q driven (is_given q all.processes all.memories) domains rules d signals)

@@ -1,6 +1,6 @@
 -- Domains of which no two have a signal in common.
 use Rattle.std.proofs.Common.{◌≡◌, ◌⊎◌, inl, inr, ℕ, ◌==◌, nat_eq, Bool, true, false, ◌&&◌, ◌||◌, if◌then◌else◌, List, [], ◌∷◌, ◌++◌, map, Option, Some, None, refl, sym, ap, ◌∙◌, subst}
-use Rattle.std.specs.List.{AllByRecursion, IsDistinct, list_any, filter_map}
+use Rattle.std.specs.List.{AllByRecursion, IsDistinct, list_any, filter_map, flat_map}
 use Rattle.std.specs.Option.{option_map_or}
 use Rattle.std.proofs.lemmas.Bool.{eq-eqb}
 use Rattle.design_ir.specs.declared.ids.SigId.{SigId}
@@ -106,60 +106,71 @@ clock_no_reset q ds d all apart = any_none (λ (x : Domain). option_test (λ (s 
 -- ---- the ports of domains
 
 -- what holds of the numbers of a domain holds of its ports
-pub ports_all : (P : ℕ → Type 0) (q : Pooled) (driven : ℕ → Bool) (d : Domain) → AllByRecursion P (domain_numbers d) → AllByRecursion (λ (p : Port). P p.sig.0) (ports_of_domain q driven d)
-ports_all P q driven d h = (h.0, resets d.rst h.1)
+pub ports_all : (P : ℕ → Type 0) (q : Pooled) (ds : List Domain) (driven : ℕ → Bool) (d : Domain) → AllByRecursion P (domain_numbers d) → AllByRecursion (λ (p : Port). P p.sig.0) (ports_of_domain q ds driven d)
+ports_all P q ds driven d h = (h.0, resets d.rst h.1)
   where
-    resets : (o : Option SigId) → AllByRecursion P (option_map_or (λ (s : SigId). s.0 ∷ []) o []) → AllByRecursion (λ (p : Port). P p.sig.0) (option_map_or (reset_port q driven) o [])
+    resets : (o : Option SigId) → AllByRecursion P (option_map_or (λ (s : SigId). s.0 ∷ []) o []) → AllByRecursion (λ (p : Port). P p.sig.0) (option_map_or (reset_port q ds driven) o [])
     resets None h = tt
     resets (Some s) h = split (driven s.0)
       where
-        split : (b : Bool) → AllByRecursion (λ (p : Port). P p.sig.0) (if b then [] else port_of q true s.0 ∷ [])
+        split : (b : Bool) → AllByRecursion (λ (p : Port). P p.sig.0) (if b then [] else port_of q ds true s.0 ∷ [])
         split true = tt
         split false = (h.0, tt)
 
+-- of some of all domains
+some_ports : (P : ℕ → Type 0) (q : Pooled) (ds : List Domain) (driven : ℕ → Bool) (some : List Domain) → AllByRecursion (λ (d : Domain). AllByRecursion P (domain_numbers d)) some → AllByRecursion (λ (p : Port). P p.sig.0) (flat_map (ports_of_domain q ds driven) some)
+some_ports P q ds driven [] h = tt
+some_ports P q ds driven (d ∷ some) h =
+    all_joined (λ (p : Port). P p.sig.0) (ports_of_domain q ds driven d) (flat_map (ports_of_domain q ds driven) some) (ports_all P q ds driven d h.0) (some_ports P q ds driven some h.1)
+
 pub all_ports : (P : ℕ → Type 0) (q : Pooled) (driven : ℕ → Bool) (ds : List Domain) → AllByRecursion (λ (d : Domain). AllByRecursion P (domain_numbers d)) ds → AllByRecursion (λ (p : Port). P p.sig.0) (domain_ports q driven ds)
-all_ports P q driven [] h = tt
-all_ports P q driven (d ∷ ds) h = all_joined (λ (p : Port). P p.sig.0) (ports_of_domain q driven d) (domain_ports q driven ds) (ports_all P q driven d h.0) (all_ports P q driven ds h.1)
+all_ports P q driven ds = some_ports P q ds driven ds
 
 -- a number that is none of a domain's is none of its ports'
-ports_none : (q : Pooled) (driven : ℕ → Bool) (d : Domain) (s : ℕ) → is_among (domain_numbers d) s ≡ false → is_among (signals_of (ports_of_domain q driven d)) s ≡ false
-ports_none q driven d s h =
-    any_none (λ x. x == s) (signals_of (ports_of_domain q driven d))
-    (all_mapped (λ x. (x == s) ≡ false) (λ (p : Port). p.sig.0) (ports_of_domain q driven d) (ports_all (λ x. (x == s) ≡ false) q driven d (none_any (λ x. x == s) (domain_numbers d) h)))
+ports_none : (q : Pooled) (ds : List Domain) (driven : ℕ → Bool) (d : Domain) (s : ℕ) → is_among (domain_numbers d) s ≡ false → is_among (signals_of (ports_of_domain q ds driven d)) s ≡ false
+ports_none q ds driven d s h =
+    any_none (λ x. x == s) (signals_of (ports_of_domain q ds driven d))
+    (all_mapped (λ x. (x == s) ≡ false) (λ (p : Port). p.sig.0) (ports_of_domain q ds driven d) (ports_all (λ x. (x == s) ≡ false) q ds driven d (none_any (λ x. x == s) (domain_numbers d) h)))
 
-one_distinct : (q : Pooled) (driven : ℕ → Bool) (d : Domain) → IsDomainOf q d → IsDistinct nat_eq (signals_of (ports_of_domain q driven d))
+one_distinct : (q : Pooled) (ds : List Domain) (driven : ℕ → Bool) (d : Domain) → IsDomainOf q d → IsDistinct nat_eq (signals_of (ports_of_domain q ds driven d))
 unfolding IsDistinct
-one_distinct q driven d h = by d.rst h.reset
+one_distinct q ds driven d h = by d.rst h.reset
   where
-    by : (o : Option SigId) → IsResetOf q d.clk o → IsDistinct nat_eq (signals_of (port_of q true d.clk.0 ∷ option_map_or (reset_port q driven) o []))
+    by : (o : Option SigId) → IsResetOf q d.clk o → IsDistinct nat_eq (signals_of (port_of q ds true d.clk.0 ∷ option_map_or (reset_port q ds driven) o []))
     by None k = (tt, tt)
     by (Some s) k = split (driven s.0)
       where
-        split : (b : Bool) → IsDistinct nat_eq (signals_of (port_of q true d.clk.0 ∷ (if b then [] else port_of q true s.0 ∷ [])))
+        split : (b : Bool) → IsDistinct nat_eq (signals_of (port_of q ds true d.clk.0 ∷ (if b then [] else port_of q ds true s.0 ∷ [])))
         split true = (tt, tt)
         split false = ((k.1, tt), (tt, tt))
 
-pub domain_ports_distinct : (q : Pooled) (driven : ℕ → Bool) (ds : List Domain) → AllByRecursion (IsDomainOf q) ds → IsDistinct share (map domain_numbers ds) → IsDistinct nat_eq (signals_of (domain_ports q driven ds))
+some_distinct : (q : Pooled) (ds : List Domain) (driven : ℕ → Bool) (some : List Domain) → AllByRecursion (IsDomainOf q) some → IsDistinct share (map domain_numbers some) → IsDistinct nat_eq (signals_of (flat_map (ports_of_domain q ds driven) some))
 unfolding IsDistinct
-domain_ports_distinct q driven [] h k = tt
-domain_ports_distinct q driven (d ∷ ds) h k =
-    let here = ports_of_domain q driven d in
-    let rest = domain_ports q driven ds in
-    let apart : AllByRecursion (Apart d) ds = all_unmapped (λ ys. share (domain_numbers d) ys ≡ false) domain_numbers ds k.0 in
+some_distinct q ds driven [] h k = tt
+some_distinct q ds driven (d ∷ some) h k =
+    let here = ports_of_domain q ds driven d in
+    let rest = flat_map (ports_of_domain q ds driven) some in
+    let apart : AllByRecursion (Apart d) some = all_unmapped (λ ys. share (domain_numbers d) ys ≡ false) domain_numbers some k.0 in
     subst (IsDistinct nat_eq) (sym (map-append (λ (p : Port). p.sig.0) here rest))
-    (distinct_joined (signals_of here) (signals_of rest) (one_distinct q driven d h.0) (domain_ports_distinct q driven ds h.1 k.1)
+    (distinct_joined (signals_of here) (signals_of rest) (one_distinct q ds driven d h.0) (some_distinct q ds driven some h.1 k.1)
     (all_mapped (λ y. is_among (signals_of here) y ≡ false) (λ (p : Port). p.sig.0) rest
-    (all_ports (λ y. is_among (signals_of here) y ≡ false) q driven ds
-    (all_imp (λ (e : Domain) a. all_imp (λ s n. ports_none q driven d s n) (domain_numbers e) (others d e a)) ds apart))))
+    (some_ports (λ y. is_among (signals_of here) y ≡ false) q ds driven some
+    (all_imp (λ (e : Domain) a. all_imp (λ s n. ports_none q ds driven d s n) (domain_numbers e) (others d e a)) some apart))))
+
+pub domain_ports_distinct : (q : Pooled) (driven : ℕ → Bool) (ds : List Domain) → AllByRecursion (IsDomainOf q) ds → IsDistinct share (map domain_numbers ds) → IsDistinct nat_eq (signals_of (domain_ports q driven ds))
+domain_ports_distinct q driven ds = some_distinct q ds driven ds
 
 -- the clock of each domain is an input
-pub clock_among : (q : Pooled) (driven : ℕ → Bool) (ds : List Domain) → AllByRecursion (λ (d : Domain). list_any (λ (p : Port). p.is_input && (p.sig.0 == d.clk.0)) (domain_ports q driven ds) ≡ true) ds
-clock_among q driven [] = tt
-clock_among q driven (d ∷ ds) = (
-  ap (λ b. b || list_any (λ (p : Port). p.is_input && (p.sig.0 == d.clk.0)) (option_map_or (reset_port q driven) d.rst [] ++ domain_ports q driven ds)) (eq-eqb d.clk.0 d.clk.0 refl),
-  all_imp (λ x h. any-append (λ (p : Port). p.is_input && (p.sig.0 == x.clk.0)) (ports_of_domain q driven d) (domain_ports q driven ds) ∙ or_true (list_any (λ (p : Port). p.is_input && (p.sig.0 == x.clk.0)) (ports_of_domain q driven d)) _ h) ds (clock_among q driven ds),
+some_clock : (q : Pooled) (ds : List Domain) (driven : ℕ → Bool) (some : List Domain) → AllByRecursion (λ (d : Domain). list_any (λ (p : Port). p.is_input && (p.sig.0 == d.clk.0)) (flat_map (ports_of_domain q ds driven) some) ≡ true) some
+some_clock q ds driven [] = tt
+some_clock q ds driven (d ∷ some) = (
+  ap (λ b. b || list_any (λ (p : Port). p.is_input && (p.sig.0 == d.clk.0)) (option_map_or (reset_port q ds driven) d.rst [] ++ flat_map (ports_of_domain q ds driven) some)) (eq-eqb d.clk.0 d.clk.0 refl),
+  all_imp (λ x h. any-append (λ (p : Port). p.is_input && (p.sig.0 == x.clk.0)) (ports_of_domain q ds driven d) (flat_map (ports_of_domain q ds driven) some) ∙ or_true (list_any (λ (p : Port). p.is_input && (p.sig.0 == x.clk.0)) (ports_of_domain q ds driven d)) _ h) some (some_clock q ds driven some),
 )
   where
     or_true : (a b : Bool) → b ≡ true → (a || b) ≡ true
     or_true true b e = refl
     or_true false b e = e
+
+pub clock_among : (q : Pooled) (driven : ℕ → Bool) (ds : List Domain) → AllByRecursion (λ (d : Domain). list_any (λ (p : Port). p.is_input && (p.sig.0 == d.clk.0)) (domain_ports q driven ds) ≡ true) ds
+clock_among q driven ds = some_clock q ds driven ds

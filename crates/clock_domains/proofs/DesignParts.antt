@@ -1,5 +1,5 @@
 -- The whole design of a module with those below it keeps to the rules of designs.
-use Rattle.std.proofs.Common.{◌≡◌, ℕ, ◌≤◌, nat_le, Bool, true, false, IsTrue, ◌&&◌, ◌||◌, ◌==◌, cond, List, [], ◌∷◌, ◌++◌, map, length, Option, Some, None, is_some, refl, ap, ◌∙◌, arith}
+use Rattle.std.proofs.Common.{◌≡◌, ℕ, ◌≤◌, nat_le, Bool, true, false, IsTrue, ◌&&◌, ◌||◌, ◌==◌, cond, List, [], ◌∷◌, ◌++◌, map, length, Option, Some, None, is_some, unwrap_or, if◌then◌else◌, refl, ap, ◌∙◌, arith}
 use Rattle.std.specs.List.{AllByRecursion, list_any, flat_map, filter}
 use Rattle.std.specs.Prelude.{All, codes}
 use Rattle.std.proofs.lemmas.List.Elements.{All-cons, All-append, All-nil, All-tail}
@@ -18,11 +18,11 @@ use Rattle.design_ir.specs.declared.process.Process.{Process}
 use Rattle.design_ir.specs.declared.process.DesignProcess.{DesignProcess}
 use Rattle.design_ir.specs.Pools.{Pooled}
 use Rattle.design_ir.specs.Guards.{driven}
-use Rattle.design_ir.specs.Circuits.{is_among}
+use Rattle.design_ir.specs.Circuits.{is_among, option_test}
 use Rattle.fragment_walks.specs.Reads.{is_driven}
 use Rattle.fragment_walks.proofs.Lists.{all_imp}
 use Rattle.clock_domains.specs.Resolvable.{IsDomainOf, IsResetOf}
-use Rattle.clock_domains.specs.Resolved.{domain_prefix, domain_signals, clocked_data, process_in, is_clocked, memory_path, signals_of, ports_named}
+use Rattle.clock_domains.specs.Resolved.{domain_prefix, domain_signals, name_among, name_by, clocked_data, process_in, is_clocked, memory_path, signals_of, ports_named}
 use Rattle.clock_domains.specs.Chosen.{IsSignal, IsResetThere}
 use Rattle.clock_domains.specs.Ready.{HasDomain}
 
@@ -120,6 +120,19 @@ prefixed_name name end n e l = split (text_eq name (codes "sync"))
 pub domain_signal_names : (names : List (List ℕ)) → AllByRecursion IsName names → AllByRecursion (λ (x : Sig). IsName x.name) (flat_map domain_signals names)
 domain_signal_names [] h = tt
 domain_signal_names (n ∷ names) h = (prefixed_name n (codes "clk") h.0 clk_name clk_letters, (prefixed_name n (codes "rst") h.0 rst_name rst_letters, domain_signal_names names h.1))
+
+-- what domains name has a name
+by_named : (d : Domain) (s : ℕ) (other : List ℕ) → IsName d.name → IsName other → IsName (unwrap_or (name_by d s) other)
+by_named d s other n o = split (d.clk.0 == s) (option_test (λ (r : SigId). r.0 == s) d.rst)
+  where
+    split : (x y : Bool) → IsName (unwrap_or (if x then Some (domain_prefix d.name ++ codes "clk") else (if y then Some (domain_prefix d.name ++ codes "rst") else None)) other)
+    split true y = prefixed_name d.name (codes "clk") n clk_name clk_letters
+    split false true = prefixed_name d.name (codes "rst") n rst_name rst_letters
+    split false false = o
+
+pub among_named : (ds : List Domain) (s : ℕ) (other : List ℕ) → AllByRecursion (λ (d : Domain). IsName d.name) ds → IsName other → IsName (name_among ds s other)
+among_named [] s other h o = o
+among_named (d ∷ ds) s other h o = by_named d s (name_among ds s other) h.0 (among_named ds s other h.1 o)
 
 -- ---- small facts
 

@@ -25,7 +25,7 @@ use Rattle.fragment_walks.proofs.Lists.{all_filtered, all_imp, all_joined, all_m
 use Rattle.clock_domains.specs.declared.top.TopPorts.{TopPorts}
 use Rattle.clock_domains.specs.declared.top.TopPorts.TheVariants.{Members, Held, Loose}
 use Rattle.clock_domains.specs.Resolvable.{IsPlain, IsSideOf, AreTopPorts}
-use Rattle.clock_domains.specs.Resolved.{domain_number, port_of, top_ports, signals_of, driver_refusal, loose_port, first_of, first_refusal, statement_refusal}
+use Rattle.clock_domains.specs.Resolved.{domain_number, held_port, port_of, top_ports, signals_of, driver_refusal, loose_port, first_of, first_refusal, statement_refusal}
 use Rattle.clock_domains.proofs.ChoiceLaws.{range_all}
 
 -- ---- a pool with more signals
@@ -98,38 +98,38 @@ map_same (x ∷ xs) = ap (λ ys. x ∷ ys) (map_same xs)
 abbrev is_loose : Pooled → List Process → Contents → ℕ → Bool
 is_loose q own all a = is_driven q own a || (is_read q all.processes all.memories a && not (is_given q all.processes all.memories a))
 
-loose_step : (q : Pooled) (own : List Process) (all : Contents) (a n : ℕ)
-    → signals_of (filter_map (loose_port q own all) (range_with_len a (suc n))) ≡ cond (is_loose q own all a) (a ∷ signals_of (filter_map (loose_port q own all) (range_with_len (a + 1) n))) (signals_of (filter_map (loose_port q own all) (range_with_len (a + 1) n)))
-loose_step q own all a n = bools (is_driven q own a) (is_read q all.processes all.memories a && not (is_given q all.processes all.memories a)) (filter_map (loose_port q own all) (range_with_len (a + 1) n))
+loose_step : (q : Pooled) (ds : List Domain) (own : List Process) (all : Contents) (a n : ℕ)
+    → signals_of (filter_map (loose_port q ds own all) (range_with_len a (suc n))) ≡ cond (is_loose q own all a) (a ∷ signals_of (filter_map (loose_port q ds own all) (range_with_len (a + 1) n))) (signals_of (filter_map (loose_port q ds own all) (range_with_len (a + 1) n)))
+loose_step q ds own all a n = bools (is_driven q own a) (is_read q all.processes all.memories a && not (is_given q all.processes all.memories a)) (filter_map (loose_port q ds own all) (range_with_len (a + 1) n))
   where
-    bools : (x y : Bool) (rest : List Port) → signals_of (cons_option (cond x (Some (port_of q false a)) (cond y (Some (port_of q true a)) None)) rest) ≡ cond (x || y) (a ∷ signals_of rest) (signals_of rest)
+    bools : (x y : Bool) (rest : List Port) → signals_of (cons_option (cond x (Some (port_of q ds false a)) (cond y (Some (port_of q ds true a)) None)) rest) ≡ cond (x || y) (a ∷ signals_of rest) (signals_of rest)
     bools true y rest = refl
     bools false true rest = refl
     bools false false rest = refl
 
-loose_past : (q : Pooled) (own : List Process) (all : Contents) (k a n : ℕ) → k < a → AllByRecursion (λ y. nat_eq k y ≡ false) (signals_of (filter_map (loose_port q own all) (range_with_len a n)))
-loose_past q own all k a zero h = tt
-loose_past q own all k a (suc n) h = subst (AllByRecursion (λ y. nat_eq k y ≡ false)) (sym (loose_step q own all a n)) (split (is_loose q own all a) (loose_past q own all k (a + 1) n (omega (arith, h))))
+loose_past : (q : Pooled) (ds : List Domain) (own : List Process) (all : Contents) (k a n : ℕ) → k < a → AllByRecursion (λ y. nat_eq k y ≡ false) (signals_of (filter_map (loose_port q ds own all) (range_with_len a n)))
+loose_past q ds own all k a zero h = tt
+loose_past q ds own all k a (suc n) h = subst (AllByRecursion (λ y. nat_eq k y ≡ false)) (sym (loose_step q ds own all a n)) (split (is_loose q own all a) (loose_past q ds own all k (a + 1) n (omega (arith, h))))
   where
-    split : (b : Bool) → AllByRecursion (λ y. nat_eq k y ≡ false) (signals_of (filter_map (loose_port q own all) (range_with_len (a + 1) n)))
-        → AllByRecursion (λ y. nat_eq k y ≡ false) (cond b (a ∷ signals_of (filter_map (loose_port q own all) (range_with_len (a + 1) n))) (signals_of (filter_map (loose_port q own all) (range_with_len (a + 1) n))))
+    split : (b : Bool) → AllByRecursion (λ y. nat_eq k y ≡ false) (signals_of (filter_map (loose_port q ds own all) (range_with_len (a + 1) n)))
+        → AllByRecursion (λ y. nat_eq k y ≡ false) (cond b (a ∷ signals_of (filter_map (loose_port q ds own all) (range_with_len (a + 1) n))) (signals_of (filter_map (loose_port q ds own all) (range_with_len (a + 1) n))))
     split true rest = (not_equal k a (λ e. omega (arith, e, h)), rest)
     split false rest = rest
 
-loose_distinct : (q : Pooled) (own : List Process) (all : Contents) (a n : ℕ) → IsDistinct nat_eq (signals_of (filter_map (loose_port q own all) (range_with_len a n)))
+loose_distinct : (q : Pooled) (ds : List Domain) (own : List Process) (all : Contents) (a n : ℕ) → IsDistinct nat_eq (signals_of (filter_map (loose_port q ds own all) (range_with_len a n)))
 unfolding IsDistinct
-loose_distinct q own all a zero = tt
-loose_distinct q own all a (suc n) = subst (IsDistinct nat_eq) (sym (loose_step q own all a n)) (split (is_loose q own all a) (loose_distinct q own all (a + 1) n))
+loose_distinct q ds own all a zero = tt
+loose_distinct q ds own all a (suc n) = subst (IsDistinct nat_eq) (sym (loose_step q ds own all a n)) (split (is_loose q own all a) (loose_distinct q ds own all (a + 1) n))
   where
-    split : (b : Bool) → IsDistinct nat_eq (signals_of (filter_map (loose_port q own all) (range_with_len (a + 1) n)))
-        → IsDistinct nat_eq (cond b (a ∷ signals_of (filter_map (loose_port q own all) (range_with_len (a + 1) n))) (signals_of (filter_map (loose_port q own all) (range_with_len (a + 1) n))))
-    split true rest = (loose_past q own all a (a + 1) n (omega arith), rest)
+    split : (b : Bool) → IsDistinct nat_eq (signals_of (filter_map (loose_port q ds own all) (range_with_len (a + 1) n)))
+        → IsDistinct nat_eq (cond b (a ∷ signals_of (filter_map (loose_port q ds own all) (range_with_len (a + 1) n))) (signals_of (filter_map (loose_port q ds own all) (range_with_len (a + 1) n))))
+    split true rest = (loose_past q ds own all a (a + 1) n (omega arith), rest)
     split false rest = rest
 
-pub top_distinct : (q : Pooled) (own : List Process) (all : Contents) (top : TopPorts) → AreTopPorts q top → IsDistinct nat_eq (signals_of (top_ports q own all top))
-top_distinct q own all (Members given) h = h.distinct
-top_distinct q own all (Held given) h = subst (IsDistinct nat_eq) (sym (map_map (λ (p : Port). record p { is_input = not (is_given q all.processes all.memories p.sig.0) }) (λ (p : Port). p.sig.0) given)) h.distinct
-top_distinct q own all Loose h = loose_distinct q own all 0 (length q.signals)
+pub top_distinct : (q : Pooled) (ds : List Domain) (own : List Process) (all : Contents) (top : TopPorts) → AreTopPorts q top → IsDistinct nat_eq (signals_of (top_ports q ds own all top))
+top_distinct q ds own all (Members given) h = h.distinct
+top_distinct q ds own all (Held given) h = subst (IsDistinct nat_eq) (sym (map_map (held_port ds (is_given q all.processes all.memories)) (λ (p : Port). p.sig.0) given)) h.distinct
+top_distinct q ds own all Loose h = loose_distinct q ds own all 0 (length q.signals)
 
 -- ---- names of signals
 

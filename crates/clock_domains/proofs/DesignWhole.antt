@@ -30,7 +30,7 @@ use Rattle.fragment_walks.proofs.Lists.{all_filtered, passes, not_true, all_imp,
 use Rattle.clock_domains.specs.declared.top.TopPorts.{TopPorts}
 use Rattle.clock_domains.specs.declared.top.TopPorts.TheVariants.{Members, Held, Loose}
 use Rattle.clock_domains.specs.Resolvable.{IsBit, IsResetOf, IsDomainOf, domain_numbers, top_inputs, AreTopPorts}
-use Rattle.clock_domains.specs.Resolved.{bit_signal, reset_port, ports_of_domain, domain_number, process_in, is_clocked, has_width, signal_name, port_of, domain_ports, top_ports, signals_of, ports_of, named_registers, column_of_port, column_of_register, register_path, columns_of, circuit_of, data_refusal, driver_refusal, driver_stop, has_twice, design_inputs, loose_port, process_path, memory_path}
+use Rattle.clock_domains.specs.Resolved.{bit_signal, reset_port, ports_of_domain, domain_number, process_in, is_clocked, has_width, held_port, signal_name, shown_name, port_of, domain_ports, top_ports, signals_of, ports_of, named_registers, column_of_port, column_of_register, register_path, columns_of, circuit_of, data_refusal, driver_refusal, driver_stop, has_twice, design_inputs, loose_port, process_path, memory_path}
 use Rattle.clock_domains.specs.Chosen.{IsSignal, IsResetThere}
 use Rattle.clock_domains.specs.Ready.{IsNaming, IsReady, IsUnder}
 use Rattle.clock_domains.proofs.DesignFacts.{Apart, pairs, clocks_distinct, resets_distinct, clock_no_reset, all_ports, domain_ports_distinct, clock_among}
@@ -38,7 +38,7 @@ use Rattle.clock_domains.proofs.DesignNames.{columns_distinct, columns_public, c
 use Rattle.clock_domains.proofs.WalkedNames.{memory_naming, process_naming, top_path}
 use Rattle.clock_domains.proofs.ChoiceLaws.{range_all, top_there}
 use Rattle.clock_domains.proofs.ChoiceLaws as choice
-use Rattle.clock_domains.proofs.DesignParts.{clocked_any, named_signals, named_any, named_all, wide_enough, or_true, domains_signal, memory_data}
+use Rattle.clock_domains.proofs.DesignParts.{among_named, clocked_any, named_signals, named_any, named_all, wide_enough, or_true, domains_signal, memory_data}
 use Rattle.clock_domains.proofs.DesignMemories.{apart_singles, lists_distinct, memory_sound, read_drivers, read_drivers_are, single, singles_any, singles_distinct}
 use Rattle.clock_domains.proofs.DesignSound.{IsThere, domain_there, distinct_filtered, distinct_joined, range_distinct, map_same, top_distinct, name_at, apart_at, share_both, AreFree, are_free, first_none, none_some}
 
@@ -74,7 +74,7 @@ module _ (w : Pooled) (ds : List Domain) (own : List Process) (all : Contents) (
   dp = domain_ports w gives ds
 
   abbrev tp : List Port
-  tp = top_ports w own all top
+  tp = top_ports w ds own all top
 
   abbrev is_new : Port → Bool
   is_new p = not (is_among (signals_of dp) p.sig.0) && has_width w p.sig.0
@@ -92,10 +92,10 @@ module _ (w : Pooled) (ds : List Domain) (own : List Process) (all : Contents) (
   regs = named_registers w all ports
 
   abbrev cands : List Column
-  cands = map column_of_port ports ++ map (column_of_register w all) regs
+  cands = map column_of_port ports ++ map (column_of_register w ds all) regs
 
   abbrev cols : List Column
-  cols = columns_of w all ports regs
+  cols = columns_of w ds all ports regs
 
   abbrev c : Circuit
   c = circuit_of w ds all ports
@@ -109,7 +109,7 @@ module _ (w : Pooled) (ds : List Domain) (own : List Process) (all : Contents) (
   dp_there = choice.domain_there w gives ds signals
 
   ports_there : AllByRecursion (λ (p : Port). p.sig.0 < length w.signals) ports
-  ports_there = all_joined (λ (p : Port). p.sig.0 < length w.signals) dp fresh dp_there (all_filtered (λ (p : Port). p.sig.0 < length w.signals) is_new tp (top_there w own all top r.ports))
+  ports_there = all_joined (λ (p : Port). p.sig.0 < length w.signals) dp fresh dp_there (all_filtered (λ (p : Port). p.sig.0 < length w.signals) is_new tp (top_there w ds own all top r.ports))
 
   fresh_apart : AllByRecursion (λ y. is_among (signals_of dp) y ≡ false) (signals_of fresh)
   fresh_apart =
@@ -119,7 +119,7 @@ module _ (w : Pooled) (ds : List Domain) (own : List Process) (all : Contents) (
   ports_distinct : IsDistinct nat_eq (signals_of ports)
   ports_distinct =
       subst (IsDistinct nat_eq) (sym (map-append (λ (p : Port). p.sig.0) dp fresh))
-      (distinct_joined (signals_of dp) (signals_of fresh) (domain_ports_distinct w gives ds r.domains r.apart) (distinct_filtered (λ (p : Port). p.sig.0) is_new tp (top_distinct w own all top r.ports)) fresh_apart)
+      (distinct_joined (signals_of dp) (signals_of fresh) (domain_ports_distinct w gives ds r.domains r.apart) (distinct_filtered (λ (p : Port). p.sig.0) is_new tp (top_distinct w ds own all top r.ports)) fresh_apart)
 
   few_ports : length ports ≤ 16384
   few_ports = omega (arith, few_below (signals_of ports) (length w.signals) ports_distinct (all_mapped (λ s. s < length w.signals) (λ (p : Port). p.sig.0) ports ports_there), length_map (λ (p : Port). p.sig.0) ports, rules.few_signals)
@@ -136,7 +136,7 @@ module _ (w : Pooled) (ds : List Domain) (own : List Process) (all : Contents) (
   few_regs = omega (arith, few_below regs (length w.signals) regs_distinct regs_there, rules.few_signals)
 
   cands_length : length cands ≡ length ports + length regs
-  cands_length = length-append (map column_of_port ports) (map (column_of_register w all) regs) ∙ ap (λ n. n + length (map (column_of_register w all) regs)) (length_map column_of_port ports) ∙ ap (λ n. length ports + n) (length_map (column_of_register w all) regs)
+  cands_length = length-append (map column_of_port ports) (map (column_of_register w ds all) regs) ∙ ap (λ n. n + length (map (column_of_register w ds all) regs)) (length_map column_of_port ports) ∙ ap (λ n. length ports + n) (length_map (column_of_register w ds all) regs)
 
   few_cands : length cands < 2 ^ 64
   few_cands = omega (arith, cands_length, few_ports, few_regs)
@@ -181,41 +181,44 @@ module _ (w : Pooled) (ds : List Domain) (own : List Process) (all : Contents) (
 
   -- ---- names
 
-  name_of : (s : ℕ) → s < length w.signals → IsName (signal_name w s)
-  name_of s low = name_at w.signals s (bit_signal []) low r.names
+  domains_called : AllByRecursion (λ (d : Domain). IsName d.name) ds
+  domains_called = all_imp (λ (d : Domain) h. h.name) ds r.domains
 
-  domain_named : (d : Domain) → IsSignal w d → AllByRecursion IsNamedPort (ports_of_domain w gives d)
+  name_of : (s : ℕ) → s < length w.signals → IsName (shown_name w ds s)
+  name_of s low = among_named ds s (signal_name w s) domains_called (name_at w.signals s (bit_signal []) low r.names)
+
+  domain_named : (d : Domain) → IsSignal w d → AllByRecursion IsNamedPort (ports_of_domain w ds gives d)
   domain_named d h = (name_of d.clk.0 h.clock, reset_named d.rst h.reset)
     where
-      reset_named : (o : Option SigId) → IsResetThere w o → AllByRecursion (λ (p : Port). IsName p.name) (option_map_or (reset_port w gives) o [])
+      reset_named : (o : Option SigId) → IsResetThere w o → AllByRecursion (λ (p : Port). IsName p.name) (option_map_or (reset_port w ds gives) o [])
       reset_named None h = tt
       reset_named (Some s) h = split (gives s.0)
         where
-          split : (b : Bool) → AllByRecursion (λ (p : Port). IsName p.name) (if b then [] else port_of w true s.0 ∷ [])
+          split : (b : Bool) → AllByRecursion (λ (p : Port). IsName p.name) (if b then [] else port_of w ds true s.0 ∷ [])
           split true = tt
           split false = (name_of s.0 h, tt)
 
-  domains_named : (xs : List Domain) → AllByRecursion (IsSignal w) xs → AllByRecursion IsNamedPort (domain_ports w gives xs)
+  domains_named : (xs : List Domain) → AllByRecursion (IsSignal w) xs → AllByRecursion IsNamedPort (flat_map (ports_of_domain w ds gives) xs)
   domains_named [] h = tt
-  domains_named (d ∷ xs) h = all_joined IsNamedPort (ports_of_domain w gives d) (domain_ports w gives xs) (domain_named d h.0) (domains_named xs h.1)
+  domains_named (d ∷ xs) h = all_joined IsNamedPort (ports_of_domain w ds gives d) (flat_map (ports_of_domain w ds gives) xs) (domain_named d h.0) (domains_named xs h.1)
 
-  loose_named : (a n : ℕ) → a + n ≤ length w.signals → AllByRecursion IsNamedPort (filter_map (loose_port w own all) (range_with_len a n))
+  loose_named : (a n : ℕ) → a + n ≤ length w.signals → AllByRecursion IsNamedPort (filter_map (loose_port w ds own all) (range_with_len a n))
   loose_named a zero le = tt
   loose_named a (suc n) le =
-      bools (is_driven w own a) (is_read w all.processes all.memories a && not (gives a)) (filter_map (loose_port w own all) (range_with_len (a + 1) n)) (name_of a (omega (arith, le))) (loose_named (a + 1) n (omega (arith, le)))
+      bools (is_driven w own a) (is_read w all.processes all.memories a && not (gives a)) (filter_map (loose_port w ds own all) (range_with_len (a + 1) n)) (name_of a (omega (arith, le))) (loose_named (a + 1) n (omega (arith, le)))
     where
-      bools : (x y : Bool) (rest : List Port) → IsName (signal_name w a) → AllByRecursion IsNamedPort rest → AllByRecursion IsNamedPort (cons_option (cond x (Some (port_of w false a)) (cond y (Some (port_of w true a)) None)) rest)
+      bools : (x y : Bool) (rest : List Port) → IsName (shown_name w ds a) → AllByRecursion IsNamedPort rest → AllByRecursion IsNamedPort (cons_option (cond x (Some (port_of w ds false a)) (cond y (Some (port_of w ds true a)) None)) rest)
       bools true y rest n h = (n, h)
       bools false true rest n h = (n, h)
       bools false false rest n h = h
 
-  top_named : (t : TopPorts) → AreTopPorts w t → AllByRecursion IsNamedPort (top_ports w own all t)
+  top_named : (t : TopPorts) → AreTopPorts w t → AllByRecursion IsNamedPort (top_ports w ds own all t)
   top_named (Members given) h = all_imp (λ (p : Port) k. k.name) given h.each
-  top_named (Held given) h = all_mapped (λ (p : Port). IsName p.name) (λ (p : Port). record p { is_input = not (gives p.sig.0) }) given (all_imp (λ (p : Port) k. k.name) given h.each)
+  top_named (Held given) h = all_mapped (λ (p : Port). IsName p.name) (held_port ds gives) given (all_imp (λ (p : Port) k. among_named ds p.sig.0 p.name domains_called k.name) given h.each)
   top_named Loose h = loose_named 0 (length w.signals) (omega arith)
 
-  register_named : (s : ℕ) → s < length w.signals → IsPath (column_of_register w all s).name
-  register_named s low = under_path (unwrap_or (register_path w all s) []) (signal_name w s) (by (register_path w all s) (naming (is_driven w (filter is_clocked ps) s))) (name_of s low)
+  register_named : (s : ℕ) → s < length w.signals → IsPath (column_of_register w ds all s).name
+  register_named s low = under_path (unwrap_or (register_path w all s) []) (shown_name w ds s) (by (register_path w all s) (naming (is_driven w (filter is_clocked ps) s))) (name_of s low)
     where
       naming : (b : Bool) → IsNaming (if b then process_path w all.processes all.paths s else memory_path all.memories all.memory_paths s)
       naming true = process_naming w all.processes all.paths s r.walk.each
@@ -227,10 +230,10 @@ module _ (w : Pooled) (ds : List Domain) (own : List Process) (all : Contents) (
 
   cands_named : AllByRecursion (λ (x : Column). IsPath x.name) cands
   cands_named =
-      all_joined (λ (x : Column). IsPath x.name) (map column_of_port ports) (map (column_of_register w all) regs)
+      all_joined (λ (x : Column). IsPath x.name) (map column_of_port ports) (map (column_of_register w ds all) regs)
       (all_mapped (λ (x : Column). IsPath x.name) column_of_port ports
       (all_imp (λ (p : Port) n. name_path p.name n) ports (all_joined (λ (p : Port). IsName p.name) dp fresh (domains_named ds signals) (all_filtered (λ (p : Port). IsName p.name) is_new tp (top_named top r.ports)))))
-      (all_mapped (λ (x : Column). IsPath x.name) (column_of_register w all) regs (all_imp (λ s low. register_named s low) regs regs_there))
+      (all_mapped (λ (x : Column). IsPath x.name) (column_of_register w ds all) regs (all_imp (λ s low. register_named s low) regs regs_there))
 
   -- ---- processes
 
@@ -293,22 +296,22 @@ module _ (w : Pooled) (ds : List Domain) (own : List Process) (all : Contents) (
     registers = regs;
     split =
         columns_signals [] cands
-        ∙ map-append (λ (x : Column). x.sig.0) (map column_of_port ports) (map (column_of_register w all) regs)
-        ∙ ap (λ xs. xs ++ map (λ (x : Column). x.sig.0) (map (column_of_register w all) regs)) (map_map column_of_port (λ (x : Column). x.sig.0) ports)
-        ∙ ap (λ xs. signals_of ports ++ xs) (map_map (column_of_register w all) (λ (x : Column). x.sig.0) regs ∙ map_same regs)
+        ∙ map-append (λ (x : Column). x.sig.0) (map column_of_port ports) (map (column_of_register w ds all) regs)
+        ∙ ap (λ xs. xs ++ map (λ (x : Column). x.sig.0) (map (column_of_register w ds all) regs)) (map_map column_of_port (λ (x : Column). x.sig.0) ports)
+        ∙ ap (λ xs. signals_of ports ++ xs) (map_map (column_of_register w ds all) (λ (x : Column). x.sig.0) regs ∙ map_same regs)
         ∙ ap (λ xs. xs ++ regs) (sym port_signals_are);
     are_registers = all_imp (λ s t. register_sound s (reg_parts s t).0) regs regs_pass;
     no_ports = all_imp (λ s t. ap (λ ss. is_among ss s) port_signals_are ∙ (reg_parts s t).1) regs regs_pass;
     each_once = regs_distinct;
     there =
         columns_keep (λ s. s < length w.signals) [] cands
-        (all_joined (λ (x : Column). x.sig.0 < length w.signals) (map column_of_port ports) (map (column_of_register w all) regs) (all_mapped (λ (x : Column). x.sig.0 < length w.signals) column_of_port ports ports_there)
-        (all_mapped (λ (x : Column). x.sig.0 < length w.signals) (column_of_register w all) regs regs_there));
+        (all_joined (λ (x : Column). x.sig.0 < length w.signals) (map column_of_port ports) (map (column_of_register w ds all) regs) (all_mapped (λ (x : Column). x.sig.0 < length w.signals) column_of_port ports ports_there)
+        (all_mapped (λ (x : Column). x.sig.0 < length w.signals) (column_of_register w ds all) regs regs_there));
     some_width =
         columns_keep (λ s. 1 ≤ (signal_form w.signals s).width) [] cands
-        (all_joined (λ (x : Column). 1 ≤ (signal_form w.signals x.sig.0).width) (map column_of_port ports) (map (column_of_register w all) regs)
+        (all_joined (λ (x : Column). 1 ≤ (signal_form w.signals x.sig.0).width) (map column_of_port ports) (map (column_of_register w ds all) regs)
         (all_mapped (λ (x : Column). 1 ≤ (signal_form w.signals x.sig.0).width) column_of_port ports ports_wide)
-        (all_mapped (λ (x : Column). 1 ≤ (signal_form w.signals x.sig.0).width) (column_of_register w all) regs (all_imp (λ s t. (reg_parts s t).2) regs regs_pass)));
+        (all_mapped (λ (x : Column). 1 ≤ (signal_form w.signals x.sig.0).width) (column_of_register w ds all) regs (all_imp (λ s t. (reg_parts s t).2) regs regs_pass)));
     names = columns_distinct [] cands few_all no_names;
     name_forms = columns_public [] cands few_all cands_named;
   }
@@ -396,30 +399,30 @@ module _ (w : Pooled) (ds : List Domain) (own : List Process) (all : Contents) (
   clock_free : AllByRecursion (λ (d : Domain). gives d.clk.0 ≡ false) ds
   clock_free = all_imp (λ (d : Domain) h. free_of (map (λ (d : Domain). d.clk.0) ds) d.clk.0 clocks_free h.0 (data_free d.clk.0 (left_among (flat_map domain_numbers ds) (top_inputs top) d.clk.0 h.1))) ds (clocks_in ds)
 
-  reset_free : (o : Option SigId) → AllByRecursion IsFreePort (option_map_or (reset_port w gives) o [])
+  reset_free : (o : Option SigId) → AllByRecursion IsFreePort (option_map_or (reset_port w ds gives) o [])
   reset_free None = tt
   reset_free (Some s) = split (gives s.0) refl
     where
-      split : (b : Bool) → gives s.0 ≡ b → AllByRecursion IsFreePort (if b then [] else port_of w true s.0 ∷ [])
+      split : (b : Bool) → gives s.0 ≡ b → AllByRecursion IsFreePort (if b then [] else port_of w ds true s.0 ∷ [])
       split true e = tt
       split false e = ((λ input. e), tt)
 
-  domains_free : (xs : List Domain) → AllByRecursion (λ (d : Domain). gives d.clk.0 ≡ false) xs → AllByRecursion IsFreePort (domain_ports w gives xs)
+  domains_free : (xs : List Domain) → AllByRecursion (λ (d : Domain). gives d.clk.0 ≡ false) xs → AllByRecursion IsFreePort (flat_map (ports_of_domain w ds gives) xs)
   domains_free [] h = tt
-  domains_free (d ∷ xs) h = all_joined IsFreePort (ports_of_domain w gives d) (domain_ports w gives xs) ((λ input. h.0), reset_free d.rst) (domains_free xs h.1)
+  domains_free (d ∷ xs) h = all_joined IsFreePort (ports_of_domain w ds gives d) (flat_map (ports_of_domain w ds gives) xs) ((λ input. h.0), reset_free d.rst) (domains_free xs h.1)
 
-  loose_free : (a n : ℕ) → AllByRecursion IsFreePort (filter_map (loose_port w own all) (range_with_len a n))
+  loose_free : (a n : ℕ) → AllByRecursion IsFreePort (filter_map (loose_port w ds own all) (range_with_len a n))
   loose_free a zero = tt
-  loose_free a (suc n) = bools (is_driven w own a) (is_read w all.processes all.memories a && not (gives a)) refl (filter_map (loose_port w own all) (range_with_len (a + 1) n)) (loose_free (a + 1) n)
+  loose_free a (suc n) = bools (is_driven w own a) (is_read w all.processes all.memories a && not (gives a)) refl (filter_map (loose_port w ds own all) (range_with_len (a + 1) n)) (loose_free (a + 1) n)
     where
-      bools : (x y : Bool) → (is_read w all.processes all.memories a && not (gives a)) ≡ y → (rest : List Port) → AllByRecursion IsFreePort rest → AllByRecursion IsFreePort (cons_option (cond x (Some (port_of w false a)) (cond y (Some (port_of w true a)) None)) rest)
+      bools : (x y : Bool) → (is_read w all.processes all.memories a && not (gives a)) ≡ y → (rest : List Port) → AllByRecursion IsFreePort rest → AllByRecursion IsFreePort (cons_option (cond x (Some (port_of w ds false a)) (cond y (Some (port_of w ds true a)) None)) rest)
       bools true y e rest h = (λ input. absurd (false≢true input), h)
       bools false true e rest h = (λ input. not_true (gives a) (and_parts (is_read w all.processes all.memories a) (not (gives a)) e).1, h)
       bools false false e rest h = h
 
-  top_free : (t : TopPorts) → AllByRecursion (λ (p : Process). share (driven w p.body) (top_inputs t) ≡ false) ps → ((s : ℕ) → is_among (top_inputs t) s ≡ true → is_among words s ≡ false) → AllByRecursion IsFreePort (top_ports w own all t)
+  top_free : (t : TopPorts) → AllByRecursion (λ (p : Process). share (driven w p.body) (top_inputs t) ≡ false) ps → ((s : ℕ) → is_among (top_inputs t) s ≡ true → is_among words s ≡ false) → AllByRecursion IsFreePort (top_ports w ds own all t)
   top_free (Members given) h none = (let f : (x : Port) → IsAmongInputs given x → IsFreePort x = λ x k input. free_of (top_inputs (Members given)) x.sig.0 h (k input) (none x.sig.0 (k input)) in all_imp f given (inputs_among given))
-  top_free (Held given) h none = all_mapped IsFreePort (λ (p : Port). record p { is_input = not (gives p.sig.0) }) given (each given)
+  top_free (Held given) h none = all_mapped IsFreePort (held_port ds gives) given (each given)
     where
       each : (xs : List Port) → AllByRecursion (λ (p : Port). IsTrue (not (gives p.sig.0)) → gives p.sig.0 ≡ false) xs
       each [] = tt

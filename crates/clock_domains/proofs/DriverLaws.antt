@@ -88,7 +88,7 @@ mutual
       ∙ ap (λ xs. xs ++ map (λ (g : Guarded). g.target.0) (guarded_arms (gs ++ record { condition = c; taken = false } ∷ []) others)) (block_flat (gs ++ record { condition = c; taken = true } ∷ []) body)
       ∙ ap (λ xs. block_targets body ++ xs) (choices_flat (gs ++ record { condition = c; taken = false } ∷ []) others)
 
-  block_flat : (gs : List Guard) (b : Block) → map (λ (g : Guarded). g.target.0) (guarded gs b) ≡ block_targets b
+  pub block_flat : (gs : List Guard) (b : Block) → map (λ (g : Guarded). g.target.0) (guarded gs b) ≡ block_targets b
   block_flat gs done = refl
   block_flat gs (next s rest) =
       map_joined (guarded_in gs s) (guarded gs rest) ∙ ap (λ xs. xs ++ map (λ (g : Guarded). g.target.0) (guarded gs rest)) (statement_flat gs s) ∙ ap (λ xs. statement_targets s ++ xs) (block_flat gs rest)

@@ -3,7 +3,7 @@ use Rattle.std.proofs.Common.{◌≡◌, inl, inr, ℕ, zero, suc, ◌+◌, ◌-
 use Rattle.std.specs.Prelude.{option_map}
 use Rattle.std.specs.List.{AllByRecursion, IsDistinct, cons_option, filter_map, flat_map, list_any}
 use Rattle.std.specs.Option.{option_map_or}
-use Rattle.std.proofs.lemmas.Bool.{false≢true}
+use Rattle.std.proofs.lemmas.Bool.{false≢true, eq-eqb}
 use Rattle.std.proofs.lemmas.Bool.Decides.{nat_tests}
 use Rattle.lists.specs.Texts.{text_eq}
 use Rattle.lists.specs.Names.{IsName}
@@ -28,8 +28,9 @@ use Rattle.fragment_walks.proofs.Lists.{all_both, all_imp, all_left, all_mapped,
 use Rattle.fragment_walks.proofs.Outs.{among_flat}
 use Rattle.fragment_walks.proofs.WalkLaws.{HasName}
 use Rattle.clock_domains.specs.Resolvable.{IsBit, IsResetOf, IsDomainOf, AreApart, domain_numbers}
-use Rattle.clock_domains.specs.Resolved.{each_once, defined_domain, undefined_names, domain_signals, domain_at, domain_for, number_after, domains_from, with_domains, is_past_limit, domain_number, is_clocked}
+use Rattle.clock_domains.specs.Resolved.{clash_after, each_once, defined_domain, undefined_names, domain_signals, domain_at, domain_for, number_after, domains_from, with_domains, is_past_limit, domain_number, is_clocked}
 use Rattle.clock_domains.specs.Ready.{HasDomain, HasDomains, IsNamedDomain}
+use Rattle.clock_domains.proofs.ClashLaws.{HasOwnClock, own_clocks}
 use Rattle.clock_domains.proofs.EachOnce.{once_any}
 use Rattle.clock_domains.proofs.MadeDomains.{defined_name, defined_all, length_with, made_any, names_back}
 use Rattle.clock_domains.proofs.DesignSound.{not_equal, share_flipped}
@@ -126,12 +127,13 @@ IsOther d e = text_eq d.name e.name ≡ false → share (domain_numbers d) (doma
 abbrev AreOthers : List DomainDef → DomainDef → Type 0
 AreOthers definitions d = AllByRecursion (AreApart d) definitions
 
-others : (d : DomainDef) (definitions : List DomainDef) → AreOthers definitions d → AllByRecursion (λ (e : DomainDef). IsOther d.domain e.domain) definitions
-others d definitions h = all_imp one definitions h
+-- they are not this one under other names, whose clock would be the same
+others : (d : DomainDef) (definitions : List DomainDef) → AreOthers definitions d → AllByRecursion (HasOwnClock d) definitions → AllByRecursion (λ (e : DomainDef). IsOther d.domain e.domain) definitions
+others d definitions h own = all_both one definitions h own
   where
-    one : (e : DomainDef) → AreApart d e → IsOther d.domain e.domain
-    one e (inl same) differ = absurd (false≢true (sym differ ∙ ap (λ (x : Domain). text_eq d.domain.name x.name) (sym same) ∙ text_eq_same d.domain.name))
-    one e (inr apart) differ = apart
+    one : (e : DomainDef) → AreApart d e → HasOwnClock d e → IsOther d.domain e.domain
+    one e (inl same) own differ = absurd (false≢true (sym (own differ) ∙ eq-eqb d.domain.clk.0 e.domain.clk.0 (ap (λ (x : Domain). x.clk.0) same)))
+    one e (inr apart) own differ = apart
 
 any_name : List ℕ → Type 0
 any_name n = Unit {0}
@@ -141,7 +143,7 @@ unfolding any_name
 all_named [] = tt
 all_named (n ∷ names) = (tt, all_named names)
 
-module _ (q : Pooled) (definitions : List DomainDef) (defined : AllByRecursion (λ (d : DomainDef). IsDomainOf q d.domain) definitions) (apart : AllByRecursion (AreOthers definitions) definitions) where
+module _ (q : Pooled) (definitions : List DomainDef) (defined : AllByRecursion (λ (d : DomainDef). IsDomainOf q d.domain) definitions) (apart : AllByRecursion (AreOthers definitions) definitions) (free : clash_after [] definitions ≡ None) where
   -- a name that is not among others: so it is of their domains
   other_names : (m : ℕ) (names : List (List ℕ)) (n : List ℕ) → AllByRecursion (λ x. text_eq n x ≡ false) names → AllByRecursion (λ (e : Domain). text_eq n e.name ≡ false) (domains_from definitions m names)
   other_names m names n h =
@@ -159,7 +161,7 @@ module _ (q : Pooled) (definitions : List DomainDef) (defined : AllByRecursion (
       of_defined d e =
           let mine : IsDomainOf q d = defined_all (IsDomainOf q) definitions n d defined e in
           let name : d.name ≡ n = defined_name definitions n d e in
-          let them : AllByRecursion (λ (x : DomainDef). IsOther d x.domain) definitions = defined_all (λ (y : Domain). AllByRecursion (λ (x : DomainDef). IsOther y x.domain) definitions) definitions n d (all_imp (λ (x : DomainDef) h. others x definitions h) definitions apart) e in
+          let them : AllByRecursion (λ (x : DomainDef). IsOther d x.domain) definitions = defined_all (λ (y : Domain). AllByRecursion (λ (x : DomainDef). IsOther y x.domain) definitions) definitions n d (all_both (λ (x : DomainDef) h own. others x definitions h own) definitions apart (own_clocks definitions free)) e in
           let all : AllByRecursion (IsOther d) (domains_from definitions m names) =
           domains_all (IsOther d) any_name definitions m (m + 2 * length (undefined_names definitions names)) names them
           (λ k x low high is differ. low_high m (domain_numbers d) (k ∷ suc k ∷ []) (below_wider (length q.signals) m (domain_numbers d) le (numbers_low q d mine)) (low, (omega (arith, low), tt))) (all_named names) (omega arith) in

@@ -233,7 +233,7 @@ all_same : (f g : ℕ → Bool) (es : List ExprId) → AreSame f g es → list_a
 all_same f g [] h = refl
 all_same f g (e ∷ es) h = let a = h.0 in let b = all_same f g es h.1 in cc
 
-open_same : (f g : ℕ → Bool) (e : Expr) → AreSame f g (named e) → open_target_test f e ≡ open_target_test g e
+pub open_same : (f g : ℕ → Bool) (e : Expr) → AreSame f g (named e) → open_target_test f e ≡ open_target_test g e
 open_same f g (Reset name place) h = refl
 open_same f g (Const n s) h = refl
 open_same f g (expr.TheVariants.Sig s) h = refl

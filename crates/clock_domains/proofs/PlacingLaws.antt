@@ -2,7 +2,7 @@
 use Rattle.std.proofs.Common.{◌≡◌, ℕ, zero, suc, ◌+◌, ◌-◌, ◌<◌, ◌≤◌, nat_lt, ◌⊎◌, inl, inr, Bool, true, false, ◌||◌, ◌&&◌, not, cond, List, [], ◌∷◌, ◌++◌, length, take, Option, Some, None, is_some, bytes_eq, slice_get, slice_set, position, refl, sym, ap, ◌∙◌, subst, arith, append-nil}
 use Rattle.std.specs.Prelude.{option_and_then, option_map}
 use Rattle.std.specs.Option.{option_map_or, option_or}
-use Rattle.std.specs.List.{filter, filter_map, find, range_with_len}
+use Rattle.std.specs.List.{filter, filter_map, find, list_any, range_with_len}
 use Rattle.std.proofs.lemmas.Bool.{false≢true}
 use Rattle.std.proofs.lemmas.Bool.Decides.{nat_tests}
 use Rattle.std.proofs.lemmas.List.Elements.{filter-append, filter_map-append}
@@ -29,10 +29,10 @@ use Rattle.clock_domains.specs.declared.stop.ResolveStop.{ResolveStop}
 use Rattle.clock_domains.specs.declared.stop.ResolveStop.TheVariants.{DomainClash, NoReset}
 use Rattle.clock_domains.specs.Placed.{or_signal, placed_expr, placed_from, placed_pool, reset_of}
 use Rattle.clock_domains.specs.Placing.{IsLacking, IsLackingPut, place_stop, placed_signal, signal_for}
-use Rattle.clock_domains.specs.Resolved.{clash_after, first_of, has_name, lacks_reset, reset_refusal}
+use Rattle.clock_domains.specs.Resolved.{clash_after, clashes, first_of, has_name, lacks_reset, reset_refusal}
 use Rattle.clock_domains.specs.Stops.{IsOwed}
 use Rattle.clock_domains.specs.Tracked.{IsPut}
-use Rattle.clock_domains.proofs.ClashLaws.{clash_told, names_of}
+use Rattle.clock_domains.proofs.ClashLaws.{clash_told, clashes_named, names_of}
 use Rattle.clock_domains.proofs.EachOnce.{find_nowhere, find_placed}
 
 -- ---- what is held
@@ -99,13 +99,13 @@ first_parts : {A : Type 0} (a b : Option A) → first_of a b ≡ None → (a ≡
 first_parts None b h = (refl, h)
 first_parts (Some x) b h = cc
 
-clash_taken : (names : List (List ℕ)) (ds : List DomainDef) (i : ℕ) → clash_after names ds ≡ None → clash_after names (take i ds) ≡ None
-clash_taken names ds zero h = refl
-clash_taken names [] (suc i) h = refl
-clash_taken names (d ∷ ds) (suc i) h =
-    let here : Option ResolveStop = cond (has_name names d.domain.name) (Some (DomainClash d.place)) None in
-    let parts = first_parts here (clash_after (names ++ d.domain.name ∷ []) ds) h in
-    ap (λ o. first_of o (clash_after (names ++ d.domain.name ∷ []) (take i ds))) parts.0 ∙ clash_taken (names ++ d.domain.name ∷ []) ds i parts.1
+clash_taken : (before ds : List DomainDef) (i : ℕ) → clash_after before ds ≡ None → clash_after before (take i ds) ≡ None
+clash_taken before ds zero h = refl
+clash_taken before [] (suc i) h = refl
+clash_taken before (d ∷ ds) (suc i) h =
+    let here : Option ResolveStop = cond (list_any (clashes d) before) (Some (DomainClash d.place)) None in
+    let parts = first_parts here (clash_after (before ++ d ∷ []) ds) h in
+    ap (λ o. first_of o (clash_after (before ++ d ∷ []) (take i ds))) parts.0 ∙ clash_taken (before ++ d ∷ []) ds i parts.1
 
 -- one definition more, where none clashes
 pub lacking_turn : (ds : List DomainDef) (i : ℕ) (d : DomainDef) (look look' : List ℕ → Option ℕ) → slice_get ds i ≡ Some d → clash_after [] ds ≡ None → IsLacking (take i ds) look → IsLackingPut look d look' → IsLacking (take (i + 1) ds) look'
@@ -118,7 +118,7 @@ lacking_turn ds i d look look' at free lacking put name =
     no_some e = cc
 
     new : (b : Bool) → has_name (names_of (take i ds)) d.domain.name ≡ b → has_name (names_of (take i ds)) d.domain.name ≡ false
-    new true e = absurd (no_some (sym (clash_told ds i d at (clash_taken [] ds i free) e) ∙ free))
+    new true e = absurd (no_some (sym (clash_told ds i d at (clash_taken [] ds i free) (clashes_named d (take i ds) e)) ∙ free))
     new false e = e
 
 or_end : (b : Bool) → (b || true) ≡ true

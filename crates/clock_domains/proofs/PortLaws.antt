@@ -1,6 +1,6 @@
 -- Ports, one after another.
 use Rattle.std.proofs.Common.{◌≡◌, ℕ, zero, suc, ◌+◌, ◌<◌, ◌≤◌, Bool, true, false, ◌||◌, cond, List, [], ◌∷◌, ◌++◌, map, length, take, Option, Some, slice_get, sym, ap, ◌∙◌, subst, arith, append-nil, append_assoc}
-use Rattle.std.specs.List.{AllByRecursion, filter, filter_map, range_with_len}
+use Rattle.std.specs.List.{AllByRecursion, filter, filter_map, flat_map, range_with_len}
 use Rattle.std.proofs.lemmas.List.Elements.{filter-append, filter_map-append}
 use Rattle.std.proofs.lemmas.List.Concat.{flat_map-append}
 use Rattle.design_ir.specs.declared.port.Port.{Port}
@@ -15,7 +15,7 @@ use Rattle.fragment_walks.proofs.Markings.{marked-append, marked_at, length_mark
 use Rattle.clock_domains.specs.declared.top.TopPorts.{TopPorts}
 use Rattle.clock_domains.specs.declared.top.TopPorts.TheVariants.{Members, Held, Loose}
 use Rattle.clock_domains.specs.Resolvable.{IsPortOf, ArePorts, AreTopPorts, top_inputs}
-use Rattle.clock_domains.specs.Resolved.{signals_of, domain_ports, ports_of_domain}
+use Rattle.clock_domains.specs.Resolved.{signals_of}
 use Rattle.clock_domains.specs.Chosen.{IsSignal}
 
 abbrev pub clocks_of : List Domain → List ℕ
@@ -85,10 +85,9 @@ small_clocks n (d ∷ ds) h = (h.0, small_clocks n ds h.1)
 pub marking_both : (clocks ss : List ℕ) (old mid new : List Bool) → IsMarking old clocks mid → IsMarking mid ss new → IsMarking old (clocks ++ ss) new
 marking_both clocks ss old mid new h k = k ∙ ap (marked ss) h ∙ sym (marked-append clocks ss old)
 
-pub domains_turn : (q : Pooled) (driven : ℕ → Bool) (ds : List Domain) (i : ℕ) (d : Domain) (cur new : List Port) → slice_get ds i ≡ Some d → cur ≡ domain_ports q driven (take i ds) → new ≡ cur ++ ports_of_domain q driven d → new ≡ domain_ports q driven (take (i + 1) ds)
-domains_turn q driven ds i d cur new at h k =
-    k ∙ ap (λ ps. ps ++ ports_of_domain q driven d) h ∙ ap (λ ps. domain_ports q driven (take i ds) ++ ps) (sym (append-nil (ports_of_domain q driven d))) ∙ sym (flat_map-append (ports_of_domain q driven) (take i ds) (d ∷ []))
-    ∙ ap (domain_ports q driven) (sym (take-push ds i d at))
+pub domains_turn : (f : Domain → List Port) (ds : List Domain) (i : ℕ) (d : Domain) (cur new : List Port) → slice_get ds i ≡ Some d → cur ≡ flat_map f (take i ds) → new ≡ cur ++ f d → new ≡ flat_map f (take (i + 1) ds)
+domains_turn f ds i d cur new at h k =
+    k ∙ ap (λ ps. ps ++ f d) h ∙ ap (λ ps. flat_map f (take i ds) ++ ps) (sym (append-nil (f d))) ∙ sym (flat_map-append f (take i ds) (d ∷ [])) ∙ ap (flat_map f) (sym (take-push ds i d at))
 
 pub members_turn : (test : Port → Bool) (ps : List Port) (i : ℕ) (p : Port) (old cur new : List Port) → slice_get ps i ≡ Some p → cur ≡ old ++ filter test (take i ps) → new ≡ cur ++ filter test (p ∷ []) → new ≡ old ++ filter test (take (i + 1) ps)
 members_turn test ps i p old cur new at = filtered_turn (filter test) ps i p old cur new (filter test (p ∷ [])) at (filter-append test (take i ps) (p ∷ []))

@@ -66,7 +66,7 @@ module _ (q : Pooled) (ds : List Domain) (own : List Process) (all : Contents) (
   pub ready_ports : AllByRecursion (λ (p : Port). p.sig.0 < length q.signals) (ports_of q ds own all top)
   ready_ports =
       all_joined (λ (p : Port). p.sig.0 < length q.signals) (domain_ports q (is_given q all.processes all.memories) ds) _ (domain_there q (is_given q all.processes all.memories) ds ready_domains)
-      (all_filtered (λ (p : Port). p.sig.0 < length q.signals) _ (top_ports q own all top) (top_there q own all top h.ports))
+      (all_filtered (λ (p : Port). p.sig.0 < length q.signals) _ (top_ports q ds own all top) (top_there q ds own all top h.ports))
 
   -- read ports give signals of the pool
   pub ready_data : AllByRecursion (λ s. s < length q.signals) (data_signals all.memories)
@@ -157,22 +157,22 @@ module _ (q : Pooled) (all : Contents) (sites : List (Option ℕ)) (rules : IsPo
       ∙ filter_shorter test (length q.signals) (length sites) (omega (arith, rules.few_signals, f.size))
       (λ s le. ap (λ o. is_some o && (not (is_among (signals_of ports) s) && has_width q s)) (path_none s le))
 
-  pub columns_same : (ports : List Port) → map (known_column q paths sites) (named_registers q all ports) ≡ map (column_of_register q all) (named_registers q all ports)
-  columns_same ports =
-      map_on (known_column q paths sites) (column_of_register q all) (named_registers q all ports)
-      (all_filtered (λ s. known_column q paths sites s ≡ column_of_register q all s) _ (range_with_len 0 (length q.signals))
-      (range_all (λ s. known_column q paths sites s ≡ column_of_register q all s) 0 (length q.signals) (λ s low high. ap (λ o. column_under q o s) (path_same s (omega (arith, high, rules.few_signals))))))
+  pub columns_same : (ds : List Domain) (ports : List Port) → map (known_column q ds paths sites) (named_registers q all ports) ≡ map (column_of_register q ds all) (named_registers q all ports)
+  columns_same ds ports =
+      map_on (known_column q ds paths sites) (column_of_register q ds all) (named_registers q all ports)
+      (all_filtered (λ s. known_column q ds paths sites s ≡ column_of_register q ds all s) _ (range_with_len 0 (length q.signals))
+      (range_all (λ s. known_column q ds paths sites s ≡ column_of_register q ds all s) 0 (length q.signals) (λ s low high. ap (λ o. column_under q ds o s) (path_same s (omega (arith, high, rules.few_signals))))))
 
   -- what is found by paths that are these
   pub registers_found : (xs : List (Option (List ℕ))) (ports : List Port) (is_port : List Bool) (found : List ℕ) → xs ≡ paths → Flag is_port (is_among (signals_of ports))
       → found ≡ filter (λ s. is_some (path_at xs (first_at sites s)) && (not (is_marked is_port s) && has_width q s)) (range_with_len 0 (length sites)) → found ≡ named_registers q all ports
   registers_found xs ports is_port found e g h = h ∙ ap (λ ys. filter (λ s. is_some (path_at ys (first_at sites s)) && (not (is_marked is_port s) && has_width q s)) (range_with_len 0 (length sites))) e ∙ registers_same ports is_port g
 
-  pub columns_found : (ports' ports : List Port) (xs : List (Option (List ℕ))) (found : List ℕ) (named : List Column) → ports' ≡ ports → xs ≡ paths → found ≡ named_registers q all ports → named ≡ map (known_column q xs sites) found
-      → columns_after [] (map column_of_port ports' ++ named) ≡ columns_of q all ports (named_registers q all ports)
-  columns_found ports' ports xs found named a b r e =
+  pub columns_found : (ds : List Domain) (ports' ports : List Port) (xs : List (Option (List ℕ))) (found : List ℕ) (named : List Column) → ports' ≡ ports → xs ≡ paths → found ≡ named_registers q all ports → named ≡ map (known_column q ds xs sites) found
+      → columns_after [] (map column_of_port ports' ++ named) ≡ columns_of q ds all ports (named_registers q all ports)
+  columns_found ds ports' ports xs found named a b r e =
       ap (λ ps. columns_after [] (map column_of_port ps ++ named)) a
-      ∙ ap (λ cs. columns_after [] (map column_of_port ports ++ cs)) (e ∙ ap (λ ys. map (known_column q ys sites) found) b ∙ ap (map (known_column q paths sites)) r ∙ columns_same ports)
+      ∙ ap (λ cs. columns_after [] (map column_of_port ports ++ cs)) (e ∙ ap (λ ys. map (known_column q ds ys sites) found) b ∙ ap (map (known_column q ds paths sites)) r ∙ columns_same ds ports)
 
   -- only signals of the pool have numbers
   pub sites_there : AreNumbersThere q sites
@@ -208,23 +208,23 @@ columns_enough ports regs cols e = omega (arith, ap length e, columns_length [] 
 -- ---- the whole
 
 pub circuit_parts : (q : Pooled) (ds : List Domain) (all : Contents) (ports ports' : List Port) (processes : List DesignProcess) (memories : List Memory) (cols : List Column)
-    → processes ≡ map (process_in ds) all.processes → memories ≡ all.memories → cols ≡ columns_of q all ports (named_registers q all ports) → ports' ≡ ports_named ports cols
+    → processes ≡ map (process_in ds) all.processes → memories ≡ all.memories → cols ≡ columns_of q ds all ports (named_registers q all ports) → ports' ≡ ports_named ports cols
     → ◌≡◌ {A = Circuit} (record { pool = q; processes = processes; memories = memories; domains = ds; ports = ports'; columns = cols }) (circuit_of q ds all ports)
 circuit_parts q ds all ports ports' processes memories cols a b e f =
-    let named : ports' ≡ ports_named ports (columns_of q all ports (named_registers q all ports)) = f ∙ ap (ports_named ports) e in
-    whole (map (process_in ds) all.processes) all.memories (columns_of q all ports (named_registers q all ports)) (ports_named ports (columns_of q all ports (named_registers q all ports))) a b e named
+    let named : ports' ≡ ports_named ports (columns_of q ds all ports (named_registers q all ports)) = f ∙ ap (ports_named ports) e in
+    whole (map (process_in ds) all.processes) all.memories (columns_of q ds all ports (named_registers q all ports)) (ports_named ports (columns_of q ds all ports (named_registers q all ports))) a b e named
   where
     whole : (x : List DesignProcess) (u : List Memory) (y : List Column) (z : List Port) → processes ≡ x → memories ≡ u → cols ≡ y → ports' ≡ z → ◌≡◌ {A = Circuit} (record { pool = q; processes = processes; memories = memories; domains = ds; ports = ports'; columns = cols }) (record { pool = q; processes = x; memories = u; domains = ds; ports = z; columns = y })
     whole x u y z a b e f = cc
 
 -- parts that were made by domains that are these
 pub whole_made : (q : Pooled) (ds ds' : List Domain) (own : List Process) (all : Contents) (top : TopPorts) (ports' : List Port) (processes : List DesignProcess) (memories : List Memory) (cols : List Column)
-    → ds' ≡ ds → processes ≡ map (process_in ds') all.processes → memories ≡ all.memories → cols ≡ columns_of q all (ports_of q ds' own all top) (named_registers q all (ports_of q ds' own all top)) → ports' ≡ ports_named (ports_of q ds' own all top) cols
+    → ds' ≡ ds → processes ≡ map (process_in ds') all.processes → memories ≡ all.memories → cols ≡ columns_of q ds' all (ports_of q ds' own all top) (named_registers q all (ports_of q ds' own all top)) → ports' ≡ ports_named (ports_of q ds' own all top) cols
     → ◌≡◌ {A = Circuit} (record { pool = q; processes = processes; memories = memories; domains = ds; ports = ports'; columns = cols }) (circuit_of q ds all (ports_of q ds own all top))
 whole_made q ds ds' own all top ports' processes memories cols same a b e f =
     circuit_parts q ds all (ports_of q ds own all top) ports' processes memories cols
     (subst (λ x. processes ≡ map (process_in x) all.processes) same a) b
-    (subst (λ x. cols ≡ columns_of q all (ports_of q x own all top) (named_registers q all (ports_of q x own all top))) same e)
+    (subst (λ x. cols ≡ columns_of q x all (ports_of q x own all top) (named_registers q all (ports_of q x own all top))) same e)
     (subst (λ x. ports' ≡ ports_named (ports_of q x own all top) cols) same f)
 
 -- ---- what is refused first
@@ -414,7 +414,7 @@ module _ (q : Pooled) (root : Fragment) (top : TopPorts) where
         few = let e = domains_length definitions (length q.signals) names in let f = few_names q definitions names parts.room in omega (arith, e, f);
         domains = whole_domains q (made_names q root) domains (fragment_exprs root) domains_made_sound;
         domain_names = names_distinct q definitions names defined (once_distinct (all_names q root));
-        apart = domains_apart q definitions defined given.apart names (once_distinct (all_names q root));
+        apart = domains_apart q definitions defined given.apart parts.no_clash names (once_distinct (all_names q root));
         known = domains_known definitions (length q.signals) (all_names q root) (all_processes root) (walk_has q root);
         ports_known = all_imp (λ (m : Memory) h. ports_known definitions (length q.signals) (all_names q root) m h) (all_memories root) (walk_ports q (HasText (all_names q root)) root (all_texts (all_names q root)));
         free_data = free_data;

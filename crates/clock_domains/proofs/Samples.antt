@@ -1,4 +1,5 @@
 -- Small modules and what they come to, by computation.
+use Rattle.std.proofs.Common.{inl}
 use Rattle.std.specs.Prelude.{◌≡◌, refl, ℕ, true, false, List, [], ◌∷◌, ◌++◌, map, pos, Option, Some, None, Result, Ok, Err, codes}
 use Rattle.std.specs.Fmt.{digits}
 use Rattle.shape_rules.specs.Forms.{unsigned}
@@ -24,10 +25,11 @@ use Rattle.design_ir.specs.Targets.{target_signals}
 use Rattle.design_ir.specs.Circuits.{Circuit}
 use Rattle.fragment_walks.specs.Held.{held_resets, inside}
 use Rattle.fragment_walks.specs.Reads.{signals_in, offsets_in}
-use Rattle.clock_domains.specs.declared.top.TopPorts.TheVariants.{Members, Loose}
+use Rattle.clock_domains.specs.declared.top.TopPorts.TheVariants.{Held, Members, Loose}
 use Rattle.clock_domains.specs.declared.stop.ResolveStop.{ResolveStop}
 use Rattle.clock_domains.specs.declared.stop.ResolveStop.TheVariants.{DomainClash, DrivenInput, NoReset, TwoDrivers}
 use Rattle.clock_domains.specs.Placed.{placed_pool}
+use Rattle.clock_domains.specs.Resolvable.{AreApart}
 use Rattle.clock_domains.specs.Resolved.{domain_prefix, domain_names, columns_after, resolved_in, resolved}
 
 place : ℕ → Place
@@ -143,6 +145,11 @@ define line name reset = record { domain = record { name = name; clk = record { 
 with_reset : Option SigId
 with_reset = Some (record { 0 = 3 })
 
+-- another one, of signal 3 alone
+beside : ℕ → List ℕ → DomainDef
+unfolding place
+beside line name = record { domain = record { name = name; clk = record { 0 = 3 }; rst = None; falling = false; async_reset = false }; place = place line }
+
 defining : List DomainDef → List Process → Forest → Fragment
 defining ds ps below = record { name = codes "m"; is_part = false; domains = ds; processes = ps; memories = []; submodules = below }
 
@@ -153,12 +160,13 @@ shown_domains : Result Circuit ResolveStop → List Domain
 shown_domains (Ok c) = c.domains
 shown_domains (Err stop) = []
 
--- a submodule defines `sync`, which the module above it uses: nothing is made, and the domain's own signals are its ports
+-- a submodule defines `sync`, which the module above it uses: nothing is made, and the domain's own signals are its ports, under the names
+-- that the domain gives them
 used_above : Fragment
 unfolding defining defining_leaf define with_reset under set place
 used_above = defining [] (under (Clocked (codes "sync")) (set 5 1 0 ∷ []) ∷ []) (defining_leaf (codes "sub") (define 3 (codes "sync") with_reset ∷ []) [])
 
-above_ports : shown (resolved wide_pool used_above Loose) ≡ port (codes "c") 2 ∷ port (codes "r") 3 ∷ port (codes "a") 0 ∷ record (port (codes "b") 1) { is_input = false } ∷ []
+above_ports : shown (resolved wide_pool used_above Loose) ≡ port (codes "clk") 2 ∷ port (codes "rst") 3 ∷ port (codes "a") 0 ∷ record (port (codes "b") 1) { is_input = false } ∷ []
 unfolding resolved_in resolved held_resets inside placed_pool used_above defining defining_leaf define with_reset under set place wide_pool one_bit shown port target_signals signals_in offsets_in
 above_ports = refl
 
@@ -167,7 +175,7 @@ without_reset : Fragment
 unfolding defining define under set place
 without_reset = defining (define 3 (codes "sync") None ∷ []) (under (Clocked (codes "sync")) (set 5 1 0 ∷ []) ∷ []) bare
 
-clock_alone : shown (resolved wide_pool without_reset Loose) ≡ port (codes "c") 2 ∷ port (codes "a") 0 ∷ record (port (codes "b") 1) { is_input = false } ∷ []
+clock_alone : shown (resolved wide_pool without_reset Loose) ≡ port (codes "clk") 2 ∷ port (codes "a") 0 ∷ record (port (codes "b") 1) { is_input = false } ∷ []
 unfolding resolved_in resolved held_resets inside placed_pool without_reset defining define under set place wide_pool one_bit shown port target_signals signals_in offsets_in
 clock_alone = refl
 
@@ -176,7 +184,7 @@ driving_reset : Fragment
 unfolding defining define with_reset under set place
 driving_reset = defining (define 3 (codes "sync") with_reset ∷ []) (under Comb (set 4 3 0 ∷ []) ∷ under (Clocked (codes "sync")) (set 5 1 0 ∷ []) ∷ []) bare
 
-driven_reset : shown (resolved wide_pool driving_reset Loose) ≡ port (codes "c") 2 ∷ port (codes "a") 0 ∷ record (port (codes "b") 1) { is_input = false } ∷ record (port (codes "r") 3) { is_input = false } ∷ []
+driven_reset : shown (resolved wide_pool driving_reset Loose) ≡ port (codes "clk") 2 ∷ port (codes "a") 0 ∷ record (port (codes "b") 1) { is_input = false } ∷ record (port (codes "rst") 3) { is_input = false } ∷ []
 unfolding resolved_in resolved held_resets inside placed_pool driving_reset defining define with_reset under set place wide_pool one_bit shown port target_signals signals_in offsets_in
 driven_reset = refl
 
@@ -200,19 +208,75 @@ told_again = refl
 
 -- a module's definitions come before its statements, and these before the modules below it; a name comes once
 in_order : Fragment
-unfolding defining defining_leaf define with_reset under set place
-in_order = defining (define 3 (codes "slow") with_reset ∷ []) (under (Clocked (codes "sync")) (set 4 0 1 ∷ []) ∷ []) (defining_leaf (codes "sub") (define 5 (codes "fast") None ∷ []) (under (Clocked (codes "slow")) (set 6 1 0 ∷ []) ∷ []))
+unfolding defining defining_leaf define beside under set place
+in_order = defining (define 3 (codes "slow") None ∷ []) (under (Clocked (codes "sync")) (set 4 0 1 ∷ []) ∷ []) (defining_leaf (codes "sub") (beside 5 (codes "fast") ∷ []) (under (Clocked (codes "slow")) (set 6 1 0 ∷ []) ∷ []))
 
 order_names : domain_names wide_pool in_order ≡ codes "slow" ∷ codes "sync" ∷ codes "fast" ∷ []
-unfolding held_resets inside in_order defining defining_leaf define with_reset under set place wide_pool one_bit
+unfolding held_resets inside in_order defining defining_leaf define beside under set place wide_pool one_bit
 order_names = refl
 
 -- the signals of `sync`, which no module defines, are made behind the others
 made_beside : shown_domains (resolved wide_pool in_order Loose)
-    ≡ record { name = codes "slow"; clk = record { 0 = 2 }; rst = with_reset; falling = false; async_reset = false } ∷ record { name = codes "sync"; clk = record { 0 = 4 }; rst = Some (record { 0 = 5 }); falling = false; async_reset = false }
-    ∷ record { name = codes "fast"; clk = record { 0 = 2 }; rst = None; falling = false; async_reset = false } ∷ []
-unfolding resolved_in resolved held_resets inside placed_pool in_order defining defining_leaf define with_reset under set place wide_pool one_bit shown_domains target_signals signals_in offsets_in
+    ≡ record { name = codes "slow"; clk = record { 0 = 2 }; rst = None; falling = false; async_reset = false } ∷ record { name = codes "sync"; clk = record { 0 = 4 }; rst = Some (record { 0 = 5 }); falling = false; async_reset = false }
+    ∷ record { name = codes "fast"; clk = record { 0 = 3 }; rst = None; falling = false; async_reset = false } ∷ []
+unfolding resolved_in resolved held_resets inside placed_pool in_order defining defining_leaf define beside under set place wide_pool one_bit shown_domains target_signals signals_in offsets_in
 made_beside = refl
+
+-- ---- definitions that were renamed
+
+-- one domain under two names
+renamed_apart : AreApart (define 3 (codes "sync") with_reset) (define 7 (codes "fast") with_reset)
+unfolding define
+renamed_apart = inl refl
+
+-- it clashes with itself, which is told where it is defined again
+two_names : Fragment
+unfolding defining defining_leaf define with_reset
+two_names = defining (define 3 (codes "sync") with_reset ∷ []) [] (defining_leaf (codes "sub") (define 7 (codes "fast") with_reset ∷ []) [])
+
+told_renamed : resolved wide_pool two_names Loose ≡ Err (DomainClash (record { line = 7; col = 13 }))
+unfolding resolved held_resets inside two_names defining defining_leaf define with_reset place
+told_renamed = refl
+
+-- the signals `clk` and `rst` were made for `sync`, of which the definition was renamed to `fast`
+renamed_pool : Pooled
+unfolding one_bit
+renamed_pool = record {
+  signals = one_bit (codes "a") ∷ one_bit (codes "b") ∷ one_bit (codes "clk") ∷ one_bit (codes "rst") ∷ [];
+  exprs = expr.Sig (record { 0 = 0 }) ∷ expr.Sig (record { 0 = 1 }) ∷ expr.Sig (record { 0 = 2 }) ∷ expr.Sig (record { 0 = 3 }) ∷ [];
+}
+
+-- `sync` is used beside it, and made
+renamed : Fragment
+unfolding defining define with_reset under set place
+renamed = defining (define 3 (codes "fast") with_reset ∷ []) (under (Clocked (codes "sync")) (set 5 1 0 ∷ []) ∷ []) bare
+
+renamed_ports : shown (resolved renamed_pool renamed Loose) ≡ port (codes "fast_clk") 2 ∷ port (codes "fast_rst") 3 ∷ port (codes "clk") 4 ∷ port (codes "rst") 5 ∷ port (codes "a") 0 ∷ record (port (codes "b") 1) { is_input = false } ∷ []
+unfolding resolved_in resolved held_resets inside placed_pool renamed defining define with_reset under set place renamed_pool one_bit shown port target_signals signals_in offsets_in
+renamed_ports = refl
+
+-- the top holds the reset, which it drives, as `r`, and `a` as `go`: the domain names its reset alone
+renamed_held : Fragment
+unfolding defining define with_reset under set place
+renamed_held = defining (define 3 (codes "fast") with_reset ∷ []) (under Comb (set 4 3 0 ∷ []) ∷ []) bare
+
+held_ports : shown (resolved renamed_pool renamed_held (Held (port (codes "r") 3 ∷ port (codes "go") 0 ∷ []))) ≡ port (codes "fast_clk") 2 ∷ record (port (codes "fast_rst") 3) { is_input = false } ∷ port (codes "go") 0 ∷ []
+unfolding resolved_in resolved held_resets inside placed_pool renamed_held defining define with_reset under set place renamed_pool one_bit shown port target_signals signals_in offsets_in
+held_ports = refl
+
+-- members keep the names that they were given
+member_ports : shown (resolved renamed_pool renamed_held (Members (record (port (codes "r") 3) { is_input = false } ∷ []))) ≡ port (codes "fast_clk") 2 ∷ record (port (codes "r") 3) { is_input = false } ∷ []
+unfolding resolved_in resolved held_resets inside placed_pool renamed_held defining define with_reset under set place renamed_pool one_bit shown port target_signals signals_in offsets_in
+member_ports = refl
+
+-- a submodule drives it at the edges of its own domain: so it is a register
+renamed_register : Fragment
+unfolding defining defining_leaf define with_reset under set place
+renamed_register = defining [] [] (defining_leaf (codes "sub") (define 3 (codes "fast") with_reset ∷ []) (under (Clocked (codes "fast")) (set 5 3 0 ∷ []) ∷ []))
+
+register_columns : shown_columns (resolved renamed_pool renamed_register Loose) ≡ at (codes "fast_clk") 2 ∷ at (codes "a") 0 ∷ at (codes "sub.fast_rst") 3 ∷ []
+unfolding resolved_in resolved held_resets inside placed_pool renamed_register defining defining_leaf define with_reset under set place renamed_pool one_bit shown_columns at target_signals signals_in offsets_in
+register_columns = refl
 
 -- ---- resets that modules hold
 

@@ -8,21 +8,18 @@ use Rattle.design_ir.specs.Pools.{Pooled}
 use Rattle.fragment_walks.specs.Marks.{is_marked}
 use Rattle.clock_domains.specs.declared.top.TopPorts.{TopPorts}
 use Rattle.clock_domains.specs.declared.top.TopPorts.TheVariants.{Members, Held, Loose}
-use Rattle.clock_domains.specs.Resolved.{has_width, port_of}
+use Rattle.clock_domains.specs.Resolved.{has_width, held_port, port_of}
 
 -- a signal that is not taken, and that has bits
 abbrev pub is_new : Pooled → (ℕ → Bool) → Port → Bool
 is_new q taken p = not (taken p.sig.0) && has_width q p.sig.0
 
-abbrev pub held_port : (ℕ → Bool) → Port → Port
-held_port driven p = record p { is_input = not (driven p.sig.0) }
-
 -- whether it is an input: what the top's own statements drive is an output, and what is read and driven nowhere an input
 abbrev pub known_side : (own driven read : ℕ → Bool) → ℕ → Option Bool
 known_side own driven read s = if own s then Some false else (if read s && not (driven s) then Some true else None)
 
-abbrev pub known_port : Pooled → (own driven read : ℕ → Bool) → ℕ → Option Port
-known_port q own driven read s = if own s then Some (port_of q false s) else (if read s && not (driven s) then Some (port_of q true s) else None)
+abbrev pub known_port : Pooled → List Domain → (own driven read : ℕ → Bool) → ℕ → Option Port
+known_port q domains own driven read s = if own s then Some (port_of q domains false s) else (if read s && not (driven s) then Some (port_of q domains true s) else None)
 
 abbrev pub AreThere : Pooled → Port → Type 0
 AreThere q p = p.sig.0 < length q.signals
@@ -45,7 +42,7 @@ pub record IsKnown (q : Pooled) (own driven read : List Bool) : Type 0 where
   pub read_there : (s : ℕ) → is_marked read s ≡ true → s < length q.signals
 
 -- the ports of the top, by marks
-abbrev pub known_ports : Pooled → (own driven read : List Bool) → TopPorts → List Port
-known_ports q own driven read (Members given) = given
-known_ports q own driven read (Held given) = map (held_port (is_marked driven)) given
-known_ports q own driven read Loose = filter_map (known_port q (is_marked own) (is_marked driven) (is_marked read)) (range_with_len 0 (length own))
+abbrev pub known_ports : Pooled → List Domain → (own driven read : List Bool) → TopPorts → List Port
+known_ports q domains own driven read (Members given) = given
+known_ports q domains own driven read (Held given) = map (held_port domains (is_marked driven)) given
+known_ports q domains own driven read Loose = filter_map (known_port q domains (is_marked own) (is_marked driven) (is_marked read)) (range_with_len 0 (length own))

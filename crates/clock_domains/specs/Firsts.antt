@@ -1,6 +1,7 @@
 -- The first clocked process that drives a signal, and the first memory whose clocked read port gives it, by their numbers. (Internal:
 -- no rule of the language.)
 use Rattle.std.specs.Prelude.{◌≡◌, ℕ, suc, ◌+◌, ◌<◌, ◌&&◌, ◌++◌, ⊤, true, if◌then◌else◌, List, [], ◌∷◌, length, slice_index_or, Option, Some, None, is_some, option_map, unwrap_or}
+use Rattle.design_ir.specs.declared.domain.Domain.{Domain}
 use Rattle.design_ir.specs.declared.memory.Memory.{Memory}
 use Rattle.design_ir.specs.declared.process.Process.{Process}
 use Rattle.design_ir.specs.declared.port.Column.{Column}
@@ -8,7 +9,7 @@ use Rattle.design_ir.specs.Pools.{Pooled}
 use Rattle.design_ir.specs.Guards.{driven}
 use Rattle.design_ir.specs.Circuits.{is_among}
 use Rattle.fragment_walks.specs.Numbers.{first_at, lesser}
-use Rattle.clock_domains.specs.Resolved.{clocked_data, is_clocked, signal_name}
+use Rattle.clock_domains.specs.Resolved.{clocked_data, is_clocked, shown_name}
 
 abbrev pub first_clocked : Pooled → List Process → ℕ → Option ℕ
 first_clocked q [] s = None
@@ -51,8 +52,8 @@ pub record AreSites (q : Pooled) (ps : List Process) (ms : List Memory) (sites :
   pub size : length sites ≡ 16384
   pub each : (s : ℕ) → s < 16384 → first_at sites s ≡ first_site q ps ms s
 
-abbrev pub column_under : Pooled → Option (List ℕ) → ℕ → Column
-column_under q path s = record { name = unwrap_or path [] ++ signal_name q s; sig = record { 0 = s } }
+abbrev pub column_under : Pooled → List Domain → Option (List ℕ) → ℕ → Column
+column_under q domains path s = record { name = unwrap_or path [] ++ shown_name q domains s; sig = record { 0 = s } }
 
-abbrev pub known_column : Pooled → List (Option (List ℕ)) → List (Option ℕ) → ℕ → Column
-known_column q paths sites s = column_under q (path_at paths (first_at sites s)) s
+abbrev pub known_column : Pooled → List Domain → List (Option (List ℕ)) → List (Option ℕ) → ℕ → Column
+known_column q domains paths sites s = column_under q domains (path_at paths (first_at sites s)) s

@@ -61,9 +61,10 @@ IsDefinition q d = IsDomainOf q d.domain
 abbrev pub domain_numbers : Domain → List ℕ
 domain_numbers d = d.clk.0 ∷ option_map_or (λ (s : SigId). s.0 ∷ []) d.rst []
 
--- two definitions are of one domain, or have no signal in common
+-- two definitions are of one domain but for its name, or have no signal in common: a definition can be renamed, and one domain can be defined
+-- under several names
 abbrev pub AreApart : DomainDef → DomainDef → Type 0
-AreApart d e = (d.domain ≡ e.domain) ⊎ (share (domain_numbers d.domain) (domain_numbers e.domain) ≡ false)
+AreApart d e = (record d.domain { name = e.domain.name } ≡ e.domain) ⊎ (share (domain_numbers d.domain) (domain_numbers e.domain) ≡ false)
 
 -- ---- modules
 

@@ -1,7 +1,7 @@
 -- The design that a module with those below it stands for, or the refusal of its domains or drivers. (Amaranth guide: Clock domains,
 -- Elaboration; Amaranth standard library reference: Memory arrays. What these leave open, as which signals are ports, how they are named
 -- and in which order refusals are told, is this project's own: docs/RULES.md.)
-use Rattle.std.specs.Prelude.{◌≡◌, ℕ, suc, ◌+◌, ◌*◌, nat_lt, nat_le, ◌&&◌, ◌||◌, not, Bool, true, false, if◌then◌else◌, List, [], ◌∷◌, ◌++◌, map, length, slice_index_or, position, pos, Option, Some, None, is_some, option_map, unwrap_or, Result, Ok, Err, codes}
+use Rattle.std.specs.Prelude.{◌≡◌, ℕ, suc, ◌+◌, ◌*◌, nat_lt, nat_le, ◌==◌, ◌&&◌, ◌||◌, not, Bool, true, false, if◌then◌else◌, List, [], ◌∷◌, ◌++◌, map, length, slice_index_or, position, pos, Option, Some, None, is_some, option_map, unwrap_or, Result, Ok, Err, codes}
 use Rattle.std.specs.List.{flat_map, filter, filter_map, list_any, find, range_with_len}
 use Rattle.std.specs.Option.{option_map_or}
 use Rattle.std.specs.Fmt.{decimal}
@@ -27,7 +27,7 @@ use Rattle.design_ir.specs.PoolRules.{signal_bits}
 use Rattle.design_ir.specs.Values.{signal_form}
 use Rattle.design_ir.specs.Targets.{target_signals}
 use Rattle.design_ir.specs.Guards.{Guarded, guarded, driven}
-use Rattle.design_ir.specs.Circuits.{Circuit, is_among}
+use Rattle.design_ir.specs.Circuits.{Circuit, is_among, option_test}
 use Rattle.design_ir.specs.Designs.{share}
 use Rattle.fragment_walks.specs.Reads.{data_signals, is_read, is_driven, is_given}
 use Rattle.fragment_walks.specs.Held.{ResetCall, fragment_exprs, held_resets}
@@ -102,11 +102,15 @@ abbrev pub first_of : {A : Type 0} → Option A → Option A → Option A
 first_of None b = b
 first_of (Some a) b = Some a
 
--- that of the first definition whose name one before it has
-abbrev pub clash_after : List (List ℕ) → List DomainDef → Option ResolveStop
-clash_after names [] = None
-clash_after names (d ∷ more) =
-    first_of (if has_name names d.domain.name then Some (DomainClash d.place) else None) (clash_after (names ++ d.domain.name ∷ []) more)
+-- a definition clashes with one that has its name, or its clock: that is one domain under two names
+abbrev pub clashes : DomainDef → DomainDef → Bool
+clashes d e = text_eq d.domain.name e.domain.name || (e.domain.clk.0 == d.domain.clk.0)
+
+-- that of the first definition that clashes with one before it
+abbrev pub clash_after : List DomainDef → List DomainDef → Option ResolveStop
+clash_after before [] = None
+clash_after before (d ∷ more) =
+    first_of (if list_any (clashes d) before then Some (DomainClash d.place) else None) (clash_after (before ++ d ∷ []) more)
 
 -- a fragment defines the domain, and it has no reset
 abbrev pub lacks_reset : List DomainDef → List ℕ → Bool
@@ -171,32 +175,52 @@ process_in domains p = record { domain = domain_number domains p.side; body = p.
 abbrev pub signal_name : Pooled → ℕ → List ℕ
 signal_name q s = (slice_index_or q.signals s (bit_signal [])).name
 
+-- a domain names its clock and its reset, whatever they were called when they were made
+abbrev pub name_by : Domain → ℕ → Option (List ℕ)
+name_by d s =
+    if d.clk.0 == s then Some (domain_prefix d.name ++ codes "clk") else (if option_test (λ (r : SigId). r.0 == s) d.rst then Some (domain_prefix d.name ++ codes "rst") else None)
+
+-- the name that the first domain with this clock or reset gives it, else another one
+abbrev pub name_among : List Domain → ℕ → List ℕ → List ℕ
+name_among [] s other = other
+name_among (d ∷ domains) s other = unwrap_or (name_by d s) (name_among domains s other)
+
+-- the name under which a signal is shown: its own, but for the clocks and resets of domains
+abbrev pub shown_name : Pooled → List Domain → ℕ → List ℕ
+shown_name q domains s = name_among domains s (signal_name q s)
+
 abbrev pub has_width : Pooled → ℕ → Bool
 has_width q s = nat_le 1 (signal_form q.signals s).width
 
-abbrev pub port_of : Pooled → Bool → ℕ → Port
-port_of q is_input s = record { name = signal_name q s; sig = record { 0 = s }; is_input = is_input }
+abbrev pub port_of : Pooled → List Domain → Bool → ℕ → Port
+port_of q domains is_input s = record { name = shown_name q domains s; sig = record { 0 = s }; is_input = is_input }
 
 -- the clock of a domain is an input, and so is its reset where nothing drives it
-abbrev pub reset_port : Pooled → (driven : ℕ → Bool) → SigId → List Port
-reset_port q driven s = if driven s.0 then [] else port_of q true s.0 ∷ []
+abbrev pub reset_port : Pooled → List Domain → (driven : ℕ → Bool) → SigId → List Port
+reset_port q domains driven s = if driven s.0 then [] else port_of q domains true s.0 ∷ []
 
-abbrev pub ports_of_domain : Pooled → (driven : ℕ → Bool) → Domain → List Port
-ports_of_domain q driven d = port_of q true d.clk.0 ∷ option_map_or (reset_port q driven) d.rst []
+-- of one of these domains
+abbrev pub ports_of_domain : Pooled → List Domain → (driven : ℕ → Bool) → Domain → List Port
+ports_of_domain q domains driven d = port_of q domains true d.clk.0 ∷ option_map_or (reset_port q domains driven) d.rst []
 
 abbrev pub domain_ports : Pooled → (driven : ℕ → Bool) → List Domain → List Port
-domain_ports q driven domains = flat_map (ports_of_domain q driven) domains
+domain_ports q driven domains = flat_map (ports_of_domain q domains driven) domains
 
 -- what the top's own statements drive is an output, and what is read and driven nowhere an input
-abbrev pub loose_port : Pooled → List Process → Contents → ℕ → Option Port
-loose_port q own all s =
-    if is_driven q own s then Some (port_of q false s) else (if is_read q all.processes all.memories s && not (is_given q all.processes all.memories s) then Some (port_of q true s) else None)
+abbrev pub loose_port : Pooled → List Domain → List Process → Contents → ℕ → Option Port
+loose_port q domains own all s =
+    if is_driven q own s then Some (port_of q domains false s)
+    else (if is_read q all.processes all.memories s && not (is_given q all.processes all.memories s) then Some (port_of q domains true s) else None)
 
--- members as they were given, held signals as inputs where nothing drives them, loose signals in order of making
-abbrev pub top_ports : Pooled → List Process → Contents → TopPorts → List Port
-top_ports q own all (Members given) = given
-top_ports q own all (Held given) = map (λ (p : Port). record p { is_input = not (is_given q all.processes all.memories p.sig.0) }) given
-top_ports q own all Loose = filter_map (loose_port q own all) (range_with_len 0 (length q.signals))
+-- a signal that the top holds under a name is an input where nothing drives it
+abbrev pub held_port : List Domain → (driven : ℕ → Bool) → Port → Port
+held_port domains driven p = record p { name = name_among domains p.sig.0 p.name; is_input = not (driven p.sig.0) }
+
+-- members as they were given, held signals, loose signals in order of making
+abbrev pub top_ports : Pooled → List Domain → List Process → Contents → TopPorts → List Port
+top_ports q domains own all (Members given) = given
+top_ports q domains own all (Held given) = map (held_port domains (is_given q all.processes all.memories)) given
+top_ports q domains own all Loose = filter_map (loose_port q domains own all) (range_with_len 0 (length q.signals))
 
 abbrev pub signals_of : List Port → List ℕ
 signals_of ports = map (λ (p : Port). p.sig.0) ports
@@ -251,12 +275,12 @@ columns_after names (c ∷ more) = record c { name = fresh_name names c.name } �
 abbrev pub column_of_port : Port → Column
 column_of_port p = record { name = p.name; sig = p.sig }
 
--- a register has its own name behind its path
-abbrev pub column_of_register : Pooled → Contents → ℕ → Column
-column_of_register q all s = record { name = unwrap_or (register_path q all s) [] ++ signal_name q s; sig = record { 0 = s } }
+-- a register has the name under which it is shown behind its path
+abbrev pub column_of_register : Pooled → List Domain → Contents → ℕ → Column
+column_of_register q domains all s = record { name = unwrap_or (register_path q all s) [] ++ shown_name q domains s; sig = record { 0 = s } }
 
-abbrev pub columns_of : Pooled → Contents → List Port → List ℕ → List Column
-columns_of q all ports registers = columns_after [] (map column_of_port ports ++ map (column_of_register q all) registers)
+abbrev pub columns_of : Pooled → List Domain → Contents → List Port → List ℕ → List Column
+columns_of q domains all ports registers = columns_after [] (map column_of_port ports ++ map (column_of_register q domains all) registers)
 
 -- a port has the name of its column
 abbrev pub ports_named : List Port → List Column → List Port
@@ -267,13 +291,13 @@ ports_named (p ∷ ports) (c ∷ columns) = record p { name = c.name } ∷ ports
 -- ---- the design
 
 abbrev pub ports_of : Pooled → List Domain → List Process → Contents → TopPorts → List Port
-ports_of q domains own all top = and_new q (domain_ports q (is_given q all.processes all.memories) domains) (top_ports q own all top)
+ports_of q domains own all top = and_new q (domain_ports q (is_given q all.processes all.memories) domains) (top_ports q domains own all top)
 
 abbrev pub circuit_with : Pooled → List Domain → Contents → List Port → List Column → Circuit
 circuit_with q domains all ports columns = record { pool = q; processes = map (process_in domains) all.processes; memories = all.memories; domains = domains; ports = ports_named ports columns; columns = columns }
 
 abbrev pub circuit_of : Pooled → List Domain → Contents → List Port → Circuit
-circuit_of q domains all ports = circuit_with q domains all ports (columns_of q all ports (named_registers q all ports))
+circuit_of q domains all ports = circuit_with q domains all ports (columns_of q domains all ports (named_registers q all ports))
 
 -- a refusal comes before what would be there
 abbrev pub unless : Option ResolveStop → Result Circuit ResolveStop → Result Circuit ResolveStop

@@ -9,8 +9,9 @@ ghost use Rattle.clock_domains.specs.Firsts.{AreNumbersThere, IsPlace, column_un
 ghost use Rattle.clock_domains.specs.Resolved.{column_of_port, columns_after, fresh_name, has_name, has_width, numbered_name, ports_named};
 
 use crate::ports::has_width;
+use crate::shown::shown_name;
 use amh_host::{Items, NoMemory, Text};
-use design_ir::{Column, Columns, Exprs, Pool, Port, Ports, SigId};
+use design_ir::{Column, Columns, Domain, Exprs, Pool, Port, Ports, SigId};
 use fragment_walks::copies::copied;
 use std::alloc::Global;
 use std::collections::BTreeMap;
@@ -195,13 +196,20 @@ fn path_of(paths: &[Option<Text>], number: Option<usize>) -> &str
     }
 }
 
-// A register under its own name behind a path.
-fn register_column(alloc: Global, pool: &Pool, path: &str, sig: SigId) -> Result<Column, NoMemory>
+// A register under the name under which it is shown, behind a path.
+fn register_column(
+    alloc: Global,
+    pool: &Pool,
+    domains: &[Domain],
+    path: &str,
+    sig: SigId,
+) -> Result<Column, NoMemory>
     requires { sig.0 < length pool.now.signals }
-    ensures { IfOk result (λ c. c ≡ column_under pool.now (Some path.now) sig.0) }
+    ensures { IfOk result (λ c. c ≡ column_under pool.now domains.now (Some path.now) sig.0) }
 {
     let mut name = copied(alloc, path)?;
-    name.push(pool.sig_at(sig).name.as_str())?;
+    let shown = shown_name(alloc, pool, domains, sig)?;
+    name.push(shown.as_str())?;
     Ok(Column { name, sig })
 }
 
@@ -209,6 +217,7 @@ fn register_column(alloc: Global, pool: &Pool, path: &str, sig: SigId) -> Result
 pub fn register_columns(
     alloc: Global,
     pool: &Pool,
+    domains: &[Domain],
     paths: &[Option<Text>],
     sites: &[Option<usize>],
     registers: &[SigId],
@@ -216,13 +225,13 @@ pub fn register_columns(
     requires there { AllByRecursion (λ s. s.0 < length pool.now.signals) registers.now }
     requires size { length sites.now ≡ 16384 }
     requires paths { (s : ℕ) → IsPlace (length paths.now) (first_at sites.now s) }
-    ensures { IfOk result (λ cs. cs ≡ map (known_column pool.now paths.now sites.now) (map (λ s. s.0) registers.now)) }
+    ensures { IfOk result (λ cs. cs ≡ map (known_column pool.now domains.now paths.now sites.now) (map (λ s. s.0) registers.now)) }
 {
     let _ = pool.count();
     let mut columns = Items::new(alloc);
     for s in registers {
         let path = path_of(paths, sites[s.0 as usize]);
-        columns.push(register_column(alloc, pool, path, *s)?)?;
+        columns.push(register_column(alloc, pool, domains, path, *s)?)?;
     }
     Ok(columns)
 }

@@ -1,11 +1,12 @@
 // The clock domains of all modules, with their signals.
-ghost use Rattle.std.specs.Prelude.{◌≡◌, ◌≤◌, ◌++◌, false, position, map, length, option_map, IfOk, IfErr, OnOk};
+ghost use Rattle.std.specs.Prelude.{◌≡◌, ◌≤◌, false, position, map, length, option_map, IfOk, IfErr, OnOk};
 ghost use Rattle.lists.specs.Texts.{text_eq};
 ghost use Rattle.design_ir.specs.PoolRules.{signal_refusal};
-ghost use Rattle.clock_domains.specs.Resolved.{defined_domain, domain_at, domain_for, domain_number, domain_prefix, each_once, file_start, is_past_limit, limit_where, process_in};
+ghost use Rattle.clock_domains.specs.Resolved.{defined_domain, domain_at, domain_for, domain_number, each_once, file_start, is_past_limit, limit_where, process_in};
 ghost use Rattle.clock_domains.specs.Made.{AreMade, IsMade, IsNameMade, IsNameOwed, is_made, is_tight, is_tight_for, limit, pool_for, stop_of, with_domain};
 ghost use Rattle.clock_domains.specs.Stops.{IsOwed};
 
+use crate::shown::signal_name;
 use crate::stop::ResolveStop;
 use amh_bits::Int;
 use amh_host::{Items, NoMemory, Place, Text};
@@ -22,19 +23,6 @@ pub fn file_start() -> Place
     ensures { result ≡ file_start }
 {
     Place { line: 1, col: 1 }
-}
-
-// The name of a domain's signal.
-fn signal_name(alloc: Global, domain: &Text, end: &str) -> Result<Text, NoMemory>
-    ensures { IfOk result (λ t. t ≡ domain_prefix domain.now ++ end.now) }
-{
-    let mut name = Text::new(alloc);
-    if !domain.is("sync") {
-        name.push(domain.as_str())?;
-        name.push("_")?;
-    }
-    name.push(end)?;
-    Ok(name)
 }
 
 // A pool refuses a signal where there would be too many, or too many bits.

@@ -1,11 +1,11 @@
 //! From a module with those below it to a design: its clock domains, who drives what, its ports and the columns of its trace.
 //!
 //! `resolve` gives exactly the design, or the first refusal, of specs/Resolved.antt. It takes what the tree of modules gives,
-//! and the first module that holds each expression, from fragment_walks. It looks for a name that is defined twice
+//! and the first module that holds each expression, from fragment_walks. It looks for a name or a domain that is defined twice
 //! (clashes.rt) and for a reset whose domain has none, takes the domains that are defined and makes the others with their
 //! signals (domains.rt), and puts signals in the places of resets (placing.rt). It seeks a signal that two read ports give
 //! (read_data.rt) and the first statement that drives what it must not (drivers.rt), and chooses ports (ports.rt) and columns
-//! (columns.rt) by what is driven and what is read (reads.rt).
+//! (columns.rt) by what is driven and what is read (reads.rt). Domains name their clocks and resets there (shown.rt).
 //!
 //! A design has many processes over one pool, and statements share its expressions, so neither is gone through once for each
 //! of the other. Marks of all targets, and of all that is read, are handed down from expressions to their parts in one pass
@@ -26,6 +26,7 @@ mod ports;
 mod read_data;
 mod reads;
 mod resolving;
+mod shown;
 mod stop;
 mod stops;
 mod top;

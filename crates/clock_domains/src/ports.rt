@@ -8,11 +8,12 @@ ghost use Rattle.fragment_walks.specs.Held.{memory_exprs};
 ghost use Rattle.fragment_walks.specs.Reads.{is_given};
 ghost use Rattle.fragment_walks.specs.Walks.{Contents};
 ghost use Rattle.clock_domains.specs.Resolvable.{AreTopPorts, IsSideOf, top_inputs};
-ghost use Rattle.clock_domains.specs.Resolved.{design_inputs, domain_ports, has_width, port_of, ports_of, ports_of_domain, reset_port, signals_of};
-ghost use Rattle.clock_domains.specs.Chosen.{AreThere, IsKnown, IsSignal, held_port, is_new, known_port, known_ports, known_side};
+ghost use Rattle.clock_domains.specs.Resolved.{design_inputs, domain_ports, has_width, held_port, port_of, ports_of, ports_of_domain, reset_port, signals_of};
+ghost use Rattle.clock_domains.specs.Chosen.{AreThere, IsKnown, IsSignal, is_new, known_port, known_ports, known_side};
 
 use crate::drivers::driven_by;
 use crate::reads::reads;
+use crate::shown::{name_among, shown_name};
 use crate::top::TopPorts;
 use amh_host::{Items, NoMemory};
 use design_ir::{Domain, Exprs, Memory, Pool, Port, Ports, Process, SigId};
@@ -93,13 +94,19 @@ pub fn mark_design_inputs(
     Ok(marks)
 }
 
-// A signal of the pool as a port under its own name.
-fn port_of(alloc: Global, pool: &Pool, is_input: bool, s: SigId) -> Result<Port, NoMemory>
+// A signal of the pool as a port under the name under which it is shown.
+fn port_of(
+    alloc: Global,
+    pool: &Pool,
+    domains: &[Domain],
+    is_input: bool,
+    s: SigId,
+) -> Result<Port, NoMemory>
     requires { s.0 < length pool.now.signals }
-    ensures { IfOk result (λ p. p ≡ port_of pool.now is_input s.0) }
+    ensures { IfOk result (λ p. p ≡ port_of pool.now domains.now is_input s.0) }
 {
     Ok(Port {
-        name: copied(alloc, pool.sig_at(s).name.as_str())?,
+        name: shown_name(alloc, pool, domains, s)?,
         sig: s,
         is_input,
     })
@@ -117,36 +124,38 @@ pub fn has_width(pool: &Pool, s: SigId) -> bool
 fn add_reset(
     alloc: Global,
     pool: &Pool,
+    domains: &[Domain],
     driven: &[bool],
     reset: SigId,
     ports: &mut Ports,
 ) -> Result<(), NoMemory>
     requires there { reset.0 < length pool.now.signals }
     requires size { length driven.now ≡ 16384 }
-    ensures { OnOk result (ports.new ≡ ports.old ++ reset_port pool.now (is_marked driven.now) reset) }
+    ensures { OnOk result (ports.new ≡ ports.old ++ reset_port pool.now domains.now (is_marked driven.now) reset) }
 {
     let _ = pool.count();
     if driven[reset.0 as usize] {
         return Ok(());
     }
-    ports.push(port_of(alloc, pool, true, reset)?)
+    ports.push(port_of(alloc, pool, domains, true, reset)?)
 }
 
-// The clock of a domain, and its reset.
+// The clock of one of these domains, and its reset.
 fn add_domain(
     alloc: Global,
     pool: &Pool,
+    domains: &[Domain],
     driven: &[bool],
     domain: &Domain,
     ports: &mut Ports,
 ) -> Result<(), NoMemory>
     requires there { IsSignal pool.now domain.now }
     requires size { length driven.now ≡ 16384 }
-    ensures { OnOk result (ports.new ≡ ports.old ++ ports_of_domain pool.now (is_marked driven.now) domain.now) }
+    ensures { OnOk result (ports.new ≡ ports.old ++ ports_of_domain pool.now domains.now (is_marked driven.now) domain.now) }
 {
-    ports.push(port_of(alloc, pool, true, domain.clk)?)?;
+    ports.push(port_of(alloc, pool, domains, true, domain.clk)?)?;
     match domain.rst {
-        Some(reset) => add_reset(alloc, pool, driven, reset, ports),
+        Some(reset) => add_reset(alloc, pool, domains, driven, reset, ports),
         None => Ok(()),
     }
 }
@@ -164,7 +173,7 @@ fn domain_ports(
 {
     let mut ports = Items::new(alloc);
     for domain in domains {
-        add_domain(alloc, pool, driven, domain, &mut ports)?;
+        add_domain(alloc, pool, domains, driven, domain, &mut ports)?;
     }
     Ok(ports)
 }
@@ -189,24 +198,23 @@ fn is_new(pool: &Pool, is_port: &[bool], s: SigId) -> bool
     !is_port[s.0 as usize] && has_width(pool, s)
 }
 
-// A port under its given name, where it is new.
-fn add_given(
+// A member of the top, where it is new.
+fn add_member(
     alloc: Global,
     pool: &Pool,
     known: &Known,
     given: &Port,
-    is_input: bool,
     ports: &mut Ports,
 ) -> Result<(), NoMemory>
     requires there { given.now.sig.0 < length pool.now.signals }
     requires size { length known.now.is_port.items ≡ 16384 }
-    ensures { OnOk result (ports.new ≡ ports.old ++ filter (is_new pool.now (is_marked known.now.is_port.items)) (record given.now { is_input = is_input } ∷ [])) }
+    ensures { OnOk result (ports.new ≡ ports.old ++ filter (is_new pool.now (is_marked known.now.is_port.items)) (given.now ∷ [])) }
 {
     if is_new(pool, known.is_port.as_slice(), given.sig) {
         ports.push(Port {
             name: copied(alloc, given.name.as_str())?,
             sig: given.sig,
-            is_input,
+            is_input: given.is_input,
         })?;
     }
     Ok(())
@@ -225,15 +233,41 @@ fn add_members(
     ensures { OnOk result (ports.new ≡ ports.old ++ filter (is_new pool.now (is_marked known.now.is_port.items)) given.now) }
 {
     for port in given {
-        add_given(alloc, pool, known, port, port.is_input, ports)?;
+        add_member(alloc, pool, known, port, ports)?;
     }
     Ok(())
 }
 
-// The signals that the top holds, which are inputs where nothing drives them.
+// A signal that the top holds, where it is new: an input where nothing drives it.
+fn add_held_signal(
+    alloc: Global,
+    pool: &Pool,
+    domains: &[Domain],
+    known: &Known,
+    given: &Port,
+    ports: &mut Ports,
+) -> Result<(), NoMemory>
+    requires there { given.now.sig.0 < length pool.now.signals }
+    requires size { length known.now.is_port.items ≡ 16384 }
+    requires driven { length known.now.driven.items ≡ 16384 }
+    ensures { OnOk result (ports.new ≡ ports.old ++ filter (is_new pool.now (is_marked known.now.is_port.items)) (held_port domains.now (is_marked known.now.driven.items) given.now ∷ [])) }
+{
+    let _ = pool.count();
+    if is_new(pool, known.is_port.as_slice(), given.sig) {
+        ports.push(Port {
+            name: name_among(alloc, domains, given.sig, given.name.as_str())?,
+            sig: given.sig,
+            is_input: !known.driven[given.sig.0 as usize],
+        })?;
+    }
+    Ok(())
+}
+
+// The signals that the top holds.
 fn add_held(
     alloc: Global,
     pool: &Pool,
+    domains: &[Domain],
     known: &Known,
     given: &[Port],
     ports: &mut Ports,
@@ -241,12 +275,10 @@ fn add_held(
     requires there { AllByRecursion (AreThere pool.now) given.now }
     requires size { length known.now.is_port.items ≡ 16384 }
     requires driven { length known.now.driven.items ≡ 16384 }
-    ensures { OnOk result (ports.new ≡ ports.old ++ filter (is_new pool.now (is_marked known.now.is_port.items)) (map (held_port (is_marked known.now.driven.items)) given.now)) }
+    ensures { OnOk result (ports.new ≡ ports.old ++ filter (is_new pool.now (is_marked known.now.is_port.items)) (map (held_port domains.now (is_marked known.now.driven.items)) given.now)) }
 {
-    let _ = pool.count();
     for port in given {
-        let is_input = !known.driven[port.sig.0 as usize];
-        add_given(alloc, pool, known, port, is_input, ports)?;
+        add_held_signal(alloc, pool, domains, known, port, ports)?;
     }
     Ok(())
 }
@@ -272,6 +304,7 @@ fn loose_side(known: &Known, s: SigId) -> Option<bool>
 fn add_signal(
     alloc: Global,
     pool: &Pool,
+    domains: &[Domain],
     known: &Known,
     s: SigId,
     ports: &mut Ports,
@@ -279,25 +312,31 @@ fn add_signal(
     requires there { IsKnown pool.now known.now.own.items known.now.driven.items known.now.read.items }
     requires small { s.0 < 16384 }
     requires size { length known.now.is_port.items ≡ 16384 }
-    ensures { OnOk result (ports.new ≡ ports.old ++ filter (is_new pool.now (is_marked known.now.is_port.items)) (filter_map (known_port pool.now (is_marked known.now.own.items) (is_marked known.now.driven.items) (is_marked known.now.read.items)) (s.0 ∷ []))) }
+    ensures { OnOk result (ports.new ≡ ports.old ++ filter (is_new pool.now (is_marked known.now.is_port.items)) (filter_map (known_port pool.now domains.now (is_marked known.now.own.items) (is_marked known.now.driven.items) (is_marked known.now.read.items)) (s.0 ∷ []))) }
 {
     let Some(is_input) = loose_side(known, s) else {
         return Ok(());
     };
     if is_new(pool, known.is_port.as_slice(), s) {
-        ports.push(port_of(alloc, pool, is_input, s)?)?;
+        ports.push(port_of(alloc, pool, domains, is_input, s)?)?;
     }
     Ok(())
 }
 
 // All signals that the top drives, or that are read and driven nowhere, in order of making.
-fn add_loose(alloc: Global, pool: &Pool, known: &Known, ports: &mut Ports) -> Result<(), NoMemory>
+fn add_loose(
+    alloc: Global,
+    pool: &Pool,
+    domains: &[Domain],
+    known: &Known,
+    ports: &mut Ports,
+) -> Result<(), NoMemory>
     requires there { IsKnown pool.now known.now.own.items known.now.driven.items known.now.read.items }
     requires size { length known.now.is_port.items ≡ 16384 }
-    ensures { OnOk result (ports.new ≡ ports.old ++ filter (is_new pool.now (is_marked known.now.is_port.items)) (filter_map (known_port pool.now (is_marked known.now.own.items) (is_marked known.now.driven.items) (is_marked known.now.read.items)) (range_with_len 0 (length known.now.own.items)))) }
+    ensures { OnOk result (ports.new ≡ ports.old ++ filter (is_new pool.now (is_marked known.now.is_port.items)) (filter_map (known_port pool.now domains.now (is_marked known.now.own.items) (is_marked known.now.driven.items) (is_marked known.now.read.items)) (range_with_len 0 (length known.now.own.items)))) }
 {
     for s in 0..known.own.len() {
-        add_signal(alloc, pool, known, SigId(s as u32), ports)?;
+        add_signal(alloc, pool, domains, known, SigId(s as u32), ports)?;
     }
     Ok(())
 }
@@ -306,6 +345,7 @@ fn add_loose(alloc: Global, pool: &Pool, known: &Known, ports: &mut Ports) -> Re
 fn add_top(
     alloc: Global,
     pool: &Pool,
+    domains: &[Domain],
     known: &Known,
     top: &TopPorts,
     ports: &mut Ports,
@@ -313,12 +353,12 @@ fn add_top(
     requires top { AreTopPorts pool.now top.now }
     requires there { IsKnown pool.now known.now.own.items known.now.driven.items known.now.read.items }
     requires size { length known.now.is_port.items ≡ 16384 }
-    ensures { OnOk result (ports.new ≡ ports.old ++ filter (is_new pool.now (is_marked known.now.is_port.items)) (known_ports pool.now known.now.own.items known.now.driven.items known.now.read.items top.now)) }
+    ensures { OnOk result (ports.new ≡ ports.old ++ filter (is_new pool.now (is_marked known.now.is_port.items)) (known_ports pool.now domains.now known.now.own.items known.now.driven.items known.now.read.items top.now)) }
 {
     match top {
         TopPorts::Members(given) => add_members(alloc, pool, known, given.as_slice(), ports),
-        TopPorts::Held(given) => add_held(alloc, pool, known, given.as_slice(), ports),
-        TopPorts::Loose => add_loose(alloc, pool, known, ports),
+        TopPorts::Held(given) => add_held(alloc, pool, domains, known, given.as_slice(), ports),
+        TopPorts::Loose => add_loose(alloc, pool, domains, known, ports),
     }
 }
 
@@ -353,6 +393,6 @@ pub fn ports_of(
         driven,
         read: reads(alloc, pool, processes, memories)?,
     };
-    add_top(alloc, pool, &known, top, &mut ports)?;
+    add_top(alloc, pool, domains, &known, top, &mut ports)?;
     Ok(ports)
 }

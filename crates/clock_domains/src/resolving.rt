@@ -70,6 +70,7 @@ fn joined_paths(
 fn columns_in(
     alloc: Global,
     pool: &Pool,
+    domains: &[Domain],
     paths: &[Option<Text>],
     sites: &[Option<usize>],
     ports: &Ports,
@@ -80,12 +81,12 @@ fn columns_in(
     requires clocked { AreClocked pool.now all.memories }
     requires ports { AllByRecursion (λ p. p.sig.0 < length pool.now.signals) ports.now }
     requires sites { AreSites pool.now all.processes all.memories sites.now }
-    ensures { IfOk result (λ cs. cs ≡ columns_of pool.now all ports.now (named_registers pool.now all ports.now)) }
+    ensures { IfOk result (λ cs. cs ≡ columns_of pool.now domains.now all ports.now (named_registers pool.now all ports.now)) }
 {
     pool.known();
     let is_port = mark_ports(alloc, ports.as_slice())?;
     let registers = named_registers(alloc, pool, paths, sites, is_port.as_slice())?;
-    let named = register_columns(alloc, pool, paths, sites, registers.as_slice())?;
+    let named = register_columns(alloc, pool, domains, paths, sites, registers.as_slice())?;
     columns_of(alloc, ports.as_slice(), named.as_slice())
 }
 
@@ -108,7 +109,7 @@ fn parts_of(
     requires sites { AreSites pool.now all.processes all.memories drivers.sites.items }
     ensures processes { IfOk result (λ x. x.processes ≡ map (process_in domains.now) all.processes) }
     ensures memories { IfOk result (λ x. x.memories ≡ all.memories) }
-    ensures columns { IfOk result (λ x. let ports = ports_of pool.now domains.now root.now.processes all top.now in x.columns ≡ columns_of pool.now all ports (named_registers pool.now all ports)) }
+    ensures columns { IfOk result (λ x. let ports = ports_of pool.now domains.now root.now.processes all top.now in x.columns ≡ columns_of pool.now domains.now all ports (named_registers pool.now all ports)) }
     ensures ports { IfOk result (λ x. x.ports ≡ ports_named (ports_of pool.now domains.now root.now.processes all top.now) x.columns) }
 {
     let Held {
@@ -127,7 +128,14 @@ fn parts_of(
         driven,
         top,
     )?;
-    let columns = columns_in(alloc, pool, paths.as_slice(), sites.as_slice(), &ports)?;
+    let columns = columns_in(
+        alloc,
+        pool,
+        domains,
+        paths.as_slice(),
+        sites.as_slice(),
+        &ports,
+    )?;
     Ok(Parts {
         processes: processes_made(alloc, domains, processes)?,
         memories,
@@ -201,7 +209,7 @@ struct Placed {
 }
 
 // Makes the domains of a module and of those below it, and puts the signals of their resets in the places of those that are
-// held; or refuses a name that is defined twice, a reset that there is none of, or a passed limit.
+// held; or refuses a name or a domain that is defined twice, a reset that there is none of, or a passed limit.
 fn placed_domains(alloc: Global, pool: &mut Pool, root: &Fragment) -> Result<Placed, ResolveStop>
     ghost roots: { List (List ExprId) }
     requires roots { roots ≡ map leaf_exprs (all_leaves root.now) }
@@ -240,11 +248,13 @@ fn placed_domains(alloc: Global, pool: &mut Pool, root: &Fragment) -> Result<Pla
 /// reset; all rise, and reset at edges alone. They come in the order of their names: modules from the top, a parent before
 /// those below it, in each its own definitions, then its clocked sides, its memory ports and its resets in order of making.
 /// Each reset that a module holds becomes, in its own place in the pool, the signal of its domain's reset; one that no module
-/// holds stays. Clocks are inputs, and so are the resets that nothing drives. A register of a module below the top is named
+/// holds stays. Clocks are inputs, and so are the resets that nothing drives. Both are shown as their domain names them, so a
+/// definition may have been renamed since its signals were made. A register of a module below the top is named
 /// behind the path of that module, and so is what a clocked read port gives; those of library parts are not named. Each
 /// memory has the path of its module as its name, `top` at the top.
 ///
-/// `DomainClash` comes exactly where a name is defined twice, at the first definition whose name one before it has. Else
+/// `DomainClash` comes exactly where a name is defined twice, or one domain under two names, at the first definition whose name
+/// or whose clock one before it has. Else
 /// `NoReset` exactly where a module holds a reset whose domain has none, at the first of these in order of making. Else
 /// `Limit` exactly where there would be more than 64 domains, or too many signals or bits with those of the domains that are
 /// made. Else `TwoDrivers` at 1:1 exactly where one signal is the data of two read ports. Else `DrivenInput` or `TwoDrivers`

@@ -5,7 +5,7 @@ use amh_host::{NoMemory, Place};
 /// Why a module gives no design, and where.
 #[derive(Clone, Copy, PartialEq, Eq, Drop)]
 pub enum ResolveStop {
-    /// A name of a domain is defined again.
+    /// A name of a domain is defined again, or a domain under another name.
     DomainClash(Place),
     /// The reset of a domain that has none is read or driven.
     NoReset(Place),

@@ -243,7 +243,7 @@ module _ (names : List NamePair) (to : ExprId → ExprId) (f g : ℕ → Form) w
 
 -- ---- one expression more
 
-all_below : {P : ExprId → Type 0} (k : ℕ) (es : List ExprId) → AllBelow k es → ((a : ExprId) → a.0 < k → P a) → AllByRecursion P es
+pub all_below : {P : ExprId → Type 0} (k : ℕ) (es : List ExprId) → AllBelow k es → ((a : ExprId) → a.0 < k → P a) → AllByRecursion P es
 all_below k [] h each = tt
 all_below k (e ∷ es) h each = (each e h.0, all_below k es h.1 each)
 

@@ -171,7 +171,7 @@ module _ (names : List NamePair) (q : Pooled) (roots : List ExprId) (rules : IsP
       and_false false = refl
 
   -- of what is within, the renamed expression stands in the new pool
-  stands : (k : ℕ) (e : Expr) → slice_get q.exprs k ≡ Some e → is_within q roots k ≡ true → slice_get given.exprs (to (record { 0 = k })).0 ≡ Some (renamed_expr names to e)
+  pub stands : (k : ℕ) (e : Expr) → slice_get q.exprs k ≡ Some e → is_within q roots k ≡ true → slice_get given.exprs (to (record { 0 = k })).0 ≡ Some (renamed_expr names to e)
   unfolding remade
   stands k e at within = by (holds_renamed names q k) refl
     where

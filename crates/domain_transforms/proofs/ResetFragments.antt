@@ -125,11 +125,11 @@ module _ (controls : List Control) (p q : Pooled) where
 
 -- ---- a process that is reset drives what it drove
 
-targets-and : (b : Block) (s : Statement) → block_targets (block_and b s) ≡ block_targets b ++ statement_targets s
+pub targets-and : (b : Block) (s : Statement) → block_targets (block_and b s) ≡ block_targets b ++ statement_targets s
 targets-and done s = append-nil (statement_targets s)
 targets-and (next t b) s = ap (λ xs. statement_targets t ++ xs) (targets-and b s) ∙ sym (append_assoc (statement_targets t) (block_targets b) (statement_targets s))
 
-init_targets : (x : Pooled) (rs : List Register) → block_targets (block_in_order (each_in init_statement x rs).0) ≡ map (λ (r : Register). r.target.0) rs
+pub init_targets : (x : Pooled) (rs : List Register) → block_targets (block_in_order (each_in init_statement x rs).0) ≡ map (λ (r : Register). r.target.0) rs
 init_targets x [] = refl
 init_targets x (r ∷ rs) = ap (λ xs. r.target.0 ∷ xs) (init_targets (expr_added x (expr.Const r.init r.shape)) rs)
 

@@ -23,14 +23,14 @@ use Rattle.elab_store.proofs.MemoryLaws.{HasDataBelow, data_below, with_clock, a
 use Rattle.clock_domains.specs.Resolvable.{domain_numbers}
 use Rattle.elab_acts.proofs.EachLaws.{all_each}
 use Rattle.elab_components.specs.declared.signals.SignalArguments.{SignalArguments}
-use Rattle.elab_components.specs.Signals.{call_name, signal_reset_less, signal_passes}
+use Rattle.elab_components.specs.Signals.{call_name, domain_formed, signal_reset_less, signal_passes}
 use Rattle.elab_acts.specs.Submodules.{found_given}
-use Rattle.elab_acts.specs.ClockDomains.{without_cd, domain_formed, clock_domain_name, clock_signal, reset_signal, next_signal, with_bit, clock_domain, keeping_domain, clock_domain_kept, reset_made, clock_made, clock_domain_said, clock_domain_from, own_attribute, clock_domain_attribute, clock_domain_of, domain_defined, definition_added, has_domain_name, definition_stored, is_definitions_of, definitions_stored}
+use Rattle.elab_acts.specs.ClockDomains.{without_cd, clock_domain_name, clock_signal, reset_signal, next_signal, with_bit, clock_domain, keeping_domain, clock_domain_kept, reset_made, clock_made, clock_domain_said, clock_domain_from, own_attribute, clock_domain_attribute, clock_domain_of, domain_defined, definition_added, has_domain_name, definition_stored, is_definitions_of, definitions_stored}
 use Rattle.elab_acts.proofs.GrownLaws.{keeping_sound, name_more}
 use Rattle.elab_acts.proofs.DomainLaws.{bit_stays, new_bit, domains_more}
 use Rattle.elab_acts.proofs.SignalSound.{unlimited_sound}
 
-if_sound : (b : Bool) (x y : Answered) → IsSound x.held → IsSound y.held → IsSound (if b then x else y).held
+pub if_sound : (b : Bool) (x y : Answered) → IsSound x.held → IsSound y.held → IsSound (if b then x else y).held
 if_sound true x y h g = h
 if_sound false x y h g = g
 
@@ -99,6 +99,7 @@ with_domain_sound p x h t before new le since = record {
   memories = all_both (IsOwnMemory h.pool h.store.clock_domains.made h.store.components.objects) (HasDataBelow (length p.signals)) (IsOwnMemory h.pool (h.store.clock_domains.made ++ x ∷ []) h.store.components.objects) h.store.memories
       (with_clock h.pool h.store.clock_domains.made h.store.components.objects (length p.signals) x since.past) t.memories since.memories;
   registers = t.registers;
+  wrappings = t.wrappings;
 }
 
 kept_sound : (p : Pooled) (x : ClockDomain) (h : Held) → IsSound h → AreClockDomains p h.store.clock_domains.made → IsClockDomain h.pool x → length p.signals ≤ x.domain.clk.0 → IsSince p x h → IsSound (clock_domain_kept x h).held
@@ -164,7 +165,7 @@ attribute_sound k name h t = own_sound _ name h t
 
 defined_sound : (m : ℕ) (o : Option ℕ) (gives : Val) (p : Place) (h : Held) → IsSound h → IsSound (domain_defined m o gives p h).held
 defined_sound m None gives p h t = t
-defined_sound m (Some k) gives p h t = record { names = t.names; things = t.things; kept = t.kept; modules = t.modules; machines = t.machines; domains = t.domains; additions = t.additions; clock_domains = t.clock_domains; memories = t.memories; registers = t.registers; components = t.components }
+defined_sound m (Some k) gives p h t = record { names = t.names; things = t.things; kept = t.kept; modules = t.modules; machines = t.machines; domains = t.domains; additions = t.additions; clock_domains = t.clock_domains; memories = t.memories; registers = t.registers; wrappings = t.wrappings; components = t.components }
 
 pub added_sound : (m : ℕ) (v x : Val) (p : Place) (h : Held) → IsSound h → IsSound (definition_added m v x p h).held
 added_sound m v x p h t = defined_sound m (clock_domain_of (kept_of h.store v)) x p h t

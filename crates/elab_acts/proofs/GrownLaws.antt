@@ -30,11 +30,15 @@ use Rattle.elab_store.specs.Stores.{Held, kept_given}
 use Rattle.elab_store.specs.declared.faces.End.{End}
 use Rattle.elab_store.specs.Leaves.{Signatures}
 use Rattle.elab_store.specs.Components.{Components}
-use Rattle.elab_store.specs.Sound.{IsEnd, AreComponents, IsAssigned, IsBegin, IsKept, IsOpening, IsTold, IsBuilt, IsMachine, IsEnableThere, IsMemoryPort, IsOwnMemory, HasOwnRegister, IsSound}
+use Rattle.elab_store.specs.Sound.{IsEnd, AreComponents, IsAssigned, IsBegin, IsKept, IsOpening, IsTold, IsBuilt, IsMachine, IsEnableThere, IsMemoryPort, IsOwnMemory, HasOwnRegister, IsWrapping, IsSound}
 use Rattle.elab_store.specs.declared.own_machine.OwnMachine.{OwnMachine}
 use Rattle.elab_store.specs.declared.kept.MemoryPort.{MemoryPort}
+use Rattle.elab_store.specs.declared.wrappings.Wrapping.{Wrapping}
+use Rattle.elab_store.specs.declared.wrappings.Wrapping.TheVariants as wrapping
+use Rattle.domain_transforms.specs.declared.controls.Control.{Control}
+use Rattle.domain_transforms.specs.Placed.{AreControls}
 use Rattle.memory_ports.specs.Ports as ports
-use Rattle.elab_store.proofs.Pools.{IsGrown, target_stays, there_stays}
+use Rattle.elab_store.proofs.Pools.{IsGrown, target_stays, open_target_stays, there_stays}
 use Rattle.elab_store.proofs.MemoryLaws.{memory_stays, register_stays}
 use Rattle.elab_acts.proofs.EachLaws.{all_each}
 use Rattle.elab_acts.proofs.DomainLaws.{bit_stays, domains_stay}
@@ -52,7 +56,7 @@ assigned_stays : (p q : Pooled) (t v : ExprId) → IsGrown p q → IsAssigned p 
 assigned_stays p q t v g h = record {
   target_there = there_stays p q t.0 g h.target_there;
   value_there = there_stays p q v.0 g h.value_there;
-  is_target = target_stays p q t.0 g h.target_there ∙ h.is_target;
+  is_target = open_target_stays p q t.0 g h.target_there ∙ h.is_target;
 }
 
 begin_stays : (p q : Pooled) → IsGrown p q → (b : Begin) → IsBegin p b → IsBegin q b
@@ -87,6 +91,8 @@ kept_stays p q sigs ends g (kept_as.ClockDomain k) h = tt
 kept_stays p q sigs ends g (kept_as.Memory k) h = tt
 kept_stays p q sigs ends g (kept_as.OfMemory k y) h = tt
 kept_stays p q sigs ends g (kept_as.MemoryPort x) h = memory_port_stays p q x g h
+kept_stays p q sigs ends g (kept_as.Wrapping k) h = tt
+kept_stays p q sigs ends g (kept_as.Wrapped k) h = tt
 kept_stays p q sigs ends g (kept_as.Port is_out shape init) h = tt
 kept_stays p q sigs ends g (kept_as.Nested is_out m) h = tt
 kept_stays p q sigs ends g (kept_as.Signature n) h = tt
@@ -167,6 +173,15 @@ components_stay p q cs g le are = record {
   objects = objects_stay p q cs.signatures cs.ends cs.objects le are.objects;
 }
 
+controls_stay : (m n : ℕ) → m ≤ n → (cs : List Control) → AreControls m cs → AreControls n cs
+controls_stay m n le [] h = tt
+controls_stay m n le (c ∷ cs) h = (omega (arith, h.0, le), controls_stay m n le cs h.1)
+
+pub wrapping_stays : (p q : Pooled) → IsGrown p q → (w : Wrapping) → IsWrapping p w → IsWrapping q w
+wrapping_stays p q g (wrapping.Rename names) h = h
+wrapping_stays p q g (wrapping.Reset controls) h = controls_stay (length p.exprs) (length q.exprs) (grown_length p q g) controls h
+wrapping_stays p q g (wrapping.Enable controls) h = controls_stay (length p.exprs) (length q.exprs) (grown_length p q g) controls h
+
 -- what was held stands under a pool that grew by such signals and such expressions
 pub pool_grown : (h : Held) (q : Pooled) (xs : List Sig) (es : List Expr) → IsSound h → q.signals ≡ h.pool.signals ++ xs → q.exprs ≡ h.pool.exprs ++ es
     → AllByRecursion (λ (x : Sig). IsName x.name) xs → IsSound (record h { pool = q })
@@ -186,6 +201,7 @@ pool_grown h q xs es s e1 e2 names =
       clock_domains = domains_stay h.pool q h.store.clock_domains.made (bit_stays h.pool q xs e1) s.clock_domains;
       memories = all_each (IsOwnMemory h.pool made objects) (IsOwnMemory q made objects) h.store.memories (memory_stays h.pool q made objects both) s.memories;
       registers = all_each (HasOwnRegister h.pool h.store.memories) (HasOwnRegister q h.store.memories) h.store.machines (register_stays h.pool q made objects h.store.memories both s.memories) s.registers;
+      wrappings = all_each (IsWrapping h.pool) (IsWrapping q) h.store.wrappings (wrapping_stays h.pool q g) s.wrappings;
     }
 
 -- things that are sound are put behind the others
@@ -201,6 +217,7 @@ things_grown h ts s held = record {
   clock_domains = s.clock_domains;
   memories = s.memories;
   registers = s.registers;
+  wrappings = s.wrappings;
   things = all_and (IsHeld (length h.pool.exprs)) h.store.things ts s.things held;
 }
 
@@ -222,6 +239,7 @@ kept_grown h k s held = record {
   clock_domains = s.clock_domains;
   memories = s.memories;
   registers = s.registers;
+  wrappings = s.wrappings;
   kept = all_and (IsKeptIn h) h.store.kept (k ∷ []) s.kept (held, tt);
 }
 
@@ -239,7 +257,7 @@ module_built q (x ∷ bs) zero b h e = let same : x ≡ b = cc in subst (IsBuilt
 module_built q (x ∷ bs) (suc m) b h e = module_built q bs m b h.1 e
 
 pub with_top_sound : (h : Held) (t : Top) → IsSound h → IsSound (record h { store = record h.store { top = t } })
-with_top_sound h t s = record { names = s.names; things = s.things; kept = s.kept; modules = s.modules; components = s.components; machines = s.machines; domains = s.domains; additions = s.additions; clock_domains = s.clock_domains; memories = s.memories; registers = s.registers }
+with_top_sound h t s = record { names = s.names; things = s.things; kept = s.kept; modules = s.modules; components = s.components; machines = s.machines; domains = s.domains; additions = s.additions; clock_domains = s.clock_domains; memories = s.memories; registers = s.registers; wrappings = s.wrappings }
 
 -- ---- a new thing of this crate
 
@@ -254,6 +272,7 @@ keeping_sound h k s held = record {
   clock_domains = s.clock_domains;
   memories = s.memories;
   registers = s.registers;
+  wrappings = s.wrappings;
   things = all_and (IsHeld (length h.pool.exprs)) h.store.things (thing.Kept (length h.store.kept) ∷ []) s.things (tt, tt);
   kept = all_and (IsKeptIn h) h.store.kept (k ∷ []) s.kept (held, tt);
 }

@@ -14,6 +14,7 @@ pub mod MachineSound
 pub mod MemoryPortSound
 pub mod MemorySound
 pub mod PortLaws
+pub mod ResetSound
 pub mod ShapeSamples
 pub mod SideLaws
 pub mod SignalSound
@@ -26,4 +27,7 @@ pub mod SubmoduleSamples
 pub mod SubmoduleSound
 pub mod ToldLaws
 pub mod WalkLaws
+pub mod WrapperCallSound
 pub mod GlobalLaws
+mod WrapperSamples
+pub mod WrapperSound

@@ -130,6 +130,8 @@ module _ (q : Pooled) (store : Stored) (kept : AllByRecursion (IsKept q store.co
       by_kept (Some (kept_as.Memory k)) f e = absurd (true≢false (ap is_some (sym e)))
       by_kept (Some (kept_as.OfMemory k y)) f e = absurd (true≢false (ap is_some (sym e)))
       by_kept (Some (kept_as.MemoryPort x)) f e = absurd (true≢false (ap is_some (sym e)))
+      by_kept (Some (kept_as.Wrapping k)) f e = absurd (true≢false (ap is_some (sym e)))
+      by_kept (Some (kept_as.Wrapped k)) f e = absurd (true≢false (ap is_some (sym e)))
       by_kept (Some (kept_as.Port is_out shape init)) f e = absurd (true≢false (ap is_some (sym e)))
       by_kept (Some (kept_as.Nested is_out m)) f e = absurd (true≢false (ap is_some (sym e)))
       by_kept (Some (kept_as.Signature n)) f e = absurd (true≢false (ap is_some (sym e)))

@@ -25,7 +25,7 @@ if_sound false x y h g = g
 
 -- where only what the simulator was told is another
 simulation_sound : (x : Simulation) (h : Held) → IsSound h → IsSound (with_simulation x h)
-simulation_sound x h t = record { names = t.names; things = t.things; kept = t.kept; modules = t.modules; components = t.components; machines = t.machines; domains = t.domains; additions = t.additions; clock_domains = t.clock_domains; memories = t.memories; registers = t.registers }
+simulation_sound x h t = record { names = t.names; things = t.things; kept = t.kept; modules = t.modules; components = t.components; machines = t.machines; domains = t.domains; additions = t.additions; clock_domains = t.clock_domains; memories = t.memories; registers = t.registers; wrappings = t.wrappings }
 
 simulated_sound : (v : Val) (o : Option Val) (h : Held) → IsSound h → IsSound (simulated v o h).held
 simulated_sound v None h t = keeping_sound (with_simulation (with_subject v h.store.simulation) h) (kept.OfSimulator part.Whole) (simulation_sound (with_subject v h.store.simulation) h t) tt

@@ -20,7 +20,7 @@ use Rattle.design_ir.specs.declared.ids.ExprId.{ExprId}
 use Rattle.design_ir.specs.declared.expr.Expr.{Expr}
 use Rattle.design_ir.specs.declared.expr.Expr.TheVariants as expr
 use Rattle.design_ir.specs.Pools.{Pooled}
-use Rattle.design_ir.specs.Targets.{is_target}
+use Rattle.design_ir.specs.Targets.{is_open_target}
 use Rattle.design_ir.specs.declared.process.Side.{Side}
 use Rattle.design_ir.specs.declared.process.Side.TheVariants.{Comb, Clocked}
 use Rattle.design_ir.specs.declared.expr.Pattern.{Pattern}
@@ -66,12 +66,12 @@ use Rattle.elab_store.specs.declared.kept.BlockName.TheVariants as named
 use Rattle.elab_store.specs.declared.kept.Begin.{Begin}
 use Rattle.elab_store.specs.declared.kept.Begin.TheVariants as begin
 use Rattle.elab_components.specs.Classes.{is_base, is_keyword, class_made, base_called}
-use Rattle.elab_acts.specs.Tops.{elaborate_of, with_top, top_taken, walk, body_taken, named_top, body_ended, ended_by, elaborate_ended}
-use Rattle.elab_store.specs.Stores.{object_in, first_object, module_of, node_in}
+use Rattle.elab_acts.specs.Tops.{elaborate_of, with_top, with_root_wraps, top_taken, walk, elaborated, body_taken, named_top, body_ended, ended_by, elaborate_ended}
+use Rattle.elab_store.specs.Stores.{object_in, first_object, module_of, inner_of, wraps_in}
 use Rattle.elab_components.specs.Libraries.{is_enum, is_data, library_named, thing_name_given}
 use Rattle.elab_components.specs.Likes.{liked, like_placed, like_init, own_reset_less, liked_shape, liked_signal}
 use Rattle.elab_store.specs.Sound.{IsEquation, IsBegin, IsKept, IsOpening, IsTold, IsBuilt, IsSound}
-use Rattle.elab_store.proofs.Pools.{IsGrown, target_stays, there_stays}
+use Rattle.elab_store.proofs.Pools.{IsGrown, open_target_stays, there_stays}
 use Rattle.elab_acts.proofs.GrownLaws.{all_and, pool_grown, things_grown, read_held, keeping_sound, built_stays, told_module, module_built, with_top_sound}
 use Rattle.elab_store.specs.OpenMachines.{in_machine}
 use Rattle.elab_acts.proofs.ComponentSound as component
@@ -146,6 +146,7 @@ module_sound c h s =
       clock_domains = s.clock_domains;
       memories = s.memories;
       registers = s.registers;
+      wrappings = s.wrappings;
       modules = all_and (IsBuilt h.pool) h.store.modules (record { name = []; steps = [] } ∷ []) s.modules (record { steps = tt }, tt);
     } tt) s
 
@@ -261,9 +262,9 @@ expr_sound p ts v x held e = by_operand (operand_of p ts v) (λ y is. operand_th
     by_operand (Some y) f e = meant_by p y x (f y refl) e
 
 equated_sound : (h : Held) (target : ExprId) (v : Val) (place : Place) → IsSound h → target.0 < length h.pool.exprs → IsSound (equation_made target v place h).held
-equated_sound h target v place s there = by_test (is_target h.pool target.0) refl
+equated_sound h target v place s there = by_test (is_open_target h.pool target.0) refl
   where
-    given_sound : is_target h.pool target.0 ≡ true → (r : Result (ExprId × List Expr) Cause) → ((x : ExprId × List Expr) → r ≡ Ok x → IsMeant h.pool x) → IsSound (equation_given target place h r).held
+    given_sound : is_open_target h.pool target.0 ≡ true → (r : Result (ExprId × List Expr) Cause) → ((x : ExprId × List Expr) → r ≡ Ok x → IsMeant h.pool x) → IsSound (equation_given target place h r).held
     given_sound yes_target (Err why) f = s
     given_sound yes_target (Ok x) f =
         let m : IsMeant h.pool x = f x refl in
@@ -274,10 +275,10 @@ equated_sound h target v place s there = by_test (is_target h.pool target.0) ref
         record {
           target_there = there_stays h.pool q target.0 g there;
           value_there = omega (arith, m.there, length-append h.pool.exprs x.1);
-          is_target = target_stays h.pool q target.0 g there ∙ yes_target;
+          is_target = open_target_stays h.pool q target.0 g there ∙ yes_target;
         }
 
-    by_test : (b : Bool) → is_target h.pool target.0 ≡ b → IsSound (if b then equation_given target place h (expr_meant h.pool h.store.things v) else refused Raised h).held
+    by_test : (b : Bool) → is_open_target h.pool target.0 ≡ b → IsSound (if b then equation_given target place h (expr_meant h.pool h.store.things v) else refused Raised h).held
     by_test true e = given_sound e (expr_meant h.pool h.store.things v) (λ x is. expr_sound h.pool h.store.things v x s.things is)
     by_test false e = s
 
@@ -322,7 +323,7 @@ plain_sound m b (v ∷ vs) ns h t i = t
 case_sound : (m : ℕ) (o : Option (List Pattern)) (h : Held) → IsSound h → IsSound (case_given m o h).held
 case_sound m None h t = t
 case_sound m (Some ps) h t =
-    keeping_sound (with_patterns ps h) (kept_as.Block m (begin.Case (length h.store.patterns))) (record { names = t.names; things = t.things; kept = t.kept; modules = t.modules; components = t.components; machines = t.machines; domains = t.domains; additions = t.additions; clock_domains = t.clock_domains; memories = t.memories; registers = t.registers }) tt
+    keeping_sound (with_patterns ps h) (kept_as.Block m (begin.Case (length h.store.patterns))) (record { names = t.names; things = t.things; kept = t.kept; modules = t.modules; components = t.components; machines = t.machines; domains = t.domains; additions = t.additions; clock_domains = t.clock_domains; memories = t.memories; registers = t.registers; wrappings = t.wrappings }) tt
 
 case_in_sound : (s : Seen) (m : ℕ) (vs : List Val) (o : Option ExprId) (h : Held) → IsSound h → IsSound (case_in s m vs o h).held
 case_in_sound s m vs None h t = keeping_sound h (kept_as.Block m begin.Misplaced) t tt
@@ -387,6 +388,7 @@ entered_sound h m b x t k i = by_expr (condition_made (built_blocks b) x) (openi
       clock_domains = u.clock_domains;
       memories = u.memories;
       registers = u.registers;
+      wrappings = u.wrappings;
       modules = told_module q m (and_entered h.pool b x) h.store.modules (record { steps = all_and (IsTold q) b.steps (Enter (opening_of (length h.pool.exprs) x) ∷ []) l.steps (o, tt) }) u.modules;
     }
 
@@ -429,6 +431,8 @@ enter_sound (Some (kept_as.ClockDomain k)) h t f = t
 enter_sound (Some (kept_as.Memory k)) h t f = t
 enter_sound (Some (kept_as.OfMemory k y)) h t f = t
 enter_sound (Some (kept_as.MemoryPort x)) h t f = t
+enter_sound (Some (kept_as.Wrapping k)) h t f = t
+enter_sound (Some (kept_as.Wrapped k)) h t f = t
 enter_sound (Some (kept_as.Statement q)) h t f = t
 enter_sound (Some (kept_as.Port is_out shape init)) h t f = t
 enter_sound (Some (kept_as.Nested is_out m)) h t f = t
@@ -449,6 +453,7 @@ left_sound h m b t k = record {
   clock_domains = t.clock_domains;
   memories = t.memories;
   registers = t.registers;
+  wrappings = t.wrappings;
   modules = told_module h.pool m (and_left b) h.store.modules (record { steps = all_and (IsTold h.pool) b.steps (Leave ∷ []) k.steps (tt, tt) }) t.modules;
 }
 
@@ -478,6 +483,8 @@ leave_sound (Some (kept_as.ClockDomain k)) h t = t
 leave_sound (Some (kept_as.Memory k)) h t = t
 leave_sound (Some (kept_as.OfMemory k y)) h t = t
 leave_sound (Some (kept_as.MemoryPort x)) h t = t
+leave_sound (Some (kept_as.Wrapping k)) h t = t
+leave_sound (Some (kept_as.Wrapped k)) h t = t
 leave_sound (Some (kept_as.Statement q)) h t = t
 leave_sound (Some (kept_as.Port is_out shape init)) h t = t
 leave_sound (Some (kept_as.Nested is_out m)) h t = t
@@ -501,6 +508,7 @@ naming_sound n h t name = record {
   clock_domains = t.clock_domains;
   memories = t.memories;
   registers = t.registers;
+  wrappings = t.wrappings;
 }
 
 pub domain_sound : (m : ℕ) (name : Option (List ℕ)) (h : Held) → IsSound h → IsSound (domain_given m name h).held
@@ -542,6 +550,7 @@ put_sound_by h None m b d q t k named e = record {
   clock_domains = t.clock_domains;
   memories = t.memories;
   registers = t.registers;
+  wrappings = t.wrappings;
   modules = told_module h.pool m (built_with b d q) h.store.modules (record { steps = all_and (IsTold h.pool) b.steps (Assign d q.target q.value q.place ∷ []) k.steps ((named, e), tt) }) t.modules;
 }
 
@@ -583,16 +592,22 @@ top_sound s v (Some m) c h t = submodule.walk_sound s (with_top m h) (submodule.
 top_sound s v None (Some c) h t = with_top_sound h (record { object = first_object h.store.top.object (object_in v); root = None }) t
 top_sound s v None None h t = t
 
+elaborated_sound : (s : Seen) (v : Val) (h : Held) → IsSound h → IsSound (elaborated s v h).held
+elaborated_sound s v h t =
+    let w = inner_of h.store v in
+    let bys = wraps_in h.store v in
+    top_sound s w (module_of (kept_of h.store w)) (elaborate_of s w) (with_root_wraps bys h) (submodule.root_wraps_sound bys h t)
+
 taken_sound : (s : Seen) (o : Option Val) (h : Held) → IsSound h → IsSound (body_taken s o h).held
 taken_sound s None h t = t
-taken_sound s (Some v) h t = top_sound s v (module_of (kept_of h.store v)) (elaborate_of s v) h t
+taken_sound s (Some v) h t = elaborated_sound s v h t
 
 pub body_sound : (name : Option (List ℕ)) (s : Seen) (vals : List Val) (names : List (List ℕ)) (h : Held) → IsSound h → IsSound (body_ended name s vals names h).held
 body_sound name s vals names h t = taken_sound s (named_top name h.store.simulation.subject vals names) h t
 
 ended_sound : (root : Option ℕ) (s : Seen) (v : Val) (h : Held) → IsSound h → IsSound (ended_by root s v h).held
-ended_sound None s v h t = top_sound s v (module_of (kept_of h.store v)) (elaborate_of s v) h t
-ended_sound (Some root) s v h t = submodule.node_or_called_sound (walk s) (node_in (kept_of h.store v)) (elaborate_of s v) h t (λ g. submodule.walk_sound s g)
+ended_sound None s v h t = elaborated_sound s v h t
+ended_sound (Some root) s v h t = submodule.value_sound s (walk s) v h t (λ g. submodule.walk_sound s g)
 
 pub end_sound : (s : Seen) (vs : List Val) (h : Held) → IsSound h → IsSound (elaborate_ended s vs h).held
 end_sound s [] h t = t

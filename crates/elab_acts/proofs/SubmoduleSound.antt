@@ -12,12 +12,12 @@ use Rattle.py_frames.specs.declared.request.Cause.TheVariants.{Raised, Limit}
 use Rattle.elab_store.specs.declared.hierarchy.Addition.{Addition}
 use Rattle.elab_store.specs.declared.hierarchy.Waiting.{Waiting}
 use Rattle.elab_store.specs.declared.hierarchy.NodeOf.{NodeOf}
-use Rattle.elab_store.specs.Hierarchies.{Hierarchy, children_of, addition_name, added_as, with_addition, taken_by, node_taken, first_waiting, thing_waiting}
-use Rattle.elab_store.specs.Stores.{Stored, Held, Answered, kept_of, node_in}
+use Rattle.elab_store.specs.Hierarchies.{Hierarchy, children_of, addition_name, added_as, with_addition, taken_by, node_taken, wraps_before, wraps_taken, root_wrapped, first_waiting, thing_waiting}
+use Rattle.elab_store.specs.Stores.{Stored, Held, Answered, kept_of, node_in, inner_of, wraps_in}
 use Rattle.elab_store.specs.Sound.{IsSound}
 use Rattle.elab_store.proofs.NumberNames.{numbered_is_name}
 use Rattle.elab_acts.specs.declared.tops.Calling.{Calling}
-use Rattle.elab_acts.specs.Tops.{elaborate_of, most_submodules, deepest_submodule, with_node, with_top, below_called, node_or_called, thing_walked, next_walked, last_walked, walked, walk}
+use Rattle.elab_acts.specs.Tops.{elaborate_of, most_submodules, deepest_submodule, with_node, with_top, with_wraps, with_root_wraps, below_called, node_or_called, value_walked, thing_walked, next_walked, last_walked, walked, walk}
 use Rattle.elab_acts.specs.Submodules.{is_elaboratable, is_elaborated, is_no_name, addition_refusal, addition_put, submodule_added, submodule_stored, found_given, submodule_given, is_submodules_of, submodules_stored}
 use Rattle.elab_acts.proofs.GrownLaws.{all_and}
 
@@ -32,7 +32,7 @@ AreNamed = AllByRecursion (λ (a : Addition). IsName a.name)
 
 -- where only the hierarchy is another one
 hierarchy_sound : (h : Held) (t : Hierarchy) → IsSound h → AreNamed t.additions → IsSound (record h { store = record h.store { hierarchy = t } })
-hierarchy_sound h t s named = record { names = s.names; things = s.things; kept = s.kept; modules = s.modules; components = s.components; machines = s.machines; domains = s.domains; additions = named; clock_domains = s.clock_domains; memories = s.memories; registers = s.registers }
+hierarchy_sound h t s named = record { names = s.names; things = s.things; kept = s.kept; modules = s.modules; components = s.components; machines = s.machines; domains = s.domains; additions = named; clock_domains = s.clock_domains; memories = s.memories; registers = s.registers; wrappings = s.wrappings }
 
 no_refusal : (a b c : Bool) (o : Option Cause) → (if a || (b || c) then Some Raised else o) ≡ None → b ≡ false
 no_refusal true b c o e = absurd (true≢false (ap is_some e))
@@ -85,19 +85,35 @@ node_sound : (m : NodeOf) (h : Held) → IsSound h → IsSound (with_node m h)
 node_sound m h t = hierarchy_sound h (node_taken m h.store.hierarchy) t (subst AreNamed (sym (additions_stay m h.store.hierarchy.waiting h.store.hierarchy)) t.additions)
 
 pub entered_sound : (m : ℕ) (h : Held) → IsSound h → IsSound (with_top m h)
-entered_sound m h t = record { names = t.names; things = t.things; kept = t.kept; modules = t.modules; components = t.components; machines = t.machines; domains = t.domains; additions = t.additions; clock_domains = t.clock_domains; memories = t.memories; registers = t.registers }
+entered_sound m h t = record { names = t.names; things = t.things; kept = t.kept; modules = t.modules; components = t.components; machines = t.machines; domains = t.domains; additions = t.additions; clock_domains = t.clock_domains; memories = t.memories; registers = t.registers; wrappings = t.wrappings }
 
 below_sound : (c : Option Calling) (h : Held) → IsSound h → IsSound (below_called c h).held
 below_sound None h t = t
 below_sound (Some c) h t = t
 
-pub node_or_called_sound : (others : Held → Answered) (m : Option NodeOf) (c : Option Calling) (h : Held) → IsSound h → ((g : Held) → IsSound g → IsSound (others g).held) → IsSound (node_or_called others m c h).held
+node_or_called_sound : (others : Held → Answered) (m : Option NodeOf) (c : Option Calling) (h : Held) → IsSound h → ((g : Held) → IsSound g → IsSound (others g).held) → IsSound (node_or_called others m c h).held
 node_or_called_sound others None c h t f = below_sound c h t
 node_or_called_sound others (Some m) c h t f = f (with_node m h) (node_sound m h t)
 
+wraps_stay : (bys : List ℕ) (ws : List Waiting) (t : Hierarchy) → (wraps_before bys ws t).additions ≡ t.additions
+wraps_stay bys [] t = refl
+wraps_stay bys (w ∷ ws) t = refl
+
+wraps_sound : (bys : List ℕ) (h : Held) → IsSound h → IsSound (with_wraps bys h)
+wraps_sound bys h t = hierarchy_sound h (wraps_taken bys h.store.hierarchy) t (subst AreNamed (sym (wraps_stay bys h.store.hierarchy.waiting h.store.hierarchy)) t.additions)
+
+pub root_wraps_sound : (bys : List ℕ) (h : Held) → IsSound h → IsSound (with_root_wraps bys h)
+root_wraps_sound bys h t = hierarchy_sound h (root_wrapped bys h.store.hierarchy) t t.additions
+
+pub value_sound : (s : Seen) (others : Held → Answered) (v : Val) (h : Held) → IsSound h → ((g : Held) → IsSound g → IsSound (others g).held) → IsSound (value_walked s others v h).held
+value_sound s others v h t f =
+    let w = inner_of h.store v in
+    let bys = wraps_in h.store v in
+    node_or_called_sound others (node_in (kept_of h.store w)) (elaborate_of s w) (with_wraps bys h) (wraps_sound bys h t) f
+
 thing_sound : (s : Seen) (others : Held → Answered) (o : Option Val) (h : Held) → IsSound h → ((g : Held) → IsSound g → IsSound (others g).held) → IsSound (thing_walked s others o h).held
 thing_sound s others None h t f = t
-thing_sound s others (Some v) h t f = node_or_called_sound others (node_in (kept_of h.store v)) (elaborate_of s v) h t f
+thing_sound s others (Some v) h t f = value_sound s others v h t f
 
 next_sound : (s : Seen) (others : Held → Answered) (o : Option Waiting) (h : Held) → IsSound h → ((g : Held) → IsSound g → IsSound (others g).held) → IsSound (next_walked s others o h).held
 next_sound s others None h t f = t

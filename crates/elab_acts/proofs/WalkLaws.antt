@@ -8,8 +8,8 @@ use Rattle.py_frames.specs.declared.request.Cause.TheVariants.{Raised, Limit}
 use Rattle.elab_store.specs.declared.hierarchy.NodeOf.{NodeOf}
 use Rattle.elab_store.specs.declared.hierarchy.Waiting.{Waiting}
 use Rattle.elab_store.specs.Hierarchies.{first_waiting, thing_waiting}
-use Rattle.elab_store.specs.Stores.{Held, Answered, refused, given, kept_of, node_in}
-use Rattle.elab_acts.specs.Tops.{elaborate_of, deepest_submodule, with_node, below_called, node_or_called, thing_walked, next_walked, last_walked, walked}
+use Rattle.elab_store.specs.Stores.{Held, Answered, refused, given, kept_of, node_in, inner_of, wraps_in}
+use Rattle.elab_acts.specs.Tops.{elaborate_of, deepest_submodule, with_wraps, with_node, below_called, node_or_called, thing_walked, next_walked, last_walked, walked}
 
 -- nothing waits
 pub walked_ended : (j : ℕ) (s : Seen) (h : Held) (all : Answered) → first_waiting h.store.hierarchy ≡ None → walked j s h ≡ all → given val.None h ≡ all
@@ -38,19 +38,28 @@ pub walked_nothing : (j n : ℕ) (s : Seen) (h : Held) (w : Waiting) (all : Answ
     → walked j s h ≡ all → refused Raised h ≡ all
 walked_nothing j n s h w all step some deep none e = sym (walked_next j n s h w false step some deep ∙ ap (λ (o : Option Val). thing_walked s (walked n s) o h) none) ∙ e
 
-walked_thing : (j n : ℕ) (s : Seen) (h : Held) (w : Waiting) (v : Val) (m : Option NodeOf) → j ≡ suc n → first_waiting h.store.hierarchy ≡ Some w → nat_lt deepest_submodule w.depth ≡ false → thing_waiting h.store.hierarchy ≡ Some v
-    → node_in (kept_of h.store v) ≡ m → walked j s h ≡ node_or_called (walked n s) m (elaborate_of s v) h
-walked_thing j n s h w v m step some deep thing is =
-    walked_next j n s h w false step some deep
-    ∙ ap (λ (o : Option Val). thing_walked s (walked n s) o h) thing
-    ∙ ap (λ (o : Option NodeOf). node_or_called (walked n s) o (elaborate_of s v) h) is
+-- the next one is value v, and what stands within it is no other than x, by which its wrappers are taken and g is held
+pub record IsNext (h : Held) (v x : Val) (m : Option NodeOf) (g : Held) : Type 0 where
+  pub thing : thing_waiting h.store.hierarchy ≡ Some v
+  pub inner : x ≡ inner_of h.store v
+  pub node : m ≡ node_in (kept_of h.store x)
+  pub taken : g ≡ with_wraps (wraps_in h.store v) h
+
+walked_thing : (j n : ℕ) (s : Seen) (h : Held) (w : Waiting) (v x : Val) (m : Option NodeOf) (g : Held) → j ≡ suc n → first_waiting h.store.hierarchy ≡ Some w → nat_lt deepest_submodule w.depth ≡ false → IsNext h v x m g
+    → walked j s h ≡ node_or_called (walked n s) m (elaborate_of s x) g
+walked_thing j n s h w v x m g step first deep is =
+    walked_next j n s h w false step first deep
+    ∙ ap (λ (o : Option Val). thing_walked s (walked n s) o h) is.thing
+    ∙ ap (λ (y : Val). node_or_called (walked n s) (node_in (kept_of h.store y)) (elaborate_of s y) (with_wraps (wraps_in h.store v) h)) (sym is.inner)
+    ∙ ap (λ (o : Option NodeOf). node_or_called (walked n s) o (elaborate_of s x) (with_wraps (wraps_in h.store v) h)) (sym is.node)
+    ∙ ap (λ (k : Held). node_or_called (walked n s) m (elaborate_of s x) k) (sym is.taken)
 
 -- it is neither a module nor a memory
-pub walked_called : (j n : ℕ) (s : Seen) (h : Held) (w : Waiting) (v : Val) (all : Answered) → j ≡ suc n → first_waiting h.store.hierarchy ≡ Some w → nat_lt deepest_submodule w.depth ≡ false → thing_waiting h.store.hierarchy ≡ Some v
-    → node_in (kept_of h.store v) ≡ None → walked j s h ≡ all → below_called (elaborate_of s v) h ≡ all
-walked_called j n s h w v all step some deep thing is e = sym (walked_thing j n s h w v None step some deep thing is) ∙ e
+pub walked_called : (j n : ℕ) (s : Seen) (h : Held) (w : Waiting) (v x : Val) (g : Held) (all : Answered) → j ≡ suc n → first_waiting h.store.hierarchy ≡ Some w → nat_lt deepest_submodule w.depth ≡ false → IsNext h v x None g
+    → walked j s h ≡ all → below_called (elaborate_of s x) g ≡ all
+walked_called j n s h w v x g all step first deep is e = sym (walked_thing j n s h w v x None g step first deep is) ∙ e
 
 -- it is one of them, and the others follow
-pub walked_more : (j n : ℕ) (s : Seen) (h : Held) (w : Waiting) (v : Val) (m : NodeOf) (all : Answered) → j ≡ suc n → first_waiting h.store.hierarchy ≡ Some w → nat_lt deepest_submodule w.depth ≡ false → thing_waiting h.store.hierarchy ≡ Some v
-    → node_in (kept_of h.store v) ≡ Some m → walked j s h ≡ all → walked n s (with_node m h) ≡ all
-walked_more j n s h w v m all step some deep thing is e = sym (walked_thing j n s h w v (Some m) step some deep thing is) ∙ e
+pub walked_more : (j n : ℕ) (s : Seen) (h : Held) (w : Waiting) (v x : Val) (m : NodeOf) (g : Held) (all : Answered) → j ≡ suc n → first_waiting h.store.hierarchy ≡ Some w → nat_lt deepest_submodule w.depth ≡ false → IsNext h v x (Some m) g
+    → walked j s h ≡ all → walked n s (with_node m g) ≡ all
+walked_more j n s h w v x m g all step first deep is e = sym (walked_thing j n s h w v x (Some m) g step first deep is) ∙ e

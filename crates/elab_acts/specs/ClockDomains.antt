@@ -23,7 +23,7 @@ use Rattle.elab_store.specs.ClockDomains.{with_clock_domain, with_definition}
 use Rattle.elab_store.specs.Stores.{Stored, Held, Answered, refused, given, next_thing, with_thing, kept_given, kept_of}
 use Rattle.elab_components.specs.declared.interfaces.NewSignal.{NewSignal}
 use Rattle.elab_components.specs.declared.signals.SignalArguments.{SignalArguments}
-use Rattle.elab_components.specs.Signals.{no_arguments, with_keywords, call_name, formed, signal_reset_less, signal_passes, with_signal}
+use Rattle.elab_components.specs.Signals.{no_arguments, with_keywords, call_name, domain_formed, signal_reset_less, signal_passes, with_signal}
 use Rattle.elab_acts.specs.Submodules.{found_given}
 
 -- ---- the arguments
@@ -45,10 +45,6 @@ domain_arguments c = if list_all is_domain_keyword c.keywords then option_and_th
 -- a leading `cd_` is cut off
 abbrev pub without_cd : List ℕ → List ℕ
 without_cd name = if starts_with nat_eq name (codes "cd_") then drop 3 name else name
-
--- an identifier other than `comb`
-abbrev pub domain_formed : List ℕ → Option (List ℕ)
-domain_formed name = if text_eq name (codes "comb") then None else formed name
 
 -- the name that is given, else that of the call without `cd_`
 abbrev pub clock_domain_name : Seen → List ℕ → Option Val → Option (List ℕ)

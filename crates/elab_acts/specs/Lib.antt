@@ -5,3 +5,4 @@ pub mod Sides
 pub mod Simulators
 pub mod Submodules
 pub mod Tops
+pub mod Wrappers

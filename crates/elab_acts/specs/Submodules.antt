@@ -10,12 +10,12 @@ use Rattle.py_frames.specs.declared.request.Cause.TheVariants.{Raised, Limit}
 use Rattle.elab_store.specs.declared.kept.Kept.{Kept}
 use Rattle.elab_store.specs.declared.kept.Kept.TheVariants as kept
 use Rattle.elab_store.specs.Hierarchies.{Hierarchy, added_as, with_addition, is_node}
-use Rattle.elab_store.specs.Stores.{Stored, Held, Answered, refused, given, kept_of, node_in}
+use Rattle.elab_store.specs.Stores.{Stored, Held, Answered, refused, given, kept_of, node_in, inner_of}
 use Rattle.elab_acts.specs.Tops.{elaborate_of, most_submodules}
 
--- a module, a memory, or an object with `elaborate`
+-- a module, a memory, or an object with `elaborate`, and each of them where it is wrapped
 abbrev pub is_elaboratable : Seen → Val → Stored → Bool
-is_elaboratable s v store = is_some (node_in (kept_of store v)) || is_some (elaborate_of s v)
+is_elaboratable s v store = let w = inner_of store v in is_some (node_in (kept_of store w)) || is_some (elaborate_of s w)
 
 -- module m is elaborated already
 abbrev pub is_elaborated : ℕ → Stored → Bool

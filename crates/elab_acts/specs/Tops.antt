@@ -1,7 +1,7 @@
 -- What is elaborated: the global that the words name, or else what is simulated, or else the global `top`, whatever its `elaborate` gives,
 -- and then its submodules. (Amaranth language guide 0.5, "Elaboration", "Submodules". What the top is, that `elaborate` is asked again of
 -- what it gives, and how many submodules there may be, is this project's own rule.)
-use Rattle.std.specs.Prelude.{ℕ, zero, suc, nat_lt, ◌-◌, length, Bool, true, false, if◌then◌else◌, List, [], ◌∷◌, Option, Some, None, codes}
+use Rattle.std.specs.Prelude.{ℕ, zero, suc, nat_lt, ◌-◌, Bool, true, false, if◌then◌else◌, List, [], ◌∷◌, Option, Some, None, codes}
 use Rattle.lists.specs.Texts.{text_eq}
 use Rattle.py_values.specs.declared.val.Val.{Val}
 use Rattle.py_values.specs.declared.val.Val.TheVariants as val
@@ -18,8 +18,8 @@ use Rattle.py_frames.specs.declared.request.Cause.TheVariants.{Raised, Limit}
 use Rattle.elab_acts.specs.declared.tops.Calling.{Calling}
 use Rattle.elab_store.specs.declared.hierarchy.NodeOf.{NodeOf}
 use Rattle.elab_store.specs.declared.hierarchy.Waiting.{Waiting}
-use Rattle.elab_store.specs.Hierarchies.{first_waiting, thing_waiting, node_taken, top_entered}
-use Rattle.elab_store.specs.Stores.{with_root, with_object, module_of, node_in, Stored, Held, Answered, refused, given, kept_of}
+use Rattle.elab_store.specs.Hierarchies.{first_waiting, thing_waiting, node_taken, wraps_taken, root_wrapped, top_entered}
+use Rattle.elab_store.specs.Stores.{with_root, with_object, module_of, node_in, inner_of, wraps_in, Stored, Held, Answered, refused, given, kept_of}
 
 -- ---- `elaborate` of an object: what is called, and whether with the object first
 
@@ -94,14 +94,25 @@ store_with_node o store = record store { hierarchy = node_taken o store.hierarch
 abbrev pub with_node : NodeOf → Held → Held
 with_node o h = record h { store = store_with_node o h.store }
 
+-- wrappers stand before what they wrap, and do not count as submodules
+abbrev pub store_with_wraps : List ℕ → Stored → Stored
+store_with_wraps bys store = record store { hierarchy = wraps_taken bys store.hierarchy }
+
+abbrev pub with_wraps : List ℕ → Held → Held
+with_wraps bys h = record h { store = store_with_wraps bys h.store }
+
 -- a module or a memory is taken, and the others follow
 abbrev pub node_or_called : (Held → Answered) → Option NodeOf → Option Calling → Held → Answered
 node_or_called others (Some o) c h = others (with_node o h)
 node_or_called others None c h = below_called c h
 
+-- of a value the wrappers are taken, and then what stands within
+abbrev pub value_walked : Seen → (Held → Answered) → Val → Held → Answered
+value_walked s others v h = node_or_called others (node_in (kept_of h.store (inner_of h.store v))) (elaborate_of s (inner_of h.store v)) (with_wraps (wraps_in h.store v) h)
+
 abbrev pub thing_walked : Seen → (Held → Answered) → Option Val → Held → Answered
 thing_walked s others None h = refused Raised h
-thing_walked s others (Some v) h = node_or_called others (node_in (kept_of h.store v)) (elaborate_of s v) h
+thing_walked s others (Some v) h = value_walked s others v h
 
 abbrev pub next_walked : Seen → (Held → Answered) → Option Waiting → Held → Answered
 next_walked s others None h = given val.None h
@@ -117,7 +128,7 @@ walked zero s h = last_walked (first_waiting h.store.hierarchy) h
 walked (suc n) s h = next_walked s (walked n s) (first_waiting h.store.hierarchy) h
 
 abbrev pub walk : Seen → Held → Answered
-walk s h = walked (most_submodules - length h.store.hierarchy.nodes) s h
+walk s h = walked (most_submodules - h.store.hierarchy.taken) s h
 
 -- ---- what is elaborated comes to a module
 
@@ -131,8 +142,15 @@ abbrev pub top_taken : Seen → Val → Option ℕ → Option Calling → Held �
 top_taken s v (Some m) c h = walk s (with_top m h)
 top_taken s v None c h = top_called v c h
 
+-- the top may be wrapped, and so may what its `elaborate` gives
+abbrev pub store_with_root_wraps : List ℕ → Stored → Stored
+store_with_root_wraps bys store = record store { hierarchy = root_wrapped bys store.hierarchy }
+
+abbrev pub with_root_wraps : List ℕ → Held → Held
+with_root_wraps bys h = record h { store = store_with_root_wraps bys h.store }
+
 abbrev pub elaborated : Seen → Val → Held → Answered
-elaborated s v h = top_taken s v (module_of (kept_of h.store v)) (elaborate_of s v) h
+elaborated s v h = let w = inner_of h.store v in top_taken s w (module_of (kept_of h.store w)) (elaborate_of s w) (with_root_wraps (wraps_in h.store v) h)
 
 abbrev pub body_taken : Seen → Option Val → Held → Answered
 body_taken s None h = refused Raised h
@@ -154,7 +172,7 @@ body_ended name s vals names h = body_taken s (named_top name h.store.simulation
 -- where the top is a module already, it is a submodule that was asked
 abbrev pub ended_by : Option ℕ → Seen → Val → Held → Answered
 ended_by None s v h = elaborated s v h
-ended_by (Some root) s v h = node_or_called (walk s) (node_in (kept_of h.store v)) (elaborate_of s v) h
+ended_by (Some root) s v h = value_walked s (walk s) v h
 
 abbrev pub elaborate_ended : Seen → List Val → Held → Answered
 elaborate_ended s (v ∷ vs) h = ended_by h.store.top.root s v h

@@ -8,7 +8,7 @@ ghost use Rattle.amh_things.specs.declared.thing.Reading.TheVariants as reading;
 ghost use Rattle.elab_store.specs.Seen.{called_of};
 ghost use Rattle.elab_store.specs.Held.{held_of, Gives};
 ghost use Rattle.elab_components.specs.Puts.{IsPut};
-ghost use Rattle.elab_acts.specs.ClockDomains.{is_domain_keyword, placed_name, domain_arguments, without_cd, domain_formed, clock_domain_name, clock_domain, clock_domain_kept, reset_made, clock_made, clock_domain_called, clock_domain_attribute, clock_domain_of, domain_defined, definition_added, has_domain_name, definition_stored, is_definitions_of, definitions_stored};
+ghost use Rattle.elab_acts.specs.ClockDomains.{is_domain_keyword, placed_name, domain_arguments, without_cd, clock_domain_name, clock_domain, clock_domain_kept, reset_made, clock_made, clock_domain_called, clock_domain_attribute, clock_domain_of, domain_defined, definition_added, has_domain_name, definition_stored, is_definitions_of, definitions_stored};
 
 use amh_bits::Int;
 use amh_host::{Place, Text};
@@ -16,7 +16,7 @@ use amh_things::thing::Reading;
 use design_ir::{Domain, Sig, SigId};
 use elab_components::interfaces::{NewSignal, copied_text, new_signal};
 use elab_components::signals::{
-    SignalArguments, call_name, formed, signal_reset_less, with_keywords,
+    SignalArguments, call_name, domain_formed, signal_reset_less, with_keywords,
 };
 use elab_store::calls::Called;
 use elab_store::domains::{ClockDomain, Definition};
@@ -88,17 +88,6 @@ fn without_cd(name: &str) -> &str
         return rest;
     }
     name
-}
-
-// A name, where it is an identifier other than `comb`.
-fn domain_formed(alloc: Global, name: &str) -> Result<Option<&str>, NoMemory>
-    ensures { IfOk result (λ formed_name. option_copied formed_name ≡ domain_formed name.now) }
-{
-    if is_text(name, "comb") {
-        Ok(None)
-    } else {
-        formed(alloc, name)
-    }
 }
 
 // The name that a clock domain is to have.

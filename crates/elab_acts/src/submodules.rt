@@ -16,11 +16,12 @@ use py_heap::{Frozen, Heap};
 use py_values::Val;
 use std::alloc::Global;
 
-// A module, a memory, or an object with `elaborate`.
-fn is_elaboratable(store: &Store, heap: &Heap, frozen: &Frozen, v: &Val) -> bool
+/// A module, a memory, or an object with `elaborate`, and each of them where it is wrapped.
+pub(crate) fn is_elaboratable(store: &Store, heap: &Heap, frozen: &Frozen, v: &Val) -> bool
     ensures { result ≡ is_elaboratable (seen frozen.now heap.now) v.now store.now }
 {
-    store.node_of(v).is_some() || elaborate_of(heap, frozen, *v).is_some()
+    let inner = store.inner_of(v);
+    store.node_of(&inner).is_some() || elaborate_of(heap, frozen, inner).is_some()
 }
 
 // Whether a module is elaborated already.

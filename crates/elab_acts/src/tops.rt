@@ -1,11 +1,11 @@
 // What is elaborated: the top, and its submodules.
-ghost use Rattle.std.specs.Prelude.{◌≡◌, map, string_bytes, Some, None, IfOk, option_map};
+ghost use Rattle.std.specs.Prelude.{◌≡◌, map, string_bytes, Some, None, IfOk, OnOk, option_map};
 ghost use Rattle.std.specs.Option.{option_copied};
 ghost use Rattle.py_values.specs.declared.val.Val.TheVariants as val;
 ghost use Rattle.py_heap.specs.Heaps.{seen, func_at};
 ghost use Rattle.py_heap.specs.Objects.{first_in};
-ghost use Rattle.elab_acts.specs.Tops.{is_unbound, is_method, method_calling, found_calling, class_calling, object_calling, elaborate_of, global, top_called, below_called, node_or_called, walk, elaborated, top_of, named_top, body_taken, body_ended, ended_by, elaborate_ended, call_args};
-ghost use Rattle.elab_store.specs.Stores.{object_in, first_object, kept_of, module_of, node_in};
+ghost use Rattle.elab_acts.specs.Tops.{is_unbound, is_method, method_calling, found_calling, class_calling, object_calling, elaborate_of, global, top_called, below_called, value_walked, with_wraps, with_root_wraps, walk, elaborated, top_of, named_top, body_taken, body_ended, ended_by, elaborate_ended, call_args};
+ghost use Rattle.elab_store.specs.Stores.{object_in, first_object, kept_of, module_of, node_in, inner_of, wraps_in};
 ghost use Rattle.elab_store.specs.Held.{held_of, Gives};
 
 use elab_store::kept::{Kept, Top};
@@ -170,11 +170,27 @@ fn call_below(
     })
 }
 
+// What waits first is this value: its wrappers stand in the tree.
+fn take_wraps(elaboration: &mut Elaboration, v: &Val) -> Result<(), NoMemory>
+    ensures { OnOk result (held_of elaboration.new ≡ with_wraps (wraps_in elaboration.old.store v.now) (held_of elaboration.old)) }
+{
+    let bys = elaboration.store.wraps_in(elaboration.alloc, v)?;
+    elaboration.store.take_wraps(bys.as_slice())
+}
+
+// The top is this value: its wrappers stand around it.
+fn wrap_root(elaboration: &mut Elaboration, v: &Val) -> Result<(), NoMemory>
+    ensures { OnOk result (held_of elaboration.new ≡ with_root_wraps (wraps_in elaboration.old.store v.now) (held_of elaboration.old)) }
+{
+    let bys = elaboration.store.wraps_in(elaboration.alloc, v)?;
+    elaboration.store.wrap_root(bys.as_slice())
+}
+
 // What waits is elaborated, one after the other, until nothing does or `elaborate` has to be called.
 fn walk(elaboration: &mut Elaboration, heap: &Heap, frozen: &Frozen) -> Result<Answer, NoMemory>
     ensures { Gives result elaboration.new (walk (seen frozen.now heap.now) (held_of elaboration.old)) }
 {
-    let room = MOST_SUBMODULES.saturating_sub(elaboration.store.hierarchy().nodes().len());
+    let room = MOST_SUBMODULES.saturating_sub(elaboration.store.hierarchy().taken());
     for i in 0..room {
         let Some(next) = elaboration.store.hierarchy().first_waiting() else {
             return elaboration.give(Val::None);
@@ -185,8 +201,11 @@ fn walk(elaboration: &mut Elaboration, heap: &Heap, frozen: &Frozen) -> Result<A
         let Some(v) = elaboration.store.hierarchy().thing_waiting() else {
             return elaboration.refuse(Cause::Raised);
         };
-        let Some(node) = elaboration.store.node_of(&v) else {
-            return call_below(elaboration, heap, frozen, v);
+        let inner = elaboration.store.inner_of(&v);
+        let node = elaboration.store.node_of(&inner);
+        take_wraps(elaboration, &v)?;
+        let Some(node) = node else {
+            return call_below(elaboration, heap, frozen, inner);
         };
         elaboration.store.take_node(node)?;
     }
@@ -196,7 +215,7 @@ fn walk(elaboration: &mut Elaboration, heap: &Heap, frozen: &Frozen) -> Result<A
     }
 }
 
-// A value is elaborated as the top: of a module the submodules follow, and of an object `elaborate` is called.
+// A value is elaborated as the top: of a module the submodules follow, and of an object `elaborate` is called. Its wrappers are noted.
 fn elaborate(
     elaboration: &mut Elaboration,
     heap: &Heap,
@@ -205,30 +224,37 @@ fn elaborate(
 ) -> Result<Answer, NoMemory>
     ensures { Gives result elaboration.new (elaborated (seen frozen.now heap.now) v (held_of elaboration.old)) }
 {
-    match elaboration.store.module_of(&v) {
+    let inner = elaboration.store.inner_of(&v);
+    let module = elaboration.store.module_of(&inner);
+    wrap_root(elaboration, &v)?;
+    match module {
         Some(m) => {
             elaboration.store.enter_top(m)?;
             walk(elaboration, heap, frozen)
         }
-        None => call_top(elaboration, heap, frozen, &v),
+        None => call_top(elaboration, heap, frozen, &inner),
     }
 }
 
-// `elaborate` of a submodule gave a value: a module or a memory stands in the tree, and of an object `elaborate` is called again.
+// `elaborate` of a submodule gave a value: a module or a memory stands in the tree behind its wrappers, and of an object `elaborate` is called
+// again.
 fn elaborate_below(
     elaboration: &mut Elaboration,
     heap: &Heap,
     frozen: &Frozen,
     v: Val,
 ) -> Result<Answer, NoMemory>
-    ensures { let s = seen frozen.now heap.now in Gives result elaboration.new (node_or_called (walk s) (node_in (kept_of elaboration.old.store v)) (elaborate_of s v) (held_of elaboration.old)) }
+    ensures { let s = seen frozen.now heap.now in Gives result elaboration.new (value_walked s (walk s) v (held_of elaboration.old)) }
 {
-    match elaboration.store.node_of(&v) {
+    let inner = elaboration.store.inner_of(&v);
+    let node = elaboration.store.node_of(&inner);
+    take_wraps(elaboration, &v)?;
+    match node {
         Some(node) => {
             elaboration.store.take_node(node)?;
             walk(elaboration, heap, frozen)
         }
-        None => call_below(elaboration, heap, frozen, v),
+        None => call_below(elaboration, heap, frozen, inner),
     }
 }
 

@@ -1,3 +1,5 @@
 pub mod ComponentLaws
 pub mod FaceLaws
+pub mod ImportSamples
 pub mod ListLaws
+pub mod ResetSamples

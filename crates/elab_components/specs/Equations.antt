@@ -6,7 +6,7 @@ use Rattle.py_frames.specs.declared.request.Cause.{Cause}
 use Rattle.py_frames.specs.declared.request.Cause.TheVariants.{Raised}
 use Rattle.design_ir.specs.declared.ids.ExprId.{ExprId}
 use Rattle.design_ir.specs.declared.expr.Expr.{Expr}
-use Rattle.design_ir.specs.Targets.{is_target}
+use Rattle.design_ir.specs.Targets.{is_open_target}
 use Rattle.amh_things.specs.Meant.{expr_meant}
 use Rattle.amh_things.specs.Plans.{grown_by}
 use Rattle.elab_store.specs.declared.kept.Kept.TheVariants as kept
@@ -21,7 +21,7 @@ equation_given target place h (Err why) = refused why h
 -- What is no target is told where it is equated, as Amaranth tells it. A count is told last.
 abbrev pub equation_made : ExprId → Val → Place → Held → Answered
 equation_made target v place h =
-    if is_target h.pool target.0 then equation_given target place h (expr_meant h.pool h.store.things v) else refused Raised h
+    if is_open_target h.pool target.0 then equation_given target place h (expr_meant h.pool h.store.things v) else refused Raised h
 
 -- one value, and no keyword
 abbrev pub equated : ExprId → List Val → List (List ℕ) → Place → Held → Answered

@@ -21,6 +21,13 @@ use Rattle.elab_store.specs.Stores.{Held, Answered, refused, given, next_thing, 
 abbrev pub is_hdl : List ℕ → Bool
 is_hdl path = text_eq path (codes "amaranth") || text_eq path (codes "amaranth.hdl")
 
+-- wrappers of clock domains
+abbrev pub wrapper_named : List ℕ → Option HdlName
+wrapper_named n =
+    if text_eq n (codes "DomainRenamer") then Some hdl.DomainRenamer
+    else (if text_eq n (codes "ResetInserter") then Some hdl.ResetInserter
+    else (if text_eq n (codes "EnableInserter") then Some hdl.EnableInserter else None))
+
 -- the names that this crate serves itself
 abbrev pub own_named : List ℕ → Option HdlName
 own_named n =
@@ -29,13 +36,14 @@ own_named n =
     else (if text_eq n (codes "Elaboratable") then Some hdl.Elaboratable
     else (if text_eq n (codes "Shape") then Some hdl.Shape
     else (if text_eq n (codes "Value") then Some hdl.Value
-    else (if text_eq n (codes "ClockDomain") then Some hdl.ClockDomain else None)))))
+    else (if text_eq n (codes "ClockDomain") then Some hdl.ClockDomain
+    else (if text_eq n (codes "ResetSignal") then Some hdl.ResetSignal else wrapper_named n))))))
 
 -- the names that a star brings
 abbrev pub star_names : List (List ℕ)
 star_names =
     codes "Module" ∷ codes "Signal" ∷ codes "Const" ∷ codes "C" ∷ codes "Cat" ∷ codes "Mux" ∷ codes "Array" ∷ codes "Shape" ∷ codes "Value"
-    ∷ codes "unsigned" ∷ codes "signed" ∷ codes "Elaboratable" ∷ codes "ClockDomain" ∷ []
+    ∷ codes "unsigned" ∷ codes "signed" ∷ codes "Elaboratable" ∷ codes "ClockDomain" ∷ codes "ResetSignal" ∷ codes "DomainRenamer" ∷ codes "ResetInserter" ∷ codes "EnableInserter" ∷ []
 
 abbrev pub hdl_thing : Option HdlName → Option ThingName → Held → Answered
 hdl_thing (Some n) t h = kept_given (kept.Name n) h

@@ -8,5 +8,6 @@ pub mod Libraries
 pub mod Likes
 pub mod Members
 pub mod Puts
+pub mod Resets
 pub mod Signals
 pub mod Signatures

@@ -79,6 +79,10 @@ call_name (b ∷ bs) = b ∷ bs
 abbrev pub formed : List ℕ → Option (List ℕ)
 formed name = if is_identifier name then Some name else None
 
+-- an identifier other than `comb`
+abbrev pub domain_formed : List ℕ → Option (List ℕ)
+domain_formed name = if text_eq name (codes "comb") then None else formed name
+
 abbrev pub signal_name : Seen → List ℕ → Option Val → Option (List ℕ)
 signal_name s name None = formed (call_name name)
 signal_name s name (Some val.None) = formed (call_name name)

@@ -2,7 +2,7 @@
 ghost use Rattle.std.specs.Prelude.{◌≡◌, ◌<◌, length, slice_get, is_some, Some, IfOk, [], codes};
 ghost use Rattle.lists.specs.Texts.{text_eq};
 ghost use Rattle.amh_things.specs.Things.{name_called};
-ghost use Rattle.elab_components.specs.Imports.{is_hdl, is_utils, own_named, star_names, hdl_imported, all_bound, utility_imported, is_sim, sim_named, simulator_bound, sim_imported, imported, import_answered};
+ghost use Rattle.elab_components.specs.Imports.{is_hdl, is_utils, wrapper_named, own_named, star_names, hdl_imported, all_bound, utility_imported, is_sim, sim_named, simulator_bound, sim_imported, imported, import_answered};
 ghost use Rattle.elab_store.specs.Held.{held_of, Gives};
 
 use crate::libraries::{give_base, give_layout, give_library, is_data, is_enum, library_named};
@@ -16,7 +16,22 @@ use py_values::{FuncId, Val};
 use std::alloc::Global;
 
 /// How many names a star brings.
-const STAR: usize = 13;
+const STAR: usize = 17;
+
+// The name of a wrapper of clock domains that is spelled so.
+fn wrapper_named(name: &str) -> Option<HdlName>
+    ensures { result ≡ wrapper_named name.now }
+{
+    if is_text(name, "DomainRenamer") {
+        Some(HdlName::DomainRenamer)
+    } else if is_text(name, "ResetInserter") {
+        Some(HdlName::ResetInserter)
+    } else if is_text(name, "EnableInserter") {
+        Some(HdlName::EnableInserter)
+    } else {
+        None
+    }
+}
 
 // The name that is served here and is spelled so.
 fn own_named(name: &str) -> Option<HdlName>
@@ -34,8 +49,10 @@ fn own_named(name: &str) -> Option<HdlName>
         Some(HdlName::Value)
     } else if is_text(name, "ClockDomain") {
         Some(HdlName::ClockDomain)
+    } else if is_text(name, "ResetSignal") {
+        Some(HdlName::ResetSignal)
     } else {
-        None
+        wrapper_named(name)
     }
 }
 
@@ -54,7 +71,7 @@ fn is_value_name(name: &str) -> bool
 
 // The names that a star brings, in order.
 fn star_name(i: usize) -> &'static str
-    requires { i < 13 }
+    requires { i < 17 }
     ensures { slice_get star_names i ≡ Some result.now }
 {
     match i {
@@ -70,7 +87,11 @@ fn star_name(i: usize) -> &'static str
         9 => "unsigned",
         10 => "signed",
         11 => "Elaboratable",
-        _ => "ClockDomain",
+        12 => "ClockDomain",
+        13 => "ResetSignal",
+        14 => "DomainRenamer",
+        15 => "ResetInserter",
+        _ => "EnableInserter",
     }
 }
 

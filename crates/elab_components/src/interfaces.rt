@@ -181,7 +181,7 @@ pub fn copied_text(alloc: Global, text: &Text) -> Result<Text, NoMemory>
 }
 
 // A pool that takes an expression refuses it for want of memory alone.
-fn want_of_memory(_stop: PoolStop) -> NoMemory
+pub(crate) fn want_of_memory(_stop: PoolStop) -> NoMemory
     requires { _stop ≡ PoolStop.NoMemory }
 {
     NoMemory

@@ -7,7 +7,7 @@ ghost use Rattle.design_ir.specs.PoolRules.{expr_added};
 ghost use Rattle.amh_things.specs.declared.thing.Thing.TheVariants as thing;
 ghost use Rattle.elab_store.specs.Stores.{thing_given};
 ghost use Rattle.elab_store.specs.Seen.{called_of};
-ghost use Rattle.elab_components.specs.Signals.{module_called, with_module, no_arguments, once, formed, with_keyword, with_keywords, placed_arguments, signal_arguments, call_name, signal_name, signal_init, signal_reset_less, signal_passes, signal_of, signal_given, signal_shaped, signal_said, signal_shape, signal_from, signal_called};
+ghost use Rattle.elab_components.specs.Signals.{module_called, with_module, no_arguments, once, formed, with_keyword, with_keywords, placed_arguments, signal_arguments, call_name, domain_formed, signal_name, signal_init, signal_reset_less, signal_passes, signal_of, signal_given, signal_shaped, signal_said, signal_shape, signal_from, signal_called};
 ghost use Rattle.elab_store.specs.Held.{held_of, Gives};
 
 use crate::interfaces::new_signal;
@@ -147,6 +147,17 @@ pub fn formed(alloc: Global, name: &str) -> Result<Option<&str>, NoMemory>
         Ok(Some(name))
     } else {
         Ok(None)
+    }
+}
+
+/// The name of a domain with a clock, where it is an identifier other than `comb`.
+pub fn domain_formed(alloc: Global, name: &str) -> Result<Option<&str>, NoMemory>
+    ensures { IfOk result (λ formed_name. option_copied formed_name ≡ domain_formed name.now) }
+{
+    if is_text(name, "comb") {
+        Ok(None)
+    } else {
+        formed(alloc, name)
     }
 }
 

@@ -1,4 +1,5 @@
--- The definitions of clock domains in a tree of modules: each is a domain of the pool, and two are of one domain or have no signal in common.
+-- The definitions of clock domains in a tree of modules: each is a domain of the pool, and two are of one domain but for its name, or have no signal in
+-- common.
 use Rattle.std.proofs.Common.{◌≡◌, ◌<◌, ◌≤◌, ℕ, zero, suc, refl, sym, ap, ◌∙◌, subst, Bool, true, false, inl, inr, List, [], ◌∷◌, ◌++◌, Option, Some, None, true≢false, is_some, nat_eq, arith}
 use Rattle.std.specs.Prelude.{◌⊎◌, ◌==◌, ◌||◌, if◌then◌else◌, slice_get, option_map}
 use Rattle.std.proofs.lemmas.Bool.{cases_order, eqb-true}
@@ -7,32 +8,24 @@ use Rattle.std.specs.List.{AllByRecursion, filter_map, cons_option}
 use Rattle.design_ir.specs.declared.ids.SigId.{SigId}
 use Rattle.design_ir.specs.declared.domain.Domain.{Domain}
 use Rattle.design_ir.specs.declared.domain.DomainDef.{DomainDef}
-use Rattle.design_ir.specs.Forests.{Forest, bare, grown}
 use Rattle.design_ir.specs.Pools.{Pooled}
 use Rattle.design_ir.specs.Circuits.{is_among}
 use Rattle.design_ir.specs.Designs.{share}
-use Rattle.module_dsl.specs.Builders.{Built}
-use Rattle.fragment_walks.specs.Walks.{definitions_of, all_definitions}
 use Rattle.clock_domains.specs.Resolvable.{IsDomainOf, IsDefinition, IsResetOf, AreApart, domain_numbers}
 use Rattle.clock_domains.specs.Resolvable as resolvable
 use Rattle.elab_store.specs.declared.domains.ClockDomain.{ClockDomain}
 use Rattle.elab_store.specs.declared.domains.Definition.{Definition}
-use Rattle.elab_store.specs.declared.hierarchy.Addition.{Addition}
-use Rattle.elab_store.specs.declared.hierarchy.Node.{Node}
-use Rattle.elab_store.specs.declared.hierarchy.NodeOf.{NodeOf}
-use Rattle.elab_store.specs.declared.hierarchy.NodeOf.TheVariants as node
-use Rattle.elab_store.specs.declared.memories.OwnMemory.{OwnMemory}
 use Rattle.elab_store.specs.ClockDomains.{ClockDomains, definition_of, definition_in, defined_by}
 use Rattle.elab_store.specs.Sound.{IsBit, IsResetBehind, IsClockDomain, last_signal, IsMadeBefore, AreInOrder, AreClockDomains}
 use Rattle.elab_store.specs.Stores.{Stored}
 use Rattle.elab_acts.proofs.EachLaws.{all_each}
-use Rattle.elab_acts.proofs.GrownLaws.{all_and}
-use Rattle.elab_eval.specs.Elaborates.{node_name, leaf_in, first_trees, other_trees, forest_of_nodes, root_domains, tree_of}
+use Rattle.elab_eval.specs.Elaborates.{root_domains}
+use Rattle.elab_eval.specs.Standing.{IsFrom}
 
 -- ---- where a definition comes from
 
--- it is of this clock domain
-pub record IsFrom (made : List ClockDomain) (d : DomainDef) : Type 0 where
+-- it is of this clock domain, under its name
+pub record IsOwn (made : List ClockDomain) (d : DomainDef) : Type 0 where
   pub number : ℕ
   pub x : ClockDomain
   pub at : slice_get made number ≡ Some x
@@ -42,32 +35,32 @@ pub record IsFrom (made : List ClockDomain) (d : DomainDef) : Type 0 where
 abbrev as_defined : Definition → ClockDomain → DomainDef
 as_defined x y = record { domain = y.domain; place = x.place }
 
-looked_up : (made : List ClockDomain) (k : ℕ) (o : Option ClockDomain) (x : Definition) (d : DomainDef) → slice_get made k ≡ o → option_map (as_defined x) o ≡ Some d → IsFrom made d
+looked_up : (made : List ClockDomain) (k : ℕ) (o : Option ClockDomain) (x : Definition) (d : DomainDef) → slice_get made k ≡ o → option_map (as_defined x) o ≡ Some d → IsOwn made d
 looked_up made k None x d at e = absurd (true≢false (sym (ap is_some e)))
 looked_up made k (Some y) x d at e = let same : as_defined x y ≡ d = cc in record { number = k; x = y; at = at; domain = ap (λ (z : DomainDef). z.domain) (sym same) }
 
-in_from : (m : ℕ) (made : List ClockDomain) (x : Definition) (d : DomainDef) → definition_in m made x ≡ Some d → IsFrom made d
-in_from m made x d e = by_test (x.of == m) e
+in_own : (m : ℕ) (made : List ClockDomain) (x : Definition) (d : DomainDef) → definition_in m made x ≡ Some d → IsOwn made d
+in_own m made x d e = by_test (x.of == m) e
   where
-    by_test : (b : Bool) → (if b then definition_of made x else None) ≡ Some d → IsFrom made d
+    by_test : (b : Bool) → (if b then definition_of made x else None) ≡ Some d → IsOwn made d
     by_test true f = looked_up made x.clock_domain (slice_get made x.clock_domain) x d refl f
     by_test false f = absurd (true≢false (sym (ap is_some f)))
 
-all_from : (m : ℕ) (made : List ClockDomain) (xs : List Definition) → AllByRecursion (IsFrom made) (filter_map (definition_in m made) xs)
-all_from m made [] = tt
-all_from m made (x ∷ xs) = by_one (definition_in m made x) (in_from m made x) (all_from m made xs)
+all_own : (m : ℕ) (made : List ClockDomain) (xs : List Definition) → AllByRecursion (IsOwn made) (filter_map (definition_in m made) xs)
+all_own m made [] = tt
+all_own m made (x ∷ xs) = by_one (definition_in m made x) (in_own m made x) (all_own m made xs)
   where
-    by_one : (o : Option DomainDef) → ((d : DomainDef) → o ≡ Some d → IsFrom made d) → AllByRecursion (IsFrom made) (filter_map (definition_in m made) xs) → AllByRecursion (IsFrom made) (cons_option o (filter_map (definition_in m made) xs))
+    by_one : (o : Option DomainDef) → ((d : DomainDef) → o ≡ Some d → IsOwn made d) → AllByRecursion (IsOwn made) (filter_map (definition_in m made) xs) → AllByRecursion (IsOwn made) (cons_option o (filter_map (definition_in m made) xs))
     by_one None f all = all
     by_one (Some d) f all = (f d refl, all)
 
 -- those of the top
-root_from : (s : Stored) → AllByRecursion (IsFrom s.clock_domains.made) (root_domains s)
-root_from s = by_root s.top.root
+root_own : (s : Stored) → AllByRecursion (IsOwn s.clock_domains.made) (root_domains s)
+root_own s = by_root s.top.root
   where
-    by_root : (o : Option ℕ) → AllByRecursion (IsFrom s.clock_domains.made) (option_map_or (λ m. defined_by m s.clock_domains) o [])
+    by_root : (o : Option ℕ) → AllByRecursion (IsOwn s.clock_domains.made) (option_map_or (λ m. defined_by m s.clock_domains) o [])
     by_root None = tt
-    by_root (Some m) = all_from m s.clock_domains.made s.clock_domains.definitions
+    by_root (Some m) = all_own m s.clock_domains.made s.clock_domains.definitions
 
 -- ---- each is a domain of the pool
 
@@ -96,14 +89,32 @@ made_at P [] k x h e = absurd (true≢false (ap is_some (sym e)))
 made_at P (y ∷ made) zero x h e = let same : y ≡ x = cc in subst P same h.0
 made_at P (y ∷ made) (suc k) x h e = made_at P made k x h.1 e
 
-from_there : (q : Pooled) (made : List ClockDomain) (d : DomainDef) → AllByRecursion (IsClockDomain q) made → IsFrom made d → IsDefinition q d
-from_there q made d all h = subst (IsDomainOf q) (sym h.domain) (domain_there q h.x (made_at (IsClockDomain q) made h.number h.x all h.at))
+own_there : (q : Pooled) (made : List ClockDomain) (d : DomainDef) → AllByRecursion (IsClockDomain q) made → IsOwn made d → IsDefinition q d
+own_there q made d all h = subst (IsDomainOf q) (sym h.domain) (domain_there q h.x (made_at (IsClockDomain q) made h.number h.x all h.at))
 
 pub definitions_stand : (q : Pooled) (t : ClockDomains) (m : ℕ) → AreClockDomains q t.made → AllByRecursion (IsDefinition q) (defined_by m t)
-definitions_stand q t m h = all_each (IsFrom t.made) (IsDefinition q) (defined_by m t) (λ d from. from_there q t.made d h.each from) (all_from m t.made t.definitions)
+definitions_stand q t m h = all_each (IsOwn t.made) (IsDefinition q) (defined_by m t) (λ d own. own_there q t.made d h.each own) (all_own m t.made t.definitions)
 
 pub root_definitions_stand : (q : Pooled) (s : Stored) → AreClockDomains q s.clock_domains.made → AllByRecursion (IsDefinition q) (root_domains s)
-root_definitions_stand q s h = all_each (IsFrom s.clock_domains.made) (IsDefinition q) (root_domains s) (λ d from. from_there q s.clock_domains.made d h.each from) (root_from s)
+root_definitions_stand q s h = all_each (IsOwn s.clock_domains.made) (IsDefinition q) (root_domains s) (λ d own. own_there q s.clock_domains.made d h.each own) (root_own s)
+
+-- ---- whatever its name
+
+own_from : (made : List ClockDomain) (d : DomainDef) → IsOwn made d → IsFrom made d
+own_from made d h = record { number = h.number; x = h.x; at = h.at; domain = ap (λ (z : Domain). record z { name = h.x.domain.name }) h.domain }
+
+pub defined_from : (t : ClockDomains) (m : ℕ) → AllByRecursion (IsFrom t.made) (defined_by m t)
+defined_from t m = all_each (IsOwn t.made) (IsFrom t.made) (defined_by m t) (own_from t.made) (all_own m t.made t.definitions)
+
+pub root_from : (s : Stored) → AllByRecursion (IsFrom s.clock_domains.made) (root_domains s)
+root_from s = all_each (IsOwn s.clock_domains.made) (IsFrom s.clock_domains.made) (root_domains s) (own_from s.clock_domains.made) (root_own s)
+
+pub renamed_from : (made : List ClockDomain) (d : DomainDef) (name : List ℕ) → IsFrom made d → IsFrom made (record d { domain = record (d.domain) { name = name } })
+renamed_from made d name h = record { number = h.number; x = h.x; at = h.at; domain = h.domain }
+
+-- its signals are those of the clock domain
+pub from_numbers : (made : List ClockDomain) (d : DomainDef) (h : IsFrom made d) → domain_numbers d.domain ≡ domain_numbers h.x.domain
+from_numbers made d h = ap domain_numbers h.domain
 
 -- ---- lists without a number in common
 
@@ -179,54 +190,18 @@ two_apart q made d e h f g = by_order (cases_order f.number g.number)
     there = made_at (IsClockDomain q) made g.number g.x h.each g.at
 
     numbers : share (domain_numbers f.x.domain) (domain_numbers g.x.domain) ≡ false → share (domain_numbers d.domain) (domain_numbers e.domain) ≡ false
-    numbers s = ap (λ (z : Domain). share (domain_numbers z) (domain_numbers e.domain)) f.domain ∙ ap (λ (z : Domain). share (domain_numbers f.x.domain) (domain_numbers z)) g.domain ∙ s
+    numbers s = ap (λ ns. share ns (domain_numbers e.domain)) (from_numbers made d f) ∙ ap (λ ns. share (domain_numbers f.x.domain) ns) (from_numbers made e g) ∙ s
+
+    under : (x y : ClockDomain) → x ≡ y → record (d.domain) { name = x.domain.name } ≡ x.domain → record (e.domain) { name = y.domain.name } ≡ y.domain → record (d.domain) { name = e.domain.name } ≡ e.domain
+    under x y same a b = ap (λ (z : Domain). record z { name = e.domain.name }) (a ∙ ap (λ (z : ClockDomain). z.domain) same ∙ sym b)
 
     by_order : (f.number ≡ g.number) ⊎ ((f.number < g.number) ⊎ (g.number < f.number)) → AreApart d e
-    by_order (inl same) = inl (f.domain ∙ ap (λ (z : ClockDomain). z.domain) (some_same f.x g.x (sym f.at ∙ ap (slice_get made) same ∙ g.at)) ∙ sym g.domain)
+    by_order (inl same) = inl (under f.x g.x (some_same f.x g.x (sym f.at ∙ ap (slice_get made) same ∙ g.at)) f.domain g.domain)
     by_order (inr (inl lt)) = inr (numbers (before_apart q f.x g.x here there (order_at made f.number g.number f.x g.x h.order lt f.at g.at)))
     by_order (inr (inr lt)) = inr (numbers (behind_apart q f.x g.x here there (order_at made g.number f.number g.x f.x h.order lt g.at f.at)))
 
--- ---- all definitions of the tree
+-- ---- all definitions of a tree
 
-module _ (made : List ClockDomain) where
-  -- each module of a forest has definitions of these clock domains alone
-  abbrev pub AreFrom : Forest → Type 0
-  AreFrom bare = Unit {0}
-  AreFrom (grown l below rest) = AllByRecursion (IsFrom made) l.domains × (AreFrom below × AreFrom rest)
-
-  first_from : (n : ℕ) (f : Forest) → AreFrom f → AreFrom (first_trees n f)
-  first_from zero f h = tt
-  first_from (suc n) bare h = tt
-  first_from (suc n) (grown l below rest) h = (h.0, (h.1.0, first_from n rest h.1.1))
-
-  others_from : (n : ℕ) (f : Forest) → AreFrom f → AreFrom (other_trees n f)
-  others_from zero f h = h
-  others_from (suc n) bare h = tt
-  others_from (suc n) (grown l below rest) h = others_from n rest h.1.1
-
-  gathered_from : (f : Forest) → AreFrom f → AllByRecursion (IsFrom made) (definitions_of f)
-  gathered_from bare h = tt
-  gathered_from (grown l below rest) h =
-      all_and (IsFrom made) l.domains (definitions_of below ++ definitions_of rest) h.0 (all_and (IsFrom made) (definitions_of below) (definitions_of rest) (gathered_from below h.1.0) (gathered_from rest h.1.1))
-
--- a memory defines none
-leaf_from : (bs : List Built) (ms : List OwnMemory) (t : ClockDomains) (name : List ℕ) (o : NodeOf) → AllByRecursion (IsFrom t.made) (leaf_in bs ms t name o).domains
-leaf_from bs ms t name (node.Module m) = all_from m t.made t.definitions
-leaf_from bs ms t name (node.Memory k) = tt
-
-nodes_from : (bs : List Built) (ms : List OwnMemory) (t : ClockDomains) (additions : List Addition) (xs : List Node) → AreFrom t.made (forest_of_nodes bs ms t additions xs)
-nodes_from bs ms t additions [] = tt
-nodes_from bs ms t additions (x ∷ xs) =
-    let behind = nodes_from bs ms t additions xs in (leaf_from bs ms t (node_name additions x) x.of, (first_from t.made x.below _ behind, others_from t.made x.below _ behind))
-
-pub definitions_from : (s : Stored) (b : Built) → AllByRecursion (IsFrom s.clock_domains.made) (all_definitions (tree_of s b))
-definitions_from s b =
-    let below : Forest = forest_of_nodes s.modules s.memories s.clock_domains s.hierarchy.additions s.hierarchy.nodes in
-    all_and (IsFrom s.clock_domains.made) (root_domains s) (definitions_of below) (root_from s) (gathered_from s.clock_domains.made below (nodes_from s.modules s.memories s.clock_domains s.hierarchy.additions s.hierarchy.nodes))
-
-pub definitions_apart : (q : Pooled) (s : Stored) (b : Built) → AreClockDomains q s.clock_domains.made → AllByRecursion (λ (d : DomainDef). AllByRecursion (AreApart d) (all_definitions (tree_of s b))) (all_definitions (tree_of s b))
-definitions_apart q s b h =
-    let made = s.clock_domains.made in
-    let all : List DomainDef = all_definitions (tree_of s b) in
-    let from = definitions_from s b in
-    all_each (IsFrom made) (λ (d : DomainDef). AllByRecursion (AreApart d) all) all (λ d f. all_each (IsFrom made) (AreApart d) all (λ e g. two_apart q made d e h f g) from) from
+pub all_apart : (q : Pooled) (made : List ClockDomain) (ds : List DomainDef) → AreClockDomains q made → AllByRecursion (IsFrom made) ds → AllByRecursion (λ (d : DomainDef). AllByRecursion (AreApart d) ds) ds
+all_apart q made ds h from =
+    all_each (IsFrom made) (λ (d : DomainDef). AllByRecursion (AreApart d) ds) ds (λ d f. all_each (IsFrom made) (AreApart d) ds (λ e g. two_apart q made d e h f g) from) from

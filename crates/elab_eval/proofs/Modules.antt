@@ -1,4 +1,4 @@
--- A tree of modules whose statements stand is one that can be resolved.
+-- A module whose statements stand is one that can be resolved, and so is a memory alone.
 use Rattle.std.specs.Prelude.{IsTrue, ◌≡◌, refl, ℕ, not, List, [], ◌∷◌, slice_get, slice_index_or, Option, Some, None, zero, suc, codes}
 use Rattle.std.specs.Option.{option_map_or}
 use Rattle.std.specs.List.{AllByRecursion}
@@ -7,29 +7,27 @@ use Rattle.std.proofs.lemmas.List.Elements.{All-nil}
 use Rattle.lists.specs.Names.{IsName, continues_name}
 use Rattle.design_ir.specs.declared.domain.DomainDef.{DomainDef}
 use Rattle.design_ir.specs.declared.process.Side.{Side}
-use Rattle.design_ir.specs.Forests.{Forest, bare, grown}
 use Rattle.design_ir.specs.Fragments.{leaf_of}
-use Rattle.design_ir.specs.Guards.{Guarded, guarded}
 use Rattle.design_ir.specs.Pools.{Pooled}
-use Rattle.design_ir.specs.Targets.{is_target, is_open_target}
 use Rattle.module_dsl.specs.Sided as dsl
 use Rattle.module_dsl.specs.Sided.{givens, sides_of, process_of, processes_of}
 use Rattle.module_dsl.specs.Blocks.{Given, Entries, entries_of}
 use Rattle.module_dsl.specs.Builders.{Built, built_blocks, fragment_of}
-use Rattle.clock_domains.specs.Resolvable.{IsNamedSide, IsThere, IsOpenSide, IsDefinition, IsMemoryOf, IsModule, AreModules, IsTree}
-use Rattle.elab_store.specs.Sound.{IsNoReset, IsBuilt, AreClockDomains}
-use Rattle.elab_store.specs.ClockDomains.{ClockDomains, defined_by}
+use Rattle.clock_domains.specs.Resolvable.{IsNamedSide, IsThere, IsOpenSide, IsDefinition, IsMemoryOf, IsModule}
+use Rattle.elab_store.specs.Sound.{IsBuilt, AreClockDomains}
+use Rattle.elab_store.specs.ClockDomains.{defined_by}
+use Rattle.transform_laws.specs.Laws.{AreNamedResets}
 use Rattle.elab_store.specs.declared.hierarchy.Addition.{Addition}
 use Rattle.elab_store.specs.declared.hierarchy.Node.{Node}
 use Rattle.elab_store.specs.declared.hierarchy.NodeOf.{NodeOf}
 use Rattle.elab_store.specs.declared.hierarchy.NodeOf.TheVariants as node
 use Rattle.elab_store.specs.declared.memories.OwnMemory.{OwnMemory}
 use Rattle.elab_store.specs.Stores.{Stored}
-use Rattle.elab_eval.specs.Elaborates.{module_in, root_module, node_name, leaf_in, first_trees, other_trees, forest_of_nodes, root_domains, tree_of}
+use Rattle.elab_eval.specs.Elaborates.{module_in, root_module, node_name, leaf_in, leaf_at}
 use Rattle.elab_acts.proofs.EachLaws.{all_map, all_filter, all_each}
-use Rattle.elab_eval.proofs.DefinitionLaws.{definitions_stand, root_definitions_stand}
-use Rattle.elab_eval.proofs.NoResets.{resets_named, target_opened}
+use Rattle.elab_eval.proofs.DefinitionLaws.{definitions_stand}
 use Rattle.elab_eval.proofs.OwnMemories.{spec_at}
+use Rattle.transform_laws.proofs.GrowthLaws.{standing_trees}
 use Rattle.elab_store.proofs.Standing.{IsGiven, Stand, entries_stand, blocks_stand, givens_stand, targets_stand, exprs_stand}
 
 -- ---- sides
@@ -57,23 +55,24 @@ name_at [] k g = u_named
 name_at (a ∷ additions) zero g = g.0
 name_at (a ∷ additions) (suc k) g = name_at additions k g.1
 
-node_named : (additions : List Addition) (x : Node) → AllByRecursion (λ (a : Addition). IsName a.name) additions → IsName (node_name additions x)
-node_named additions x g = name_at additions x.addition g
+leaf_named : (s : Stored) (name : List ℕ) (o : NodeOf) → (leaf_in s name o).name ≡ name
+leaf_named s name (node.Module m) = refl
+leaf_named s name (node.Memory k) = refl
+leaf_named s name (node.Wrapper k) = refl
 
-leaf_named : (bs : List Built) (ms : List OwnMemory) (t : ClockDomains) (name : List ℕ) (o : NodeOf) → (leaf_in bs ms t name o).name ≡ name
-leaf_named bs ms t name (node.Module m) = refl
-leaf_named bs ms t name (node.Memory k) = refl
+pub leaf_name : (s : Stored) (x : Node) → AllByRecursion (λ (a : Addition). IsName a.name) s.hierarchy.additions → IsName (leaf_at s x).name
+leaf_name s x named = subst IsName (sym (leaf_named s (node_name s x) x.of)) (name_at s.hierarchy.additions x.addition named)
 
 -- ---- statements
 
-module _ (q : Pooled) (plain : AllByRecursion IsNoReset q.exprs) where
+module _ (q : Pooled) (named : AreNamedResets q) where
   side_stands : (es : Entries) (side : Side) → Stand q es → IsNamedSide side → IsOpenSide q (process_of es side)
-  side_stands es side h named =
+  side_stands es side h own =
       let p = process_of es side in
       record {
-        side = named;
+        side = own;
         expressions = exprs_stand q (IsThere q) (λ e there. there) side es h;
-        targets = all_each (λ (g : Guarded). IsTrue (is_target q g.target.0)) (λ (g : Guarded). IsTrue (is_open_target q g.target.0)) (guarded [] p.body) (λ g is. target_opened q g.target.0 plain is) (targets_stand q side [] es h);
+        targets = targets_stand q side [] es h;
       }
 
   -- the sides of a module are named, and its statements stand
@@ -82,47 +81,22 @@ module _ (q : Pooled) (plain : AllByRecursion IsNoReset q.exprs) where
       let es : Entries = entries_of (built_blocks b) in
       let stand : Stand q (entries_of (built_blocks b)) = entries_stand q (built_blocks b) (blocks_stand q b.steps h.steps) in
       all_map (IsOpenSide q) (process_of es) (sides_of (givens es))
-      (all_each IsNamedSide (λ s. IsOpenSide q (process_of es s)) (sides_of (givens es)) (λ s named. side_stands es s stand named) (sides_named q (givens es) (givens_stand q es stand)))
+      (all_each IsNamedSide (λ s. IsOpenSide q (process_of es s)) (sides_of (givens es)) (λ s own. side_stands es s stand own) (sides_named q (givens es) (givens_stand q es stand)))
 
   -- under whatever name it stands
   module_stands : (b : Built) (name : List ℕ) (ds : List DomainDef) → IsBuilt q b → AllByRecursion (IsDefinition q) ds → IsModule q (record (leaf_of (fragment_of b)) { name = name; domains = ds })
   unfolding fragment_of
-  module_stands b name ds h defined = record { domains = defined; memories = tt; processes = sides_stand b h; resets = resets_named q _ plain }
+  module_stands b name ds h defined = record { domains = defined; memories = tt; processes = sides_stand b h; resets = standing_trees.resets q _ named }
 
-  root_stands : (b : Built) (ds : List DomainDef) → IsBuilt q b → AllByRecursion (IsDefinition q) ds → IsModule q (record (leaf_of (fragment_of b)) { domains = ds })
+  pub root_stands : (b : Built) (ds : List DomainDef) → IsBuilt q b → AllByRecursion (IsDefinition q) ds → IsModule q (record (leaf_of (fragment_of b)) { domains = ds })
   unfolding fragment_of
-  root_stands b ds h defined = record { domains = defined; memories = tt; processes = sides_stand b h; resets = resets_named q _ plain }
-
-  -- ---- the tree: each module below the top stands under the name of its addition
-
-  first_stand : (n : ℕ) (f : Forest) → AreModules q f → AreModules q (first_trees n f)
-  first_stand zero f h = tt
-  first_stand (suc n) bare h = tt
-  first_stand (suc n) (grown l below rest) h = (h.0, (h.1.0, (h.1.1.0, first_stand n rest h.1.1.1)))
-
-  others_stand : (n : ℕ) (f : Forest) → AreModules q f → AreModules q (other_trees n f)
-  others_stand zero f h = h
-  others_stand (suc n) bare h = tt
-  others_stand (suc n) (grown l below rest) h = others_stand n rest h.1.1.1
+  root_stands b ds h defined = record { domains = defined; memories = tt; processes = sides_stand b h; resets = standing_trees.resets q _ named }
 
   -- a module, or a memory alone
-  leaf_stands : (bs : List Built) (ms : List OwnMemory) (t : ClockDomains) (name : List ℕ) (o : NodeOf) → AllByRecursion (IsBuilt q) bs → AllByRecursion (λ (x : OwnMemory). IsMemoryOf q x.spec) ms → AreClockDomains q t.made → IsModule q (leaf_in bs ms t name o)
-  leaf_stands bs ms t name (node.Module m) h own clocked = module_stands (module_or_none bs m) name (defined_by m t) (built_or_none q bs m h) (definitions_stand q t m clocked)
-  leaf_stands bs ms t name (node.Memory k) h own clocked = record { domains = tt; memories = spec_at (IsMemoryOf q) ms k own; processes = tt; resets = resets_named q _ plain }
-
-  nodes_stand : (bs : List Built) (ms : List OwnMemory) (t : ClockDomains) (additions : List Addition) (xs : List Node) → AllByRecursion (IsBuilt q) bs → AllByRecursion (λ (x : OwnMemory). IsMemoryOf q x.spec) ms → AreClockDomains q t.made
-      → AllByRecursion (λ (a : Addition). IsName a.name) additions → AreModules q (forest_of_nodes bs ms t additions xs)
-  nodes_stand bs ms t additions [] h own clocked g = tt
-  nodes_stand bs ms t additions (x ∷ xs) h own clocked g =
-      let behind = nodes_stand bs ms t additions xs h own clocked g in
-      (subst IsName (sym (leaf_named bs ms t (node_name additions x) x.of)) (node_named additions x g), (leaf_stands bs ms t (node_name additions x) x.of h own clocked, (first_stand x.below _ behind, others_stand x.below _ behind)))
-
-  pub tree_stands : (s : Stored) (b : Built) → IsBuilt q b → AllByRecursion (IsBuilt q) s.modules → AllByRecursion (λ (x : OwnMemory). IsMemoryOf q x.spec) s.memories → AreClockDomains q s.clock_domains.made → AllByRecursion (λ (a : Addition). IsName a.name) s.hierarchy.additions
-      → IsTree q (tree_of s b)
-  tree_stands s b h all own clocked named = record {
-    own = root_stands b (root_domains s) h (root_definitions_stand q s clocked);
-    below = nodes_stand s.modules s.memories s.clock_domains s.hierarchy.additions s.hierarchy.nodes all own clocked named;
-  }
+  pub leaf_stands : (s : Stored) (name : List ℕ) (o : NodeOf) → AllByRecursion (IsBuilt q) s.modules → AllByRecursion (λ (x : OwnMemory). IsMemoryOf q x.spec) s.memories → AreClockDomains q s.clock_domains.made → IsModule q (leaf_in s name o)
+  leaf_stands s name (node.Module m) h own clocked = module_stands (module_or_none s.modules m) name (defined_by m s.clock_domains) (built_or_none q s.modules m h) (definitions_stand q s.clock_domains m clocked)
+  leaf_stands s name (node.Memory k) h own clocked = record { domains = tt; memories = spec_at (IsMemoryOf q) s.memories k own; processes = tt; resets = standing_trees.resets q _ named }
+  leaf_stands s name (node.Wrapper k) h own clocked = record { domains = tt; memories = tt; processes = tt; resets = standing_trees.resets q _ named }
 
 -- the module of a number is as sound as all of them
 pub built_at : (q : Pooled) (bs : List Built) (m : Option ℕ) (b : Built) → AllByRecursion (IsBuilt q) bs → module_in bs m ≡ Some b → IsBuilt q b

@@ -99,17 +99,17 @@ known_more ss i q d old new h is before =
 
 -- a signal that was met before gives no port more
 pub ports_more : (h : Held) (ss : List SigId) (i : ℕ) (d : SigId) (known : Bool) (old new : List Port) → i < length ss → list_any (nat_eq (get_or ss i d).0) (map (λ (s : SigId). s.0) (take i ss)) ≡ known
-    → old ≡ signal_ports h (take i ss) → new ≡ cond known old (old ++ port_of h.pool true (get_or ss i d).0 ∷ []) → new ≡ signal_ports h (take (i + 1) ss)
+    → old ≡ signal_ports h (take i ss) → new ≡ cond known old (old ++ port_of h.pool [] true (get_or ss i d).0 ∷ []) → new ≡ signal_ports h (take (i + 1) ss)
 ports_more h ss i d known old new l is before after =
     after
-    ∙ ap (λ ps. cond known ps (ps ++ port_of h.pool true (get_or ss i d).0 ∷ [])) before
+    ∙ ap (λ ps. cond known ps (ps ++ port_of h.pool [] true (get_or ss i d).0 ∷ [])) before
     ∙ by_known known
-    ∙ sym (ap (signal_ports h) (numbers_more ss i d l) ∙ ap (map (λ (s : SigId). port_of h.pool true s.0)) (each_once-push (take i ss) (get_or ss i d) known is))
+    ∙ sym (ap (signal_ports h) (numbers_more ss i d l) ∙ ap (map (λ (s : SigId). port_of h.pool [] true s.0)) (each_once-push (take i ss) (get_or ss i d) known is))
   where
-    by_known : (b : Bool) → cond b (signal_ports h (take i ss)) (signal_ports h (take i ss) ++ port_of h.pool true (get_or ss i d).0 ∷ [])
-        ≡ map (λ (s : SigId). port_of h.pool true s.0) (cond b (each_once (take i ss)) (each_once (take i ss) ++ get_or ss i d ∷ []))
+    by_known : (b : Bool) → cond b (signal_ports h (take i ss)) (signal_ports h (take i ss) ++ port_of h.pool [] true (get_or ss i d).0 ∷ [])
+        ≡ map (λ (s : SigId). port_of h.pool [] true s.0) (cond b (each_once (take i ss)) (each_once (take i ss) ++ get_or ss i d ∷ []))
     by_known true = refl
-    by_known false = sym (map-append (λ (s : SigId). port_of h.pool true s.0) (each_once (take i ss)) (get_or ss i d ∷ []))
+    by_known false = sym (map-append (λ (s : SigId). port_of h.pool [] true s.0) (each_once (take i ss)) (get_or ss i d ∷ []))
 
 -- ---- no two are one
 
@@ -206,14 +206,14 @@ name_at [] n d h l = absurd (omega arith)
 name_at (x ∷ sigs) zero d h l = h.0
 name_at (x ∷ sigs) (suc n) d h l = name_at sigs n d h.1 (omega arith)
 
-port_numbers : (q : Pooled) (ss : List SigId) → map (λ (p : Port). p.sig.0) (map (λ (s : SigId). port_of q true s.0) ss) ≡ map (λ (s : SigId). s.0) ss
+port_numbers : (q : Pooled) (ss : List SigId) → map (λ (p : Port). p.sig.0) (map (λ (s : SigId). port_of q [] true s.0) ss) ≡ map (λ (s : SigId). s.0) ss
 port_numbers q [] = refl
 port_numbers q (s ∷ ss) = ap (λ (ns : List ℕ). s.0 ∷ ns) (port_numbers q ss)
 
 pub ports_stand : (h : Held) (ss : List SigId) → IsSound h → AllByRecursion (λ (s : SigId). s.0 < length h.pool.signals) ss → ArePorts h.pool (signal_ports h ss)
 ports_stand h ss sound there = record {
-  each = all_map (IsPortOf h.pool) (λ (s : SigId). port_of h.pool true s.0) (each_once ss)
-      (all_each (λ (s : SigId). s.0 < length h.pool.signals) (λ (s : SigId). IsPortOf h.pool (port_of h.pool true s.0)) (each_once ss)
+  each = all_map (IsPortOf h.pool) (λ (s : SigId). port_of h.pool [] true s.0) (each_once ss)
+      (all_each (λ (s : SigId). s.0 < length h.pool.signals) (λ (s : SigId). IsPortOf h.pool (port_of h.pool [] true s.0)) (each_once ss)
       (λ s l. record { there = l; name = name_at h.pool.signals s.0 _ sound.names l })
       (all_once (λ (s : SigId). s.0 < length h.pool.signals) ss there));
   distinct = subst (IsDistinct nat_eq) (sym (port_numbers h.pool (each_once ss))) (once_distinct ss);

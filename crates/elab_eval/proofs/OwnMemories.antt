@@ -11,7 +11,7 @@ use Rattle.design_ir.specs.declared.ids.ExprId.{ExprId}
 use Rattle.design_ir.specs.declared.ids.SigId.{SigId}
 use Rattle.design_ir.specs.declared.signal.Sig.{Sig}
 use Rattle.design_ir.specs.declared.domain.DomainDef.{DomainDef}
-use Rattle.design_ir.specs.declared.domain.Domain.{Domain}
+use Rattle.design_ir.specs.declared.fragment.Fragment.{Fragment}
 use Rattle.design_ir.specs.declared.port.Port.{Port}
 use Rattle.design_ir.specs.declared.memory.MemWrite.{MemWrite}
 use Rattle.design_ir.specs.declared.memory.MemRead.{MemRead}
@@ -20,28 +20,21 @@ use Rattle.design_ir.specs.Pools.{Pooled}
 use Rattle.design_ir.specs.PoolRules.{IsPool}
 use Rattle.design_ir.specs.Circuits.{is_among}
 use Rattle.design_ir.specs.Designs.{IsTransparent}
-use Rattle.design_ir.specs.Forests.{Forest, bare, grown}
 use Rattle.design_ir.proofs.Equations.{place_below}
 use Rattle.memory_ports.specs.Ports.{address_width}
 use Rattle.memory_ports.specs.Memories.{is_granularity, IsData, IsFitting, HasFittingEnable, FitsWrite, FitsRead}
 use Rattle.memory_ports.proofs.Widths.{address_width-least}
 use Rattle.memory_ports.proofs.MemoryLaws.{granularity, ports_fit}
-use Rattle.module_dsl.specs.Builders.{Built, fragment_of}
 use Rattle.clock_domains.specs.declared.top.TopPorts.{TopPorts}
 use Rattle.clock_domains.specs.declared.top.TopPorts.TheVariants as ports
 use Rattle.fragment_walks.specs.Reads.{data_signals}
 use Rattle.clock_domains.specs.Resolvable.{domain_numbers, IsShaped, IsAddressOf, IsWriteOf, IsClockingOf, IsDataOf, IsReadOf, IsMemoryOf, top_inputs, outer_signals}
-use Rattle.fragment_walks.specs.Walks.{path_under, memory_named, memories_of, all_memories, all_definitions}
+use Rattle.fragment_walks.specs.Walks.{all_memories, all_definitions}
 use Rattle.elab_store.specs.declared.domains.ClockDomain.{ClockDomain}
 use Rattle.elab_store.specs.declared.faces.ComponentObject.{ComponentObject}
-use Rattle.elab_store.specs.declared.hierarchy.Addition.{Addition}
-use Rattle.elab_store.specs.declared.hierarchy.Node.{Node}
-use Rattle.elab_store.specs.declared.hierarchy.NodeOf.{NodeOf}
-use Rattle.elab_store.specs.declared.hierarchy.NodeOf.TheVariants as node
 use Rattle.elab_store.specs.declared.memories.OwnMemory.{OwnMemory}
-use Rattle.elab_store.specs.ClockDomains.{ClockDomains}
 use Rattle.elab_store.specs.Components.{object_at, ports_at}
-use Rattle.elab_store.specs.Sound.{HasNoClock, HasNoPort, IsOwnData, IsNamedRead, IsOwnMemory, IsSound}
+use Rattle.elab_store.specs.Sound.{HasNoClock, HasNoPort, IsOwnData, IsNamedRead, IsOwnMemory}
 use Rattle.elab_store.specs.Stores.{Stored, Held}
 use Rattle.elab_components.specs.Interfaces.{component_class}
 use Rattle.elab_acts.proofs.EachLaws.{all_map, all_each}
@@ -49,8 +42,9 @@ use Rattle.elab_acts.proofs.GrownLaws.{all_and}
 use Rattle.elab_acts.proofs.PortLaws.{all_found}
 use Rattle.elab_eval.specs.ComponentTops.{made_ports, component_ports}
 use Rattle.elab_eval.specs.ObjectTops.{held_ports, ports_as}
-use Rattle.elab_eval.specs.Elaborates.{ports_of, spec_of, node_name, leaf_in, first_trees, other_trees, forest_of_nodes, tree_of}
-use Rattle.elab_eval.proofs.DefinitionLaws.{IsFrom, made_at, definitions_from}
+use Rattle.elab_eval.specs.Elaborates.{ports_of, spec_of}
+use Rattle.elab_eval.specs.Standing.{IsFrom, IsFree}
+use Rattle.elab_eval.proofs.DefinitionLaws.{made_at, from_numbers}
 
 -- ---- shapes
 
@@ -177,63 +171,25 @@ inputs_free seen h (Some o) found s none e = by_class (component_class h.store (
 clocks_free : (made : List ClockDomain) (ds : List DomainDef) (s : ℕ) → AllByRecursion (HasNoClock s) made → AllByRecursion (IsFrom made) ds → is_among (flat_map (λ (d : DomainDef). domain_numbers d.domain) ds) s ≡ false
 clocks_free made ds s none from =
     not_in_any (λ (d : DomainDef). domain_numbers d.domain) ds s (all_each (IsFrom made) (λ (d : DomainDef). is_among (domain_numbers d.domain) s ≡ false) ds
-    (λ d f. subst (λ (x : Domain). is_among (domain_numbers x) s ≡ false) (sym f.domain) (made_at (HasNoClock s) made f.number f.x none f.at)) from)
-
--- ---- what all memories of a tree keep to
-
-module _ (P : Memory → Type 0) (whatever : (m : Memory) (name : List ℕ) → P m → P (memory_named name m)) where
-  abbrev Keep : Forest → Type 0
-  Keep bare = Unit {0}
-  Keep (grown l below rest) = AllByRecursion P l.memories × (Keep below × Keep rest)
-
-  first_keep : (n : ℕ) (f : Forest) → Keep f → Keep (first_trees n f)
-  first_keep zero f h = tt
-  first_keep (suc n) bare h = tt
-  first_keep (suc n) (grown l below rest) h = (h.0, (h.1.0, first_keep n rest h.1.1))
-
-  others_keep : (n : ℕ) (f : Forest) → Keep f → Keep (other_trees n f)
-  others_keep zero f h = h
-  others_keep (suc n) bare h = tt
-  others_keep (suc n) (grown l below rest) h = others_keep n rest h.1.1
-
-  leaf_keeps : (bs : List Built) (ms : List OwnMemory) (t : ClockDomains) (name : List ℕ) (o : NodeOf) → AllByRecursion (λ (x : OwnMemory). P x.spec) ms → AllByRecursion P (leaf_in bs ms t name o).memories
-  unfolding fragment_of
-  leaf_keeps bs ms t name (node.Module m) h = tt
-  leaf_keeps bs ms t name (node.Memory k) h = spec_at P ms k h
-
-  nodes_keep : (bs : List Built) (ms : List OwnMemory) (t : ClockDomains) (additions : List Addition) (xs : List Node) → AllByRecursion (λ (x : OwnMemory). P x.spec) ms → Keep (forest_of_nodes bs ms t additions xs)
-  nodes_keep bs ms t additions [] h = tt
-  nodes_keep bs ms t additions (x ∷ xs) h =
-      let behind = nodes_keep bs ms t additions xs h in (leaf_keeps bs ms t (node_name additions x) x.of h, (first_keep x.below _ behind, others_keep x.below _ behind))
-
-  gathered_keep : (path : List ℕ) (f : Forest) → Keep f → AllByRecursion P (memories_of path f)
-  gathered_keep path bare h = tt
-  gathered_keep path (grown l below rest) h =
-      let under = path_under path l.name in
-      all_and P (map (memory_named (path ++ l.name)) l.memories) (memories_of under below ++ memories_of path rest) (all_map P (memory_named (path ++ l.name)) l.memories (all_each P (λ (m : Memory). P (memory_named (path ++ l.name) m)) l.memories (λ m p. whatever m (path ++ l.name) p) h.0))
-      (all_and P (memories_of under below) (memories_of path rest) (gathered_keep under below h.1.0) (gathered_keep path rest h.1.1))
-
-  tree_keeps : (s : Stored) (b : Built) → AllByRecursion (λ (x : OwnMemory). P x.spec) s.memories → AllByRecursion P (all_memories (tree_of s b))
-  unfolding fragment_of
-  tree_keeps s b h = gathered_keep [] (forest_of_nodes s.modules s.memories s.clock_domains s.hierarchy.additions s.hierarchy.nodes) (nodes_keep s.modules s.memories s.clock_domains s.hierarchy.additions s.hierarchy.nodes h)
+    (λ d f. subst (λ ns. is_among ns s ≡ false) (sym (from_numbers made d f)) (made_at (HasNoClock s) made f.number f.x none f.at)) from)
 
 -- ---- no one else gives the data of read ports
 
-abbrev HasFree : List ℕ → Memory → Type 0
-HasFree outer m = AllByRecursion (λ (r : MemRead). is_among outer r.word.0 ≡ false) m.reads
+own_data : (s : Stored) (rs : List MemRead) → AllByRecursion (IsOwnData s.clock_domains.made s.components.objects) rs → AllByRecursion (IsFree s) (map (λ (r : MemRead). r.word.0) rs)
+own_data s rs h =
+    all_map (IsFree s) (λ (r : MemRead). r.word.0) rs (all_each (IsOwnData s.clock_domains.made s.components.objects) (λ (r : MemRead). IsFree s r.word.0) rs (λ r own. record { clocks = own.clocks; ports = own.ports }) h)
 
-data_free : (outer : List ℕ) (ms : List Memory) → AllByRecursion (HasFree outer) ms → AllByRecursion (λ s. is_among outer s ≡ false) (data_signals ms)
-data_free outer [] h = tt
-data_free outer (m ∷ ms) h =
-    all_and (λ s. is_among outer s ≡ false) (map (λ (r : MemRead). r.word.0) m.reads) (data_signals ms) (all_map (λ s. is_among outer s ≡ false) (λ (r : MemRead). r.word.0) m.reads h.0) (data_free outer ms h.1)
+pub memory_free : (q : Pooled) (s : Stored) (k : ℕ) → AllByRecursion (IsOwnMemory q s.clock_domains.made s.components.objects) s.memories → AllByRecursion (IsFree s) (data_signals (spec_of (slice_get s.memories k)))
+memory_free q s k h =
+    by_number s.memories k (all_each (IsOwnMemory q s.clock_domains.made s.components.objects) (λ (x : OwnMemory). AllByRecursion (IsFree s) (map (λ (r : MemRead). r.word.0) x.spec.reads)) s.memories (λ x own. own_data s x.spec.reads own.own_data) h)
+  where
+    by_number : (xs : List OwnMemory) (k : ℕ) → AllByRecursion (λ (x : OwnMemory). AllByRecursion (IsFree s) (map (λ (r : MemRead). r.word.0) x.spec.reads)) xs → AllByRecursion (IsFree s) (data_signals (spec_of (slice_get xs k)))
+    by_number [] k g = tt
+    by_number (x ∷ xs) zero g = all_and (IsFree s) (map (λ (r : MemRead). r.word.0) x.spec.reads) [] g.0 tt
+    by_number (x ∷ xs) (suc k) g = by_number xs k g.1
 
-pub memories_free : (seen : Seen) (h : Held) (b : Built) (found : TopPorts) → IsSound h → ports_of seen h h.store.top.object ≡ Some found → AllByRecursion (λ s. is_among (outer_signals (tree_of h.store b) found) s ≡ false) (data_signals (all_memories (tree_of h.store b)))
-memories_free seen h b found sound e =
-    let outer : List ℕ = outer_signals (tree_of h.store b) found in
-    let made = h.store.clock_domains.made in
-    let objects = h.store.components.objects in
-    data_free outer (all_memories (tree_of h.store b)) (tree_keeps (HasFree outer) (λ m name p. p) h.store b (
-    all_each (IsOwnMemory h.pool made objects) (λ (x : OwnMemory). HasFree outer x.spec) h.store.memories (λ x own. all_each (IsOwnData made objects) (λ (r : MemRead). is_among outer r.word.0 ≡ false) x.spec.reads
-    (λ r free. not_in_both (flat_map (λ (d : DomainDef). domain_numbers d.domain) (all_definitions (tree_of h.store b))) (top_inputs found) r.word.0 (clocks_free made (all_definitions (tree_of h.store b)) r.word.0 free.clocks (definitions_from h.store b)) (inputs_free seen h h.store.top.object found r.word.0 free.ports e))
-    own.own_data) sound.memories
-    ))
+pub data_free : (seen : Seen) (h : Held) (o : Option ObjId) (found : TopPorts) (f : Fragment) → ports_of seen h o ≡ Some found → AllByRecursion (IsFrom h.store.clock_domains.made) (all_definitions f) → AllByRecursion (IsFree h.store) (data_signals (all_memories f))
+    → AllByRecursion (λ k. is_among (outer_signals f found) k ≡ false) (data_signals (all_memories f))
+data_free seen h o found f e from free =
+    all_each (IsFree h.store) (λ k. is_among (outer_signals f found) k ≡ false) (data_signals (all_memories f))
+    (λ k own. not_in_both (flat_map (λ (d : DomainDef). domain_numbers d.domain) (all_definitions f)) (top_inputs found) k (clocks_free h.store.clock_domains.made (all_definitions f) k own.clocks from) (inputs_free seen h o found k own.ports e)) free

@@ -39,10 +39,14 @@ use Rattle.elab_acts.proofs.MachineSound as machine
 use Rattle.elab_acts.proofs.ComponentSound as component
 use Rattle.elab_acts.proofs.SubmoduleSound as submodule
 use Rattle.elab_acts.proofs.DomainSound as clocked
+use Rattle.elab_acts.proofs.ResetSound.{reset_sound}
 use Rattle.elab_acts.proofs.SimulatorSound as simulator
 use Rattle.elab_acts.proofs.SignatureSound as signed
 use Rattle.elab_acts.proofs.MemorySound as memory
 use Rattle.elab_acts.proofs.MemoryPortSound as port
+use Rattle.elab_acts.proofs.WrapperCallSound as wrapper
+use Rattle.elab_acts.proofs.WrapperSound as wrap
+use Rattle.elab_wrappers.specs.declared.wrappers.Inserter.TheVariants.{Reset, Enable}
 use Rattle.elab_wiring.proofs.InterfaceSound.{interface_attribute_sound, flipped_sound}
 use Rattle.elab_wiring.proofs.ConnectSound.{connect_sound}
 use Rattle.elab_wiring.proofs.SignatureClassSound.{any_class_sound, any_init_sound, object_attribute_sound}
@@ -65,6 +69,7 @@ name_sound s hdl.Module c h t = module_sound c h t
 name_sound s hdl.Signal c h t = signal_sound s c.name (signal_arguments c) h t
 name_sound s hdl.Like c h t = like_sound s c.name (like_arguments c) c.placed h t
 name_sound s hdl.ClockDomain c h t = clocked.call_sound s c.name (domain_arguments c) h t
+name_sound s hdl.ResetSignal c h t = t
 name_sound s hdl.Elaboratable c h t = t
 name_sound s hdl.Shape c h t = t
 name_sound s hdl.Value c h t = t
@@ -82,9 +87,13 @@ name_sound s hdl.StreamSignature c h t = signed.stream_sound s c h t
 name_sound s hdl.Simulator c h t = simulator.called_sound c h t
 name_sound s hdl.MemoryLibrary c h t = t
 name_sound s hdl.Memory c h t = memory.memory_call_sound s c h t
+name_sound s hdl.DomainRenamer c h t = wrapper.renamer_sound s c h t
+name_sound s hdl.ResetInserter c h t = wrapper.inserter_sound s Reset c h t
+name_sound s hdl.EnableInserter c h t = wrapper.inserter_sound s Enable c h t
 
 placed_sound : (s : Seen) (n : HdlName) (c : Called) (p : Place) (h : Held) → IsSound h → IsSound (placed_called s n c p h).held
 placed_sound s hdl.Connect c p h t = connect_sound c p h t
+placed_sound s hdl.ResetSignal c p h t = reset_sound s c p h t
 placed_sound s hdl.Module c p h t = name_sound s hdl.Module c h t
 placed_sound s hdl.Signal c p h t = name_sound s hdl.Signal c h t
 placed_sound s hdl.Like c p h t = name_sound s hdl.Like c h t
@@ -101,6 +110,9 @@ placed_sound s hdl.ClockDomain c p h t = name_sound s hdl.ClockDomain c h t
 placed_sound s hdl.Simulator c p h t = name_sound s hdl.Simulator c h t
 placed_sound s hdl.MemoryLibrary c p h t = name_sound s hdl.MemoryLibrary c h t
 placed_sound s hdl.Memory c p h t = name_sound s hdl.Memory c h t
+placed_sound s hdl.DomainRenamer c p h t = name_sound s hdl.DomainRenamer c h t
+placed_sound s hdl.ResetInserter c p h t = name_sound s hdl.ResetInserter c h t
+placed_sound s hdl.EnableInserter c p h t = name_sound s hdl.EnableInserter c h t
 placed_sound s hdl.Signature c p h t = name_sound s hdl.Signature c h t
 placed_sound s hdl.Flipped c p h t = name_sound s hdl.Flipped c h t
 placed_sound s hdl.Stream c p h t = name_sound s hdl.Stream c h t
@@ -122,6 +134,8 @@ own_call_sound s (Some (kept_as.Signature m)) c p h rules t = t
 own_call_sound s (Some (kept_as.OfSignature m y)) c p h rules t = signed.method_called_sound m y c h t
 own_call_sound s (Some (kept_as.Memory m)) c p h rules t = t
 own_call_sound s (Some (kept_as.OfMemory m y)) c p h rules t = port.port_call_sound s m y c h t rules
+own_call_sound s (Some (kept_as.Wrapping m)) c p h rules t = wrap.wrapping_called_sound s m c h t
+own_call_sound s (Some (kept_as.Wrapped m)) c p h rules t = t
 own_call_sound s (Some (kept_as.MemoryPort m)) c p h rules t = t
 own_call_sound s (Some (kept_as.Interface m)) c p h rules t = t
 own_call_sound s (Some (kept_as.BlockName m n)) c p h rules t = block_call_sound s m n c h t
@@ -146,6 +160,7 @@ library_name_sound hdl.Module name h t = t
 library_name_sound hdl.Signal name h t = if_sound (text_eq name (codes "like")) _ _ (keeping_sound h (kept_as.Name hdl.Like) t tt) t
 library_name_sound hdl.Like name h t = t
 library_name_sound hdl.ClockDomain name h t = t
+library_name_sound hdl.ResetSignal name h t = t
 library_name_sound hdl.Elaboratable name h t = t
 library_name_sound hdl.Shape name h t = t
 library_name_sound hdl.Value name h t = t
@@ -160,6 +175,9 @@ library_name_sound hdl.StreamSignature name h t = t
 library_name_sound hdl.Simulator name h t = t
 library_name_sound hdl.MemoryLibrary name h t = component.library_sound (memory_named name) h t
 library_name_sound hdl.Memory name h t = t
+library_name_sound hdl.DomainRenamer name h t = t
+library_name_sound hdl.ResetInserter name h t = t
+library_name_sound hdl.EnableInserter name h t = t
 
 attribute_sound : (o : Option Kept) (name : List ℕ) (h : Held) → IsSound h → ((k : Kept) → o ≡ Some k → IsKept h.pool h.store.components.signatures h.store.components.ends k) → IsSound (attribute_of o name h).held
 attribute_sound None name h t f = t
@@ -180,6 +198,8 @@ attribute_sound (Some (kept_as.Signature m)) name h t f = signed.attribute_sound
 attribute_sound (Some (kept_as.OfSignature m y)) name h t f = t
 attribute_sound (Some (kept_as.Memory k)) name h t f = memory.memory_attribute_sound k name h t
 attribute_sound (Some (kept_as.OfMemory m y)) name h t f = t
+attribute_sound (Some (kept_as.Wrapping m)) name h t f = t
+attribute_sound (Some (kept_as.Wrapped m)) name h t f = wrap.wrapped_attribute_sound m h t
 attribute_sound (Some (kept_as.MemoryPort x)) name h t f = memory.port_attribute_sound x name h t (f (kept_as.MemoryPort x) refl)
 attribute_sound (Some (kept_as.Interface m)) name h t f = interface_attribute_sound m name h t (f (kept_as.Interface m) refl)
 attribute_sound (Some (kept_as.BlockName m n)) name h t f = t
@@ -218,6 +238,8 @@ attribute_stored_sound s (Some (kept_as.Memory m)) name v p h t = t
 attribute_stored_sound s (Some (kept_as.MemoryPort m)) name v p h t = t
 attribute_stored_sound s (Some (kept_as.OfSignature m y)) name v p h t = t
 attribute_stored_sound s (Some (kept_as.OfMemory m y)) name v p h t = t
+attribute_stored_sound s (Some (kept_as.Wrapping m)) name v p h t = t
+attribute_stored_sound s (Some (kept_as.Wrapped m)) name v p h t = t
 attribute_stored_sound s (Some (kept_as.Interface m)) name v p h t = t
 attribute_stored_sound s (Some (kept_as.BlockName m n)) name v p h t = t
 attribute_stored_sound s (Some (kept_as.Block m b)) name v p h t = t
@@ -248,6 +270,8 @@ index_sound s (Some (kept_as.Memory m)) i h t = t
 index_sound s (Some (kept_as.MemoryPort m)) i h t = t
 index_sound s (Some (kept_as.OfSignature m y)) i h t = t
 index_sound s (Some (kept_as.OfMemory m y)) i h t = t
+index_sound s (Some (kept_as.Wrapping m)) i h t = t
+index_sound s (Some (kept_as.Wrapped m)) i h t = t
 index_sound s (Some (kept_as.Interface m)) i h t = t
 index_sound s (Some (kept_as.BlockName m n)) i h t = t
 index_sound s (Some (kept_as.Block m b)) i h t = t
@@ -277,6 +301,8 @@ index_stored_sound s (Some (kept_as.Memory m)) i v h t = t
 index_stored_sound s (Some (kept_as.MemoryPort m)) i v h t = t
 index_stored_sound s (Some (kept_as.OfSignature m y)) i v h t = t
 index_stored_sound s (Some (kept_as.OfMemory m y)) i v h t = t
+index_stored_sound s (Some (kept_as.Wrapping m)) i v h t = t
+index_stored_sound s (Some (kept_as.Wrapped m)) i v h t = t
 index_stored_sound s (Some (kept_as.Interface m)) i v h t = t
 index_stored_sound s (Some (kept_as.BlockName m n)) i v h t = t
 index_stored_sound s (Some (kept_as.Block m b)) i v h t = t
@@ -309,6 +335,8 @@ added_sound s (Some (kept_as.Memory m)) x v p h t = t
 added_sound s (Some (kept_as.MemoryPort m)) x v p h t = t
 added_sound s (Some (kept_as.OfSignature m y)) x v p h t = t
 added_sound s (Some (kept_as.OfMemory m y)) x v p h t = t
+added_sound s (Some (kept_as.Wrapping m)) x v p h t = t
+added_sound s (Some (kept_as.Wrapped m)) x v p h t = t
 added_sound s (Some (kept_as.Interface m)) x v p h t = t
 added_sound s (Some (kept_as.BlockName m n)) x v p h t = t
 added_sound s (Some (kept_as.Block m b)) x v p h t = t
@@ -343,6 +371,8 @@ kept_entered_sound s (Some (kept_as.Memory m)) h rules t f = enter_sound (Some (
 kept_entered_sound s (Some (kept_as.MemoryPort m)) h rules t f = enter_sound (Some (kept_as.MemoryPort m)) h t f
 kept_entered_sound s (Some (kept_as.OfSignature m y)) h rules t f = enter_sound (Some (kept_as.OfSignature m y)) h t f
 kept_entered_sound s (Some (kept_as.OfMemory m y)) h rules t f = enter_sound (Some (kept_as.OfMemory m y)) h t f
+kept_entered_sound s (Some (kept_as.Wrapping m)) h rules t f = enter_sound (Some (kept_as.Wrapping m)) h t f
+kept_entered_sound s (Some (kept_as.Wrapped m)) h rules t f = enter_sound (Some (kept_as.Wrapped m)) h t f
 kept_entered_sound s (Some (kept_as.Interface m)) h rules t f = enter_sound (Some (kept_as.Interface m)) h t f
 kept_entered_sound s (Some (kept_as.BlockName m n)) h rules t f = enter_sound (Some (kept_as.BlockName m n)) h t f
 kept_entered_sound s (Some (kept_as.Block m b)) h rules t f = enter_sound (Some (kept_as.Block m b)) h t f
@@ -371,6 +401,8 @@ kept_left_sound (Some (kept_as.Memory m)) h t = leave_sound (Some (kept_as.Memor
 kept_left_sound (Some (kept_as.MemoryPort m)) h t = leave_sound (Some (kept_as.MemoryPort m)) h t
 kept_left_sound (Some (kept_as.OfSignature m y)) h t = leave_sound (Some (kept_as.OfSignature m y)) h t
 kept_left_sound (Some (kept_as.OfMemory m y)) h t = leave_sound (Some (kept_as.OfMemory m y)) h t
+kept_left_sound (Some (kept_as.Wrapping m)) h t = leave_sound (Some (kept_as.Wrapping m)) h t
+kept_left_sound (Some (kept_as.Wrapped m)) h t = leave_sound (Some (kept_as.Wrapped m)) h t
 kept_left_sound (Some (kept_as.Interface m)) h t = leave_sound (Some (kept_as.Interface m)) h t
 kept_left_sound (Some (kept_as.BlockName m n)) h t = leave_sound (Some (kept_as.BlockName m n)) h t
 kept_left_sound (Some (kept_as.Block m b)) h t = leave_sound (Some (kept_as.Block m b)) h t

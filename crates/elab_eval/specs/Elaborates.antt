@@ -1,6 +1,6 @@
 -- What a program is elaborated to under the name that the words may give the top, within a budget: a design, or why there is none; and at what
 -- cost.
-use Rattle.std.specs.Prelude.{◌≡◌, ◌⊎◌, ℕ, zero, suc, ◌-◌, ◌||◌, not, Bool, true, false, if◌then◌else◌, ⊤, List, [], ◌∷◌, slice_get, slice_index_or, Option, Some, None, Result, Ok, Err, codes}
+use Rattle.std.specs.Prelude.{◌≡◌, ◌⊎◌, ℕ, zero, suc, ◌-◌, nat_lt, length, ◌||◌, not, Bool, true, false, if◌then◌else◌, ⊤, List, [], ◌∷◌, slice_get, slice_index_or, Option, Some, None, Result, Ok, Err, codes}
 use Rattle.std.specs.Option.{option_map_or}
 use Rattle.std.specs.List.{list_any}
 use Rattle.amh_host.specs.declared.place.Place.{Place}
@@ -22,6 +22,9 @@ use Rattle.design_ir.specs.declared.fragment.Fragment.{Fragment}
 use Rattle.design_ir.specs.Forests.{Leaf, Forest, bare, grown}
 use Rattle.design_ir.specs.Fragments.{leaf_of}
 use Rattle.design_ir.specs.Circuits.{Circuit}
+use Rattle.design_ir.specs.declared.expr.Expr.{Expr}
+use Rattle.design_ir.specs.declared.expr.Expr.TheVariants as expr
+use Rattle.identifiers.specs.Identifiers.{is_identifier}
 use Rattle.module_dsl.specs.Blocks.{is_outermost}
 use Rattle.module_dsl.specs.Builders.{Built, built_blocks, fragment_of}
 use Rattle.clock_domains.specs.declared.top.TopPorts.{TopPorts}
@@ -39,12 +42,19 @@ use Rattle.elab_store.specs.declared.hierarchy.Node.{Node}
 use Rattle.elab_store.specs.declared.hierarchy.NodeOf.{NodeOf}
 use Rattle.elab_store.specs.declared.hierarchy.NodeOf.TheVariants as node
 use Rattle.elab_store.specs.declared.memories.OwnMemory.{OwnMemory}
+use Rattle.elab_store.specs.declared.wrappings.Wrapping.{Wrapping}
+use Rattle.elab_store.specs.declared.wrappings.Wrapping.TheVariants as wrapping
+use Rattle.design_ir.specs.Pools.{Pooled}
+use Rattle.domain_transforms.specs.Counted.{is_past}
+use Rattle.domain_transforms.specs.Making.{fragment_with}
+use Rattle.domain_transforms.specs.Renamed.{renamed}
+use Rattle.domain_transforms.specs.Resetting.{reset_inserted}
+use Rattle.domain_transforms.specs.Enabling.{enabled}
 use Rattle.design_ir.specs.declared.memory.Memory.{Memory}
 use Rattle.elab_acts.specs.Simulators.{with_simulation}
 use Rattle.elab_store.specs.Simulations.{no_simulation}
-use Rattle.elab_store.specs.ClockDomains.{ClockDomains, defined_by}
+use Rattle.elab_store.specs.ClockDomains.{defined_by}
 use Rattle.elab_store.specs.Stores.{Stored, Held}
-use Rattle.elab_store.specs.Sound.{is_reset}
 use Rattle.elab_eval.specs.Reaches.{Reaches, world}
 
 -- ---- the ports of the top
@@ -100,31 +110,37 @@ abbrev pub is_open : Built → Bool
 is_open b = not (is_outermost (built_blocks b).around)
 
 -- what may not stand in the tree: beside such a module, what is not there
-abbrev pub is_open_in : List Built → List OwnMemory → NodeOf → Bool
-is_open_in bs ms (node.Module m) = option_map_or is_open (slice_get bs m) true
-is_open_in bs ms (node.Memory k) = option_map_or (λ (x : OwnMemory). false) (slice_get ms k) true
+abbrev pub is_open_in : Stored → NodeOf → Bool
+is_open_in s (node.Module m) = option_map_or is_open (slice_get s.modules m) true
+is_open_in s (node.Memory k) = option_map_or (λ (x : OwnMemory). false) (slice_get s.memories k) true
+is_open_in s (node.Wrapper k) = option_map_or (λ (x : Wrapping). false) (slice_get s.wrappings k) true
 
-abbrev pub is_open_at : List Built → List OwnMemory → Node → Bool
-is_open_at bs ms x = is_open_in bs ms x.of
+abbrev pub is_open_at : Stored → Node → Bool
+is_open_at s x = is_open_in s x.of
+
+-- the same of the wrappings of the top
+abbrev pub is_open_wrap : Stored → ℕ → Bool
+is_open_wrap s k = is_open_in s (node.Wrapper k)
 
 -- a module of the tree as a fragment, under the name of its addition
-abbrev pub fragment_at : List Built → ℕ → Fragment
-fragment_at bs m = fragment_of (slice_index_or bs m (record { name = []; steps = [] }))
+abbrev pub fragment_at : Stored → ℕ → Fragment
+fragment_at s m = fragment_of (slice_index_or s.modules m (record { name = []; steps = [] }))
 
-abbrev pub node_name : List Addition → Node → List ℕ
-node_name additions x = option_map_or (λ (a : Addition). a.name) (slice_get additions x.addition) (codes "u")
+abbrev pub node_name : Stored → Node → List ℕ
+node_name s x = option_map_or (λ (a : Addition). a.name) (slice_get s.hierarchy.additions x.addition) (codes "u")
 
 abbrev pub spec_of : Option OwnMemory → List Memory
 spec_of None = []
 spec_of (Some x) = x.spec ∷ []
 
 -- a module with the domains that it defines, or a memory alone
-abbrev pub leaf_in : List Built → List OwnMemory → ClockDomains → List ℕ → NodeOf → Leaf
-leaf_in bs ms t name (node.Module m) = record (leaf_of (fragment_at bs m)) { name = name; domains = defined_by m t }
-leaf_in bs ms t name (node.Memory k) = record { name = name; is_part = false; domains = []; processes = []; memories = spec_of (slice_get ms k) }
+abbrev pub leaf_in : Stored → List ℕ → NodeOf → Leaf
+leaf_in s name (node.Module m) = record (leaf_of (fragment_at s m)) { name = name; domains = defined_by m s.clock_domains }
+leaf_in s name (node.Memory k) = record { name = name; is_part = false; domains = []; processes = []; memories = spec_of (slice_get s.memories k) }
+leaf_in s name (node.Wrapper k) = record { name = name; is_part = false; domains = []; processes = []; memories = [] }
 
-abbrev pub leaf_at : List Built → List OwnMemory → ClockDomains → List Addition → Node → Leaf
-leaf_at bs ms t additions x = leaf_in bs ms t (node_name additions x) x.of
+abbrev pub leaf_at : Stored → Node → Leaf
+leaf_at s x = leaf_in s (node_name s x) x.of
 
 -- the first trees of a forest, and those behind them
 abbrev pub first_trees : ℕ → Forest → Forest
@@ -137,38 +153,109 @@ other_trees zero f = f
 other_trees (suc n) bare = bare
 other_trees (suc n) (grown l below rest) = other_trees n rest
 
--- nodes stand before those below them, and each tells how many stand directly below it
-abbrev pub forest_of_nodes : List Built → List OwnMemory → ClockDomains → List Addition → List Node → Forest
-forest_of_nodes bs ms t additions [] = bare
-forest_of_nodes bs ms t additions (x ∷ xs) =
-    let behind = forest_of_nodes bs ms t additions xs in
-    grown (leaf_at bs ms t additions x) (first_trees x.below behind) (other_trees x.below behind)
+-- ---- wrappers: what they make of a module and of all below it, and the pool behind it
+
+abbrev pub wrapped_by : Wrapping → Pooled → Fragment → Fragment × Pooled
+wrapped_by (wrapping.Rename names) q f = renamed names q f
+wrapped_by (wrapping.Reset controls) q f = reset_inserted controls q f
+wrapped_by (wrapping.Enable controls) q f = enabled controls q f
+
+-- it passes a count
+abbrev pub is_past_by : Wrapping → Fragment × Pooled → Bool
+is_past_by (wrapping.Rename names) made = nat_lt 262144 (length made.1.exprs)
+is_past_by (wrapping.Reset controls) made = is_past made.1 made.0
+is_past_by (wrapping.Enable controls) made = is_past made.1 made.0
+
+abbrev pub within_counts : Bool → Fragment × Pooled → Result (Fragment × Pooled) ElabStop
+within_counts true made = Err (Refused kind.Limit file_start)
+within_counts false made = Ok made
+
+abbrev pub wrapped : Option Wrapping → Fragment × Pooled → Result (Fragment × Pooled) ElabStop
+wrapped None t = Err (Refused kind.Raised file_start)
+wrapped (Some w) t = let made = wrapped_by w t.1 t.0 in within_counts (is_past_by w made) made
+
+-- a refusal stays one
+abbrev pub and_then : {A B : Type 0} → Result A ElabStop → (A → Result B ElabStop) → Result B ElabStop
+and_then (Err stop) f = Err stop
+and_then (Ok x) f = f x
+
+-- a tree before these
+abbrev pub put_before : Forest → Fragment × Pooled → Result (Forest × Pooled) ElabStop
+put_before rest t = Ok (grown (leaf_of t.0) t.0.submodules rest, t.1)
+
+-- the first tree is wrapped, where there is one
+abbrev pub first_wrapped : Option Wrapping → Forest → Pooled → Result (Forest × Pooled) ElabStop
+first_wrapped w bare q = Ok (bare, q)
+first_wrapped w (grown l below rest) q = and_then (wrapped w (fragment_with l below, q)) (put_before rest)
+
+-- ---- the tree below the top
+
+-- a module or a memory stands before those behind it, of which it takes those below it; a wrapper takes the first and gives what it makes of it
+abbrev pub node_put : Stored → Node → NodeOf → Forest × Pooled → Result (Forest × Pooled) ElabStop
+node_put s x (node.Wrapper k) behind = first_wrapped (slice_get s.wrappings k) behind.0 behind.1
+node_put s x (node.Module m) behind = Ok (grown (leaf_at s x) (first_trees x.below behind.0) (other_trees x.below behind.0), behind.1)
+node_put s x (node.Memory k) behind = Ok (grown (leaf_at s x) (first_trees x.below behind.0) (other_trees x.below behind.0), behind.1)
+
+-- nodes stand before those below them, and each tells how many stand directly below it; they are put from the last one on
+abbrev pub forest_of_nodes : Stored → List Node → Pooled → Result (Forest × Pooled) ElabStop
+forest_of_nodes s [] q = Ok (bare, q)
+forest_of_nodes s (x ∷ xs) q = and_then (forest_of_nodes s xs q) (node_put s x x.of)
+
+-- ---- the whole tree
 
 -- the domains that the top defines
 abbrev pub root_domains : Stored → List DomainDef
 root_domains s = option_map_or (λ m. defined_by m s.clock_domains) s.top.root []
 
--- the top, with all that stands below it
-abbrev pub tree_of : Stored → Built → Fragment
-tree_of s b = record (fragment_of b) { domains = root_domains s; submodules = forest_of_nodes s.modules s.memories s.clock_domains s.hierarchy.additions s.hierarchy.nodes }
+-- the top before these trees
+abbrev pub root_before : Stored → Built → Forest × Pooled → Fragment × Pooled
+root_before s b t = (record (fragment_of b) { domains = root_domains s; submodules = t.0 }, t.1)
+
+-- the wrappings of the top act from the innermost one on
+abbrev pub root_wrapped : List Wrapping → List ℕ → Fragment × Pooled → Result (Fragment × Pooled) ElabStop
+root_wrapped ws [] t = Ok t
+root_wrapped ws (k ∷ ks) t = and_then (root_wrapped ws ks t) (wrapped (slice_get ws k))
+
+-- the top, with all that stands below it, and the pool behind its wrappers
+abbrev pub tree_of : Stored → Built → Pooled → Result (Fragment × Pooled) ElabStop
+tree_of s b q = and_then (forest_of_nodes s s.hierarchy.nodes q) (λ t. root_wrapped s.wrappings s.hierarchy.root_wraps (root_before s b t))
+
+-- a block is open of the top or of a module below it
+abbrev pub is_any_open : Stored → Built → Bool
+is_any_open s b = is_open b || (list_any (is_open_at s) s.hierarchy.nodes || list_any (is_open_wrap s) s.hierarchy.root_wraps)
 
 -- a component whose ports were not made is no top
-abbrev pub found_by : Held → Made → Built → Option TopPorts → Result Found ElabStop
-found_by h heap b None = Err (Refused kind.Raised file_start)
-found_by h heap b (Some ports) = found_with h heap (resolved h.pool (tree_of h.store b) ports)
+abbrev pub found_by : Held → Made → Option TopPorts → Fragment × Pooled → Result Found ElabStop
+found_by h heap None t = Err (Refused kind.Raised file_start)
+found_by h heap (Some ports) t = found_with h heap (resolved t.1 t.0 ports)
 
 -- a module of which a block is open raises
 abbrev pub module_found : Held → Made → Option Built → Result Found ElabStop
 module_found h heap None = Err (Refused kind.Raised file_start)
 module_found h heap (Some b) =
-    if is_open b || list_any (is_open_at h.store.modules h.store.memories) h.store.hierarchy.nodes then Err (Refused kind.Raised file_start)
-    else found_by h heap b (top_ports (seen nothing heap) h)
+    if is_any_open h.store b then Err (Refused kind.Raised file_start)
+    else and_then (tree_of h.store b h.pool) (found_by h heap (top_ports (seen nothing heap) h))
 
--- What is held at the end of a program, with the heap that it made, as a design. A reset would raise; `ResetSignal` comes with domains that
--- modules define, and until then no expression is one.
+-- a reset of a domain that has no name
+abbrev pub is_nameless : Expr → Bool
+is_nameless (expr.Reset domain place) = not (is_identifier domain)
+is_nameless (expr.Const n s) = false
+is_nameless (expr.Sig s) = false
+is_nameless (expr.Unary o a) = false
+is_nameless (expr.Binary o a b) = false
+is_nameless (expr.Mux s a b) = false
+is_nameless (expr.Slice a low width) = false
+is_nameless (expr.Cat es) = false
+is_nameless (expr.Part a offset width stride) = false
+is_nameless (expr.Pick index es) = false
+is_nameless (expr.Cast a signed) = false
+is_nameless (expr.Matches a patterns) = false
+
+-- What is held at the end of a program, with the heap that it made, as a design. A nameless reset would raise; a call of `ResetSignal` has refused
+-- such a name before, so this is never told.
 abbrev pub design_of : Held → Made → Result Found ElabStop
 design_of h heap =
-    if list_any is_reset h.pool.exprs then Err (Refused kind.Raised file_start) else module_found h heap (root_module h.store)
+    if list_any is_nameless h.pool.exprs then Err (Refused kind.Raised file_start) else module_found h heap (root_module h.store)
 
 -- ---- where a program stops: a false `assert` raises
 

@@ -4,5 +4,6 @@ pub mod Elaborates
 pub mod ObjectTops
 pub mod Reaches
 pub mod Running
+pub mod Standing
 pub mod Table
 pub mod Trees

@@ -61,7 +61,7 @@ each_once (s ∷ more) = s ∷ filter (λ (x : SigId). not (nat_eq x.0 s.0)) (ea
 
 -- whether a signal is an input or an output is not said here: that is told by what drives it
 abbrev pub signal_ports : Held → List SigId → List Port
-signal_ports h signals = map (λ (s : SigId). port_of h.pool true s.0) (each_once signals)
+signal_ports h signals = map (λ (s : SigId). port_of h.pool [] true s.0) (each_once signals)
 
 -- an object has its attributes in order of first binding
 abbrev pub held_ports : Seen → Held → ObjId → List Port

@@ -27,6 +27,7 @@ use Rattle.elab_store.specs.Calls.{Called, called}
 use Rattle.elab_components.specs.Signals.{module_called, signal_called}
 use Rattle.elab_components.specs.Likes.{like_given, like_called}
 use Rattle.elab_components.specs.Equations.{equated}
+use Rattle.elab_components.specs.Resets.{reset_called}
 use Rattle.elab_acts.specs.Blocks.{block_called, block_entered, block_left}
 use Rattle.amh_host.specs.declared.place.Place.{Place}
 use Rattle.elab_machines.specs.StateMachines.{part_attribute, next_stored, part_called, part_entered, part_left}
@@ -42,6 +43,9 @@ use Rattle.elab_components.specs.Members.{member_called}
 use Rattle.elab_memories.specs.Memories.{memory_called}
 use Rattle.elab_memories.specs.Ports.{port_called}
 use Rattle.elab_memories.specs.Attributes.{memory_attribute, port_attribute}
+use Rattle.elab_wrappers.specs.declared.wrappers.Inserter.TheVariants.{Reset, Enable}
+use Rattle.elab_wrappers.specs.Wrappers.{renamer_called, inserter_called}
+use Rattle.elab_acts.specs.Wrappers.{wrapping_called, wrapped_attribute}
 use Rattle.elab_acts.specs.Tops.{body_ended, elaborate_ended}
 use Rattle.elab_acts.specs.Simulators.{simulator_called, simulator_attribute, simulator_part_called, vcd_passed}
 
@@ -57,20 +61,25 @@ name_called s hdl.In c h = member_called s false c h
 name_called s hdl.Out c h = member_called s true c h
 name_called s hdl.Simulator c h = simulator_called c h
 name_called s hdl.Memory c h = memory_called s c h
+name_called s hdl.DomainRenamer c h = renamer_called s c h
+name_called s hdl.ResetInserter c h = inserter_called s Reset c h
+name_called s hdl.EnableInserter c h = inserter_called s Enable c h
 name_called s hdl.Signature c h = signature_called s c h
 name_called s hdl.StreamSignature c h = stream_signature_called s c h
 name_called s hdl.Flipped c h = flipped_called c h
 name_called s n c h = refused Raised h
 
--- `connect` puts statements where it is called
+-- `connect` puts statements where it is called, and a reset is told of where it was made
 abbrev pub placed_called : Seen → HdlName → Called → Place → Held → Answered
 placed_called s hdl.Connect c p h = connect_called c p h
+placed_called s hdl.ResetSignal c p h = reset_called s c p h
 placed_called s n c p h = name_called s n c h
 
 abbrev pub kept_called : Seen → Option Kept → Called → Place → Held → Answered
 kept_called s (Some (kept.Name n)) c p h = placed_called s n c p h
 kept_called s (Some (kept.OfSignature n m)) c p h = signature_method_called n m c h
 kept_called s (Some (kept.OfMemory k m)) c p h = port_called s k m c h
+kept_called s (Some (kept.Wrapping k)) c p h = wrapping_called s k c h
 kept_called s (Some (kept.BlockName m n)) c p h = block_called s m n c h
 kept_called s (Some (kept.OfMachine x)) c p h = part_called s x c p h
 kept_called s (Some (kept.OfSimulator x)) c p h = simulator_part_called s x c p h
@@ -115,6 +124,7 @@ attribute_of (Some (kept.Submodules m)) name h = submodule_given m (Some name) h
 attribute_of (Some (kept.ClockDomain k)) name h = clock_domain_attribute k name h
 attribute_of (Some (kept.Memory k)) name h = memory_attribute k name h
 attribute_of (Some (kept.MemoryPort x)) name h = port_attribute x name h
+attribute_of (Some (kept.Wrapped k)) name h = wrapped_attribute k h
 attribute_of (Some (kept.OfMachine x)) name h = part_attribute x name h
 attribute_of (Some (kept.OfSimulator x)) name h = simulator_attribute x name h
 attribute_of (Some (kept.Signature n)) name h = signature_attribute n name h

@@ -21,6 +21,7 @@ use elab_acts::sides::{add_statements, give_domain, index_name, module_attribute
 use elab_acts::simulators::{call_simulator_part, make_simulator, pass_vcd, simulator_attribute};
 use elab_acts::submodules::{add_submodule, give_submodule, store_submodule, store_submodules};
 use elab_acts::tops::{end_body, end_elaborate};
+use elab_acts::wrappers::{call_wrapping, wrapped_attribute};
 use elab_components::equations::equate;
 use elab_components::imports::import;
 use elab_components::libraries::{
@@ -28,6 +29,7 @@ use elab_components::libraries::{
 };
 use elab_components::likes::{give_like, make_like};
 use elab_components::member_calls::call_member;
+use elab_components::resets::make_reset;
 use elab_components::signals::{make_module, make_signal};
 use elab_components::signatures::{
     call_signature, call_signature_method, call_stream_signature, signature_attribute,
@@ -45,6 +47,7 @@ use elab_store::store::{Elaboration, Store};
 use elab_wiring::connecting::connect_interfaces;
 use elab_wiring::faces::{flip, interface_attribute};
 use elab_wiring::signature_classes::{answer_class, init_object, object_attribute};
+use elab_wrappers::wrappers::{Inserter, make_inserter, make_renamer};
 use lists::NoMemory;
 use py_frames::request::{Act, Answer, Cause, Request};
 use py_heap::{Frozen, Heap};
@@ -70,6 +73,9 @@ fn call_name(
         HdlName::Out => call_member(elaboration, heap, frozen, true, call),
         HdlName::Simulator => make_simulator(elaboration, call),
         HdlName::Memory => make_memory(elaboration, heap, frozen, call),
+        HdlName::DomainRenamer => make_renamer(elaboration, heap, frozen, call),
+        HdlName::ResetInserter => make_inserter(elaboration, heap, frozen, Inserter::Reset, call),
+        HdlName::EnableInserter => make_inserter(elaboration, heap, frozen, Inserter::Enable, call),
         HdlName::Signature => call_signature(elaboration, heap, frozen, call),
         HdlName::StreamSignature => call_stream_signature(elaboration, heap, frozen, call),
         HdlName::Flipped => flip(elaboration, call),
@@ -91,6 +97,7 @@ fn call_placed(
 {
     match name {
         HdlName::Connect => connect_interfaces(elaboration, call, place),
+        HdlName::ResetSignal => make_reset(elaboration, heap, frozen, call, place),
         _ => call_name(elaboration, heap, frozen, name, call),
     }
 }
@@ -119,6 +126,7 @@ fn call_kept(
             method,
             call,
         ),
+        Some(Kept::Wrapping(number)) => call_wrapping(elaboration, heap, frozen, number, call),
         Some(Kept::BlockName { of, name }) => call_block(elaboration, heap, frozen, of, name, call),
         Some(Kept::OfMachine(part)) => call_part(elaboration, heap, frozen, part, call, place),
         Some(Kept::OfSimulator(part)) => {
@@ -183,6 +191,7 @@ fn attribute_of(elaboration: &mut Elaboration, x: &Val, name: &str) -> Result<An
         Some(Kept::ClockDomain(number)) => clock_domain_attribute(elaboration, number, name),
         Some(Kept::Memory(number)) => memory_attribute(elaboration, number, name),
         Some(Kept::MemoryPort(port)) => port_attribute(elaboration, port, name),
+        Some(Kept::Wrapped(number)) => wrapped_attribute(elaboration, number),
         Some(Kept::OfMachine(part)) => part_attribute(elaboration, part, name),
         Some(Kept::OfSimulator(part)) => simulator_attribute(elaboration, part, name),
         Some(Kept::Signature(number)) => signature_attribute(elaboration, number, name),

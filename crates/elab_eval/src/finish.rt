@@ -3,8 +3,8 @@ ghost use Rattle.std.specs.Prelude.{◌≡◌, IfOk};
 ghost use Rattle.std.specs.List.{list_any};
 ghost use Rattle.py_heap.specs.Heaps.{nothing};
 ghost use Rattle.design_ir.specs.Rising.{AllRisingSync};
-ghost use Rattle.elab_eval.specs.Elaborates.{IsFound, design_of, without_modules, unresolved_stop};
-ghost use Rattle.elab_store.specs.Sound.{IsSound, is_reset};
+ghost use Rattle.elab_eval.specs.Elaborates.{IsFound, is_nameless, design_of, without_modules, unresolved_stop};
+ghost use Rattle.elab_store.specs.Sound.{IsSound};
 ghost use Rattle.elab_store.specs.Held.{held_of};
 
 use crate::clocks::clock_refused;
@@ -16,30 +16,33 @@ use amh_host::Kind;
 use clock_domains::{ResolveStop, resolve};
 use design_ir::{Expr, ExprId, Exprs, Pool};
 use elab_store::store::{Elaboration, Store};
+use identifiers::is_identifier;
+use lists::NoMemory;
 use module_dsl::Builder;
 use py_heap::Frozen;
 use py_machine::Machine;
 use std::alloc::Global;
 
-fn is_reset(e: &Expr) -> bool
-    ensures { result ≡ is_reset e.now }
+// Whether an expression is a reset of a domain that has no name.
+fn is_nameless(alloc: Global, e: &Expr) -> Result<bool, NoMemory>
+    ensures { IfOk result (λ b. b ≡ is_nameless e.now) }
 {
     match e {
-        Expr::Reset { .. } => true,
-        _ => false,
+        Expr::Reset { domain, .. } => Ok(!is_identifier(alloc, domain.as_str())?),
+        _ => Ok(false),
     }
 }
 
-// Whether an expression is a reset.
-fn has_reset(pool: &Pool) -> bool
-    ensures { result ≡ list_any is_reset pool.now.exprs }
+// Whether there is such an expression.
+fn has_nameless(alloc: Global, pool: &Pool) -> Result<bool, NoMemory>
+    ensures { IfOk result (λ b. b ≡ list_any is_nameless pool.now.exprs) }
 {
     for i in 0..pool.count() {
-        if is_reset(pool.at(ExprId(i))) {
-            return true;
+        if is_nameless(alloc, pool.at(ExprId(i)))? {
+            return Ok(true);
         }
     }
-    false
+    Ok(false)
 }
 
 // What a refusal of the design is told as.
@@ -73,6 +76,8 @@ fn part(store: Store, alloc: Global) -> (Vec<Builder>, Store)
         clock_domains,
         machines,
         memories,
+        wrappings,
+        wrapped,
         domains,
         told,
         simulation,
@@ -89,6 +94,8 @@ fn part(store: Store, alloc: Global) -> (Vec<Builder>, Store)
         clock_domains,
         machines,
         memories,
+        wrappings,
+        wrapped,
         domains,
         told,
         simulation,
@@ -107,16 +114,20 @@ pub(crate) fn finish(
     ensures found { IsFound result (design_of (held_of elaboration) machine.going.state.heap) }
     ensures rising { IfOk result (λ e. AllRisingSync e.design) }
 {
-    if has_reset(&elaboration.pool) {
+    let Ok(nameless) = has_nameless(elaboration.alloc, &elaboration.pool) else {
+        return Err(ElabStop::NoMemory);
+    };
+    if nameless {
         return Err(raised());
     }
     let Ok(ports) = top_ports(&elaboration, &machine.going.state.heap, frozen) else {
         return Err(ElabStop::NoMemory);
     };
     let Elaboration { alloc, pool, store } = elaboration;
+    let mut pool = pool;
     pool.known();
     let (modules, store) = part(store, alloc);
-    let root = match tree(alloc, modules, &store) {
+    let root = match tree(alloc, &mut pool, modules, &store) {
         Ok(root) => root,
         Err(stop) => return Err(stop),
     };

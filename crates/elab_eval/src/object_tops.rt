@@ -122,7 +122,7 @@ fn attribute_signals(
 
 fn port_of(elaboration: &Elaboration, s: SigId) -> Result<Port, NoMemory>
     requires { s.0 < length elaboration.now.pool.signals }
-    ensures { IfOk result (λ port. port ≡ port_of elaboration.now.pool true s.0) }
+    ensures { IfOk result (λ port. port ≡ port_of elaboration.now.pool [] true s.0) }
 {
     Ok(Port {
         name: copied_text(elaboration.alloc, &elaboration.pool.sig_at(s).name)?,

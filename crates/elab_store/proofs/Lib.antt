@@ -9,3 +9,5 @@ pub mod NumberNames
 pub mod Pools
 pub mod Standing
 pub mod WalkLaws
+pub mod WrapLaws
+mod WrappingSamples

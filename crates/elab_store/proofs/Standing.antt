@@ -7,7 +7,7 @@ use Rattle.design_ir.specs.declared.process.Side.{Side}
 use Rattle.design_ir.specs.Pools.{Pooled}
 use Rattle.design_ir.specs.Trees.{Statement, assign, choose, next}
 use Rattle.design_ir.specs.Guards.{Guard, Guarded, guarded, guarded_in, guarded_arms, block_exprs, choices_exprs, statement_exprs}
-use Rattle.design_ir.specs.Targets.{is_target}
+use Rattle.design_ir.specs.Targets.{is_open_target}
 use Rattle.module_dsl.specs.declared.step.Step.{Step}
 use Rattle.module_dsl.specs.declared.step.Step.TheVariants.{Assign, Enter, Leave}
 use Rattle.module_dsl.specs.declared.step.Opening.{Opening}
@@ -166,7 +166,7 @@ module _ (q : Pooled) where
     givens_in_stand (branch c es bs) h = all_and (IsGiven q) (givens es) (givens_in bs) (givens_stand es h.1) (givens_in_stand bs h.2)
 
   abbrev IsTargeted : Guarded → Type 0
-  IsTargeted g = IsTrue (is_target q g.target.0)
+  IsTargeted g = IsTrue (is_open_target q g.target.0)
 
   -- a statement that stands, whatever guards it
   one_targeted : (gs : List Guard) (s : Statement) → IsStatement q s → AllByRecursion IsTargeted (guarded_in gs s)
@@ -174,7 +174,7 @@ module _ (q : Pooled) where
   one_targeted gs (choose arms) h = absurd h
 
   mutual
-    pub targets_stand : (side : Side) (gs : List Guard) (es : Entries) → Stand q es → AllByRecursion (λ (g : Guarded). IsTrue (is_target q g.target.0)) (guarded gs (block_for side es))
+    pub targets_stand : (side : Side) (gs : List Guard) (es : Entries) → Stand q es → AllByRecursion (λ (g : Guarded). IsTrue (is_open_target q g.target.0)) (guarded gs (block_for side es))
     targets_stand side gs nothing h = tt
     targets_stand side gs (given g rest) h = split (targets_stand side gs rest h.1) (same_side side g.side)
       where
@@ -188,7 +188,7 @@ module _ (q : Pooled) where
         split more arms true = all_and IsTargeted (guarded_arms gs (choices_for side bs)) (guarded gs (block_for side rest)) arms more
         split more arms false = more
 
-    arms_targeted : (side : Side) (gs : List Guard) (bs : Branches) → StandIn q bs → AllByRecursion (λ (g : Guarded). IsTrue (is_target q g.target.0)) (guarded_arms gs (choices_for side bs))
+    arms_targeted : (side : Side) (gs : List Guard) (bs : Branches) → StandIn q bs → AllByRecursion (λ (g : Guarded). IsTrue (is_open_target q g.target.0)) (guarded_arms gs (choices_for side bs))
     arms_targeted side gs none h = tt
     arms_targeted side gs (branch c es bs) h =
         all_and IsTargeted (guarded (gs ++ record { condition = c; taken = true } ∷ []) (block_for side es)) (guarded_arms (gs ++ record { condition = c; taken = false } ∷ []) (choices_for side bs))

@@ -9,7 +9,7 @@ use Rattle.py_values.specs.declared.val.Val.{Val}
 use Rattle.elab_store.specs.declared.hierarchy.Addition.{Addition}
 use Rattle.elab_store.specs.declared.hierarchy.Node.{Node}
 use Rattle.elab_store.specs.declared.hierarchy.NodeOf.{NodeOf}
-use Rattle.elab_store.specs.declared.hierarchy.NodeOf.TheVariants.{Module, Memory}
+use Rattle.elab_store.specs.declared.hierarchy.NodeOf.TheVariants.{Module, Memory, Wrapper}
 use Rattle.elab_store.specs.declared.hierarchy.Waiting.{Waiting}
 
 pub record Hierarchy : Type 0 where
@@ -19,10 +19,14 @@ pub record Hierarchy : Type 0 where
   pub nodes : List Node
   -- the additions that are still to be elaborated, the next one first
   pub waiting : List Waiting
+  -- how many of the nodes are modules and memories
+  pub taken : ℕ
+  -- the wrappings of the top, the outermost first
+  pub root_wraps : List ℕ
 
 -- before the body of a program
 abbrev pub no_hierarchy : Hierarchy
-no_hierarchy = record { additions = []; nodes = []; waiting = [] }
+no_hierarchy = record { additions = []; nodes = []; waiting = []; taken = 0; root_wraps = [] }
 
 -- ---- additions
 
@@ -62,17 +66,34 @@ top_entered m t = record t { waiting = waiting_for 1 (children_of m t) ++ t.wait
 abbrev pub numbers_below : NodeOf → List Addition → List ℕ
 numbers_below (Module m) additions = numbers_of m 0 additions
 numbers_below (Memory k) additions = []
+numbers_below (Wrapper k) additions = []
 
 abbrev pub node_of : NodeOf → Waiting → Hierarchy → Node
 node_of o w t = record { addition = w.addition; of = o; below = length (numbers_below o t.additions) }
 
 abbrev pub taken_by : NodeOf → List Waiting → Hierarchy → Hierarchy
 taken_by o [] t = t
-taken_by o (w ∷ ws) t = record t { nodes = t.nodes ++ node_of o w t ∷ []; waiting = waiting_for (suc w.depth) (numbers_below o t.additions) ++ ws }
+taken_by o (w ∷ ws) t = record t { nodes = t.nodes ++ node_of o w t ∷ []; taken = suc t.taken; waiting = waiting_for (suc w.depth) (numbers_below o t.additions) ++ ws }
 
 -- what waits first is this module or memory: its own additions wait before all others
 abbrev pub node_taken : NodeOf → Hierarchy → Hierarchy
 node_taken o t = taken_by o t.waiting t
+
+-- wrappers stand before what they wrap, each with the tree behind it alone below it
+abbrev pub wrapper_nodes : List ℕ → Waiting → List Node
+wrapper_nodes bys w = map (λ k. record { addition = w.addition; of = Wrapper k; below = 1 }) bys
+
+abbrev pub wraps_before : List ℕ → List Waiting → Hierarchy → Hierarchy
+wraps_before bys [] t = t
+wraps_before bys (w ∷ ws) t = record t { nodes = t.nodes ++ wrapper_nodes bys w }
+
+-- what waits first is wrapped by these, the outermost first
+abbrev pub wraps_taken : List ℕ → Hierarchy → Hierarchy
+wraps_taken bys t = wraps_before bys t.waiting t
+
+-- the top is wrapped by these, within those before
+abbrev pub root_wrapped : List ℕ → Hierarchy → Hierarchy
+root_wrapped bys t = record t { root_wraps = t.root_wraps ++ bys }
 
 abbrev pub first_of : {A : Type 0} → List A → Option A
 first_of [] = None
@@ -88,6 +109,7 @@ thing_waiting t = option_map (λ (a : Addition). a.thing) (option_and_then (λ (
 abbrev pub is_of_module : ℕ → NodeOf → Bool
 is_of_module m (Module n) = n == m
 is_of_module m (Memory k) = false
+is_of_module m (Wrapper k) = false
 
 -- module m stands in the tree below the top
 abbrev pub is_node : ℕ → Hierarchy → Bool

@@ -14,3 +14,4 @@ pub mod Shapes
 pub mod Simulations
 pub mod Sound
 pub mod Stores
+pub mod Wrappings

@@ -1,5 +1,5 @@
 -- What is held keeps to: whatever is named stands there.
-use Rattle.std.specs.Prelude.{◌≡◌, ℕ, ◌<◌, ⊤, List, [], ◌∷◌, map, length, slice_get, Option, Some, None, IfSome, Bool, true, false}
+use Rattle.std.specs.Prelude.{◌≡◌, ℕ, ◌<◌, ⊤, List, [], ◌∷◌, map, length, slice_get, Option, Some, None, IfSome, true, false}
 use Rattle.std.specs.Option.{option_map_or}
 use Rattle.std.specs.List.{AllByRecursion}
 use Rattle.lists.specs.Names.{IsName}
@@ -12,7 +12,7 @@ use Rattle.design_ir.specs.Values.{signal_form}
 use Rattle.design_ir.specs.declared.expr.Expr.{Expr}
 use Rattle.design_ir.specs.declared.expr.Expr.TheVariants as expr
 use Rattle.design_ir.specs.Pools.{Pooled}
-use Rattle.design_ir.specs.Targets.{is_target}
+use Rattle.design_ir.specs.Targets.{is_target, is_open_target}
 use Rattle.module_dsl.specs.declared.step.Opening.{Opening}
 use Rattle.module_dsl.specs.declared.step.Opening.TheVariants as opening
 use Rattle.module_dsl.specs.declared.step.Step.{Step}
@@ -32,6 +32,10 @@ use Rattle.elab_store.specs.declared.kept.Equation.{Equation}
 use Rattle.elab_store.specs.declared.kept.Kept.{Kept}
 use Rattle.elab_store.specs.declared.kept.MemoryPort.{MemoryPort}
 use Rattle.elab_store.specs.declared.memories.OwnMemory.{OwnMemory}
+use Rattle.elab_store.specs.declared.wrappings.Wrapping.{Wrapping}
+use Rattle.elab_store.specs.declared.wrappings.Wrapping.TheVariants as wrapping
+use Rattle.domain_transforms.specs.declared.controls.NamePair.{NamePair}
+use Rattle.domain_transforms.specs.Placed.{AreControls}
 use Rattle.elab_store.specs.declared.kept.Kept.TheVariants as kept
 use Rattle.design_ir.specs.Settling.{is_signal}
 use Rattle.fsm_lowering.specs.Machines.{Machine, HasRegister}
@@ -46,29 +50,11 @@ use Rattle.elab_store.specs.Faces.{IsFace}
 use Rattle.elab_store.specs.Components.{Components}
 use Rattle.elab_store.specs.Stores.{Held}
 
--- a reset; `ResetSignal` comes with domains that modules define
-abbrev pub is_reset : Expr → Bool
-is_reset (expr.Reset domain place) = true
-is_reset (expr.Const n s) = false
-is_reset (expr.Sig s) = false
-is_reset (expr.Unary o a) = false
-is_reset (expr.Binary o a b) = false
-is_reset (expr.Mux s a b) = false
-is_reset (expr.Slice a low width) = false
-is_reset (expr.Cat es) = false
-is_reset (expr.Part a offset width stride) = false
-is_reset (expr.Pick index es) = false
-is_reset (expr.Cast a signed) = false
-is_reset (expr.Matches a patterns) = false
-
-abbrev pub IsNoReset : Expr → Type 0
-IsNoReset e = is_reset e ≡ false
-
--- a target and a value of the pool
+-- a target, which may stand for resets, and a value of the pool
 pub record IsAssigned (q : Pooled) (target value : ExprId) : Type 0 where
   pub target_there : target.0 < length q.exprs
   pub value_there : value.0 < length q.exprs
-  pub is_target : is_target q target.0 ≡ true
+  pub is_target : is_open_target q target.0 ≡ true
 
 abbrev pub IsEquation : Pooled → Equation → Type 0
 IsEquation q x = IsAssigned q x.target x.value
@@ -106,6 +92,8 @@ IsKept q sigs ends (kept.ClockDomain k) = ⊤
 IsKept q sigs ends (kept.Memory k) = ⊤
 IsKept q sigs ends (kept.OfMemory k m) = ⊤
 IsKept q sigs ends (kept.MemoryPort x) = IsMemoryPort q x
+IsKept q sigs ends (kept.Wrapping k) = ⊤
+IsKept q sigs ends (kept.Wrapped k) = ⊤
 IsKept q sigs ends (kept.Port is_out shape init) = ⊤
 IsKept q sigs ends (kept.Nested is_out n) = ⊤
 IsKept q sigs ends (kept.Signature n) = ⊤
@@ -226,6 +214,14 @@ pub record IsOwnMemory (q : Pooled) (made : List ClockDomain) (objects : List (�
 abbrev pub HasOwnRegister : Pooled → List OwnMemory → OwnMachine → Type 0
 HasOwnRegister q memories m = AllByRecursion (λ (x : OwnMemory). IsApart q m.machine.signal.0 x.spec) memories
 
+-- ---- wrappers
+
+-- new names are names of domains, and controls stand in the pool
+abbrev pub IsWrapping : Pooled → Wrapping → Type 0
+IsWrapping q (wrapping.Rename names) = AllByRecursion (λ (p : NamePair). IsName p.after) names
+IsWrapping q (wrapping.Reset controls) = AreControls (length q.exprs) controls
+IsWrapping q (wrapping.Enable controls) = AreControls (length q.exprs) controls
+
 pub record IsSound (h : Held) : Type 0 where
   pub names : AllByRecursion (λ (x : Sig). IsName x.name) h.pool.signals
   pub things : AreHeld (length h.pool.exprs) h.store.things
@@ -238,3 +234,4 @@ pub record IsSound (h : Held) : Type 0 where
   pub components : AreComponents h.pool h.store.components
   pub memories : AllByRecursion (IsOwnMemory h.pool h.store.clock_domains.made h.store.components.objects) h.store.memories
   pub registers : AllByRecursion (HasOwnRegister h.pool h.store.memories) h.store.machines
+  pub wrappings : AllByRecursion (IsWrapping h.pool) h.store.wrappings

@@ -1,6 +1,7 @@
 -- What elaboration holds beside the heap of the program: the pool, and the store of things, modules and the top. Which acts change it is said
 -- family by family in the other files.
 use Rattle.std.specs.Prelude.{ℕ, Bool, List, [], ◌∷◌, ◌++◌, length, slice_get, Option, Some, None, option_and_then, option_map, codes}
+use Rattle.std.specs.Option.{option_map_or}
 use Rattle.lists.specs.Texts.{text_eq}
 use Rattle.py_values.specs.declared.val.ObjId.{ObjId}
 use Rattle.py_values.specs.declared.val.Val.{Val}
@@ -25,6 +26,9 @@ use Rattle.elab_store.specs.declared.kept.DomainName.TheVariants as domain
 use Rattle.amh_host.specs.declared.place.Place.{Place}
 use Rattle.elab_store.specs.declared.own_machine.OwnMachine.{OwnMachine}
 use Rattle.elab_store.specs.declared.memories.OwnMemory.{OwnMemory}
+use Rattle.elab_store.specs.declared.wrappings.Wrapping.{Wrapping}
+use Rattle.elab_store.specs.declared.wrappings.Wrapped.{Wrapped}
+use Rattle.elab_store.specs.Wrappings.{wraps_of}
 use Rattle.elab_store.specs.declared.hierarchy.NodeOf.{NodeOf}
 use Rattle.elab_store.specs.declared.hierarchy.NodeOf.TheVariants as node
 use Rattle.elab_store.specs.Components.{Components, no_components, signed_at, face_at}
@@ -53,6 +57,9 @@ pub record Stored : Type 0 where
   pub machines : List OwnMachine
   -- memories in order of making
   pub memories : List OwnMemory
+  -- what wrappers do, and what they made, each in order of making
+  pub wrappings : List Wrapping
+  pub wrapped : List Wrapped
   -- the names of domains with a clock by which modules were asked
   pub domains : List (List ℕ)
   -- where the refusal is told, where this is not the place of the request
@@ -70,7 +77,7 @@ no_top = record { object = None; root = None }
 
 -- before the body of a program
 abbrev pub nothing_held : Held
-nothing_held = record { pool = record { signals = []; exprs = [] }; store = record { things = []; kept = []; modules = []; patterns = []; top = no_top; components = no_components; hierarchy = no_hierarchy; clock_domains = no_clock_domains; machines = []; memories = []; domains = []; told = None; simulation = no_simulation } }
+nothing_held = record { pool = record { signals = []; exprs = [] }; store = record { things = []; kept = []; modules = []; patterns = []; top = no_top; components = no_components; hierarchy = no_hierarchy; clock_domains = no_clock_domains; machines = []; memories = []; wrappings = []; wrapped = []; domains = []; told = None; simulation = no_simulation } }
 
 -- what a request is answered, and what is then held
 pub record Answered : Type 0 where
@@ -179,6 +186,31 @@ abbrev pub node_in : Option Kept → Option NodeOf
 node_in (Some (kept.Module m)) = Some (node.Module m)
 node_in (Some (kept.Memory k)) = Some (node.Memory k)
 node_in k = None
+
+-- ---- what is wrapped
+
+abbrev pub wrapped_in : Option Kept → Option ℕ
+wrapped_in (Some (kept.Wrapped k)) = Some k
+wrapped_in k = None
+
+-- the number of the wrapped thing that a value is
+abbrev pub wrapped_of : Stored → Val → Option ℕ
+wrapped_of s v = wrapped_in (kept_of s v)
+
+-- what stands within a value: itself, where it is not wrapped
+abbrev pub inner_of : Stored → Val → Val
+inner_of s v = option_map_or (λ (w : Wrapped). w.inner) (option_and_then (slice_get s.wrapped) (wrapped_of s v)) v
+
+-- the wrappings of a value, the outermost first
+abbrev pub wraps_in : Stored → Val → List ℕ
+wraps_in s v = option_map_or (wraps_of s.wrapped) (wrapped_of s v) []
+
+-- what a wrapper does, and what it made, which is a new thing
+abbrev pub store_with_wrapping : Wrapping → Stored → Stored
+store_with_wrapping w s = record s { wrappings = s.wrappings ++ w ∷ [] }
+
+abbrev pub store_with_wrapped : Wrapped → Stored → Stored
+store_with_wrapped w s = store_keeping (kept.Wrapped (length s.wrapped)) (record s { wrapped = s.wrapped ++ w ∷ [] })
 
 -- ---- memories
 

@@ -2,7 +2,7 @@
 ghost use Rattle.std.specs.Prelude.{◌≡◌, ◌++◌, length, reverse, IfOk, OnOk, codes};
 ghost use Rattle.std.specs.Fmt.{decimal};
 ghost use Rattle.std.specs.Option.{option_copied};
-ghost use Rattle.elab_store.specs.Hierarchies.{no_hierarchy, numbers_of, numbers_below, is_of_module, addition_name, added_as, with_addition, waiting_for, top_entered, node_taken, first_waiting, thing_waiting, is_node};
+ghost use Rattle.elab_store.specs.Hierarchies.{no_hierarchy, numbers_of, numbers_below, is_of_module, addition_name, added_as, with_addition, waiting_for, top_entered, wrapper_nodes, wraps_taken, root_wrapped, node_taken, first_waiting, thing_waiting, is_node};
 
 use amh_host::Text;
 use lists::NoMemory;
@@ -19,11 +19,13 @@ pub struct Addition {
     pub thing: Val,
 }
 
-/// What stands in the tree: a module or a memory, by its number in order of making.
+/// What stands in the tree: a module or a memory, by its number in order of making, or a wrapper before what it wraps.
 #[derive(Clone, Copy, PartialEq, Eq, Drop)]
 pub enum NodeOf {
     Module(u32),
     Memory(u32),
+    /// A wrapper of what follows, by the number of its wrapping.
+    Wrapper(u32),
 }
 
 /// A module or a memory of the tree below the top: by which addition it stands there, what it is, and how many stand directly below it.
@@ -48,6 +50,10 @@ pub struct Hierarchy {
     nodes: Vec<Node>,
     /// The next one last.
     waiting: Vec<Waiting>,
+    /// How many modules and memories are nodes.
+    taken: usize,
+    /// The wrappings of the top, the outermost first.
+    root_wraps: Vec<u32>,
 }
 
 impl Model for Hierarchy {
@@ -56,7 +62,7 @@ impl Model for Hierarchy {
 
     ghost Value = { Hierarchy };
 
-    ghost view = { λ a. record { additions = a.additions.items; nodes = a.nodes.items; waiting = reverse a.waiting.items } };
+    ghost view = { λ a. record { additions = a.additions.items; nodes = a.nodes.items; waiting = reverse a.waiting.items; taken = a.taken; root_wraps = a.root_wraps.items } };
 }
 
 // How many additions are to a module.
@@ -103,7 +109,7 @@ fn below_count(additions: &[Addition], of: NodeOf) -> usize
 {
     match of {
         NodeOf::Module(m) => child_count(additions, m),
-        NodeOf::Memory(_) => 0,
+        NodeOf::Memory(_) | NodeOf::Wrapper(_) => 0,
     }
 }
 
@@ -118,8 +124,22 @@ fn wait_below(
 {
     match of {
         NodeOf::Module(m) => wait_for(additions, m, depth, waiting),
-        NodeOf::Memory(_) => Ok(()),
+        NodeOf::Memory(_) | NodeOf::Wrapper(_) => Ok(()),
     }
+}
+
+// Wrappers stand before what waits, each with one below it.
+fn push_wrappers(bys: &[u32], waiting: Waiting, nodes: &mut Vec<Node>) -> Result<(), NoMemory>
+    ensures { OnOk result (nodes.new.items ≡ nodes.old.items ++ wrapper_nodes bys.now waiting) }
+{
+    for by in bys {
+        nodes.push(Node {
+            addition: waiting.addition,
+            of: NodeOf::Wrapper(*by),
+            below: 1,
+        })?;
+    }
+    Ok(())
 }
 
 fn is_of_module(m: u32, of: NodeOf) -> bool
@@ -127,7 +147,7 @@ fn is_of_module(m: u32, of: NodeOf) -> bool
 {
     match of {
         NodeOf::Module(n) => n == m,
-        NodeOf::Memory(_) => false,
+        NodeOf::Memory(_) | NodeOf::Wrapper(_) => false,
     }
 }
 
@@ -159,6 +179,8 @@ impl Hierarchy {
             additions: Vec::new(alloc),
             nodes: Vec::new(alloc),
             waiting: Vec::new(alloc),
+            taken: 0,
+            root_wraps: Vec::new(alloc),
         }
     }
 
@@ -227,6 +249,38 @@ impl Hierarchy {
         wait_for(self.additions.as_slice(), m, 1, &mut self.waiting)
     }
 
+    /// What waits first is wrapped by these, the outermost first: they stand in the tree before it.
+    pub fn take_wraps(&mut self, bys: &[u32]) -> Result<(), NoMemory>
+        ensures { OnOk result (self.new ≡ wraps_taken bys.now self.old) }
+    {
+        let Some(first) = self.first_waiting() else {
+            return Ok(());
+        };
+        push_wrappers(bys, first, &mut self.nodes)
+    }
+
+    /// The top is wrapped by these too, within the ones before.
+    pub fn wrap_root(&mut self, bys: &[u32]) -> Result<(), NoMemory>
+        ensures { OnOk result (self.new ≡ root_wrapped bys.now self.old) }
+    {
+        self.root_wraps.extend_from_slice(bys)?;
+        Ok(())
+    }
+
+    /// How many modules and memories stand in the tree below the top.
+    pub fn taken(&self) -> usize
+        ensures { result ≡ self.now.taken }
+    {
+        self.taken
+    }
+
+    /// The wrappings of the top, the outermost first.
+    pub fn root_wraps(&self) -> &[u32]
+        ensures { result.now ≡ self.now.root_wraps }
+    {
+        self.root_wraps.as_slice()
+    }
+
     /// What waits first is this, which stands in the tree from now on: what was added to it waits before all others.
     pub fn take_node(&mut self, of: NodeOf) -> Result<(), NoMemory>
         ensures { OnOk result (self.new ≡ node_taken of self.old) }
@@ -235,9 +289,10 @@ impl Hierarchy {
         let Some(first) = self.waiting.pop() else {
             return Ok(());
         };
-        if below > 4_294_967_295 || first.depth == u32::MAX {
+        if below > 4_294_967_295 || first.depth == u32::MAX || self.taken == usize::MAX {
             return Err(NoMemory);
         }
+        self.taken += 1;
         self.nodes.push(Node {
             addition: first.addition,
             of,

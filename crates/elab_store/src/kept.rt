@@ -36,9 +36,13 @@ pub enum HdlName {
     Stream,
     StreamSignature,
     ClockDomain,
+    ResetSignal,
     /// The module `amaranth.lib.memory`, and its `Memory`.
     MemoryLibrary,
     Memory,
+    DomainRenamer,
+    ResetInserter,
+    EnableInserter,
     /// `Simulator` of `amaranth.sim`.
     Simulator,
 }
@@ -192,6 +196,10 @@ pub enum Kept {
     },
     /// A port of a memory.
     MemoryPort(MemoryPort),
+    /// What `DomainRenamer(..)`, `ResetInserter(..)` or `EnableInserter(..)` gives, by its number in order of making.
+    Wrapping(u32),
+    /// What a call of such a thing with something to elaborate gives, by its number in order of making.
+    Wrapped(u32),
     /// `x.eq(v)`.
     Statement(Equation),
     /// `In(shape)` or `Out(shape)`.

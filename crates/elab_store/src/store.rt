@@ -8,11 +8,11 @@ ghost use Rattle.amh_things.specs.Things.{name_called, thing_of, base_called, la
 ghost use Rattle.amh_things.specs.Meant.{shape_meant, expr_meant, Gives as Meant};
 ghost use Rattle.amh_things.specs.Held.{AreHeld};
 ghost use Rattle.amh_things.specs.Members.{counted};
-ghost use Rattle.elab_store.specs.Stores.{store_and_module, store_with_memory, naming_domain, side_of, is_domain};
+ghost use Rattle.elab_store.specs.Stores.{store_and_module, store_with_memory, store_with_wrapping, store_with_wrapped, wrapped_of, inner_of, wraps_in, naming_domain, side_of, is_domain};
 ghost use Rattle.elab_store.specs.declared.kept.DomainName.TheVariants as domain;
 ghost use Rattle.elab_store.specs.Components.{no_components};
 ghost use Rattle.elab_store.specs.ClockDomains.{no_clock_domains, with_clock_domain, with_definition};
-ghost use Rattle.elab_store.specs.Hierarchies.{no_hierarchy, with_addition, top_entered, node_taken};
+ghost use Rattle.elab_store.specs.Hierarchies.{no_hierarchy, with_addition, top_entered, node_taken, wraps_taken, root_wrapped};
 ghost use Rattle.elab_store.specs.Simulations.{no_simulation};
 ghost use Rattle.elab_store.specs.Stores.{nothing_held, no_top, kept_of, store_with, store_keeping, kept_given, given, refused, refused_at};
 ghost use Rattle.elab_store.specs.Stores.{with_root, with_object, module_of, memory_of, node_in, signature_in, signature_of, face_in, face_of};
@@ -28,6 +28,7 @@ use crate::names::is_text;
 use crate::objects::first_object;
 use crate::own_machine::OwnMachine;
 use crate::simulation::Simulation;
+use crate::wrappings::{Wrapped, Wrapping, wraps_of};
 use amh_bits::Int;
 use amh_host::{Items, Place, Text};
 use amh_things::comparing::counted;
@@ -60,6 +61,8 @@ pub struct Store {
     pub clock_domains: ClockDomains,
     pub machines: Vec<OwnMachine>,
     pub memories: Vec<OwnMemory>,
+    pub wrappings: Vec<Wrapping>,
+    pub wrapped: Vec<Wrapped>,
     pub domains: Items<Text>,
     pub told: Option<Place>,
     pub simulation: Simulation,
@@ -72,7 +75,7 @@ impl Model for Store {
 
     ghost Value = { Stored };
 
-    ghost view = { λ a. record { things = a.things; kept = a.kept.items; modules = a.modules.items; patterns = a.patterns.items; top = a.top; components = a.components; hierarchy = a.hierarchy; clock_domains = a.clock_domains; machines = a.machines.items; memories = a.memories.items; domains = a.domains; told = a.told; simulation = a.simulation } };
+    ghost view = { λ a. record { things = a.things; kept = a.kept.items; modules = a.modules.items; patterns = a.patterns.items; top = a.top; components = a.components; hierarchy = a.hierarchy; clock_domains = a.clock_domains; machines = a.machines.items; memories = a.memories.items; wrappings = a.wrappings.items; wrapped = a.wrapped.items; domains = a.domains; told = a.told; simulation = a.simulation } };
 
     ghost invariant = { λ a. IsStore a.statements a.modules.items a.patterns.items };
 }
@@ -80,7 +83,7 @@ impl Model for Store {
 impl Store {
     /// Nothing yet, which takes no memory.
     fn new(alloc: Global) -> Store
-        ensures { result ≡ record { things = []; kept = []; modules = []; patterns = []; top = no_top; components = no_components; hierarchy = no_hierarchy; clock_domains = no_clock_domains; machines = []; memories = []; domains = []; told = None; simulation = no_simulation } }
+        ensures { result ≡ record { things = []; kept = []; modules = []; patterns = []; top = no_top; components = no_components; hierarchy = no_hierarchy; clock_domains = no_clock_domains; machines = []; memories = []; wrappings = []; wrapped = []; domains = []; told = None; simulation = no_simulation } }
     {
         Store {
             things: Values::new(alloc),
@@ -97,6 +100,8 @@ impl Store {
             clock_domains: ClockDomains::new(alloc),
             machines: Vec::new(alloc),
             memories: Vec::new(alloc),
+            wrappings: Vec::new(alloc),
+            wrapped: Vec::new(alloc),
             domains: Items::new(alloc),
             told: None,
             simulation: Simulation::new(alloc),
@@ -239,6 +244,31 @@ impl Store {
         Ok(number as u32)
     }
 
+    /// What a wrapper does.
+    pub fn add_wrapping(&mut self, wrapping: Wrapping) -> Result<u32, NoMemory>
+        ensures { IfOk result (λ k. (k ≡ length self.old.wrappings) × (self.new ≡ store_with_wrapping wrapping self.old)) }
+    {
+        let number = self.wrappings.len();
+        if number >= 4_294_967_295 {
+            drop(wrapping);
+            return Err(NoMemory);
+        }
+        self.wrappings.push(wrapping)?;
+        Ok(number as u32)
+    }
+
+    /// What a wrapper made, as a new thing.
+    pub fn add_wrapped(&mut self, wrapped: Wrapped) -> Result<Val, NoMemory>
+        ensures { IfOk result (λ v. (v ≡ val.Hw (record { 0 = length self.old.things })) × (self.new ≡ store_with_wrapped wrapped self.old)) }
+    {
+        let number = self.wrapped.len();
+        if number >= 4_294_967_295 {
+            return Err(NoMemory);
+        }
+        self.wrapped.push(wrapped)?;
+        self.keep(Kept::Wrapped(number as u32))
+    }
+
     /// What was added to modules, and the tree of it.
     pub fn hierarchy(&self) -> &Hierarchy
         ensures { result.now ≡ self.now.hierarchy }
@@ -295,6 +325,20 @@ impl Store {
         self.hierarchy.take_node(of)
     }
 
+    /// What waits first is wrapped by these, the outermost first.
+    pub fn take_wraps(&mut self, bys: &[u32]) -> Result<(), NoMemory>
+        ensures { OnOk result (self.new ≡ record self.old { hierarchy = wraps_taken bys.now self.old.hierarchy }) }
+    {
+        self.hierarchy.take_wraps(bys)
+    }
+
+    /// The top is wrapped by these too, within the ones before.
+    pub fn wrap_root(&mut self, bys: &[u32]) -> Result<(), NoMemory>
+        ensures { OnOk result (self.new ≡ record self.old { hierarchy = root_wrapped bys.now self.old.hierarchy }) }
+    {
+        self.hierarchy.wrap_root(bys)
+    }
+
     /// `elaborate` of an object is called.
     pub fn ask_object(&mut self, v: Val)
         ensures { self.new ≡ with_object v self.old }
@@ -345,6 +389,46 @@ impl Store {
             Some(Kept::Module(m)) => Some(NodeOf::Module(m)),
             Some(Kept::Memory(k)) => Some(NodeOf::Memory(k)),
             _ => None,
+        }
+    }
+
+    /// A wrapped thing by its number.
+    pub fn wrapped_at(&self, number: u32) -> Option<Wrapped>
+        ensures { result ≡ slice_get self.now.wrapped number }
+    {
+        self.wrapped.get(number as usize).copied()
+    }
+
+    /// The number of the wrapped thing that a value is.
+    pub fn wrapped_of(&self, v: &Val) -> Option<u32>
+        ensures { result ≡ wrapped_of self.now v.now }
+    {
+        match self.kept_of(*v) {
+            Some(Kept::Wrapped(k)) => Some(k),
+            _ => None,
+        }
+    }
+
+    /// What stands within a value: itself, where it is not wrapped.
+    pub fn inner_of(&self, v: &Val) -> Val
+        ensures { result ≡ inner_of self.now v.now }
+    {
+        let Some(number) = self.wrapped_of(v) else {
+            return *v;
+        };
+        match self.wrapped.get(number as usize) {
+            Some(one) => one.inner,
+            None => *v,
+        }
+    }
+
+    /// The wrappings of a value, the outermost first.
+    pub fn wraps_in(&self, alloc: Global, v: &Val) -> Result<Vec<u32>, NoMemory>
+        ensures { IfOk result (λ bys. bys.items ≡ wraps_in self.now v.now) }
+    {
+        match self.wrapped_of(v) {
+            Some(number) => wraps_of(alloc, self.wrapped.as_slice(), number),
+            None => Ok(Vec::new(alloc)),
         }
     }
 

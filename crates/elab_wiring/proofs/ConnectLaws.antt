@@ -4,8 +4,9 @@ use Rattle.std.specs.Prelude.{◌&&◌, Contains, if◌then◌else◌}
 use Rattle.std.specs.List.{AllByRecursion}
 use Rattle.amh_host.specs.declared.place.Place.{Place}
 use Rattle.design_ir.specs.Pools.{Pooled}
-use Rattle.design_ir.specs.Targets.{is_target}
+use Rattle.design_ir.specs.Targets.{is_target, is_open_target}
 use Rattle.design_ir.proofs.Elements.{contains_first, contains_more}
+use Rattle.module_dsl.proofs.OpenTargets.{target_is_open}
 use Rattle.lib_wiring.specs.declared.leaf.Leaf as wired
 use Rattle.lib_wiring.specs.declared.leaf.Link.{Link}
 use Rattle.lib_wiring.specs.Wiring.{is_at, leaf_at, are_apart, is_connectable, links, connected, AreSignals}
@@ -74,7 +75,7 @@ leads_equation : (q : Pooled) (p : Place) (target source : wired.Leaf) (k : Link
 leads_equation q p target source k t s h = record {
   target_there = subst (λ e. e.0 < length q.exprs) (sym h.driven) t.there;
   value_there = subst (λ e. e.0 < length q.exprs) (sym h.drives) s.there;
-  is_target = ap (λ e. is_target q e.0) h.driven ∙ t.target;
+  is_target = ap (λ e. is_open_target q e.0) h.driven ∙ target_is_open q target.expr.0 t.target;
 }
 
 link_stands : (q : Pooled) (p : Place) (first second : List wired.Leaf) (k : Link) → AllByRecursion (IsWire q) first → AllByRecursion (IsWire q) second → IsLinked first second k → IsEquation q (linked p k)

@@ -11,7 +11,7 @@ use Rattle.design_ir.specs.Forests.{Forest, bare}
 use Rattle.amh_host.specs.declared.place.Place.{Place}
 use Rattle.design_ir.specs.declared.ids.ExprId.{ExprId}
 use Rattle.design_ir.specs.Trees.{assign}
-use Rattle.design_ir.specs.Targets.{is_target}
+use Rattle.design_ir.specs.Targets.{is_open_target}
 use Rattle.module_dsl.specs.declared.refusal.BuildStop.TheVariants.{Limit}
 use Rattle.module_dsl.specs.declared.step.Step.{Step}
 use Rattle.module_dsl.specs.declared.step.Step.TheVariants.{Assign}
@@ -76,7 +76,7 @@ above n h = grind (arith, nat_tests)
 within : (n : ℕ) → n ≤ 65536 → nat_lt 65536 n ≡ false
 within n h = grind (arith, nat_tests)
 
-module _ (q : Pooled) (b : Built) (side : Side) (target value : ExprId) (place : Place) (n : ℕ) (i : in_switch (built_blocks b).around ≡ false) (t : is_target q target.0 ≡ true)
+module _ (q : Pooled) (b : Built) (side : Side) (target value : ExprId) (place : Place) (n : ℕ) (i : in_switch (built_blocks b).around ≡ false) (t : is_open_target q target.0 ≡ true)
     (count : statement_count (entries_of (and_statement (record { side = side; statement = assign target value place }) (built_blocks b))) ≡ n) where
   refusal_at : (over : Bool) → nat_lt 65536 n ≡ over → assign_refusal q b side target value place ≡ (if over then Some Limit else None)
   refusal_at over e = rw (i, t) (ap (λ m. if nat_lt 65536 m then Some Limit else None) (count-given b side target value place ∙ count) ∙ ap (λ x. if x then Some Limit else None) e)

@@ -1,4 +1,5 @@
 pub mod Lists
+pub mod OpenTargets
 pub mod TargetWalks
 pub mod GivenLaws
 pub mod BlockLaws

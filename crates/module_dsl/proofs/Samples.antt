@@ -1,15 +1,18 @@
 -- Small modules, by computation.
-use Rattle.std.specs.Prelude.{◌≡◌, refl, ℕ, List, [], ◌∷◌, ℤ, pos, codes}
+use Rattle.std.specs.Prelude.{◌≡◌, refl, ℕ, Bool, true, false, List, [], ◌∷◌, ℤ, pos, Some, None, codes}
 use Rattle.shape_rules.specs.Forms.{unsigned}
 use Rattle.design_ir.specs.declared.ids.ExprId.{ExprId}
 use Rattle.design_ir.specs.declared.process.Side.{Side}
 use Rattle.design_ir.specs.declared.process.Side.TheVariants.{Comb, Clocked}
-use Rattle.design_ir.specs.declared.expr.Expr.TheVariants.{Const, Matches}
+use Rattle.design_ir.specs.declared.expr.Expr.TheVariants.{Const, Slice, Cat, Unary, Matches, Reset}
 use Rattle.design_ir.specs.Pools.{Pooled}
 use Rattle.design_ir.specs.Trees.{Statement, assign, choose, none, arm, done, next}
 use Rattle.design_ir.specs.Values.{form, num}
-use Rattle.design_ir.specs.Targets.{target_bits}
+use Rattle.design_ir.specs.Targets.{target_bits, is_target, is_open_target}
+use Rattle.shape_rules.specs.declared.op.Op.TheVariants as op
 use Rattle.design_ir.proofs.SanityParts.{signal, s}
+use Rattle.module_dsl.specs.declared.refusal.BuildStop.TheVariants.{NotTarget}
+use Rattle.module_dsl.specs.Builders.{Built, assign_refusal}
 use Rattle.module_dsl.specs.declared.step.Step.{Step}
 use Rattle.module_dsl.specs.declared.step.Step.TheVariants.{Assign, Enter, Leave}
 use Rattle.module_dsl.specs.declared.step.Opening.TheVariants as opening
@@ -118,3 +121,23 @@ meaning env = carried_out numbers env Comb (entries_of (blocks_of choice)) env
 first_holds : (meaning (pos 3 ∷ pos 0 ∷ []) ≡ pos 3 ∷ pos 5 ∷ []) × (meaning (pos 1 ∷ pos 0 ∷ []) ≡ pos 1 ∷ pos 6 ∷ []) × (meaning (pos 0 ∷ pos 0 ∷ []) ≡ pos 0 ∷ pos 7 ∷ [])
 unfolding meaning numbers choice to e blocks_of form num target_bits
 first_holds = (refl, refl, refl)
+
+-- ---- targets: a reset is one, and what is made of it, though none of them is one of a design; its complement is none
+
+resets : Pooled
+unfolding e
+resets = record {
+  signals = signal (unsigned 3) (pos 0) ∷ [];
+  exprs = s 0 ∷ Reset (codes "sync") (record { line = 1; col = 1 }) ∷ Slice (e 1) 0 1 ∷ Cat (e 0 ∷ e 1 ∷ []) ∷ Unary op.Not (e 1) ∷ [];
+}
+
+a_module : Built
+a_module = record { name = codes "top"; steps = [] }
+
+resets_are_targets : (is_open_target resets 0 ≡ true) × (is_open_target resets 1 ≡ true) × (is_open_target resets 2 ≡ true) × (is_open_target resets 3 ≡ true) × (is_open_target resets 4 ≡ false) × (is_target resets 1 ≡ false) × (is_target resets 3 ≡ false)
+unfolding resets e is_open_target is_target
+resets_are_targets = (refl, refl, refl, refl, refl, refl, refl)
+
+resets_are_assigned : (assign_refusal resets a_module sync (e 3) (e 0) (record { line = 1; col = 1 }) ≡ None) × (assign_refusal resets a_module sync (e 4) (e 0) (record { line = 1; col = 1 }) ≡ Some NotTarget)
+unfolding resets a_module sync e is_open_target blocks_of
+resets_are_assigned = (refl, refl)

@@ -10,9 +10,9 @@ use Rattle.design_ir.specs.declared.expr.Expr.TheVariants.{Const, Unary, Binary,
 use Rattle.design_ir.specs.Named.{named, AllBelow}
 use Rattle.design_ir.specs.Pools.{Pooled}
 use Rattle.design_ir.specs.PoolRules.{IsPool}
-use Rattle.design_ir.specs.Targets.{is_target, target_test}
+use Rattle.design_ir.specs.Targets.{is_open_target, open_target_test}
 use Rattle.design_ir.proofs.Equations.{standing}
-use Rattle.design_ir.proofs.TargetLaws.{is_target_is}
+use Rattle.module_dsl.proofs.OpenTargets.{open_target_is}
 use Rattle.module_dsl.specs.Walks.{may_be_target, parts_of, is_marked, numbers, unmarked, IsReached, IsSeen, IsWalking}
 use Rattle.module_dsl.proofs.Lists.{contains-first, contains-left, contains-right, contains-split, contains-one, take-push, map-push, below_has, all_has, all_from}
 
@@ -22,7 +22,7 @@ and_true : (b : Bool) → b ≡ (b && true)
 and_true true = refl
 and_true false = refl
 
-pub test_is : (f : ℕ → Bool) (e : Expr) → target_test f e ≡ (may_be_target e && list_all (λ (a : ExprId). f a.0) (parts_of e))
+pub test_is : (f : ℕ → Bool) (e : Expr) → open_target_test f e ≡ (may_be_target e && list_all (λ (a : ExprId). f a.0) (parts_of e))
 test_is f (expr.TheVariants.Sig s) = refl
 test_is f (Slice a low width) = and_true (f a.0)
 test_is f (Cat es) = refl
@@ -53,8 +53,8 @@ parts_below n (Reset domain place) h = tt
 pub parts_there : (q : Pooled) (k : ℕ) (e : Expr) → IsPool q → slice_get q.exprs k ≡ Some e → AllBelow k (parts_of e)
 parts_there q k e rules at = parts_below k e (standing q k e rules at).names
 
-pub target_by_parts : (q : Pooled) (k : ℕ) (e : Expr) → IsPool q → slice_get q.exprs k ≡ Some e → is_target q k ≡ (may_be_target e && list_all (λ (a : ExprId). is_target q a.0) (parts_of e))
-target_by_parts q k e rules at = is_target_is q k e rules at ∙ test_is (is_target q) e
+pub target_by_parts : (q : Pooled) (k : ℕ) (e : Expr) → IsPool q → slice_get q.exprs k ≡ Some e → is_open_target q k ≡ (may_be_target e && list_all (λ (a : ExprId). is_open_target q a.0) (parts_of e))
+target_by_parts q k e rules at = open_target_is q k e rules at ∙ test_is (is_open_target q) e
 
 -- ---- marks
 
@@ -147,7 +147,7 @@ walk_begins q root marks waiting count size h = record {
   reached = h.added root.0 (contains-first root.0 []);
   waits = λ n c. elim (h.waits n c) [ inl is ↦ is | inr none ↦ absurd (omega (arith, none.1)) ];
   seen = λ n is. elim (h.only n is) [ inl fresh ↦ absurd (false≢true (sym (fresh_marks count n) ∙ fresh)) | inr new ↦ inl new.1 ];
-  below = λ t n is. elim (h.only n is) [ inl fresh ↦ absurd (false≢true (sym (fresh_marks count n) ∙ fresh)) | inr new ↦ ap (is_target q) (sym (contains-one root.0 n new.0)) ∙ t ];
+  below = λ t n is. elim (h.only n is) [ inl fresh ↦ absurd (false≢true (sym (fresh_marks count n) ∙ fresh)) | inr new ↦ ap (is_open_target q) (sym (contains-one root.0 n new.0)) ∙ t ];
 }
   where
     length-replicate' : (k : ℕ) → length (replicate k false) ≡ k
@@ -179,34 +179,34 @@ walk_turn q root marks marks' rest waiting e x rules at may h k =
         | inl old ↦ h.below t n old
         | inr new ↦
             let whole = sym (target_by_parts q e.0 x rules at) ∙ h.below t e.0 mine in
-            all_has (is_target q) (parts_of x) n (and_parts (may_be_target x) (list_all (λ (a : ExprId). is_target q a.0) (parts_of x)) whole).1 new.0
+            all_has (is_open_target q) (parts_of x) n (and_parts (may_be_target x) (list_all (λ (a : ExprId). is_open_target q a.0) (parts_of x)) whole).1 new.0
       ];
     }
 
 -- an expression that can be none
-pub walk_stops : (q : Pooled) (root : ℕ) (marks : List Bool) (rest : List ExprId) (e : ExprId) (x : Expr) → IsPool q → slice_get q.exprs e.0 ≡ Some x → may_be_target x ≡ false → IsWalking q root marks (rest ++ e ∷ []) → false ≡ is_target q root
+pub walk_stops : (q : Pooled) (root : ℕ) (marks : List Bool) (rest : List ExprId) (e : ExprId) (x : Expr) → IsPool q → slice_get q.exprs e.0 ≡ Some x → may_be_target x ≡ false → IsWalking q root marks (rest ++ e ∷ []) → false ≡ is_open_target q root
 walk_stops q root marks rest e x rules at may h =
     let mine : is_marked marks e.0 ≡ true = h.waits e.0 (subst (λ xs. Contains xs e.0) (sym (map-push (λ (y : ExprId). y.0) rest e)) (contains-right (numbers rest) (e.0 ∷ []) e.0 (contains-first e.0 []))) in
-    let none : is_target q e.0 ≡ false = target_by_parts q e.0 x rules at ∙ ap (λ b. b && list_all (λ (a : ExprId). is_target q a.0) (parts_of x)) may in
-    split (is_target q root) refl none mine
+    let none : is_open_target q e.0 ≡ false = target_by_parts q e.0 x rules at ∙ ap (λ b. b && list_all (λ (a : ExprId). is_open_target q a.0) (parts_of x)) may in
+    split (is_open_target q root) refl none mine
   where
-    split : (b : Bool) → is_target q root ≡ b → is_target q e.0 ≡ false → is_marked marks e.0 ≡ true → false ≡ is_target q root
+    split : (b : Bool) → is_open_target q root ≡ b → is_open_target q e.0 ≡ false → is_marked marks e.0 ≡ true → false ≡ is_open_target q root
     split false is none mine = sym is
     split true is none mine = absurd (false≢true (sym none ∙ h.below is e.0 mine))
 
 -- nothing waits
-pub walk_ends : (q : Pooled) (root : ℕ) (marks : List Bool) → IsPool q → IsWalking q root marks [] → true ≡ is_target q root
+pub walk_ends : (q : Pooled) (root : ℕ) (marks : List Bool) → IsPool q → IsWalking q root marks [] → true ≡ is_open_target q root
 walk_ends q root marks rules h = sym (up_to (suc root) root (omega arith) h.reached)
   where
-    up_to : (n k : ℕ) → k < n → is_marked marks k ≡ true → is_target q k ≡ true
+    up_to : (n k : ℕ) → k < n → is_marked marks k ≡ true → is_open_target q k ≡ true
     up_to zero k below is = absurd (omega (arith, below))
     up_to (suc n) k below is =
         elim (h.seen k is) [
           | inl waits ↦ absurd (omega (arith, waits.1))
           | inr seen ↦
               target_by_parts q k seen.at rules seen.is
-              ∙ and_from (may_be_target seen.at) (list_all (λ (a : ExprId). is_target q a.0) (parts_of seen.at)) seen.may
-              (all_from (is_target q) (parts_of seen.at) (λ j c. up_to n j (omega (arith, below, below_has k (parts_of seen.at) j (parts_there q k seen.at rules seen.is) c)) (seen.parts j c)))
+              ∙ and_from (may_be_target seen.at) (list_all (λ (a : ExprId). is_open_target q a.0) (parts_of seen.at)) seen.may
+              (all_from (is_open_target q) (parts_of seen.at) (λ j c. up_to n j (omega (arith, below, below_has k (parts_of seen.at) j (parts_there q k seen.at rules seen.is) c)) (seen.parts j c)))
         ]
 
 -- what waits is of the pool

@@ -10,7 +10,7 @@ use Rattle.design_ir.specs.declared.fragment.Fragment.{Fragment}
 use Rattle.design_ir.specs.Forests.{bare}
 use Rattle.design_ir.specs.Pools.{Pooled}
 use Rattle.design_ir.specs.PoolRules.{expr_added, IsAskable}
-use Rattle.design_ir.specs.Targets.{is_target}
+use Rattle.design_ir.specs.Targets.{is_open_target}
 use Rattle.amh_host.specs.declared.place.Place.{Place}
 use Rattle.module_dsl.specs.declared.refusal.BuildStop.{BuildStop}
 use Rattle.module_dsl.specs.declared.refusal.BuildStop.TheVariants.{Order, NotTarget, Limit, NoMemory}
@@ -56,11 +56,11 @@ built_count b = statement_count (entries_of (built_blocks b))
 abbrev pub and_given : Built → Side → ExprId → ExprId → Place → Built
 and_given b side target value place = and_step b (Assign side target value place)
 
--- Directly in a `Switch` no statement stands; then comes something else than a target, then one statement too many.
+-- Directly in a `Switch` no statement stands; then comes something else than a target, which may stand for resets, then one statement too many.
 abbrev pub assign_refusal : Pooled → Built → Side → ExprId → ExprId → Place → Option BuildStop
 assign_refusal q b side target value place =
     order_where (in_switch (built_blocks b).around)
-    (if is_target q target.0 then (if nat_lt 65536 (built_count (and_given b side target value place)) then Some Limit else None) else Some NotTarget)
+    (if is_open_target q target.0 then (if nat_lt 65536 (built_count (and_given b side target value place)) then Some Limit else None) else Some NotTarget)
 
 -- ---- entering a block
 

@@ -5,7 +5,7 @@ use Rattle.design_ir.specs.declared.expr.Expr as expr
 use Rattle.design_ir.specs.declared.expr.Expr.{Expr}
 use Rattle.design_ir.specs.declared.expr.Expr.TheVariants.{Const, Unary, Binary, Mux, Slice, Cat, Part, Pick, Cast, Matches, Reset}
 use Rattle.design_ir.specs.Pools.{Pooled}
-use Rattle.design_ir.specs.Targets.{is_target}
+use Rattle.design_ir.specs.Targets.{is_open_target}
 
 -- an expression that is a target where its parts are
 abbrev pub may_be_target : Expr → Bool
@@ -20,7 +20,7 @@ may_be_target (Unary op a) = false
 may_be_target (Binary op a b) = false
 may_be_target (Mux s a b) = false
 may_be_target (Matches a patterns) = false
-may_be_target (Reset domain place) = false
+may_be_target (Reset domain place) = true
 
 -- the expressions that are to be targets where it is one
 abbrev pub parts_of : Expr → List ExprId
@@ -76,4 +76,4 @@ pub record IsWalking (pool : Pooled) (root : ℕ) (marks : List Bool) (waiting :
   pub reached : is_marked marks root ≡ true
   pub waits : (n : ℕ) → Contains (numbers waiting) n → is_marked marks n ≡ true
   pub seen : (n : ℕ) → is_marked marks n ≡ true → Contains (numbers waiting) n ⊎ IsSeen pool marks n
-  pub below : is_target pool root ≡ true → (n : ℕ) → is_marked marks n ≡ true → is_target pool n ≡ true
+  pub below : is_open_target pool root ≡ true → (n : ℕ) → is_marked marks n ≡ true → is_open_target pool n ≡ true

@@ -1,6 +1,6 @@
-// Which expressions are targets.
+// Which expressions are targets of a module, in which resets stand for signals.
 ghost use Rattle.std.specs.Prelude.{◌≡◌, ◌<◌, ◌∷◌, [], length, IfOk, OnOk};
-ghost use Rattle.design_ir.specs.Targets.{is_target};
+ghost use Rattle.design_ir.specs.Targets.{is_open_target};
 ghost use Rattle.design_ir.specs.Named.{AllBelow};
 ghost use Rattle.module_dsl.specs.Walks.{may_be_target, parts_of, numbers, IsReached};
 
@@ -8,15 +8,15 @@ use amh_host::NoMemory;
 use design_ir::{Expr, ExprId, Exprs, Pool};
 use std::alloc::Global;
 
-/// Whether an expression is a target: a signal, or a part, a join or a reading of targets.
+/// Whether an expression is a target: a signal, a reset, or a part, a join or a reading of targets.
 pub fn is_target(alloc: Global, pool: &Pool, e: ExprId) -> Result<bool, NoMemory>
     requires { e.0 < length pool.now.exprs }
-    ensures { IfOk result (λ b. b ≡ is_target pool.now e.0) }
+    ensures { IfOk result (λ b. b ≡ is_open_target pool.now e.0) }
 {
     let _ = pool.count();
     let base = base_of(pool, e);
     match pool.at(base) {
-        Expr::Sig(_) => Ok(true),
+        Expr::Sig(_) | Expr::Reset { .. } => Ok(true),
         _ => has_targets(alloc, pool, base),
     }
 }
@@ -25,7 +25,7 @@ pub fn is_target(alloc: Global, pool: &Pool, e: ExprId) -> Result<bool, NoMemory
 fn base_of(pool: &Pool, e: ExprId) -> ExprId
     requires { e.0 < length pool.now.exprs }
     ensures there { result.0 < length pool.now.exprs }
-    ensures same { is_target pool.now result.0 ≡ is_target pool.now e.0 }
+    ensures same { is_open_target pool.now result.0 ≡ is_open_target pool.now e.0 }
 {
     let _ = pool.count();
     let mut base = e;
@@ -75,7 +75,7 @@ impl Walk {
         ensures parts { OnOk result (IsReached (numbers (parts_of e.now)) self.old.marks.items self.old.waiting.items self.new.marks.items self.new.waiting.items) }
     {
         match e {
-            Expr::Sig(_) => {}
+            Expr::Sig(_) | Expr::Reset { .. } => {}
             Expr::Slice { a, .. } | Expr::Part { a, .. } | Expr::Cast { a, .. } => self.reach(*a)?,
             Expr::Cat(items) | Expr::Pick { items, .. } => self.reach_all(items.as_slice())?,
             _ => return Ok(false),
@@ -87,7 +87,7 @@ impl Walk {
 // Whether an expression is a target, by all expressions of which it is made. Each is looked at once.
 fn has_targets(alloc: Global, pool: &Pool, root: ExprId) -> Result<bool, NoMemory>
     requires { root.0 < length pool.now.exprs }
-    ensures { IfOk result (λ b. b ≡ is_target pool.now root.0) }
+    ensures { IfOk result (λ b. b ≡ is_open_target pool.now root.0) }
 {
     let _ = pool.count();
     let mut walk = Walk {

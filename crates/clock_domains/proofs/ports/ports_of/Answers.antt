@@ -40,7 +40,7 @@ returns g c =
     let made : c.in_ok-ports.ports ≡ domain_ports q (is_marked driven) ds = c.in_ok-ports.ensures ∙ ap (λ (ms : List Bool). domain_ports q (is_marked ms) ds) c.as_slice.ensures.value in
     let flag : Flag is_port (is_among (signals_of (domain_ports q (is_marked driven) ds))) = subst (λ ps. Flag is_port (is_among (signals_of ps))) (c.as_slice-2.ensures ∙ made) c.in_ok-mark_ports.ensures in
     c.in_ok-add_top.ensures
-    ∙ ap (λ ps. ps ++ filter (is_new q (is_marked is_port)) (known_ports q c.in_ok-driven_by.field-0.items driven read c.args.top.now)) made
+    ∙ ap (λ ps. ps ++ filter (is_new q (is_marked is_port)) (known_ports q ds c.in_ok-driven_by.field-0.items driven read c.args.top.now)) made
     ∙ chosen_same q ds c.args.own.now g.all is_port c.in_ok-driven_by.field-0.items driven read c.args.top.now c.count.ensures.rules c.requires.1.1.1.1.1.1.0 c.requires.1.1.0 flag c.in_ok-driven_by.ensures
     (flag_same driven (is_given q) c.args.processes.now g.all.processes c.args.memories.now g.all.memories c.requires.0 c.requires.1.0 c.requires.1.1.1.1.1.1.1)
     (flag_same read (is_read q) c.args.processes.now g.all.processes c.args.memories.now g.all.memories c.requires.0 c.requires.1.0 c.in_ok-reads.ensures)

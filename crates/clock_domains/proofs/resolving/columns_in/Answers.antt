@@ -39,7 +39,7 @@ returns g c =
     let among = subst (λ (xs : List Port). Flag c.in_ok-is_port.is_port.items (is_among (signals_of xs))) c.as_slice.ensures c.in_ok-is_port.ensures in
     let flag = subst (λ ms. Flag ms (is_among (signals_of ports))) (sym c.as_slice-2.ensures.value) among in
     let found = registers_found q g.all sites c.known.ensures c.requires.1.0 c.requires.1.1.0 c.requires.1.1.1.1 c.args.paths.now ports c.as_slice-2.result.now (map (λ (s : SigId). s.0) c.in_ok-registers.registers.items) c.requires.0 flag c.in_ok-registers.ensures in
-    let named = c.in_ok-named.ensures ∙ ap (λ (rs : List SigId). map (known_column q c.args.paths.now sites) (map (λ (s : SigId). s.0) rs)) c.as_slice-3.ensures.value in
+    let named = c.in_ok-named.ensures ∙ ap (λ (rs : List SigId). map (known_column q c.args.domains.now c.args.paths.now sites) (map (λ (s : SigId). s.0) rs)) c.as_slice-3.ensures.value in
     let whole =
-    columns_found q g.all sites c.known.ensures c.requires.1.0 c.requires.1.1.0 c.requires.1.1.1.1 c.as_slice-4.result.now ports c.args.paths.now (map (λ (s : SigId). s.0) c.in_ok-registers.registers.items) c.as_slice-5.result.now c.as_slice-4.ensures c.requires.0 found (c.as_slice-5.ensures ∙ named) in
+    columns_found q g.all sites c.known.ensures c.requires.1.0 c.requires.1.1.0 c.requires.1.1.1.1 c.args.domains.now c.as_slice-4.result.now ports c.args.paths.now (map (λ (s : SigId). s.0) c.in_ok-registers.registers.items) c.as_slice-5.result.now c.as_slice-4.ensures c.requires.0 found (c.as_slice-5.ensures ∙ named) in
     subst (λ (x : List Column). IfOk c.columns_of.result (λ cs. cs ≡ x)) whole c.columns_of.ensures

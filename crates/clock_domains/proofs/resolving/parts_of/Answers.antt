@@ -68,7 +68,7 @@ returns-clause-columns g c =
     let held : Contents = record { processes = c.as_slice-2.result.now; paths = []; memories = c.as_slice-3.result.now; memory_paths = [] } in
     let made : c.in_ok-ports.ports ≡ ports_of q ds own g.all top =
     c.in_ok-ports.ensures ∙ ap (λ (xs : List Process). ports_of q ds xs held top) c.as_slice.ensures ∙ ports_alike q ds own top held g.all (c.as_slice-2.ensures.value ∙ c.requires.0) (c.as_slice-3.ensures ∙ c.requires.1.0) in
-    c.in_ok-columns.ensures ∙ ap (λ (xs : List Port). columns_of q g.all xs (named_registers q g.all xs)) made
+    c.in_ok-columns.ensures ∙ ap (λ (xs : List Port). columns_of q ds g.all xs (named_registers q g.all xs)) made
 
 pub returns-clause-ports : goal.returns-clause-ports
 returns-clause-ports g c =

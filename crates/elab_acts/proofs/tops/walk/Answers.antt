@@ -2,10 +2,10 @@ use Rattle.std.proofs.Common.{◌≡◌, ◌∙◌, ◌-◌, ◌+◌, suc, sym, 
 use Rattle.std.proofs.lemmas.Bool.{lt-ltb, le-ltb}
 use Rattle.py_heap.specs.Heaps.{seen}
 use Rattle.elab_store.specs.Hierarchies.{first_waiting, thing_waiting}
-use Rattle.elab_store.specs.Stores.{Stored, kept_of, node_in}
+use Rattle.elab_store.specs.Stores.{Stored}
 use Rattle.elab_store.specs.Held.{held_of, Gives}
 use Rattle.elab_acts.specs.Tops.{deepest_submodule, walked}
-use Rattle.elab_acts.proofs.WalkLaws.{walked_ended, walked_last, walked_deep, walked_nothing, walked_called, walked_more}
+use Rattle.elab_acts.proofs.WalkLaws.{walked_ended, walked_last, walked_deep, walked_nothing, IsNext, walked_called, walked_more}
 use Rattle.elab_acts.proofs.tops.walk.Goals as goal
 
 pub returns-in_default : goal.returns-in_default
@@ -40,8 +40,8 @@ returns-in_default-thing_waiting c =
     (walked_nothing j n (seen c.args.frozen.now c.args.heap.now) h w _ step first deep none c.loop-i.invariant)
     c.refuse-in_default-thing_waiting.ensures
 
-pub returns-in_default-node_of : goal.returns-in_default-node_of
-returns-in_default-node_of c =
+pub returns-in_default-node : goal.returns-in_default-node
+returns-in_default-node c =
     let h = held_of c.loop-i.elaboration in
     let j = c.saturating_sub-room.result - c.loop-i.i in
     let n = c.saturating_sub-room.result - (c.loop-i.i + 1) in
@@ -51,9 +51,14 @@ returns-in_default-node_of c =
     let first : first_waiting h.store.hierarchy ≡ Some w = ap first_waiting (sym c.hierarchy-in-loop-i.ensures) ∙ sym c.first_waiting.ensures ∙ c.in-Some.is in
     let deep : nat_lt deepest_submodule w.depth ≡ false = le-ltb deepest_submodule w.depth c.if-next-gt-DEEPEST_SUBMODULE.false in
     let thing : thing_waiting h.store.hierarchy ≡ Some v = cc in
-    let none : node_in (kept_of h.store v) ≡ None = sym c.node_of.ensures ∙ c.in_default-node_of.is in
+    let is : IsNext h v c.inner_of-inner.result None (held_of c.take_wraps.new.elaboration) = record {
+      thing = thing;
+      inner = c.inner_of-inner.ensures;
+      node = sym c.in_default-node.is ∙ c.node_of-node.ensures;
+      taken = c.in_ok-take_wraps.ensures;
+    } in
     subst (Gives c.call_below.result c.call_below.new.elaboration)
-    (walked_called j n (seen c.args.frozen.now c.args.heap.now) h w v _ step first deep thing none c.loop-i.invariant)
+    (walked_called j n (seen c.args.frozen.now c.args.heap.now) h w v c.inner_of-inner.result _ _ step first deep is c.loop-i.invariant)
     c.call_below.ensures
 
 pub loop-i-preserved : goal.loop-i-preserved
@@ -64,14 +69,20 @@ loop-i-preserved c =
     let n = c.saturating_sub-room.result - (c.loop-i.i + 1) in
     let w = c.in-Some.next in
     let v = c.in-Some-thing_waiting.v in
-    let m = c.in-Some-node_of.node in
+    let m = c.in-Some-node.node in
+    let g = held_of c.take_wraps.new.elaboration in
     let step : j ≡ suc n = omega (arith, c.loop-i-test.true) in
     let first : first_waiting h.store.hierarchy ≡ Some w = ap first_waiting (sym c.hierarchy-in-loop-i.ensures) ∙ sym c.first_waiting.ensures ∙ c.in-Some.is in
     let deep : nat_lt deepest_submodule w.depth ≡ false = le-ltb deepest_submodule w.depth c.if-next-gt-DEEPEST_SUBMODULE.false in
     let thing : thing_waiting h.store.hierarchy ≡ Some v = cc in
-    let is : node_in (kept_of h.store v) ≡ Some m = sym c.node_of.ensures ∙ c.in-Some-node_of.is in
-    ap (λ (store : Stored). walked n s (record { pool = h.pool; store = store })) c.in_ok-take_node.ensures
-    ∙ walked_more j n s h w v m _ step first deep thing is c.loop-i.invariant
+    let is : IsNext h v c.inner_of-inner.result (Some m) g = record {
+      thing = thing;
+      inner = c.inner_of-inner.ensures;
+      node = sym c.in-Some-node.is ∙ c.node_of-node.ensures;
+      taken = c.in_ok-take_wraps.ensures;
+    } in
+    ap (λ (store : Stored). walked n s (record { pool = g.pool; store = store })) c.in_ok-take_node.ensures
+    ∙ walked_more j n s h w v c.inner_of-inner.result m g _ step first deep is c.loop-i.invariant
 
 pub returns-in-Some-first_waiting : goal.returns-in-Some-first_waiting
 returns-in-Some-first_waiting c =

@@ -1,13 +1,15 @@
-use Rattle.std.proofs.Common.{◌≡◌, ◌-◌, drop, length, false}
-use Rattle.std.specs.List.{list_any}
-use Rattle.elab_eval.specs.Elaborates.{is_open_at, forest_of_nodes}
+use Rattle.std.proofs.Common.{◌≡◌, ◌-◌, drop, length, Ok}
+use Rattle.design_ir.specs.PoolRules.{IsPool}
+use Rattle.elab_store.specs.Stores.{Stored}
+use Rattle.elab_eval.specs.Elaborates.{forest_of_nodes}
+use Rattle.elab_eval.specs.Standing.{IsStanding}
 use Rattle.elab_eval.proofs.trees.trees_of.Given as goal
 
-abbrev pub ghost-grown : goal.ghost-grown
-ghost-grown g a = g.built
+abbrev pub ghost-put_node : goal.ghost-put_node
+ghost-put_node g a = g.built
 
--- of what stands behind, no block is open, and the trees are its forest
+-- the trees are those of what stands behind, and they stand
 abbrev pub invariant-loop-i : goal.invariant-loop-i
 invariant-loop-i g l =
-    let behind = drop (length l.nodes - l.i) l.nodes in
-    (list_any (is_open_at g.built l.memories) behind ≡ false) × (l.trees ≡ forest_of_nodes g.built l.memories l.clock_domains l.additions behind)
+    let s : Stored = record l.store { modules = g.built } in
+    IsPool l.pool × ((forest_of_nodes s (drop (length l.nodes - l.i) l.nodes) l.initial.pool ≡ Ok (l.trees, l.pool)) × IsStanding s l.initial.pool l.pool l.trees)

@@ -1,6 +1,6 @@
 use Rattle.std.proofs.Common.{◌≡◌, ◌+◌, ◌<◌, ◌≤◌, ◌∷◌, ◌++◌, [], true, false, refl, sym, ap, ◌∙◌, subst, arith}
 use Rattle.design_ir.specs.Trees.{assign}
-use Rattle.design_ir.specs.Targets.{is_target}
+use Rattle.design_ir.specs.Targets.{is_open_target}
 use Rattle.module_dsl.specs.declared.step.Step.TheVariants.{Assign}
 use Rattle.module_dsl.specs.Blocks.{Given, blocks_of, and_statement, in_switch}
 use Rattle.module_dsl.specs.Builders.{Built, assign_refusal, and_given}
@@ -16,7 +16,7 @@ returns-then-added-gt65536-clause-refused c =
     let b : Built = record { name = inside.name; steps = steps } in
     let g : Given = record { side = c.args.side.now; statement = assign c.args.target c.args.value c.args.place } in
     let i : in_switch (blocks_of steps).around ≡ false = sym (c.in_switch.ensures (blocks_of steps) c.self.invariant) ∙ c.if-in_switch.false in
-    let t : is_target c.args.pool.now c.args.target.0 ≡ true = sym c.in_ok-is_target.ensures ∙ c.if-not-branch.false in
+    let t : is_open_target c.args.pool.now c.args.target.0 ≡ true = sym c.in_ok-is_target.ensures ∙ c.if-not-branch.false in
     let added = c.added_by-added.ensures (blocks_of steps) g c.self.invariant i refl in
     let far : 65536 < inside.progress.statements + c.added_by-added.result =
     elim c.then-added-gt65536.branch [
@@ -44,7 +44,7 @@ returns-clause-given c =
     let b : Built = record { name = inside.name; steps = steps } in
     let g : Given = record { side = c.args.side.now; statement = assign c.args.target c.args.value c.args.place } in
     let i : in_switch (blocks_of steps).around ≡ false = sym (c.in_switch.ensures (blocks_of steps) c.self.invariant) ∙ c.if-in_switch.false in
-    let t : is_target c.args.pool.now c.args.target.0 ≡ true = sym c.in_ok-is_target.ensures ∙ c.if-not-branch.false in
+    let t : is_open_target c.args.pool.now c.args.target.0 ≡ true = sym c.in_ok-is_target.ensures ∙ c.if-not-branch.false in
     let added = c.added_by-added.ensures (blocks_of steps) g c.self.invariant i refl in
     let near : inside.progress.statements + c.added_by-added.result ≤ 65536 = omega arith in
     let told : Built = record { name = inside.name; steps = c.tell.new.steps.items } in

@@ -1,0 +1,16 @@
+pub mod Resets
+pub mod HeldMore
+pub mod Carried
+pub mod Standing
+pub mod Growth
+pub mod Definitions
+pub mod GrowthLaws
+pub mod Making
+pub mod Blocks
+pub mod Renaming
+pub mod RenamedTrees
+pub mod Enabling
+pub mod EnabledTrees
+pub mod Resetting
+pub mod ResetTrees
+pub mod Samples
