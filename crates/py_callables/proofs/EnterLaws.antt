@@ -33,7 +33,7 @@ use Rattle.py_frames.specs.Tables.{described}
 use Rattle.py_frames.specs.Values.{bind_all, with_this, with_binding, kept_in}
 use Rattle.py_frames.specs.Statements.{known, calls, entered, func_entered, code_entered, body_entered, body_run, with_met, parameters_of, run_all, call_ended, function_here, first_of}
 use Rattle.py_callables.specs.Entering.{runs_at, body_steps, runs_under}
-use Rattle.py_callables.specs.Binding_all.{after_set, names_bound}
+use Rattle.py_walks.specs.Binding_all.{after_set, names_bound}
 use Rattle.py_frames.specs.Frames.{GoesOn, told, stops_as, finish}
 use Rattle.py_frames.proofs.BeginLaws.{stops_as-finish, stop_goes, no_memory}
 use Rattle.py_frames.proofs.CallLaws.{looked, same_goes, same_runs}

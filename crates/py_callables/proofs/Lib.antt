@@ -5,4 +5,3 @@ pub mod MeetLaws
 pub mod EnterLaws
 pub mod SuperLaws
 pub mod SumLaws
-pub mod BoundLaws

@@ -9,7 +9,6 @@ ghost use Rattle.py_callables.specs.Entering.{runs_at, runs_under};
 ghost use Rattle.py_frames.specs.Tables.{IsTable};
 ghost use Rattle.py_frames.specs.Frames.{GoesOn};
 
-use crate::call_bind::names_bound;
 use crate::call_kind::with_this;
 use crate::call_meet::parameters_met;
 use amh_host::{NoMemory, Place};
@@ -23,6 +22,7 @@ use py_tree::Block;
 use py_turns::block::run_block;
 use py_turns::call_leaf::{raise, vals_of};
 use py_values::{Code, Func, FuncId, Val, Vals};
+use py_walks::bound_names::names_bound;
 use std::mem::replace;
 
 /// The first of the arguments.

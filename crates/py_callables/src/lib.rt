@@ -8,7 +8,6 @@
 pub mod attribute;
 pub mod attribute_leaf;
 pub mod attribute_super;
-pub mod call_bind;
 pub mod call_builtin;
 pub mod call_enter;
 pub mod call_gone;

@@ -19,7 +19,6 @@ use crate::trail::goes_along;
 use crate::trail_slice::part_came;
 use amh_host::Place;
 use py_callables::attribute::attribute_in_rounds;
-use py_callables::call_bind::attributes_bound;
 use py_callables::call_enter::enter;
 use py_callables::call_gone::gone_over;
 use py_callables::call_kind::is_async_at;
@@ -35,6 +34,7 @@ use py_tree::Name;
 use py_turns::attribute_store::indexed;
 use py_turns::call_leaf::{about, give, raise, vals_of};
 use py_values::{Builtin, Code, ObjId, Val, Vals};
+use py_walks::bound_names::attributes_bound;
 
 // What a function's body leaves is its value.
 fn value_left(got: &Got) -> Val

@@ -4,3 +4,4 @@ pub mod TargetLaws
 pub mod CompLaws
 pub mod ForLaws
 pub mod WalkGoes
+pub mod BoundLaws

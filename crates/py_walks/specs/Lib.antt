@@ -1,1 +1,2 @@
 pub mod Walk_parts
+pub mod Binding_all

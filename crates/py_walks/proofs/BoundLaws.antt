@@ -23,7 +23,7 @@ use Rattle.py_frames.specs.declared.going.Going.{Going}
 use Rattle.py_frames.specs.Doing.{World, Doing, Known, made, give, cause_of}
 use Rattle.py_frames.specs.Statements.{known}
 use Rattle.py_frames.specs.Values.{attributes_bound}
-use Rattle.py_callables.specs.Binding_all.{after_set, names_bound, attributes_set}
+use Rattle.py_walks.specs.Binding_all.{after_set, names_bound, attributes_set}
 use Rattle.py_frames.specs.Frames.{GoesOn, told, stops_as, finish}
 use Rattle.py_frames.proofs.BeginLaws.{stops_as-finish, give_goes}
 use Rattle.py_frames.proofs.CallLaws.{same_runs}

@@ -3,7 +3,7 @@ ghost use Rattle.std.specs.Prelude.{◌≡◌};
 ghost use Rattle.py_values.specs.Runs.{Answers};
 ghost use Rattle.py_frames.specs.Doing.{give};
 ghost use Rattle.py_frames.specs.Values.{attributes_bound};
-ghost use Rattle.py_callables.specs.Binding_all.{left_heap, names_bound, attributes_set};
+ghost use Rattle.py_walks.specs.Binding_all.{left_heap, names_bound, attributes_set};
 ghost use Rattle.py_frames.specs.Frames.{GoesOn};
 
 use amh_host::Place;
