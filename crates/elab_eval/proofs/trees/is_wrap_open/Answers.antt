@@ -1,4 +1,4 @@
-use Rattle.std.proofs.Common.{◌≡◌, ◌∙◌, sym, ap, get_or, length, arith}
+use Rattle.std.proofs.Common.{◌≡◌, ◌∙◌, ap, get_or, length, arith}
 use Rattle.elab_store.specs.Stores.{Stored}
 use Rattle.elab_eval.proofs.TreeLaws.{read, wrap_found, wrap_next}
 use Rattle.elab_eval.proofs.trees.is_wrap_open.Goals as goal

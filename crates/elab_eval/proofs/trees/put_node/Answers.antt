@@ -1,4 +1,4 @@
-use Rattle.std.proofs.Common.{◌≡◌, ◌∙◌, sym, ap}
+use Rattle.std.proofs.Common.{◌∙◌, sym, ap}
 use Rattle.elab_store.specs.Stores.{Stored}
 use Rattle.elab_eval.specs.Elaborates.{is_open_in}
 use Rattle.elab_eval.proofs.TreeLaws.{module_put, memory_put, wrapper_put}

@@ -1,9 +1,9 @@
-use Rattle.std.proofs.Common.{◌≡◌, ◌∙◌, sym, ap, map}
+use Rattle.std.proofs.Common.{◌∙◌, sym, ap, map}
 use Rattle.std.specs.Prelude.{option_and_then}
 use Rattle.elab_store.specs.Stores.{Stored}
 use Rattle.elab_eval.specs.Elaborates.{module_in, root_module}
 use Rattle.elab_eval.specs.Trees.{finished}
-use Rattle.elab_eval.proofs.TreeLaws.{IsTop, root_open, below_open, stopped_as, top_there, top_refused, top_module, top_absent, top_made, top_got}
+use Rattle.elab_eval.proofs.TreeLaws.{root_open, below_open, stopped_as, top_there, top_refused, top_module, top_absent, top_made, top_got}
 use Rattle.elab_eval.proofs.StandingLaws.{top_there_stands, all_with_modules}
 use Rattle.elab_eval.proofs.WrappedLaws.{wrappings_more}
 use Rattle.elab_eval.proofs.trees.tree.Goals as goal
