@@ -1,6 +1,6 @@
 -- The design of what is held, by the tree of its modules.
 use Rattle.std.proofs.Common.{◌≡◌, ◌<◌, refl, ap, sym, ◌∙◌, subst, List, Bool, true, false, length, Option, Some, None, Result, Ok, Err}
-use Rattle.std.specs.Prelude.{◌||◌, if◌then◌else◌}
+use Rattle.std.specs.Prelude.{if◌then◌else◌}
 use Rattle.std.specs.List.{AllByRecursion, list_any}
 use Rattle.lists.specs.Names.{IsName}
 use Rattle.amh_host.specs.declared.place.Kind.TheVariants.{Raised}
@@ -24,7 +24,7 @@ use Rattle.elab_store.specs.Stores.{Stored, Held}
 use Rattle.elab_store.specs.Sound.{IsSound}
 use Rattle.elab_eval.specs.declared.refusal.ElabStop.{ElabStop}
 use Rattle.elab_eval.specs.declared.refusal.ElabStop.TheVariants as stops
-use Rattle.elab_eval.specs.Elaborates.{Found, IsFound, IsDesignOf, is_any_open, and_then, root_module, ports_of, top_ports, tree_of, found_by, found_with, module_found, design_of, unresolved_stop, without_modules, is_nameless}
+use Rattle.elab_eval.specs.Elaborates.{Found, IsFound, IsDesignOf, is_any_open, and_then, root_module, ports_of, top_ports, tree_of, found_by, found_with, module_found, design_of, unresolved_stop, is_nameless}
 use Rattle.elab_eval.specs.Standing.{StandsFor}
 use Rattle.elab_eval.specs.Trees.{tree_found, IsGot}
 use Rattle.elab_acts.proofs.EachLaws.{all_each}

@@ -25,7 +25,7 @@ use Rattle.elab_store.specs.Stores.{Stored}
 use Rattle.lists.specs.declared.items.NoMemory.{NoMemory}
 use Rattle.elab_eval.specs.declared.refusal.ElabStop.{ElabStop}
 use Rattle.elab_eval.specs.declared.refusal.ElabStop.TheVariants as stops
-use Rattle.elab_eval.specs.Elaborates.{module_in, is_open, is_open_at, is_open_wrap, is_any_open, fragment_at, node_name, spec_of, leaf_in, first_trees, other_trees, first_wrapped, wrapped_by, is_past_by, within_counts, wrapped, and_then, put_before, node_put, forest_of_nodes, root_domains, root_before, root_wrapped, tree_of}
+use Rattle.elab_eval.specs.Elaborates.{is_open, is_open_at, is_open_wrap, node_name, spec_of, leaf_in, first_trees, other_trees, first_wrapped, wrapped_by, is_past_by, within_counts, wrapped, and_then, put_before, node_put, forest_of_nodes, root_domains, root_before, root_wrapped, tree_of}
 use Rattle.elab_eval.specs.Trees.{finished, is_missing, fragment_with, wrapper_stop, tree_found, IsGot}
 
 -- ---- one tree more
