@@ -3,7 +3,7 @@
 
 Each design has a memory or two, in the top or in a submodule, with ports of several domains, granules and transparency. Some of the
 signals of ports are driven, from inputs, counters and what other ports read; the others are inputs of the top. With `--wrappers` what is
-added stands under renamed domains, inserted resets and enables, one in another, and resets are read and driven: that is to come.
+added stands under renamed domains, inserted resets and enables, one in another, and resets are read and driven.
 
 The files are K.py and K.stim, K from 0 on, and depend on the seed and the words alone. Two tools that are run over them can be compared.
 """
