@@ -311,6 +311,13 @@ impl Values {
         }
     }
 
+    /// The things behind the first `from` are of other expressions: that of number `before + k` becomes `now[k]`.
+    pub fn renumber(&mut self, from: usize, before: u32, now: &[ExprId]) {
+        for i in from..self.things.len() {
+            renumber_thing(&mut self.things[i], before, now);
+        }
+    }
+
     /// Puts a thing at the end.
     pub fn put(&mut self, thing: Thing) -> Result<Hw, NoMemory>
         ensures put { IfOk result (λ hw. (hw ≡ record { 0 = length self.old }) × (self.new ≡ self.old ++ thing ∷ [])) }
@@ -334,5 +341,26 @@ fn bits(l: &LayoutThing) -> Shape
     Shape {
         width: l.layout.width(),
         signed: false,
+    }
+}
+
+/// The number that an expression gets: those behind the first `before` are counted from there.
+pub fn number_now(e: ExprId, before: u32, now: &[ExprId]) -> ExprId {
+    if e.0 < before {
+        return e;
+    }
+    match now.get((e.0 - before) as usize) {
+        Some(id) => *id,
+        None => e,
+    }
+}
+
+fn renumber_thing(thing: &mut Thing, before: u32, now: &[ExprId]) {
+    match thing {
+        Thing::Value(e) => *e = number_now(*e, before, now),
+        Thing::Numbered { value, .. } | Thing::View { value, .. } | Thing::Method { value, .. } => {
+            *value = number_now(*value, before, now)
+        }
+        _ => {}
     }
 }

@@ -1,0 +1,111 @@
+// What an act of a testbench makes is put to the design, but for expressions that are there.
+
+use crate::copies::renumbered;
+use crate::known::Known;
+use amh_things::values::number_now;
+use design_ir::{Design, Expr, ExprId, Exprs, PoolStop};
+use elab_store::kept::{Begin, Equation, Kept};
+use elab_store::store::Elaboration;
+use lists::NoMemory;
+use std::alloc::Global;
+
+/// How much there was before an act.
+#[derive(Clone, Copy, PartialEq, Eq, Drop)]
+pub(crate) struct Before {
+    pub exprs: u32,
+    pub things: usize,
+    pub kept: usize,
+}
+
+/// Why an act cannot be kept.
+#[derive(Clone, Copy, PartialEq, Eq, Drop)]
+pub(crate) enum ShareStop {
+    Limit,
+    NoMemory,
+}
+
+impl From<NoMemory> for ShareStop {
+    fn from(_: NoMemory) -> ShareStop {
+        ShareStop::NoMemory
+    }
+}
+
+/// Expressions behind the first ones of the pool are put to the design where it has none like them. Then the pool is the design's again, and
+/// things are of the numbers that their expressions got.
+pub(crate) fn share(
+    held: &mut Elaboration,
+    design: &mut Design,
+    known: &mut Known,
+    before: Before,
+) -> Result<(), ShareStop> {
+    if held.pool.count() == before.exprs {
+        return Ok(());
+    }
+    let mut now = Vec::new(held.alloc);
+    for i in before.exprs..held.pool.count() {
+        let id = shared_one(held, design, known, before.exprs, now.as_slice(), ExprId(i))?;
+        if let Err(_) = now.push(id) {
+            return Err(ShareStop::NoMemory);
+        }
+    }
+    held.pool.keep_first(before.exprs);
+    for i in before.exprs..design.count() {
+        let e = renumbered(held.alloc, design.at(ExprId(i)), u32::MAX, &[])?;
+        put(&mut held.pool, e)?;
+    }
+    held.store.things.renumber(before.things, before.exprs, now.as_slice());
+    for i in before.kept..held.store.kept.len() {
+        held.store.kept[i] = kept_now(held.store.kept[i], before.exprs, now.as_slice());
+    }
+    Ok(())
+}
+
+// The number of one expression in the design, which may get it.
+fn shared_one(
+    held: &Elaboration,
+    design: &mut Design,
+    known: &mut Known,
+    before: u32,
+    now: &[ExprId],
+    id: ExprId,
+) -> Result<ExprId, ShareStop> {
+    let e = renumbered(held.alloc, held.pool.at(id), before, now)?;
+    if let Some(id) = known.find(design, &e) {
+        return Ok(id);
+    }
+    let id = put(design, e)?;
+    known.note(design.at(id), id)?;
+    Ok(id)
+}
+
+fn put<P: Exprs>(pool: &mut P, e: Expr) -> Result<ExprId, ShareStop> {
+    match pool.expr(e) {
+        Ok(id) => Ok(id),
+        Err(PoolStop::NoMemory) => Err(ShareStop::NoMemory),
+        Err(_) => Err(ShareStop::Limit),
+    }
+}
+
+fn begin_now(begin: Begin, before: u32, now: &[ExprId]) -> Begin {
+    match begin {
+        Begin::If(e) => Begin::If(number_now(e, before, now)),
+        Begin::Elif(e) => Begin::Elif(number_now(e, before, now)),
+        Begin::Switch(e) => Begin::Switch(number_now(e, before, now)),
+        other => other,
+    }
+}
+
+fn kept_now(kept: Kept, before: u32, now: &[ExprId]) -> Kept {
+    match kept {
+        Kept::Statement(s) => Kept::Statement(Equation {
+            target: number_now(s.target, before, now),
+            value: number_now(s.value, before, now),
+            place: s.place,
+        }),
+        Kept::Block { of, begin } => Kept::Block {
+            of,
+            begin: begin_now(begin, before, now),
+        },
+        other => other,
+    }
+}

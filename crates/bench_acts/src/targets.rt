@@ -1,0 +1,46 @@
+// What `ctx.set` takes: an input that is no clock, or bits of one.
+
+use design_ir::{Design, DomainId, Expr, ExprId, Exprs, SigId};
+
+/// Bits of an input: so many from `low` on.
+#[derive(Clone, Copy, PartialEq, Eq, Drop)]
+pub struct InputBits {
+    pub sig: SigId,
+    pub low: u32,
+    pub width: u32,
+}
+
+/// The bits that an expression is of an input: it is one, or a slice of such bits, or these as another number.
+pub(crate) fn input_bits(design: &Design, e: ExprId) -> Option<InputBits> {
+    let width = design.shape(e).width as u32;
+    let mut low = 0;
+    let mut e = e;
+    loop {
+        match design.at(e) {
+            Expr::Sig(s) => return input_of(design, *s, low, width),
+            Expr::Slice { a, low: more, .. } => {
+                low += *more as u32;
+                e = *a;
+            }
+            Expr::Cast { a, .. } => e = *a,
+            _ => return None,
+        }
+    }
+}
+
+fn input_of(design: &Design, sig: SigId, low: u32, width: u32) -> Option<InputBits> {
+    let whole = design.sig_at(sig).shape.width;
+    if !design.is_input(sig) || is_clock(design, sig) || whole == 0 {
+        return None;
+    }
+    Some(InputBits { sig, low, width })
+}
+
+fn is_clock(design: &Design, sig: SigId) -> bool {
+    for d in 0..design.domains() {
+        if design.domain(DomainId(d)).clk == sig {
+            return true;
+        }
+    }
+    false
+}
