@@ -2,7 +2,7 @@
 
 use amh_bits::Int;
 use amh_things::operand::{Operand, operand_of};
-use amh_things::thing::Reading;
+use amh_things::thing::{Reading, Thing};
 use design_ir::{Design, Expr, Exprs};
 use elab_store::calls::Called;
 use elab_store::names::is_text;
@@ -41,8 +41,12 @@ pub(crate) fn sampled(held: &Elaboration, v: &Val) -> Option<Sample> {
 }
 
 fn reading_of(held: &Elaboration, v: &Val) -> Reading {
-    match v {
-        Val::Hw(hw) => held.store.things.reading(*hw),
+    let Val::Hw(hw) = v else {
+        return Reading::Plain;
+    };
+    match held.store.things.thing(*hw) {
+        Some(Thing::Numbered { of, .. }) => Reading::Numbered(*of),
+        Some(Thing::View { of, .. }) => Reading::Viewed(*of),
         _ => Reading::Plain,
     }
 }
