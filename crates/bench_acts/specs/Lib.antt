@@ -1,0 +1,4 @@
+pub mod Sharing
+pub mod Targets
+pub mod Context
+pub mod Serving

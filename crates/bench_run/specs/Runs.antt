@@ -1,0 +1,295 @@
+-- The run of a file's simulator: which events come at which moments, and how it ends.
+-- Source: Amaranth user guide 0.5, "Simulator"; the order of clocks and testbenches at a moment, the end of a run and its cost are this project's
+-- own rules (docs/RULES.md).
+use Rattle.std.specs.Prelude.{◌≡◌, ℕ, suc, ◌+◌, ◌-◌, ◌^◌, ◌==◌, nat_lt, nat_le, ◌&&◌, ◌||◌, not, Bool, true, false, if◌then◌else◌, ℤ, List, [], ◌∷◌, ◌++◌, length, map, slice_get, slice_set, Option, Some, None, option_map, min}
+use Rattle.std.specs.List.{list_any, list_all}
+use Rattle.std.specs.Option.{option_map_or}
+use Rattle.amh_host.specs.declared.place.Place.{Place}
+use Rattle.shape_rules.specs.Operators.{is_zero}
+use Rattle.design_ir.specs.declared.ids.DomainId.{DomainId}
+use Rattle.design_ir.specs.declared.domain.Domain.{Domain}
+use Rattle.design_ir.specs.declared.event.Event.{Event}
+use Rattle.design_ir.specs.declared.event.Event.TheVariants.{Set, Edge}
+use Rattle.design_ir.specs.Circuits.{Circuit, at}
+use Rattle.design_ir.specs.Histories.{Reaches}
+use Rattle.design_ir.specs.Steps.{is_active, is_reset}
+use Rattle.design_ir.specs.Values.{num}
+use Rattle.py_tree.specs.Steps.{Steps}
+use Rattle.py_heap.specs.Heaps.{Made, seen}
+use Rattle.py_values.specs.declared.val.Hw.{Hw}
+use Rattle.py_values.specs.declared.val.Val.{Val}
+use Rattle.py_values.specs.declared.val.Val.TheVariants as val
+use Rattle.py_frames.specs.declared.request.Answer.{Answer}
+use Rattle.py_frames.specs.declared.request.Answer.TheVariants as answer
+use Rattle.py_frames.specs.declared.request.Cause.TheVariants.{Raised, Spent}
+use Rattle.py_frames.specs.declared.request.Stop.{Stop}
+use Rattle.py_frames.specs.declared.state.State.{State}
+use Rattle.py_frames.specs.declared.state.Halt.TheVariants as halt
+use Rattle.py_frames.specs.Doing.{World, Outcome, Done, Halts}
+use Rattle.py_frames.specs.Frames.{stops_as}
+use Rattle.py_machine.specs.Starts.{ask_bench}
+use Rattle.calendar.specs.declared.clock.Clock.{Clock}
+use Rattle.calendar.specs.Due.{due_domains}
+use Rattle.calendar.specs.Moments.{IsNext}
+use Rattle.elab_store.specs.declared.simulation.RunEnd.{RunEnd}
+use Rattle.elab_store.specs.declared.simulation.RunEnd.TheVariants.{WithTestbenches, Until}
+use Rattle.elab_store.specs.declared.simulation.Sample.{Sample}
+use Rattle.elab_store.specs.declared.simulation.Sample.TheVariants as sample
+use Rattle.elab_store.specs.declared.simulation.Tick.{Tick}
+use Rattle.elab_store.specs.declared.simulation.TickEnd.{TickEnd}
+use Rattle.elab_store.specs.declared.simulation.TickEnd.TheVariants as end
+use Rattle.elab_store.specs.declared.simulation.Wait.{Wait}
+use Rattle.elab_store.specs.declared.simulation.Wait.TheVariants as wait
+use Rattle.elab_store.specs.Stores.{Held}
+use Rattle.elab_eval.specs.Reaches.{world}
+use Rattle.bench_acts.specs.Context.{Asked, Answers, Gets, Sets, Waits, Serving, shown, ticks_at}
+use Rattle.bench_acts.specs.Serving.{bench_served}
+use Rattle.bench_run.specs.Setting.{with_bits}
+
+-- ---- testbenches
+
+-- where a testbench stands: it goes on by an answer, waits for ticks or for a moment, or has ended
+pub data Stand : Type 0 where
+  Ready : Answer → Stand
+  -- of what has this number, so many more where they are counted
+  Ticks : (wait left : ℕ) → Stand
+  At : (moment : ℕ) → Stand
+  Ended : Stand
+
+-- a testbench with all answers that it was given
+pub record Testbench : Type 0 where
+  pub callee : Val
+  pub background : Bool
+  pub given : List Answer
+  pub stand : Stand
+
+-- ---- what does not change in a run
+
+pub record Run : Type 0 where
+  pub program : Steps
+  pub frozen : Made
+  pub ctx : Hw
+  -- the design before the run; what it is at a point has the pool of what is held there
+  pub design : Circuit
+  pub clocks : List Clock
+  pub end : RunEnd
+
+-- ---- a point of a run
+
+pub record Point : Type 0 where
+  pub held : Held
+  pub benches : List Testbench
+  -- the testbench whose turn it is
+  pub turn : ℕ
+  -- the moment, once the first round is over
+  pub now : Option ℕ
+  -- the units that are left of the budget
+  pub left : ℕ
+
+pub record Row : Type 0 where
+  pub time : ℕ
+  pub event : Event
+
+-- how a run ends
+pub data End : Type 0 where
+  Over : End
+  StopsAt : Stop → End
+
+-- what comes next: another point, an event and the point behind it, or the end
+pub data Next : Type 0 where
+  Goes : Point → Next
+  Happens : Row → Point → Next
+  Ends : End → Next
+
+abbrev pub time_of : Point → ℕ
+time_of p = option_map_or (λ t. t) p.now 0
+
+-- the design with the expressions that were made so far
+abbrev pub design_at : Run → Point → Circuit
+design_at x p = record x.design { pool = p.held.pool }
+
+-- an event costs a unit before it takes place, and the unit with which the cost reaches the budget is not carried out
+abbrev pub spent_stop : Stop
+spent_stop = record { cause = Spent; place = record { line = 1; col = 1 } }
+
+abbrev pub happens : Event → Point → Next
+happens e p = if nat_lt 1 p.left then Happens (record { time = time_of p; event = e }) (record p { left = p.left - 1 }) else Ends (StopsAt spent_stop)
+
+-- ---- the numbers of samples in an environment
+
+abbrev pub number_at : Held → List ℤ → Sample → ℤ
+number_at h env (sample.Value e r) = num h.pool env e.0
+number_at h env (sample.Number n) = n
+
+abbrev pub value_at : Held → List ℤ → Sample → Val
+value_at h env (sample.Value e r) = shown h r (num h.pool env e.0)
+value_at h env (sample.Number n) = val.Int n
+
+-- ---- one testbench goes on
+
+abbrev pub with_bench : ℕ → Testbench → Point → Point
+with_bench i b p = record p { benches = slice_set p.benches i b }
+
+-- where a testbench stands that waits: a delay whose moment is not below 2^63 raises
+abbrev pub delayed : ℕ → Stand
+delayed t = if nat_lt t (2 ^ 63) then At t else Ready (answer.Refuse Raised)
+
+abbrev pub count_of : TickEnd → ℕ
+count_of (end.Times n) = n
+count_of e = 0
+
+abbrev pub waiting : ℕ → ℕ → Option Wait → Stand
+waiting now k (Some (wait.Delay t)) = delayed (now + t)
+waiting now k (Some (wait.Tick t)) = Ticks k (count_of t.end)
+waiting now k None = Ready (answer.Refuse Raised)
+
+-- what is asked is done; `ctx.get` and `ctx.set` speak of the environment now
+abbrev pub asked_done : Run → List ℤ → ℕ → Testbench → Asked → Point → Next
+asked_done x env i b (Answers a) p = Goes (with_bench i (record b { stand = Ready a }) p)
+asked_done x env i b (Gets y) p = Goes (with_bench i (record b { stand = Ready (answer.Give (value_at p.held env y)) }) p)
+asked_done x env i b (Sets bits n) p = happens (Set bits.sig (with_bits x.design env bits n)) (with_bench i (record b { stand = Ready (answer.Give val.None) }) p)
+asked_done x env i b (Waits k) p = Goes (with_bench i (record b { stand = waiting (time_of p) k (ticks_at p.held k) }) p)
+
+abbrev pub served : Run → List ℤ → ℕ → Testbench → Serving → Point → Next
+served x env i b s p = asked_done x env i b s.asked (record p { held = s.held })
+
+-- what a testbench comes to with one answer more; its units are those that it used before and those that are left
+abbrev pub outcome_of : Run → Testbench → Answer → ℕ → Outcome
+outcome_of x b a budget = ask_bench x.program x.frozen b.callee x.ctx (world budget (b.given ++ a ∷ []))
+
+-- what is left where it used so many units in all, of which it had used so many
+abbrev pub gone_on : Run → List ℤ → ℕ → Testbench → Answer → (used : ℕ) → Outcome → Point → Next
+gone_on x env i b a used (Done got s) p =
+    Goes (with_bench i (record b { given = b.given ++ a ∷ []; stand = Ended }) (record p { left = p.left + used - s.used }))
+gone_on x env i b a used (Halts (halt.Asks r) s) p =
+    let q = record p { left = p.left + used - s.used } in
+    let c = record b { given = b.given ++ a ∷ [] } in
+    served x env i c (bench_served (seen x.frozen s.heap) (design_at x q) r q.held) q
+gone_on x env i b a used o p = option_map_or (λ (w : Stop × ℕ). Ends (StopsAt w.0)) (stops_as o) (Ends Over)
+
+-- the testbench of a number goes on where it is ready; else it is the next one's turn
+abbrev pub turned : Run → List ℤ → ℕ → Testbench → (used : ℕ) → Stand → Point → Next
+turned x env i b used (Ready a) p = gone_on x env i b a used (outcome_of x b a (used + p.left)) p
+turned x env i b used s p = Goes (record p { turn = suc i })
+
+-- ---- a moment
+
+-- waits for a moment are over
+abbrev pub woken_at : ℕ → Testbench → Testbench
+woken_at t b = woken b.stand
+  where
+    woken : Stand → Testbench
+    woken (At m) = if m == t then record b { stand = Ready (answer.Give val.None) } else b
+    woken s = b
+
+abbrev pub is_due : ℕ → Testbench → Bool
+is_due t b = due b.stand
+  where
+    due : Stand → Bool
+    due (At m) = m == t
+    due s = false
+
+-- the samples of a tick
+abbrev pub samples_of : Held → List ℤ → Tick → List Val
+samples_of h env t = map (value_at h env) t.samples
+
+-- what a tick brings at the active edge of its domain, where the reset is this, before the event: counted ticks and a condition raise under it
+abbrev pub tick_stand : Held → List ℤ → ℕ → ℕ → Tick → Bool → TickEnd → Stand
+tick_stand h env k left t reset end.Once = Ready (answer.GiveList (val.Bool true ∷ val.Bool reset ∷ samples_of h env t))
+tick_stand h env k left t true (end.Times n) = Ready (answer.Refuse Raised)
+tick_stand h env k left t false (end.Times n) = if nat_lt 1 left then Ticks k (left - 1) else Ready (answer.GiveList (samples_of h env t))
+tick_stand h env k left t true (end.Until y) = Ready (answer.Refuse Raised)
+tick_stand h env k left t false (end.Until y) = if is_zero (number_at h env y) then Ticks k left else Ready (answer.GiveList (samples_of h env t))
+
+abbrev pub ticked : Circuit → Held → List ℤ → List DomainId → Testbench → Testbench
+ticked c h env toggled b = tick b.stand
+  where
+    at_wait : ℕ → ℕ → Option Wait → Stand
+    at_wait k left (Some (wait.Tick t)) = if is_active c env toggled t.domain.0 then tick_stand h env k left t (is_reset c env t.domain.0) t.end else Ticks k left
+    at_wait k left w = Ticks k left
+
+    tick : Stand → Testbench
+    tick (Ticks k left) = record b { stand = at_wait k left (ticks_at h k) }
+    tick s = b
+
+-- at a moment: delays are over, ticks of the domains whose clocks toggle sample what was before, and these toggle in one event
+abbrev pub at_moment : Run → List ℤ → ℕ → Point → Next
+at_moment x env t p =
+    let toggled = due_domains x.clocks (length x.design.domains) t in
+    let woken = map (woken_at t) p.benches in
+    toggles toggled (record p { now = Some t; turn = 0; benches = woken })
+  where
+    toggles : List DomainId → Point → Next
+    toggles [] q = Goes q
+    toggles (d ∷ ds) q = happens (Edge (d ∷ ds)) (record q { benches = map (ticked (design_at x q) q.held env (d ∷ ds)) q.benches })
+
+-- ---- behind a round
+
+abbrev pub is_over : Testbench → Bool
+is_over b = b.background || ended b.stand
+  where
+    ended : Stand → Bool
+    ended Ended = true
+    ended s = false
+
+-- the run may end behind this round
+abbrev pub may_end : RunEnd → List Testbench → Bool
+may_end WithTestbenches bs = list_all is_over bs
+may_end (Until t) bs = false
+
+-- a moment that is behind the end of the run
+abbrev pub is_behind_end : RunEnd → ℕ → Bool
+is_behind_end WithTestbenches m = false
+is_behind_end (Until t) m = nat_lt t m
+
+abbrev pub earliest : Option ℕ → List Testbench → Option ℕ
+earliest m [] = m
+earliest m (b ∷ bs) = earliest (least m b.stand) bs
+  where
+    least : Option ℕ → Stand → Option ℕ
+    least None (At t) = Some t
+    least (Some n) (At t) = Some (min n t)
+    least n s = n
+
+-- where the next toggle of a clock is this
+abbrev pub moved_on : Run → List ℤ → Option ℕ → Point → Next
+moved_on x env None p = Ends Over
+moved_on x env (Some t) p = if is_behind_end x.end t then Ends Over else at_moment x env t p
+
+-- a delay that is due now brings another round; a moment that is due in the first round comes behind it
+abbrev pub is_due_again : Option ℕ → List Testbench → Bool
+is_due_again None bs = false
+is_due_again (Some t) bs = list_any (is_due t) bs
+
+abbrev pub round_over : Run → List ℤ → (toggle : Option ℕ) → Point → Next
+round_over x env toggle p =
+    if may_end x.end p.benches then Ends Over
+    else (if is_due_again p.now p.benches then Goes (record p { turn = 0; benches = map (woken_at (time_of p)) p.benches })
+    else moved_on x env (earliest toggle p.benches) p)
+
+-- ---- a run, from point to point
+
+-- what comes next in an environment, where a testbench used so many units and the next toggle of a clock is this
+abbrev pub next_of : Run → List ℤ → (used : ℕ) → (toggle : Option ℕ) → Point → Next
+next_of x env used toggle p = by (slice_get p.benches p.turn)
+  where
+    by : Option Testbench → Next
+    by (Some b) = turned x env p.turn b used b.stand p
+    by None = round_over x env toggle p
+
+-- how many units a testbench used for the answers that it took
+pub data IsUsed (x : Run) (b : Testbench) : ℕ → Type 0 where
+  begins : b.given ≡ [] → IsUsed x b 0
+  took : (w : World) (s : State) (o : Outcome) → ask_bench x.program x.frozen b.callee x.ctx w ≡ o → w.answers ≡ b.given → state_of o ≡ Some s → IsUsed x b s.used
+
+-- from the point before a run: the rows so far, and the point behind them
+pub data Follows (x : Run) (first : Point) : List Row → Point → Type 0 where
+  here : Follows x first [] first
+  goes : (rows : List Row) (p q : Point) (st : State) (env : List ℤ) → Follows x first rows p → Comes x rows p (Goes q) → Follows x first rows q
+  happens : (rows : List Row) (p q : Point) (r : Row) → Follows x first rows p → Comes x rows p (Happens r q) → Follows x first (rows ++ r ∷ []) q
+
+-- the run has these rows, and ends so
+pub record IsRun (x : Run) (first : Point) (rows : List Row) (end : End) : Type 0 where
+  pub last : Point
+  pub follows : Follows x first rows last
+  pub ends : Comes x rows last (Ends end)
