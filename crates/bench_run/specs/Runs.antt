@@ -1,7 +1,7 @@
 -- The run of a file's simulator: which events come at which moments, and how it ends.
 -- Source: Amaranth user guide 0.5, "Simulator"; the order of clocks and testbenches at a moment, the end of a run and its cost are this project's
 -- own rules (docs/RULES.md).
-use Rattle.std.specs.Prelude.{◌≡◌, ℕ, suc, ◌+◌, ◌-◌, ◌^◌, ◌==◌, nat_lt, nat_le, ◌&&◌, ◌||◌, not, Bool, true, false, if◌then◌else◌, ℤ, List, [], ◌∷◌, ◌++◌, length, map, slice_get, slice_set, Option, Some, None, option_map, min}
+use Rattle.std.specs.Prelude.{◌≡◌, ℕ, suc, ◌+◌, ◌-◌, ◌^◌, ◌<◌, ◌==◌, nat_lt, nat_le, ◌&&◌, ◌||◌, not, Bool, true, false, if◌then◌else◌, ℤ, List, [], ◌∷◌, ◌++◌, length, map, slice_get, slice_set, Option, Some, None, option_map, min}
 use Rattle.std.specs.List.{list_any, list_all}
 use Rattle.std.specs.Option.{option_map_or}
 use Rattle.amh_host.specs.declared.place.Place.{Place}
@@ -11,9 +11,10 @@ use Rattle.design_ir.specs.declared.domain.Domain.{Domain}
 use Rattle.design_ir.specs.declared.event.Event.{Event}
 use Rattle.design_ir.specs.declared.event.Event.TheVariants.{Set, Edge}
 use Rattle.design_ir.specs.Circuits.{Circuit, at}
+use Rattle.design_ir.specs.Circuits as Circuits
 use Rattle.design_ir.specs.Histories.{Reaches}
 use Rattle.design_ir.specs.Steps.{is_active, is_reset}
-use Rattle.design_ir.specs.Values.{num}
+use Rattle.design_ir.specs.Values.{num, signal_form}
 use Rattle.py_tree.specs.Steps.{Steps}
 use Rattle.py_heap.specs.Heaps.{Made, seen}
 use Rattle.py_values.specs.declared.val.Hw.{Hw}
@@ -44,7 +45,7 @@ use Rattle.elab_store.specs.Stores.{Held}
 use Rattle.elab_eval.specs.Reaches.{world}
 use Rattle.bench_acts.specs.Context.{Asked, Answers, Gets, Sets, Waits, Serving, shown, ticks_at}
 use Rattle.bench_acts.specs.Serving.{bench_served}
-use Rattle.bench_run.specs.Setting.{with_bits}
+use Rattle.bench_run.specs.Setting.{number_with}
 
 -- ---- testbenches
 
@@ -147,7 +148,7 @@ waiting now k None = Ready (answer.Refuse Raised)
 abbrev pub asked_done : Run → List ℤ → ℕ → Testbench → Asked → Point → Next
 asked_done x env i b (Answers a) p = Goes (with_bench i (record b { stand = Ready a }) p)
 asked_done x env i b (Gets y) p = Goes (with_bench i (record b { stand = Ready (answer.Give (value_at p.held env y)) }) p)
-asked_done x env i b (Sets bits n) p = happens (Set bits.sig (with_bits x.design env bits n)) (with_bench i (record b { stand = Ready (answer.Give val.None) }) p)
+asked_done x env i b (Sets bits n) p = happens (Set bits.sig (number_with (signal_form x.design.pool.signals bits.sig.0) bits (at env bits.sig.0) n)) (with_bench i (record b { stand = Ready (answer.Give val.None) }) p)
 asked_done x env i b (Waits k) p = Goes (with_bench i (record b { stand = waiting (time_of p) k (ticks_at p.held k) }) p)
 
 abbrev pub served : Run → List ℤ → ℕ → Testbench → Serving → Point → Next
@@ -277,15 +278,44 @@ next_of x env used toggle p = by (slice_get p.benches p.turn)
     by (Some b) = turned x env p.turn b used b.stand p
     by None = round_over x env toggle p
 
--- how many units a testbench used for the answers that it took
-pub data IsUsed (x : Run) (b : Testbench) : ℕ → Type 0 where
-  begins : b.given ≡ [] → IsUsed x b 0
-  took : (w : World) (s : State) (o : Outcome) → ask_bench x.program x.frozen b.callee x.ctx w ≡ o → w.answers ≡ b.given → state_of o ≡ Some s → IsUsed x b s.used
+-- the state in which an outcome leaves a testbench
+abbrev pub state_of : Outcome → State
+state_of (Done got s) = s
+state_of (Halts h s) = s
+
+-- how many units a testbench used for the answers that it took: none before the first, and then what it came to by them, in each world that has
+-- more units than that
+abbrev pub IsUsed : Run → Testbench → ℕ → Type 0
+IsUsed x b used = by b.given
+  where
+    by : List Answer → Type 0
+    by [] = used ≡ 0
+    by (a ∷ as) = (budget : ℕ) → used < budget → (state_of (ask_bench x.program x.frozen b.callee x.ctx (world budget b.given))).used ≡ used
+
+-- the same of the testbench whose turn it is, where it is one's
+abbrev pub TurnUsed : Run → Option Testbench → ℕ → Type 0
+TurnUsed x None used = used ≡ 0
+TurnUsed x (Some b) used = IsUsed x b used
+
+abbrev pub events_of : List Row → List Event
+events_of rows = map (λ (r : Row). r.event) rows
+
+-- what comes next at a point, behind these rows: in an environment that the design can then have, by what its testbench used and by the next toggle
+-- of a clock
+pub record Comes (x : Run) (rows : List Row) (p : Point) (next : Next) : Type 0 where
+  pub state : Circuits.State
+  pub env : List ℤ
+  pub reached : Reaches (design_at x p) (events_of rows) state env
+  pub used : ℕ
+  pub is_used : TurnUsed x (slice_get p.benches p.turn) used
+  pub toggle : Option ℕ
+  pub is_next : IsNext x.clocks p.now toggle
+  pub is : next ≡ next_of x env used toggle p
 
 -- from the point before a run: the rows so far, and the point behind them
 pub data Follows (x : Run) (first : Point) : List Row → Point → Type 0 where
   here : Follows x first [] first
-  goes : (rows : List Row) (p q : Point) (st : State) (env : List ℤ) → Follows x first rows p → Comes x rows p (Goes q) → Follows x first rows q
+  goes : (rows : List Row) (p q : Point) → Follows x first rows p → Comes x rows p (Goes q) → Follows x first rows q
   happens : (rows : List Row) (p q : Point) (r : Row) → Follows x first rows p → Comes x rows p (Happens r q) → Follows x first (rows ++ r ∷ []) q
 
 -- the run has these rows, and ends so
