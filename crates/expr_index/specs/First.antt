@@ -3,7 +3,6 @@
 use Rattle.std.specs.Prelude.{ℕ, Bool, true, false, List, Option}
 use Rattle.std.specs.List.{list_any, position}
 use Rattle.design_ir.specs.declared.ids.ExprId.{ExprId}
-use Rattle.design_ir.specs.declared.expr.Expr as expr
 use Rattle.design_ir.specs.declared.expr.Expr.{Expr}
 use Rattle.design_ir.specs.declared.expr.Expr.TheVariants.{Reset}
 use Rattle.design_ir.specs.Named.{named}
