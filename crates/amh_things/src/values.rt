@@ -14,6 +14,7 @@ use crate::thing::{LayoutThing, Member, Method, Reading, Thing, ThingName};
 use amh_bits::Int;
 use data_layouts::EnumShape;
 use design_ir::ExprId;
+use expr_index::number_now;
 use lists::NoMemory;
 use py_values::{Hw, Val};
 use shape_rules::Shape;
@@ -341,17 +342,6 @@ fn bits(l: &LayoutThing) -> Shape
     Shape {
         width: l.layout.width(),
         signed: false,
-    }
-}
-
-/// The number that an expression gets: those behind the first `before` are counted from there.
-pub fn number_now(e: ExprId, before: u32, now: &[ExprId]) -> ExprId {
-    if e.0 < before {
-        return e;
-    }
-    match now.get((e.0 - before) as usize) {
-        Some(id) => *id,
-        None => e,
     }
 }
 

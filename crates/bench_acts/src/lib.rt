@@ -7,12 +7,9 @@
 
 mod arguments;
 mod context;
-mod copies;
-mod known;
 mod serving;
 mod sharing;
 mod targets;
 
-pub use known::Known;
 pub use serving::{Bench, Served, serve};
 pub use targets::InputBits;

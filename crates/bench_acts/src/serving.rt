@@ -1,7 +1,6 @@
 // Requests of testbenches.
 
 use crate::context::{refused, serve_part, shown};
-use crate::known::Known;
 use crate::sharing::{Before, ShareStop, share};
 use crate::targets::InputBits;
 use amh_bits::Int;
@@ -11,6 +10,7 @@ use elab_eval::answer_request;
 use elab_store::kept::{BenchPart, Kept};
 use elab_store::simulation::{Sample, Wait};
 use elab_store::store::{Elaboration, Store};
+use expr_index::Known;
 use lists::NoMemory;
 use py_frames::request::{Answer, Cause, Request};
 use py_heap::Frozen;

@@ -1,11 +1,9 @@
 // What an act of a testbench makes is put to the design, but for expressions that are there.
 
-use crate::copies::renumbered;
-use crate::known::Known;
-use amh_things::values::number_now;
 use design_ir::{Design, Expr, ExprId, Exprs, PoolStop};
 use elab_store::kept::{Begin, Equation, Kept};
 use elab_store::store::Elaboration;
+use expr_index::{Known, number_now, renumbered};
 use lists::NoMemory;
 use std::alloc::Global;
 
@@ -53,7 +51,9 @@ pub(crate) fn share(
         let e = renumbered(held.alloc, design.at(ExprId(i)), u32::MAX, &[])?;
         put(&mut held.pool, e)?;
     }
-    held.store.things.renumber(before.things, before.exprs, now.as_slice());
+    held.store
+        .things
+        .renumber(before.things, before.exprs, now.as_slice());
     for i in before.kept..held.store.kept.len() {
         held.store.kept[i] = kept_now(held.store.kept[i], before.exprs, now.as_slice());
     }
@@ -74,7 +74,7 @@ fn shared_one(
         return Ok(id);
     }
     let id = put(design, e)?;
-    known.note(design.at(id), id)?;
+    known.note(design.at(id))?;
     Ok(id)
 }
 
