@@ -10,7 +10,7 @@ use elab_store::calls::Called;
 use elab_store::kept::{BenchPart, Kept};
 use elab_store::names::is_text;
 use elab_store::simulation::{Sample, Tick, TickEnd, Wait};
-use lists::NoMemory;
+use lists::{Items, NoMemory};
 use py_frames::request::{Act, Answer, Cause, Request};
 use py_heap::{Frozen, Heap};
 use py_values::Val;
@@ -171,7 +171,7 @@ fn tick(
     let Some(domain) = bench.design.domain_named(name) else {
         return Ok(refused());
     };
-    let samples = Vec::new(bench.held.alloc);
+    let samples = Items::new(bench.held.alloc);
     wait_for(
         bench,
         Wait::Tick(Tick {
@@ -207,7 +207,7 @@ fn tick_with(
     more: &[Sample],
     end: TickEnd,
 ) -> Result<Served, NoMemory> {
-    let mut samples = Vec::new(bench.held.alloc);
+    let mut samples = Items::new(bench.held.alloc);
     let Some(Wait::Tick(tick)) = bench.held.store.simulation().waits().get(k as usize) else {
         return Ok(refused());
     };

@@ -4,7 +4,7 @@ ghost use Rattle.elab_store.specs.Simulations.{no_simulation, with_subject, with
 
 use crate::store::Store;
 use amh_bits::Int;
-use amh_host::{Place, Text};
+use amh_host::{Items, Place, Text};
 use amh_things::thing::Reading;
 use design_ir::{DomainId, ExprId};
 use lists::NoMemory;
@@ -44,6 +44,9 @@ pub enum Sample {
     Number(Int),
 }
 
+/// What is sampled, one after the other.
+pub type Samples = Items<Sample>;
+
 /// How long ticks are waited for: once, so many times, or until a value is not 0.
 #[derive(Clone, Copy, PartialEq, Eq, Drop)]
 pub enum TickEnd {
@@ -56,7 +59,7 @@ pub enum TickEnd {
 #[derive(Drop)]
 pub struct Tick {
     pub domain: DomainId,
-    pub samples: Vec<Sample>,
+    pub samples: Samples,
     pub end: TickEnd,
 }
 
