@@ -41,28 +41,34 @@ use Rattle.elab_store.specs.Simulations.{with_wait}
 use Rattle.elab_store.specs.Stores.{Held, kept_given}
 use Rattle.expr_index.specs.First.{has_reset}
 use Rattle.bench_acts.specs.declared.targets.InputBits.{InputBits}
+use Rattle.bench_acts.specs.declared.serving.Served.{Served}
+use Rattle.bench_acts.specs.declared.serving.Served.TheVariants as served
 use Rattle.bench_acts.specs.Targets.{input_bits}
 
 -- what a request comes to, and what is then held
-pub data Asked : Type 0 where
-  Answers : Answer → Asked
-  -- the number of this now
-  Gets : Sample → Asked
-  -- bits of an input take a number
-  Sets : InputBits → ℤ → Asked
-  -- it waits for what has this number
-  Waits : ℕ → Asked
-
 pub record Serving : Type 0 where
-  pub asked : Asked
+  pub served : Served
   pub held : Held
 
+abbrev pub serving : Served → Held → Serving
+serving x h = record { served = x; held = h }
+
 abbrev pub raises : Held → Serving
-raises h = record { asked = Answers (answer.Refuse Raised); held = h }
+raises h = serving (served.Answer (answer.Refuse Raised)) h
 
 -- a new part of `ctx`
 abbrev pub part_given : BenchPart → Held → Serving
-part_given p h = let a = kept_given (kept.OfBench p) h in record { asked = Answers a.answer; held = a.held }
+part_given p h = serving (served.Answer (kept_given (kept.OfBench p) h).answer) (kept_given (kept.OfBench p) h).held
+
+-- ---- arguments
+
+-- the one argument of a call, which stands by its place
+abbrev pub only_of : List Val → List (List ℕ) → Option Val
+only_of (v ∷ []) [] = Some v
+only_of vs ns = None
+
+abbrev pub only_placed : Called → Option Val
+only_placed c = only_of c.placed c.keywords
 
 -- ---- what may be read
 
@@ -102,15 +108,11 @@ shown h r n = val.Int n
 -- ---- `ctx.get(e)` and `ctx.set(x, v)`
 
 abbrev pub got_from : Option Sample → Held → Serving
-got_from (Some x) h = record { asked = Gets x; held = h }
+got_from (Some x) h = serving (served.Get x) h
 got_from None h = raises h
 
 abbrev pub get_called : Called → Held → Serving
-get_called c h = by c.placed c.keywords
-  where
-    by : List Val → List (List ℕ) → Serving
-    by (v ∷ []) [] = got_from (read_of h v) h
-    by vs ns = raises h
+get_called c h = got_from (option_and_then (read_of h) (only_placed c)) h
 
 -- a number, a member, or a constant
 abbrev pub constant_at : Option Expr → Option ℤ
@@ -123,7 +125,7 @@ number_set h (Some (operand.Held e shape)) = constant_at (slice_get h.pool.exprs
 number_set h (Some (operand.Number n shape)) = Some n
 
 abbrev pub set_from : Option InputBits → Option ℤ → Held → Serving
-set_from (Some bits) (Some n) h = record { asked = Sets bits n; held = h }
+set_from (Some bits) (Some n) h = serving (served.Set bits n) h
 set_from bits n h = raises h
 
 -- the value that a thing stands for
@@ -131,12 +133,12 @@ abbrev pub target_of : Held → Val → Option ExprId
 target_of h (val.Hw hw) = held_expr (slice_get h.store.things hw.0)
 target_of h v = None
 
+abbrev pub set_placed : Circuit → List Val → List (List ℕ) → Held → Serving
+set_placed d (x ∷ v ∷ []) [] h = set_from (option_and_then (input_bits d) (target_of h x)) (number_set h (operand_of h.pool h.store.things v)) h
+set_placed d vs ns h = raises h
+
 abbrev pub set_called : Circuit → Called → Held → Serving
-set_called d c h = by c.placed c.keywords
-  where
-    by : List Val → List (List ℕ) → Serving
-    by (x ∷ v ∷ []) [] = set_from (option_and_then (input_bits d) (target_of h x)) (number_set h (operand_of h.pool h.store.things v)) h
-    by vs ns = raises h
+set_called d c h = set_placed d c.placed c.keywords h
 
 -- ---- what may be waited for
 
@@ -158,14 +160,14 @@ domain_given s (Some (val.Str x)) = Some (text_at s x.0)
 domain_given s (Some v) = None
 
 -- the one argument, which may be given under a name or be left out
+abbrev pub one_of : List ℕ → List Val → List Val → List (List ℕ) → Option (Option Val)
+one_of name [] [] ns = Some None
+one_of name (v ∷ []) [] ns = Some (Some v)
+one_of name [] (v ∷ []) (n ∷ []) = if text_eq n name then Some (Some v) else None
+one_of name vs ws ns = None
+
 abbrev pub one_or_none : List ℕ → Called → Option (Option Val)
-one_or_none name c = by c.placed c.keyword_vals c.keywords
-  where
-    by : List Val → List Val → List (List ℕ) → Option (Option Val)
-    by [] [] ns = Some None
-    by (v ∷ []) [] ns = Some (Some v)
-    by [] (v ∷ []) (n ∷ []) = if text_eq n name then Some (Some v) else None
-    by vs ws ns = None
+one_or_none name c = one_of name c.placed c.keyword_vals c.keywords
 
 abbrev pub tick_called : Seen → Circuit → Called → Held → Serving
 tick_called s d c h = tick_of (option_and_then (domain_named d) (option_and_then (domain_given s) (one_or_none (codes "domain") c))) h
@@ -176,11 +178,7 @@ delay_of (Some t) h = wait_given (wait.Delay t) h
 delay_of None h = raises h
 
 abbrev pub delay_called : Called → Held → Serving
-delay_called c h = by c.placed c.keywords
-  where
-    by : List Val → List (List ℕ) → Serving
-    by (v ∷ []) [] = delay_of (time_meant v) h
-    by vs ns = raises h
+delay_called c h = delay_of (option_and_then time_meant (only_placed c)) h
 
 -- ---- methods of a tick that is waited for once: it stays, and a new one is made
 
@@ -200,23 +198,19 @@ abbrev pub sampled_more : ℕ → Option (List Sample) → Held → Serving
 sampled_more k (Some more) h = tick_with (ticks_at h k) more end.Once h
 sampled_more k None h = raises h
 
+abbrev pub sample_placed : ℕ → List Val → List (List ℕ) → Held → Serving
+sample_placed k vs [] h = sampled_more k (all_read h vs) h
+sample_placed k vs (n ∷ ns) h = raises h
+
 abbrev pub sample_called : ℕ → Called → Held → Serving
-sample_called k c h = by c.keywords
-  where
-    by : List (List ℕ) → Serving
-    by [] = sampled_more k (all_read h c.placed) h
-    by ns = raises h
+sample_called k c h = sample_placed k c.placed c.keywords h
 
 abbrev pub until_from : ℕ → Option Sample → Held → Serving
 until_from k (Some x) h = tick_with (ticks_at h k) [] (end.Until x) h
 until_from k None h = raises h
 
 abbrev pub until_called : ℕ → Called → Held → Serving
-until_called k c h = by c.placed c.keywords
-  where
-    by : List Val → List (List ℕ) → Serving
-    by (v ∷ []) [] = until_from k (read_of h v) h
-    by vs ns = raises h
+until_called k c h = until_from k (option_and_then (read_of h) (only_placed c)) h
 
 -- so many ticks, at least one
 abbrev pub repeat_from : ℕ → Option ℤ → Held → Serving
@@ -224,11 +218,7 @@ repeat_from k (Some (pos n)) h = if nat_lt 0 n then tick_with (ticks_at h k) [] 
 repeat_from k n h = raises h
 
 abbrev pub repeat_called : ℕ → Called → Held → Serving
-repeat_called k c h = by c.placed c.keywords
-  where
-    by : List Val → List (List ℕ) → Serving
-    by (v ∷ []) [] = repeat_from k (counted h.store.things v) h
-    by vs ns = raises h
+repeat_called k c h = repeat_from k (option_and_then (counted h.store.things) (only_placed c)) h
 
 -- ---- calls
 
@@ -283,7 +273,7 @@ part_attribute p ns h = raises h
 -- ---- `await`
 
 abbrev pub part_awaited : BenchPart → Held → Serving
-part_awaited (part.Wait k) h = record { asked = Waits k; held = h }
+part_awaited (part.Wait k) h = serving (served.Wait k) h
 part_awaited p h = raises h
 
 -- ---- all acts

@@ -13,7 +13,8 @@ use Rattle.elab_store.specs.declared.kept.Kept.{Kept}
 use Rattle.elab_store.specs.declared.kept.Kept.TheVariants as kept
 use Rattle.elab_store.specs.Stores.{Held, Answered, kept_of}
 use Rattle.elab_eval.specs.Table.{prim}
-use Rattle.bench_acts.specs.Context.{Answers, Serving, raises, part_asked}
+use Rattle.bench_acts.specs.declared.serving.Served.TheVariants as served
+use Rattle.bench_acts.specs.Context.{Serving, serving, raises, part_asked}
 use Rattle.bench_acts.specs.Sharing.{held_shared}
 
 -- signals, modules or memories came
@@ -27,7 +28,7 @@ most_exprs = 262144
 -- the answer of the table, with what is shared, unless a count is passed
 abbrev pub within_count : Held → Held → Answered → Serving
 within_count h shared a =
-    if nat_lt most_exprs (length shared.pool.exprs) then record { asked = Answers (answer.Refuse Limit); held = h } else record { asked = Answers a.answer; held = shared }
+    if nat_lt most_exprs (length shared.pool.exprs) then serving (served.Answer (answer.Refuse Limit)) h else serving (served.Answer a.answer) shared
 
 abbrev pub table_served : Held → Answered → Serving
 table_served h a = if makes_hardware h a.held then raises h else within_count h (held_shared h a.held) a

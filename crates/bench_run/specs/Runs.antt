@@ -43,7 +43,9 @@ use Rattle.elab_store.specs.declared.simulation.Wait.{Wait}
 use Rattle.elab_store.specs.declared.simulation.Wait.TheVariants as wait
 use Rattle.elab_store.specs.Stores.{Held}
 use Rattle.elab_eval.specs.Reaches.{world}
-use Rattle.bench_acts.specs.Context.{Asked, Answers, Gets, Sets, Waits, Serving, shown, ticks_at}
+use Rattle.bench_acts.specs.declared.serving.Served.{Served}
+use Rattle.bench_acts.specs.declared.serving.Served.TheVariants as asked
+use Rattle.bench_acts.specs.Context.{Serving, shown, ticks_at}
 use Rattle.bench_acts.specs.Serving.{bench_served}
 use Rattle.bench_run.specs.Setting.{number_with}
 
@@ -145,14 +147,14 @@ waiting now k (Some (wait.Tick t)) = Ticks k (count_of t.end)
 waiting now k None = Ready (answer.Refuse Raised)
 
 -- what is asked is done; `ctx.get` and `ctx.set` speak of the environment now
-abbrev pub asked_done : Run → List ℤ → ℕ → Testbench → Asked → Point → Next
-asked_done x env i b (Answers a) p = Goes (with_bench i (record b { stand = Ready a }) p)
-asked_done x env i b (Gets y) p = Goes (with_bench i (record b { stand = Ready (answer.Give (value_at p.held env y)) }) p)
-asked_done x env i b (Sets bits n) p = happens (Set bits.sig (number_with (signal_form x.design.pool.signals bits.sig.0) bits (at env bits.sig.0) n)) (with_bench i (record b { stand = Ready (answer.Give val.None) }) p)
-asked_done x env i b (Waits k) p = Goes (with_bench i (record b { stand = waiting (time_of p) k (ticks_at p.held k) }) p)
+abbrev pub asked_done : Run → List ℤ → ℕ → Testbench → Served → Point → Next
+asked_done x env i b (asked.Answer a) p = Goes (with_bench i (record b { stand = Ready a }) p)
+asked_done x env i b (asked.Get y) p = Goes (with_bench i (record b { stand = Ready (answer.Give (value_at p.held env y)) }) p)
+asked_done x env i b (asked.Set bits n) p = happens (Set bits.sig (number_with (signal_form x.design.pool.signals bits.sig.0) bits (at env bits.sig.0) n)) (with_bench i (record b { stand = Ready (answer.Give val.None) }) p)
+asked_done x env i b (asked.Wait k) p = Goes (with_bench i (record b { stand = waiting (time_of p) k (ticks_at p.held k) }) p)
 
 abbrev pub served : Run → List ℤ → ℕ → Testbench → Serving → Point → Next
-served x env i b s p = asked_done x env i b s.asked (record p { held = s.held })
+served x env i b s p = asked_done x env i b s.served (record p { held = s.held })
 
 -- what a testbench comes to with one answer more; its units are those that it used before and those that are left
 abbrev pub outcome_of : Run → Testbench → Answer → ℕ → Outcome
