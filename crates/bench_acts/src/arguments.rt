@@ -1,4 +1,13 @@
 // The arguments of calls on `ctx`.
+ghost use Rattle.std.specs.Prelude.{◌≡◌, length};
+ghost use Rattle.std.specs.Option.{option_copied};
+ghost use Rattle.py_heap.specs.Heaps.{seen};
+ghost use Rattle.amh_things.specs.Held.{AreHeld};
+ghost use Rattle.amh_things.specs.Things.{thing_of};
+ghost use Rattle.amh_things.specs.Operands.{operand_of as operand_seen};
+ghost use Rattle.elab_store.specs.Held.{held_of};
+ghost use Rattle.elab_store.specs.Seen.{called_of};
+ghost use Rattle.bench_acts.specs.Context.{only_placed, one_or_none, operand_read, reading_of, number_set, domain_given};
 
 use amh_bits::Int;
 use amh_things::operand::{Operand, operand_of};
@@ -12,7 +21,9 @@ use py_heap::{Frozen, Heap};
 use py_values::Val;
 
 /// The one argument of a call that stands by its place.
-pub(crate) fn only_placed(call: &Called) -> Option<Val> {
+pub(crate) fn only_placed(call: &Called) -> Option<Val>
+    ensures { result ≡ only_placed (called_of call.now) }
+{
     match call.placed {
         [v] if call.keywords.is_empty() => Some(*v),
         _ => None,
@@ -20,7 +31,9 @@ pub(crate) fn only_placed(call: &Called) -> Option<Val> {
 }
 
 /// The one argument of a call, which may be given under a name, or be left out.
-pub(crate) fn one_or_none(call: &Called, name: &str) -> Option<Option<Val>> {
+pub(crate) fn one_or_none(call: &Called, name: &str) -> Option<Option<Val>>
+    ensures { result ≡ one_or_none name.now (called_of call.now) }
+{
     match (call.placed, call.keyword_vals) {
         ([], []) => Some(None),
         ([v], []) => Some(Some(*v)),
@@ -30,7 +43,10 @@ pub(crate) fn one_or_none(call: &Called, name: &str) -> Option<Option<Val>> {
 }
 
 /// What is sampled where a value of the program is: a value by what its bits are read as, or a number. A view is none.
-pub(crate) fn sampled(held: &Elaboration, v: &Val) -> Option<Sample> {
+pub(crate) fn sampled(held: &Elaboration, v: &Val) -> Option<Sample>
+    requires { AreHeld (length held.now.pool.exprs) held.now.store.things }
+    ensures { result ≡ operand_read (reading_of (thing_of held.now.store.things v.now)) (operand_seen held.now.pool held.now.store.things v.now) }
+{
     match operand_of(&held.pool, &held.store.things, v)? {
         Operand::Held { e, .. } => match reading_of(held, v) {
             Reading::Viewed(_) => None,
@@ -40,7 +56,9 @@ pub(crate) fn sampled(held: &Elaboration, v: &Val) -> Option<Sample> {
     }
 }
 
-fn reading_of(held: &Elaboration, v: &Val) -> Reading {
+fn reading_of(held: &Elaboration, v: &Val) -> Reading
+    ensures { result ≡ reading_of (thing_of held.now.store.things v.now) }
+{
     let Val::Hw(hw) = v else {
         return Reading::Plain;
     };
@@ -52,7 +70,11 @@ fn reading_of(held: &Elaboration, v: &Val) -> Reading {
 }
 
 /// The number that an input is set to: a number, a member, or a constant.
-pub(crate) fn number_set(held: &Elaboration, design: &Design, v: &Val) -> Option<Int> {
+pub(crate) fn number_set(held: &Elaboration, design: &Design, v: &Val) -> Option<Int>
+    requires held { AreHeld (length held.now.pool.exprs) held.now.store.things }
+    requires pool { held.now.pool ≡ design.now.pool }
+    ensures { result ≡ number_set (held_of held.now) (operand_seen held.now.pool held.now.store.things v.now) }
+{
     match operand_of(&held.pool, &held.store.things, v)? {
         Operand::Held { e, .. } => match design.at(e) {
             Expr::Const { value, .. } => Some(*value),
@@ -67,7 +89,9 @@ pub(crate) fn domain_name<'a>(
     heap: &'a Heap,
     frozen: &'a Frozen,
     given: Option<Val>,
-) -> Option<&'a str> {
+) -> Option<&'a str>
+    ensures { option_copied result ≡ domain_given (seen frozen.now heap.now) given }
+{
     match given {
         None => Some("sync"),
         Some(Val::Str(x)) => Some(heap.text(frozen, x)),

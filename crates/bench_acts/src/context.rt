@@ -1,4 +1,10 @@
 // `ctx` and what comes of its calls.
+ghost use Rattle.std.specs.Prelude.{◌≡◌, ◌∷◌, [], Ok, OnOk, map, string_bytes, slice_get};
+ghost use Rattle.py_heap.specs.Heaps.{seen};
+ghost use Rattle.elab_store.specs.Held.{held_of};
+ghost use Rattle.elab_store.specs.Seen.{called_of};
+ghost use Rattle.bench_acts.specs.Context.{raises, part_given, part_asked, part_attribute, serving, call_named, method_named, is_open_tick, ticks_at, part_called, get_called, read_of, set_called, tick_called, wait_given, delay_called, tick_with, sample_called, until_called, repeat_called, shown};
+ghost use Rattle.bench_acts.specs.Held.{IsBench, Serves};
 
 use crate::arguments::{domain_name, number_set, one_or_none, only_placed, sampled};
 use crate::serving::{Bench, Served};
@@ -22,7 +28,11 @@ pub(crate) fn serve_part(
     frozen: &Frozen,
     part: BenchPart,
     request: &Request,
-) -> Result<Served, NoMemory> {
+) -> Result<Served, NoMemory>
+    requires { IsBench bench.old }
+    ensures served { Serves result bench.old bench.new (part_asked (seen frozen.now heap.now) bench.old.design part request.now request.now.act (held_of bench.old.held)) }
+    ensures bench { OnOk result (IsBench bench.new) }
+{
     match request.act {
         Act::Attribute => match request.names.items() {
             [name] => attribute(bench, part, name.as_str()),
@@ -41,14 +51,22 @@ pub(crate) fn refused() -> Served {
     Served::Answer(Answer::Refuse(Cause::Raised))
 }
 
-fn given(bench: &mut Bench, part: BenchPart) -> Result<Served, NoMemory> {
+fn given(bench: &mut Bench, part: BenchPart) -> Result<Served, NoMemory>
+    requires { IsBench bench.old }
+    ensures served { Serves result bench.old bench.new (part_given part (held_of bench.old.held)) }
+    ensures bench { OnOk result (IsBench bench.new) }
+{
     let v = bench.held.store.keep(Kept::OfBench(part))?;
     Ok(Served::Answer(Answer::Give(v)))
 }
 
 // ---- attributes, which are there to be called
 
-fn attribute(bench: &mut Bench, part: BenchPart, name: &str) -> Result<Served, NoMemory> {
+fn attribute(bench: &mut Bench, part: BenchPart, name: &str) -> Result<Served, NoMemory>
+    requires { IsBench bench.old }
+    ensures served { Serves result bench.old bench.new (part_attribute part (name.now ∷ []) (held_of bench.old.held)) }
+    ensures bench { OnOk result (IsBench bench.new) }
+{
     let named = match part {
         BenchPart::Context => call_named(name),
         BenchPart::Wait(k) if is_open_tick(bench, k) => method_named(k, name),
@@ -60,7 +78,9 @@ fn attribute(bench: &mut Bench, part: BenchPart, name: &str) -> Result<Served, N
     }
 }
 
-fn call_named(name: &str) -> Option<BenchPart> {
+fn call_named(name: &str) -> Option<BenchPart>
+    ensures { result ≡ call_named name.now }
+{
     if is_text(name, "get") {
         Some(BenchPart::Get)
     } else if is_text(name, "set") {
@@ -74,7 +94,9 @@ fn call_named(name: &str) -> Option<BenchPart> {
     }
 }
 
-fn method_named(k: u32, name: &str) -> Option<BenchPart> {
+fn method_named(k: u32, name: &str) -> Option<BenchPart>
+    ensures { result ≡ method_named k name.now }
+{
     if is_text(name, "sample") {
         Some(BenchPart::Sample(k))
     } else if is_text(name, "until") {
@@ -87,7 +109,9 @@ fn method_named(k: u32, name: &str) -> Option<BenchPart> {
 }
 
 // Whether it is a tick that is waited for once.
-fn is_open_tick(bench: &Bench, k: u32) -> bool {
+fn is_open_tick(bench: &Bench, k: u32) -> bool
+    ensures { result ≡ is_open_tick (ticks_at (held_of bench.now.held) k) }
+{
     match bench.held.store.simulation().waits().get(k as usize) {
         Some(Wait::Tick(tick)) => tick.end == TickEnd::Once,
         _ => false,
@@ -102,7 +126,11 @@ fn call(
     frozen: &Frozen,
     part: BenchPart,
     call: &Called,
-) -> Result<Served, NoMemory> {
+) -> Result<Served, NoMemory>
+    requires { IsBench bench.old }
+    ensures served { Serves result bench.old bench.new (part_called (seen frozen.now heap.now) bench.old.design part (called_of call.now) (held_of bench.old.held)) }
+    ensures bench { OnOk result (IsBench bench.new) }
+{
     match part {
         BenchPart::Get => Ok(got(bench, call)),
         BenchPart::Set => Ok(set(bench, call)),
@@ -116,7 +144,10 @@ fn call(
 }
 
 // `ctx.get(e)`.
-fn got(bench: &Bench, call: &Called) -> Served {
+fn got(bench: &Bench, call: &Called) -> Served
+    requires { IsBench bench.now }
+    ensures { get_called (called_of call.now) (held_of bench.now.held) ≡ serving result (held_of bench.now.held) }
+{
     let Some(v) = only_placed(call) else {
         return refused();
     };
@@ -127,7 +158,10 @@ fn got(bench: &Bench, call: &Called) -> Served {
 }
 
 // What is sampled, where no reset stands in it that no module holds.
-fn usable(bench: &Bench, v: &Val) -> Option<Sample> {
+fn usable(bench: &Bench, v: &Val) -> Option<Sample>
+    requires { IsBench bench.now }
+    ensures { result ≡ read_of (held_of bench.now.held) v.now }
+{
     let sample = sampled(&bench.held, v)?;
     match sample {
         Sample::Value { e, .. } if bench.known.is_reset_in(e) => None,
@@ -136,7 +170,10 @@ fn usable(bench: &Bench, v: &Val) -> Option<Sample> {
 }
 
 // `ctx.set(x, v)`.
-fn set(bench: &Bench, call: &Called) -> Served {
+fn set(bench: &Bench, call: &Called) -> Served
+    requires { IsBench bench.now }
+    ensures { set_called bench.now.design (called_of call.now) (held_of bench.now.held) ≡ serving result (held_of bench.now.held) }
+{
     let ([x, v], true) = (call.placed, call.keywords.is_empty()) else {
         return refused();
     };
@@ -156,12 +193,11 @@ fn set(bench: &Bench, call: &Called) -> Served {
 }
 
 // `ctx.tick(domain)`.
-fn tick(
-    bench: &mut Bench,
-    heap: &Heap,
-    frozen: &Frozen,
-    call: &Called,
-) -> Result<Served, NoMemory> {
+fn tick(bench: &mut Bench, heap: &Heap, frozen: &Frozen, call: &Called) -> Result<Served, NoMemory>
+    requires { IsBench bench.old }
+    ensures served { Serves result bench.old bench.new (tick_called (seen frozen.now heap.now) bench.old.design (called_of call.now) (held_of bench.old.held)) }
+    ensures bench { OnOk result (IsBench bench.new) }
+{
     let Some(given) = one_or_none(call, "domain") else {
         return Ok(refused());
     };
@@ -182,13 +218,21 @@ fn tick(
     )
 }
 
-fn wait_for(bench: &mut Bench, wait: Wait) -> Result<Served, NoMemory> {
+fn wait_for(bench: &mut Bench, wait: Wait) -> Result<Served, NoMemory>
+    requires { IsBench bench.old }
+    ensures served { Serves result bench.old bench.new (wait_given wait (held_of bench.old.held)) }
+    ensures bench { OnOk result (IsBench bench.new) }
+{
     let k = bench.held.store.add_wait(wait)?;
     given(bench, BenchPart::Wait(k))
 }
 
 // `ctx.delay(t)`.
-fn delay(bench: &mut Bench, call: &Called) -> Result<Served, NoMemory> {
+fn delay(bench: &mut Bench, call: &Called) -> Result<Served, NoMemory>
+    requires { IsBench bench.old }
+    ensures served { Serves result bench.old bench.new (delay_called (called_of call.now) (held_of bench.old.held)) }
+    ensures bench { OnOk result (IsBench bench.new) }
+{
     let Some(v) = only_placed(call) else {
         return Ok(refused());
     };
@@ -201,12 +245,11 @@ fn delay(bench: &mut Bench, call: &Called) -> Result<Served, NoMemory> {
 // ---- methods of a tick
 
 // The ticks of a number with another end, and with more samples.
-fn tick_with(
-    bench: &mut Bench,
-    k: u32,
-    more: &[Sample],
-    end: TickEnd,
-) -> Result<Served, NoMemory> {
+fn tick_with(bench: &mut Bench, k: u32, more: &[Sample], end: TickEnd) -> Result<Served, NoMemory>
+    requires { IsBench bench.old }
+    ensures served { Serves result bench.old bench.new (tick_with (ticks_at (held_of bench.old.held) k) more.now end (held_of bench.old.held)) }
+    ensures bench { OnOk result (IsBench bench.new) }
+{
     let mut samples = Items::new(bench.held.alloc);
     let Some(Wait::Tick(tick)) = bench.held.store.simulation().waits().get(k as usize) else {
         return Ok(refused());
@@ -229,7 +272,11 @@ fn tick_with(
 }
 
 // `.sample(e, ..)`.
-fn sample(bench: &mut Bench, k: u32, call: &Called) -> Result<Served, NoMemory> {
+fn sample(bench: &mut Bench, k: u32, call: &Called) -> Result<Served, NoMemory>
+    requires { IsBench bench.old }
+    ensures served { Serves result bench.old bench.new (sample_called k (called_of call.now) (held_of bench.old.held)) }
+    ensures bench { OnOk result (IsBench bench.new) }
+{
     if !call.keywords.is_empty() {
         return Ok(refused());
     }
@@ -244,7 +291,11 @@ fn sample(bench: &mut Bench, k: u32, call: &Called) -> Result<Served, NoMemory> 
 }
 
 // `.until(c)`.
-fn until(bench: &mut Bench, k: u32, call: &Called) -> Result<Served, NoMemory> {
+fn until(bench: &mut Bench, k: u32, call: &Called) -> Result<Served, NoMemory>
+    requires { IsBench bench.old }
+    ensures served { Serves result bench.old bench.new (until_called k (called_of call.now) (held_of bench.old.held)) }
+    ensures bench { OnOk result (IsBench bench.new) }
+{
     let Some(v) = only_placed(call) else {
         return Ok(refused());
     };
@@ -255,7 +306,11 @@ fn until(bench: &mut Bench, k: u32, call: &Called) -> Result<Served, NoMemory> {
 }
 
 // `.repeat(n)`.
-fn repeat(bench: &mut Bench, k: u32, call: &Called) -> Result<Served, NoMemory> {
+fn repeat(bench: &mut Bench, k: u32, call: &Called) -> Result<Served, NoMemory>
+    requires { IsBench bench.old }
+    ensures served { Serves result bench.old bench.new (repeat_called k (called_of call.now) (held_of bench.old.held)) }
+    ensures bench { OnOk result (IsBench bench.new) }
+{
     let Some(v) = only_placed(call) else {
         return Ok(refused());
     };
@@ -266,7 +321,9 @@ fn repeat(bench: &mut Bench, k: u32, call: &Called) -> Result<Served, NoMemory> 
 }
 
 /// What a number is shown as where bits are read so: the member that has it, where there is one.
-pub(crate) fn shown(bench: &Bench, reading: Reading, n: amh_bits::Int) -> Val {
+pub(crate) fn shown(bench: &Bench, reading: Reading, n: amh_bits::Int) -> Val
+    ensures { result ≡ shown (held_of bench.now.held) reading n }
+{
     match reading {
         Reading::Numbered(of) => match bench.held.store.things.member(of, n) {
             Some(hw) => Val::Hw(hw),

@@ -1,4 +1,12 @@
 // Requests of testbenches.
+ghost use Rattle.std.specs.Prelude.{◌≡◌, IfOk, OnOk, option_map, slice_get};
+ghost use Rattle.py_heap.specs.Heaps.{seen};
+ghost use Rattle.elab_store.specs.Held.{held_of};
+ghost use Rattle.elab_store.specs.Sound.{IsSound};
+ghost use Rattle.elab_eval.specs.Table.{prim};
+ghost use Rattle.bench_acts.specs.Context.{ticks_at, shown};
+ghost use Rattle.bench_acts.specs.Serving.{asked_part, bench_served, table_served};
+ghost use Rattle.bench_acts.specs.Held.{IsBench, Serves};
 
 use crate::context::{refused, serve_part, shown};
 use crate::sharing::{Before, ShareStop, share};
@@ -41,7 +49,12 @@ pub enum Served {
 
 impl Bench {
     /// Over a design and what elaboration holds.
-    pub fn new(alloc: Global, design: Design, store: Store) -> Result<Bench, NoMemory> {
+    pub fn new(alloc: Global, design: Design, store: Store) -> Result<Bench, NoMemory>
+        requires { IsSound (record { pool = design.pool; store = store }) }
+        ensures bench { IfOk result IsBench }
+        ensures design { IfOk result (λ b. b.design ≡ design) }
+        ensures store { IfOk result (λ b. b.held.store ≡ store) }
+    {
         let pool = design.copied_pool(alloc)?;
         let known = Known::of(alloc, &design)?;
         Ok(Bench {
@@ -60,12 +73,16 @@ impl Bench {
     }
 
     /// What is waited for.
-    pub fn wait(&self, k: u32) -> Option<&Wait> {
+    pub fn wait(&self, k: u32) -> Option<&Wait>
+        ensures { option_map (λ w. w.now) result ≡ ticks_at (held_of self.now.held) k }
+    {
         self.held.store.simulation().waits().get(k as usize)
     }
 
     /// What a number is shown as.
-    pub fn shown(&self, reading: Reading, n: Int) -> Val {
+    pub fn shown(&self, reading: Reading, n: Int) -> Val
+        ensures { result ≡ shown (held_of self.now.held) reading n }
+    {
         shown(self, reading, n)
     }
 }
@@ -76,7 +93,11 @@ pub fn serve(
     machine: &Machine,
     frozen: &Frozen,
     request: &Request,
-) -> Result<Served, NoMemory> {
+) -> Result<Served, NoMemory>
+    requires { IsBench bench.old }
+    ensures served { Serves result bench.old bench.new (bench_served (seen frozen.now machine.now.going.state.heap) bench.old.design request.now (held_of bench.old.held)) }
+    ensures bench { OnOk result (IsBench bench.new) }
+{
     match part_asked(bench, request) {
         Some(part) => serve_part(bench, &machine.going.state.heap, frozen, part, request),
         None => answer_shared(bench, machine, frozen, request),
@@ -84,7 +105,9 @@ pub fn serve(
 }
 
 // What of `ctx` is asked.
-fn part_asked(bench: &Bench, request: &Request) -> Option<BenchPart> {
+fn part_asked(bench: &Bench, request: &Request) -> Option<BenchPart>
+    ensures { result ≡ asked_part (held_of bench.now.held) request.now.vals }
+{
     match request.vals.as_slice() {
         [v, ..] => match bench.held.store.kept_of(*v) {
             Some(Kept::OfBench(part)) => Some(part),
@@ -100,7 +123,11 @@ fn answer_shared(
     machine: &Machine,
     frozen: &Frozen,
     request: &Request,
-) -> Result<Served, NoMemory> {
+) -> Result<Served, NoMemory>
+    requires { IsBench bench.old }
+    ensures served { Serves result bench.old bench.new (table_served (held_of bench.old.held) (prim None (seen frozen.now machine.now.going.state.heap) (held_of bench.old.held) request.now)) }
+    ensures bench { OnOk result (IsBench bench.new) }
+{
     let before = Before {
         exprs: bench.held.pool.count(),
         things: bench.held.store.things.len(),

@@ -1,4 +1,7 @@
 // What `ctx.set` takes: an input that is no clock, or bits of one.
+ghost use Rattle.std.specs.Prelude.{◌≡◌, ◌<◌, length};
+ghost use Rattle.design_ir.specs.Circuits.{is_clock};
+ghost use Rattle.bench_acts.specs.Targets.{input_bits, input_of};
 
 use design_ir::{Design, DomainId, Expr, ExprId, Exprs, SigId};
 
@@ -11,7 +14,10 @@ pub struct InputBits {
 }
 
 /// The bits that an expression is of an input: it is one, or a slice of such bits, or these as another number.
-pub(crate) fn input_bits(design: &Design, e: ExprId) -> Option<InputBits> {
+pub(crate) fn input_bits(design: &Design, e: ExprId) -> Option<InputBits>
+    requires { e.0 < length design.now.pool.exprs }
+    ensures { result ≡ input_bits design.now e }
+{
     let width = design.shape(e).width as u32;
     let mut low = 0;
     let mut e = e;
@@ -28,7 +34,10 @@ pub(crate) fn input_bits(design: &Design, e: ExprId) -> Option<InputBits> {
     }
 }
 
-fn input_of(design: &Design, sig: SigId, low: u32, width: u32) -> Option<InputBits> {
+fn input_of(design: &Design, sig: SigId, low: u32, width: u32) -> Option<InputBits>
+    requires { sig.0 < length design.now.pool.signals }
+    ensures { result ≡ input_of design.now sig low width }
+{
     let whole = design.sig_at(sig).shape.width;
     if !design.is_input(sig) || is_clock(design, sig) || whole == 0 {
         return None;
@@ -36,7 +45,9 @@ fn input_of(design: &Design, sig: SigId, low: u32, width: u32) -> Option<InputBi
     Some(InputBits { sig, low, width })
 }
 
-fn is_clock(design: &Design, sig: SigId) -> bool {
+fn is_clock(design: &Design, sig: SigId) -> bool
+    ensures { result ≡ is_clock design.now sig.0 }
+{
     for d in 0..design.domains() {
         if design.domain(DomainId(d)).clk == sig {
             return true;
