@@ -22,9 +22,9 @@ use Rattle.amh_things.specs.declared.thing.Reading.{Reading}
 use Rattle.amh_things.specs.declared.thing.Reading.TheVariants as reading
 use Rattle.amh_things.specs.declared.thing.Thing.{Thing}
 use Rattle.amh_things.specs.declared.thing.Thing.TheVariants as thing
-use Rattle.amh_things.specs.Things.{thing_of}
+use Rattle.amh_things.specs.Things.{thing_of, held_expr}
 use Rattle.amh_things.specs.Members.{counted, member_of}
-use Rattle.amh_things.specs.Operands.{operand_of, held_expr}
+use Rattle.amh_things.specs.Operands.{operand_of}
 use Rattle.elab_acts.specs.Simulators.{time_meant}
 use Rattle.elab_store.specs.declared.kept.BenchPart.{BenchPart}
 use Rattle.elab_store.specs.declared.kept.BenchPart.TheVariants as part
