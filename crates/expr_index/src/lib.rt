@@ -13,6 +13,6 @@ mod numbers;
 mod sameness;
 
 pub use known::Known;
-pub use laws::same_is_equal;
+pub use laws::{lists_have_numbers, same_is_equal};
 pub use numbers::{number_now, renumbered};
 pub use sameness::is_same;
