@@ -15,7 +15,6 @@ use crate::thing::{LayoutThing, Member, Method, Reading, Thing, ThingName};
 use amh_bits::Int;
 use data_layouts::EnumShape;
 use design_ir::ExprId;
-use expr_index::number_now;
 use lists::NoMemory;
 use py_values::{Hw, Val};
 use shape_rules::Shape;
@@ -348,9 +347,6 @@ fn bits(l: &LayoutThing) -> Shape
     }
 }
 
-<<<<<<< HEAD
-fn renumber_thing(thing: &mut Thing, before: u32, now: &[ExprId]) {
-=======
 /// The number that an expression gets: those behind the first `before` are counted from there.
 pub fn number_now(e: ExprId, before: u32, now: &[ExprId]) -> ExprId
     ensures { result ≡ number_now before now.now e }
@@ -368,7 +364,6 @@ pub fn number_now(e: ExprId, before: u32, now: &[ExprId]) -> ExprId
 fn renumber_thing(thing: &mut Thing, before: u32, now: &[ExprId])
     ensures { thing.new ≡ thing_now (number_now before now.now) thing.old }
 {
->>>>>>> 6ac7ac09fa98cda555f9fc81d879c520da0f1e0e
     match thing {
         Thing::Value(e) => *e = number_now(*e, before, now),
         Thing::Numbered { value, .. } => *value = number_now(*value, before, now),
