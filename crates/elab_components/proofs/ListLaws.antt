@@ -8,8 +8,9 @@ use Rattle.py_frames.specs.declared.request.Answer.{Answer}
 use Rattle.py_frames.specs.declared.request.Answer.TheVariants as answer
 use Rattle.py_frames.specs.declared.request.NamedVal.{NamedVal}
 use Rattle.elab_components.specs.declared.signals.SignalArguments.{SignalArguments}
-use Rattle.elab_store.specs.Stores.{Held, Answered}
-use Rattle.elab_components.specs.Imports.{hdl_imported, all_bound, bound_answer}
+use Rattle.py_frames.specs.declared.request.Cause.TheVariants.{Raised}
+use Rattle.elab_store.specs.Stores.{Held, Answered, refused}
+use Rattle.elab_components.specs.Imports.{hdl_imported, all_bound, bound_answer, import_answered}
 use Rattle.elab_components.specs.Signals.{with_keywords}
 
 -- ---- keywords
@@ -60,3 +61,15 @@ two_names f [] a b h e1 e2 = absurd (omega arith)
 two_names f (x ∷ []) a b h e1 e2 = absurd (omega arith)
 two_names f (x ∷ y ∷ []) a b h e1 e2 = ap (λ (z : List ℕ). z ∷ f y ∷ []) (ap f (sym e1)) ∙ ap (λ (z : List ℕ). f a ∷ z ∷ []) (ap f (sym e2))
 two_names f (x ∷ y ∷ z ∷ xs) a b h e1 e2 = absurd (omega arith)
+
+-- fewer of them or more import nothing
+pub import_few : {A : Type 0} (f : A → List ℕ) (xs : List A) (h : Held) → length xs < 2 → import_answered (map f xs) h ≡ refused Raised h
+import_few f [] h few = refl
+import_few f (x ∷ []) h few = refl
+import_few f (x ∷ y ∷ xs) h few = absurd (omega (arith, few))
+
+pub import_many : {A : Type 0} (f : A → List ℕ) (xs : List A) (h : Held) → 2 < length xs → import_answered (map f xs) h ≡ refused Raised h
+import_many f [] h many = absurd (omega (arith, many))
+import_many f (x ∷ []) h many = absurd (omega (arith, many))
+import_many f (x ∷ y ∷ []) h many = absurd (omega (arith, many))
+import_many f (x ∷ y ∷ z ∷ xs) h many = refl

@@ -1,6 +1,6 @@
 -- The design of what is held, by the tree of its modules.
 use Rattle.std.proofs.Common.{◌≡◌, ◌<◌, refl, ap, sym, ◌∙◌, subst, List, Bool, true, false, length, Option, Some, None, Result, Ok, Err}
-use Rattle.std.specs.Prelude.{◌||◌, if◌then◌else◌}
+use Rattle.std.specs.Prelude.{if◌then◌else◌}
 use Rattle.std.specs.List.{AllByRecursion, list_any}
 use Rattle.lists.specs.Names.{IsName}
 use Rattle.amh_host.specs.declared.place.Kind.TheVariants.{Raised}
@@ -24,7 +24,7 @@ use Rattle.elab_store.specs.Stores.{Stored, Held}
 use Rattle.elab_store.specs.Sound.{IsSound}
 use Rattle.elab_eval.specs.declared.refusal.ElabStop.{ElabStop}
 use Rattle.elab_eval.specs.declared.refusal.ElabStop.TheVariants as stops
-use Rattle.elab_eval.specs.Elaborates.{Found, IsFound, is_any_open, and_then, root_module, ports_of, top_ports, tree_of, found_by, found_with, module_found, design_of, unresolved_stop, without_modules, is_nameless}
+use Rattle.elab_eval.specs.Elaborates.{Found, IsFound, IsDesignOf, is_any_open, and_then, root_module, ports_of, top_ports, tree_of, found_by, found_with, module_found, design_of, unresolved_stop, is_nameless}
 use Rattle.elab_eval.specs.Standing.{StandsFor}
 use Rattle.elab_eval.specs.Trees.{tree_found, IsGot}
 use Rattle.elab_acts.proofs.EachLaws.{all_each}
@@ -77,6 +77,12 @@ refused_design h heap p stops.NoMemory none e = tt
 refused_design h heap p (stops.Spent at) none e = past_resets h heap none ∙ refused_as h heap (stops.Spent at) (root_module h.store) e
 refused_design h heap p (stops.Refused k at) none e = past_resets h heap none ∙ refused_as h heap (stops.Refused k at) (root_module h.store) e
 
+-- a refusal of the design is one of what is found
+pub design_refused : (h : Held) (heap : Made) (stop : ElabStop) (owed : Result Found ElabStop) → IsFound (Err stop) owed → IsDesignOf h heap (Err stop) owed
+design_refused h heap stops.NoMemory owed e = tt
+design_refused h heap (stops.Spent at) owed e = e
+design_refused h heap (stops.Refused k at) owed e = e
+
 -- what comes of a tree, by the ports of its top
 abbrev pub design_by : Held → Made → Pooled → Fragment → Option TopPorts → Result Found ElabStop
 design_by h heap p f None = Err (stops.Refused Raised file_start)
@@ -96,15 +102,6 @@ made_design h heap p f ports none e same =
     by_ports : (o : Option TopPorts) → found_by h heap o (f, p) ≡ design_by h heap p f o
     by_ports None = refl
     by_ports (Some x) = refl
-
--- ---- of modules that were taken out of their store
-
-pub parted : (s rest : Stored) (bs : List Built) → bs ≡ s.modules → rest ≡ without_modules s → record rest { modules = bs } ≡ s
-parted s rest bs e f = ap (λ (r : Stored). record r { modules = bs }) f ∙ ap (λ ms. record s { modules = ms }) e
-
--- the tree is the top's
-pub got_of : (s t : Stored) (q p : Pooled) (r : Result Fragment ElabStop) → t ≡ s → IsGot r p (tree_found t (root_module t) q) → IsGot r p (tree_found s (root_module s) q)
-got_of s t q p r e h = subst (λ u. IsGot r p (tree_found u (root_module u) q)) e h
 
 -- ---- the tree can be resolved
 

@@ -1,7 +1,6 @@
 -- What all modules of a forest give, where the forest is parted into its first trees and those behind them.
-use Rattle.std.proofs.Common.{◌≡◌, ℕ, zero, suc, refl, ap, ◌∙◌, sym, subst, List, [], ◌∷◌, ◌++◌, map, append_assoc}
+use Rattle.std.proofs.Common.{◌≡◌, ℕ, zero, suc, refl, ap, ◌∙◌, sym, List, [], ◌∷◌, ◌++◌, map, append_assoc}
 use Rattle.std.specs.List.{AllByRecursion, flat_map}
-use Rattle.design_ir.specs.declared.domain.DomainDef.{DomainDef}
 use Rattle.design_ir.specs.declared.memory.Memory.{Memory}
 use Rattle.design_ir.specs.declared.memory.MemRead.{MemRead}
 use Rattle.design_ir.specs.Forests.{Leaf, Forest, bare, grown}

@@ -1,5 +1,5 @@
 -- Where no reset of a pool is of a domain without a name, each is of one with a name.
-use Rattle.std.proofs.Common.{◌≡◌, refl, sym, ap, ◌∙◌, ◌+◌, subst, ℕ, zero, suc, Bool, true, false, List, [], ◌∷◌, drop, length, Option, Some, None}
+use Rattle.std.proofs.Common.{◌≡◌, refl, sym, ap, ◌∙◌, ◌+◌, ℕ, Bool, true, false, List, [], ◌∷◌, drop, Some}
 use Rattle.std.specs.Prelude.{slice_get, not, ◌||◌}
 use Rattle.std.specs.List.{AllByRecursion, list_any}
 use Rattle.identifiers.specs.Identifiers.{is_identifier}

@@ -1,5 +1,5 @@
 -- What trees keep to stays from node to node, so that the whole tree can be resolved.
-use Rattle.std.proofs.Common.{◌≡◌, ℕ, zero, suc, refl, ap, ◌∙◌, sym, subst, List, [], ◌∷◌, ◌++◌, map, length, Option, Some, None, Result, Ok, Err, append_assoc}
+use Rattle.std.proofs.Common.{◌≡◌, ℕ, zero, suc, refl, sym, subst, List, [], ◌∷◌, ◌++◌, length, Option, Some, Result, Ok, Err, append_assoc}
 use Rattle.std.specs.Prelude.{slice_get, IfSome, IfOk}
 use Rattle.std.specs.List.{AllByRecursion}
 use Rattle.lists.specs.Names.{IsName}
@@ -16,7 +16,7 @@ use Rattle.flat_design.specs.Growing.{IsMore}
 use Rattle.flat_design.proofs.Growing.{more_refl, more_trans}
 use Rattle.fragment_walks.specs.Reads.{data_signals}
 use Rattle.fragment_walks.specs.Walks.{definitions_of, all_memories}
-use Rattle.clock_domains.specs.Resolvable.{IsMemoryOf, IsTree, AreModules}
+use Rattle.clock_domains.specs.Resolvable.{IsMemoryOf, AreModules}
 use Rattle.domain_transforms.specs.Making.{fragment_with}
 use Rattle.domain_transforms.specs.Placed.{leaf_exprs, forest_exprs, fragment_exprs}
 use Rattle.transform_laws.specs.Laws.{AreNamedResets}

@@ -25,7 +25,7 @@ use Rattle.elab_store.specs.Stores.{Stored}
 use Rattle.lists.specs.declared.items.NoMemory.{NoMemory}
 use Rattle.elab_eval.specs.declared.refusal.ElabStop.{ElabStop}
 use Rattle.elab_eval.specs.declared.refusal.ElabStop.TheVariants as stops
-use Rattle.elab_eval.specs.Elaborates.{module_in, is_open, is_open_at, is_open_wrap, is_any_open, fragment_at, node_name, spec_of, leaf_in, first_trees, other_trees, first_wrapped, wrapped_by, is_past_by, within_counts, wrapped, and_then, put_before, node_put, forest_of_nodes, root_domains, root_before, root_wrapped, tree_of}
+use Rattle.elab_eval.specs.Elaborates.{is_open, is_open_at, is_open_wrap, node_name, spec_of, leaf_in, first_trees, other_trees, first_wrapped, wrapped_by, is_past_by, within_counts, wrapped, and_then, put_before, node_put, forest_of_nodes, root_domains, root_before, root_wrapped, tree_of}
 use Rattle.elab_eval.specs.Trees.{finished, is_missing, fragment_with, wrapper_stop, tree_found, IsGot}
 
 -- ---- one tree more
@@ -132,6 +132,31 @@ none_open p [] k x e at = absurd (true≢false (ap is_some (sym at)))
 none_open p (y ∷ xs) zero x e at = let same : y ≡ x = cc in subst (λ z. p z ≡ false) same (both_false (p y) (list_any p xs) e).0
 none_open p (y ∷ xs) (suc k) x e at = none_open p xs k x (both_false (p y) (list_any p xs) e).1 at
 
+-- ---- lists, read at a place
+
+dropped : {X : Type 0} (xs : List X) (k : ℕ) (x : X) → slice_get xs k ≡ Some x → drop k xs ≡ x ∷ drop (suc k) xs
+dropped [] k x e = absurd (true≢false (ap is_some (sym e)))
+dropped (y ∷ xs) zero x e = let same : y ≡ x = cc in ap (λ z. z ∷ xs) same
+dropped (y ∷ xs) (suc k) x e = dropped xs k x e
+
+-- a wrapping that is not there, and one that is
+wrap_past : (ws : List Wrapping) (k : ℕ) → length ws ≤ k → option_map_or (λ (x : Wrapping). false) (slice_get ws k) true ≡ true
+wrap_past ws k h = ap (λ o. option_map_or (λ (x : Wrapping). false) o true) (none_past ws k h)
+
+wrap_there : (ws : List Wrapping) (k : ℕ) → k < length ws → option_map_or (λ (x : Wrapping). false) (slice_get ws k) true ≡ false
+wrap_there [] k h = absurd (omega (arith, h))
+wrap_there (w ∷ ws) zero h = refl
+wrap_there (w ∷ ws) (suc k) h = wrap_there ws k (omega (arith, h))
+
+pub wrap_found : (s : Stored) (ks : List ℕ) (i k : ℕ) → slice_get ks i ≡ Some k → length s.wrappings ≤ k → list_any (is_open_wrap s) (drop i ks) ≡ list_any (is_open_wrap s) ks → true ≡ list_any (is_open_wrap s) ks
+wrap_found s ks i k at past h =
+    ap (λ b. b || list_any (is_open_wrap s) (drop (suc i) ks)) (sym (wrap_past s.wrappings k past)) ∙ ap (list_any (is_open_wrap s)) (sym (dropped ks i k at)) ∙ h
+
+pub wrap_next : (s : Stored) (ks : List ℕ) (i k : ℕ) → slice_get ks i ≡ Some k → k < length s.wrappings → list_any (is_open_wrap s) (drop i ks) ≡ list_any (is_open_wrap s) ks → list_any (is_open_wrap s) (drop (i + 1) ks) ≡ list_any (is_open_wrap s) ks
+wrap_next s ks i k at few h =
+    let next : i + 1 ≡ suc i = omega arith in
+    ap (λ n. list_any (is_open_wrap s) (drop n ks)) next ∙ ap (λ b. b || list_any (is_open_wrap s) (drop (suc i) ks)) (sym (wrap_there s.wrappings k few)) ∙ ap (list_any (is_open_wrap s)) (sym (dropped ks i k at)) ∙ h
+
 -- ---- what is got, and what is refused
 
 pub still_refused : {A B : Type 0} (stop : ElabStop) (q p : Pooled) (r : Result (A × Pooled) ElabStop) (t : Result (B × Pooled) ElabStop) → ((x : ElabStop) → r ≡ Err x → t ≡ Err x) → IsGot {A = A} (Err stop) q r → IsGot {A = B} (Err stop) p t
@@ -176,11 +201,6 @@ all_dropped xs = let all : length xs - 0 ≡ length xs = omega arith in ap (λ n
 
 none_dropped : {X : Type 0} (xs : List X) (i : ℕ) → length xs ≤ i → drop (length xs - i) xs ≡ xs
 none_dropped xs i h = let none : length xs - i ≡ 0 = omega (arith, h) in ap (λ n. drop n xs) none
-
-dropped : {X : Type 0} (xs : List X) (k : ℕ) (x : X) → slice_get xs k ≡ Some x → drop k xs ≡ x ∷ drop (suc k) xs
-dropped [] k x e = absurd (true≢false (ap is_some (sym e)))
-dropped (y ∷ xs) zero x e = let same : y ≡ x = cc in ap (λ z. z ∷ xs) same
-dropped (y ∷ xs) (suc k) x e = dropped xs k x e
 
 pub read : {X : Type 0} (xs : List X) (k : ℕ) (d : X) → k < length xs → slice_get xs k ≡ Some (get_or xs k d)
 read [] k d h = absurd (omega (arith, h))

@@ -1,14 +1,13 @@
 -- What a wrapper makes of a tree that stands for a part of the program stands for it too.
-use Rattle.std.proofs.Common.{◌≡◌, ◌≤◌, ◌<◌, ℕ, zero, suc, refl, ap, ◌∙◌, sym, subst, Bool, true, false, List, [], ◌∷◌, ◌++◌, map, length, Option, Some, None, Result, Ok, Err, arith, length-append}
-use Rattle.std.specs.Prelude.{⊤, slice_get, IfSome}
+use Rattle.std.proofs.Common.{◌≡◌, ◌≤◌, ℕ, zero, suc, refl, ap, ◌∙◌, sym, subst, Bool, true, false, List, [], ◌∷◌, map, length, Option, Some, None, Ok, arith, length-append}
+use Rattle.std.specs.Prelude.{slice_get, IfSome}
 use Rattle.std.specs.List.{AllByRecursion}
 use Rattle.design_ir.specs.declared.domain.DomainDef.{DomainDef}
 use Rattle.design_ir.specs.declared.fragment.Fragment.{Fragment}
 use Rattle.design_ir.specs.Pools.{Pooled}
 use Rattle.design_ir.specs.PoolRules.{IsPool}
 use Rattle.flat_design.specs.Growing.{IsMore}
-use Rattle.fragment_walks.specs.Reads.{data_signals}
-use Rattle.fragment_walks.specs.Walks.{all_definitions, all_memories}
+use Rattle.fragment_walks.specs.Walks.{all_definitions}
 use Rattle.domain_transforms.specs.declared.controls.Control.{Control}
 use Rattle.domain_transforms.specs.Controlled.{name_after}
 use Rattle.domain_transforms.specs.Placed.{AreControls}

@@ -338,3 +338,14 @@ IsFound (Ok e) owed = owed ≡ Ok (found_of e)
 IsFound (Err (Refused k p)) owed = owed ≡ Err (Refused k p)
 IsFound (Err (Spent p)) owed = owed ≡ Err (Spent p)
 IsFound (Err NoMemory) owed = ⊤
+
+-- what is held with modules that were taken out of their store
+abbrev pub held_of_modules : Pooled → Stored → List Built → Held
+held_of_modules q s bs = record { pool = q; store = record s { modules = bs } }
+
+-- the same of a design alone, over what is held and the heap
+abbrev pub IsDesignOf : Held → Made → Result Circuit ElabStop → Result Found ElabStop → Type 0
+IsDesignOf h heap (Ok c) owed = owed ≡ Ok (record { circuit = c; store = without_modules h.store; frozen = heap })
+IsDesignOf h heap (Err (Refused k p)) owed = owed ≡ Err (Refused k p)
+IsDesignOf h heap (Err (Spent p)) owed = owed ≡ Err (Spent p)
+IsDesignOf h heap (Err NoMemory) owed = ⊤

@@ -1,9 +1,9 @@
 // The end: what is held becomes a design.
-ghost use Rattle.std.specs.Prelude.{◌≡◌, IfOk};
+ghost use Rattle.std.specs.Prelude.{◌≡◌, false, IfOk, IfErr, Err};
 ghost use Rattle.std.specs.List.{list_any};
-ghost use Rattle.py_heap.specs.Heaps.{nothing};
+ghost use Rattle.py_heap.specs.Heaps.{nothing, seen};
 ghost use Rattle.design_ir.specs.Rising.{AllRisingSync};
-ghost use Rattle.elab_eval.specs.Elaborates.{IsFound, is_nameless, design_of, without_modules, unresolved_stop};
+ghost use Rattle.elab_eval.specs.Elaborates.{IsFound, IsDesignOf, held_of_modules, is_nameless, design_of, top_ports, without_modules, unresolved_stop};
 ghost use Rattle.elab_store.specs.Sound.{IsSound};
 ghost use Rattle.elab_store.specs.Held.{held_of};
 
@@ -13,13 +13,13 @@ use crate::refusal::ElabStop;
 use crate::running::Elaborated;
 use crate::trees::{raised, tree};
 use amh_host::Kind;
-use clock_domains::{ResolveStop, resolve};
-use design_ir::{Expr, ExprId, Exprs, Pool};
+use clock_domains::{ResolveStop, TopPorts, resolve};
+use design_ir::{Design, Expr, ExprId, Exprs, Pool};
 use elab_store::store::{Elaboration, Store};
 use identifiers::is_identifier;
 use lists::NoMemory;
 use module_dsl::Builder;
-use py_heap::Frozen;
+use py_heap::{Frozen, Heap};
 use py_machine::Machine;
 use std::alloc::Global;
 
@@ -103,6 +103,63 @@ fn part(store: Store, alloc: Global) -> (Vec<Builder>, Store)
     (modules, rest)
 }
 
+// The ports of the top, where it has some, which are asked before anything is taken apart. A reset without a name raises.
+fn ports_asked(
+    elaboration: &Elaboration,
+    heap: &Heap,
+    frozen: &Frozen,
+) -> Result<Option<TopPorts>, ElabStop>
+    requires sound { IsSound (held_of elaboration.now) }
+    requires frozen { frozen.now ≡ nothing }
+    ensures named { IfOk result (λ ports. list_any is_nameless elaboration.now.pool.exprs ≡ false) }
+    ensures ports { IfOk result (λ ports. ports ≡ top_ports (seen nothing heap.now) (held_of elaboration.now)) }
+    ensures refused { IfErr result (λ stop. IsFound (Err stop) (design_of (held_of elaboration.now) heap.now)) }
+{
+    let Ok(nameless) = has_nameless(elaboration.alloc, &elaboration.pool) else {
+        return Err(ElabStop::NoMemory);
+    };
+    if nameless {
+        return Err(raised());
+    }
+    match top_ports(elaboration, heap, frozen) {
+        Ok(ports) => Ok(ports),
+        Err(_) => Err(ElabStop::NoMemory),
+    }
+}
+
+// The design of modules that were taken out of their store, with the ports of the top.
+fn resolved_design(
+    alloc: Global,
+    pool: Pool,
+    modules: Vec<Builder>,
+    store: &Store,
+    ports: Option<TopPorts>,
+    _heap: &Heap,
+) -> Result<Design, ElabStop>
+    requires sound { IsSound (held_of_modules pool store.now modules.items) }
+    requires named { list_any is_nameless pool.exprs ≡ false }
+    requires ports { ports ≡ top_ports (seen nothing _heap.now) (held_of_modules pool store.now modules.items) }
+    ensures found { let h = held_of_modules pool store.now modules.items in IsDesignOf h _heap.now result (design_of h _heap.now) }
+    ensures rising { IfOk result AllRisingSync }
+{
+    let mut pool = pool;
+    pool.known();
+    let root = match tree(alloc, &mut pool, modules, store) {
+        Ok(root) => root,
+        Err(stop) => return Err(stop),
+    };
+    let Some(ports) = ports else {
+        return Err(raised());
+    };
+    match resolve(alloc, pool, root, ports) {
+        Ok(design) => match clock_refused(&design, store.simulation().clocks()) {
+            Some(place) => Err(ElabStop::Refused(Kind::Raised, place)),
+            None => Ok(design),
+        },
+        Err(stop) => Err(unresolved_stop(stop)),
+    }
+}
+
 /// What is held at the end of a program, as a design.
 pub(crate) fn finish(
     elaboration: Elaboration,
@@ -114,35 +171,25 @@ pub(crate) fn finish(
     ensures found { IsFound result (design_of (held_of elaboration) machine.going.state.heap) }
     ensures rising { IfOk result (λ e. AllRisingSync e.design) }
 {
-    let Ok(nameless) = has_nameless(elaboration.alloc, &elaboration.pool) else {
-        return Err(ElabStop::NoMemory);
-    };
-    if nameless {
-        return Err(raised());
-    }
-    let Ok(ports) = top_ports(&elaboration, &machine.going.state.heap, frozen) else {
-        return Err(ElabStop::NoMemory);
-    };
-    let Elaboration { alloc, pool, store } = elaboration;
-    let mut pool = pool;
-    pool.known();
-    let (modules, store) = part(store, alloc);
-    let root = match tree(alloc, &mut pool, modules, &store) {
-        Ok(root) => root,
+    let ports = match ports_asked(&elaboration, &machine.going.state.heap, frozen) {
+        Ok(ports) => ports,
         Err(stop) => return Err(stop),
     };
-    let Some(ports) = ports else {
-        return Err(raised());
-    };
-    match resolve(alloc, pool, root, ports) {
-        Ok(design) => match clock_refused(&design, store.simulation().clocks()) {
-            Some(place) => Err(ElabStop::Refused(Kind::Raised, place)),
-            None => Ok(Elaborated {
-                design,
-                store,
-                frozen: machine.freeze(),
-            }),
-        },
-        Err(stop) => Err(unresolved_stop(stop)),
+    let Elaboration { alloc, pool, store } = elaboration;
+    let (modules, store) = part(store, alloc);
+    match resolved_design(
+        alloc,
+        pool,
+        modules,
+        &store,
+        ports,
+        &machine.going.state.heap,
+    ) {
+        Ok(design) => Ok(Elaborated {
+            design,
+            store,
+            frozen: machine.freeze(),
+        }),
+        Err(stop) => Err(stop),
     }
 }

@@ -18,7 +18,7 @@ pub returns : goal.returns
 returns c =
     let inside = c.store.inside in
     let b : Built = c.index_mut-builder.result.now in
-    let held : List Built → Stored = λ (bs : List Built). record { things = inside.things; kept = inside.kept.items; modules = bs; patterns = inside.patterns.items; top = inside.top; components = inside.components; hierarchy = inside.hierarchy; clock_domains = inside.clock_domains; machines = inside.machines.items; memories = inside.memories.items; domains = inside.domains; told = inside.told; simulation = inside.simulation } in
+    let held : List Built → Stored = λ (bs : List Built). record { things = inside.things; kept = inside.kept.items; modules = bs; patterns = inside.patterns.items; top = inside.top; components = inside.components; hierarchy = inside.hierarchy; clock_domains = inside.clock_domains; machines = inside.machines.items; memories = inside.memories.items; wrappings = inside.wrappings.items; wrapped = inside.wrapped.items; domains = inside.domains; told = inside.told; simulation = inside.simulation } in
     let at : slice_get inside.modules.items c.args.of ≡ Some b = at_get inside.modules.items c.args.of b (omega (arith, c.if-of-len.false, c.len.ensures, inside.modules.ok.0)) c.index_mut-builder.ensures.value in
     let nothing : Option Cause = None in
     ap (λ x. (held (slice_set inside.modules.items c.args.of x), nothing)) c.in_default.ensures.left.1
@@ -29,7 +29,7 @@ returns-in-Err c =
     let inside = c.store.inside in
     let b : Built = c.index_mut-builder.result.now in
     let why = c.in_ok-why.why in
-    let held : List Built → Stored = λ (bs : List Built). record { things = inside.things; kept = inside.kept.items; modules = bs; patterns = inside.patterns.items; top = inside.top; components = inside.components; hierarchy = inside.hierarchy; clock_domains = inside.clock_domains; machines = inside.machines.items; memories = inside.memories.items; domains = inside.domains; told = inside.told; simulation = inside.simulation } in
+    let held : List Built → Stored = λ (bs : List Built). record { things = inside.things; kept = inside.kept.items; modules = bs; patterns = inside.patterns.items; top = inside.top; components = inside.components; hierarchy = inside.hierarchy; clock_domains = inside.clock_domains; machines = inside.machines.items; memories = inside.memories.items; wrappings = inside.wrappings.items; wrapped = inside.wrapped.items; domains = inside.domains; told = inside.told; simulation = inside.simulation } in
     let at : slice_get inside.modules.items c.args.of ≡ Some b = at_get inside.modules.items c.args.of b (omega (arith, c.if-of-len.false, c.len.ensures, inside.modules.ok.0)) c.index_mut-builder.ensures.value in
     let r = c.in-Err.ensures.refused in
     ap (λ x. (held (slice_set inside.modules.items c.args.of x), why)) r.1

@@ -18,7 +18,7 @@ returns-then-in_switch c =
     let b : Built = c.index_mut-builder.result.now in
     let d = c.args.side.now in
     let q = c.args.q.now in
-    let held : List Built → Stored = λ (bs : List Built). record { things = inside.things; kept = inside.kept.items; modules = bs; patterns = inside.patterns.items; top = inside.top; components = inside.components; hierarchy = inside.hierarchy; clock_domains = inside.clock_domains; machines = inside.machines.items; memories = inside.memories.items; domains = inside.domains; told = inside.told; simulation = inside.simulation } in
+    let held : List Built → Stored = λ (bs : List Built). record { things = inside.things; kept = inside.kept.items; modules = bs; patterns = inside.patterns.items; top = inside.top; components = inside.components; hierarchy = inside.hierarchy; clock_domains = inside.clock_domains; machines = inside.machines.items; memories = inside.memories.items; wrappings = inside.wrappings.items; wrapped = inside.wrapped.items; domains = inside.domains; told = inside.told; simulation = inside.simulation } in
     let at : slice_get inside.modules.items c.args.of ≡ Some b = at_get inside.modules.items c.args.of b (omega (arith, c.if-of-len.false, c.len.ensures, inside.modules.ok.0)) c.index_mut-builder.ensures.value in
     let i : in_switch (built_blocks b).around ≡ true = sym c.in_switch.ensures ∙ c.if-in_switch.true in
     ap (λ bs. (held bs, Some Raised)) (set_same inside.modules.items c.args.of b c.index_mut-builder.ensures.value)
@@ -30,8 +30,8 @@ returns-then-added-gt65536 c =
     let b : Built = c.index_mut-builder.result.now in
     let d = c.args.side.now in
     let q = c.args.q.now in
-    let held : List Built → Stored = λ (bs : List Built). record { things = inside.things; kept = inside.kept.items; modules = bs; patterns = inside.patterns.items; top = inside.top; components = inside.components; hierarchy = inside.hierarchy; clock_domains = inside.clock_domains; machines = inside.machines.items; memories = inside.memories.items; domains = inside.domains; told = inside.told; simulation = inside.simulation } in
-    let seen : Inside → Stored = λ (x : Inside). record { things = x.things; kept = x.kept.items; modules = x.modules.items; patterns = x.patterns.items; top = x.top; components = x.components; hierarchy = x.hierarchy; clock_domains = x.clock_domains; machines = x.machines.items; memories = x.memories.items; domains = x.domains; told = x.told; simulation = x.simulation } in
+    let held : List Built → Stored = λ (bs : List Built). record { things = inside.things; kept = inside.kept.items; modules = bs; patterns = inside.patterns.items; top = inside.top; components = inside.components; hierarchy = inside.hierarchy; clock_domains = inside.clock_domains; machines = inside.machines.items; memories = inside.memories.items; wrappings = inside.wrappings.items; wrapped = inside.wrapped.items; domains = inside.domains; told = inside.told; simulation = inside.simulation } in
+    let seen : Inside → Stored = λ (x : Inside). record { things = x.things; kept = x.kept.items; modules = x.modules.items; patterns = x.patterns.items; top = x.top; components = x.components; hierarchy = x.hierarchy; clock_domains = x.clock_domains; machines = x.machines.items; memories = x.memories.items; wrappings = x.wrappings.items; wrapped = x.wrapped.items; domains = x.domains; told = x.told; simulation = x.simulation } in
     let below : c.args.of < length inside.modules.items = omega (arith, c.if-of-len.false, c.len.ensures, inside.modules.ok.0) in
     let at : slice_get inside.modules.items c.args.of ≡ Some b = at_get inside.modules.items c.args.of b below c.index_mut-builder.ensures.value in
     let i : in_switch (built_blocks b).around ≡ false = sym c.in_switch.ensures ∙ c.if-in_switch.false in
@@ -70,7 +70,7 @@ returns-in-Ok c =
     let b : Built = c.index_mut-builder.result.now in
     let d = c.args.side.now in
     let q = c.args.q.now in
-    let held : List Built → Stored = λ (bs : List Built). record { things = inside.things; kept = inside.kept.items; modules = bs; patterns = inside.patterns.items; top = inside.top; components = inside.components; hierarchy = inside.hierarchy; clock_domains = inside.clock_domains; machines = inside.machines.items; memories = inside.memories.items; domains = inside.domains; told = inside.told; simulation = inside.simulation } in
+    let held : List Built → Stored = λ (bs : List Built). record { things = inside.things; kept = inside.kept.items; modules = bs; patterns = inside.patterns.items; top = inside.top; components = inside.components; hierarchy = inside.hierarchy; clock_domains = inside.clock_domains; machines = inside.machines.items; memories = inside.memories.items; wrappings = inside.wrappings.items; wrapped = inside.wrapped.items; domains = inside.domains; told = inside.told; simulation = inside.simulation } in
     let below : c.args.of < length inside.modules.items = omega (arith, c.if-of-len.false, c.len.ensures, inside.modules.ok.0) in
     let at : slice_get inside.modules.items c.args.of ≡ Some b = at_get inside.modules.items c.args.of b below c.index_mut-builder.ensures.value in
     let i : in_switch (built_blocks b).around ≡ false = sym c.in_switch.ensures ∙ c.if-in_switch.false in

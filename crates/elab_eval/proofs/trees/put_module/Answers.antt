@@ -15,5 +15,5 @@ returns g c =
     let looked = c.in-Some-Some.ensures.lookup in
     let at : slice_get modules m ≡ Some (Some c.in-Some-Some.fragment) =
     slice_get_read modules (length modules) m c.in-Some-Some.field-0.now refl (ltb-true m (length modules) (sym looked.0)) looked.1 ∙ ap Some c.in-Some-Some.field-0-is in
-    module_got s c.args.node m c.in-Some-Some.fragment c.node_name.result.now c.in_ok-domains.domains c.in_ok-processes.processes c.new-none.result c.args.behind c.with_node.result (ap (λ ms. slice_get ms m) (sym c.requires.modules) ∙ at)
+    module_got s c.args.node m c.in-Some-Some.fragment c.node_name.result.now c.in_ok-domains.domains c.in_ok-processes.processes c.new-none.result c.args.behind c.with_node.result (ap (λ ms. slice_get ms m) (sym c.requires.0) ∙ at)
     c.node_name.ensures (c.in_ok-domains.ensures ∙ ap (λ (x : Stored). defined_by m x.clock_domains) c.store.view_is) (c.in_ok-processes.ensures ∙ c.as_slice.ensures) c.new-none.ensures c.with_node.ensures

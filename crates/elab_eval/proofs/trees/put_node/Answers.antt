@@ -1,18 +1,18 @@
-use Rattle.std.proofs.Common.{◌≡◌, ◌∙◌, sym, ap}
+use Rattle.std.proofs.Common.{◌∙◌, sym, ap}
 use Rattle.elab_store.specs.Stores.{Stored}
 use Rattle.elab_eval.specs.Elaborates.{is_open_in}
 use Rattle.elab_eval.proofs.TreeLaws.{module_put, memory_put, wrapper_put}
 use Rattle.elab_eval.proofs.trees.put_node.Goals as goal
 
-pub put_module-requires-clause-closed : goal.put_module-requires-clause-closed
-put_module-requires-clause-closed g c =
+pub put_module-requires : goal.put_module-requires
+put_module-requires g c =
     let s : Stored = record c.args.store.now { modules = g.built } in
-    ap (is_open_in s) (sym c.in-Module.is) ∙ c.requires.closed
+    (c.requires.0, ap (is_open_in s) (sym c.in-Module.is) ∙ c.requires.1.0)
 
 pub put_memory-requires : goal.put_memory-requires
 put_memory-requires g c =
     let s : Stored = record c.args.store.now { modules = g.built } in
-    ap (is_open_in s) (sym c.in-Memory.is) ∙ c.requires.closed
+    ap (is_open_in s) (sym c.in-Memory.is) ∙ c.requires.1.0
 
 pub returns-in-Ok : goal.returns-in-Ok
 returns-in-Ok g c =

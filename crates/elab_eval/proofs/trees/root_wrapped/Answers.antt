@@ -1,5 +1,7 @@
 use Rattle.std.proofs.Common.{◌≡◌, ◌-◌, ◌∙◌, ap, subst, get_or, length, Ok, Err}
 use Rattle.std.specs.Prelude.{slice_get}
+use Rattle.design_ir.specs.declared.fragment.Fragment.{Fragment}
+use Rattle.design_ir.specs.Pools.{Pooled}
 use Rattle.elab_store.specs.Hierarchies.{Hierarchy}
 use Rattle.elab_eval.specs.Elaborates.{root_wrapped}
 use Rattle.elab_eval.specs.Trees.{IsGot}
@@ -20,8 +22,8 @@ loop-i-preserved c =
     let wraps = c.root_wraps-wraps.result.now in
     let p = c.loop-i.pool in
     let k = get_or wraps (length wraps - 1 - c.loop-i.i) _ in
-    let inner = (c.loop-i.root, p) in
-    let made = (c.in-Ok.made, c.wrapped.new.pool) in
+    let inner : Fragment × Pooled = (c.loop-i.root, p) in
+    let made : Fragment × Pooled = (c.in-Ok.made, c.wrapped.new.pool) in
     let there = wrapped_stands s (slice_get s.wrappings k) inner made c.loop-i.invariant.1.1.0 (wrapping_at p s.wrappings k c.loop-i.invariant.1.1.1) c.loop-i.invariant.0 c.known-in-loop-i.ensures c.in-Ok.ensures in (
       c.known-in-loop-i.ensures,
       (

@@ -1,5 +1,7 @@
 use Rattle.std.proofs.Common.{◌≡◌, ◌-◌, ◌∙◌, sym, ap, subst, get_or, length, Ok, Err, arith}
 use Rattle.std.specs.List.{list_any}
+use Rattle.design_ir.specs.Forests.{Forest}
+use Rattle.design_ir.specs.Pools.{Pooled}
 use Rattle.elab_store.specs.Hierarchies.{Hierarchy}
 use Rattle.elab_store.specs.Stores.{Stored}
 use Rattle.elab_eval.specs.Elaborates.{is_open_at, forest_of_nodes}
@@ -14,34 +16,33 @@ pub loop-i-init : goal.loop-i-init
 loop-i-init g c =
     let s : Stored = record c.args.store.now { modules = g.built } in
     let q = c.args.pool.now in
-    (c.known.ensures, (nodes_none s c.nodes-nodes.result.now q c.new-trees.result c.new-trees.ensures, subst (λ f. IsStanding s q q f) (sym c.new-trees.ensures) (none_stand s q c.known.ensures c.requires.sound c.requires.resets)))
+    (c.known.ensures, (nodes_none s c.nodes-nodes.result.now q c.new-trees.result c.new-trees.ensures, subst (λ f. IsStanding s q q f) (sym c.new-trees.ensures) (none_stand s q c.known.ensures c.requires.1.0 c.requires.1.1.0)))
 
-pub put_node-requires-clause-closed : goal.put_node-requires-clause-closed
-put_node-requires-clause-closed g c =
+pub put_node-requires : goal.put_node-requires
+put_node-requires g c =
     let s : Stored = record c.args.store.now { modules = g.built } in
     let nodes = c.nodes-nodes.result.now in
     let last = length nodes - 1 - c.loop-i.i in
-    let same : nodes ≡ c.args.store.now.hierarchy.nodes = c.nodes-nodes.ensures ∙ ap (λ (h : Hierarchy). h.nodes) c.hierarchy.ensures in
-    none_open (is_open_at s) nodes last _ (ap (λ xs. list_any (is_open_at s) xs) same ∙ c.requires.closed) (read nodes last _ (omega (arith, c.loop-i-test.true)))
-
-pub put_node-requires-clause-wrappings : goal.put_node-requires-clause-wrappings
-put_node-requires-clause-wrappings g c = wrappings_more _ _ _ c.loop-i.invariant.1.1.more c.requires.sound.wrappings
-
-pub put_node-requires-clause-there : goal.put_node-requires-clause-there
-put_node-requires-clause-there g c = forest_there c.loop-i.pool c.loop-i.trees c.loop-i.invariant.1.1.modules
+    let same : nodes ≡ c.args.store.now.hierarchy.nodes = c.nodes-nodes.ensures ∙ ap (λ (h : Hierarchy). h.nodes) c.hierarchy.ensures in (
+      c.requires.0,
+      (
+        none_open (is_open_at s) nodes last _ (ap (λ xs. list_any (is_open_at s) xs) same ∙ c.requires.1.1.1) (read nodes last _ (omega (arith, c.loop-i-test.true))),
+        (wrappings_more _ _ _ c.loop-i.invariant.1.1.more c.requires.1.0.wrappings, forest_there c.loop-i.pool c.loop-i.trees c.loop-i.invariant.1.1.modules),
+      ),
+    )
 
 pub loop-i-preserved : goal.loop-i-preserved
 loop-i-preserved g c =
     let s : Stored = record c.args.store.now { modules = g.built } in
     let q = c.args.pool.now in
     let nodes = c.nodes-nodes.result.now in
-    let behind = (c.loop-i.trees, c.loop-i.pool) in
+    let behind : Forest × Pooled = (c.loop-i.trees, c.loop-i.pool) in
     let x = get_or nodes (length nodes - 1 - c.loop-i.i) _ in
-    let made = (c.in-Ok.more, c.put_node.new.pool) in (
+    let made : Forest × Pooled = (c.in-Ok.more, c.put_node.new.pool) in (
       c.known-in-loop-i.ensures,
       (
         node_more s nodes q c.loop-i.i _ behind c.loop-i-test.true c.loop-i.invariant.1.0 ∙ c.in-Ok.ensures,
-        node_stands s q c.known.ensures c.requires.sound c.requires.resets c.loop-i.pool x x.of c.loop-i.trees made c.loop-i.invariant.0 c.known-in-loop-i.ensures c.loop-i.invariant.1.1 c.in-Ok.ensures,
+        node_stands s q c.known.ensures c.requires.1.0 c.requires.1.1.0 c.loop-i.pool x x.of c.loop-i.trees made c.loop-i.invariant.0 c.known-in-loop-i.ensures c.loop-i.invariant.1.1 c.in-Ok.ensures,
       ),
     )
 

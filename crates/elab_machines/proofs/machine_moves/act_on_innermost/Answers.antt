@@ -26,7 +26,7 @@ returns c =
     let k = c.in-Some.k in
     let x : OwnMachine = c.index_mut-own.result.now in
     let b : Built = c.index_mut-b.result.now in
-    let held : Held = record { pool = c.args.pool.now; store = record { things = inside.things; kept = inside.kept.items; modules = inside.modules.items; patterns = inside.patterns.items; top = inside.top; components = inside.components; hierarchy = inside.hierarchy; clock_domains = inside.clock_domains; machines = inside.machines.items; memories = inside.memories.items; domains = inside.domains; told = inside.told; simulation = inside.simulation } } in
+    let held : Held = record { pool = c.args.pool.now; store = record { things = inside.things; kept = inside.kept.items; modules = inside.modules.items; patterns = inside.patterns.items; top = inside.top; components = inside.components; hierarchy = inside.hierarchy; clock_domains = inside.clock_domains; machines = inside.machines.items; memories = inside.memories.items; wrappings = inside.wrappings.items; wrapped = inside.wrapped.items; domains = inside.domains; told = inside.told; simulation = inside.simulation } } in
     let f : Move = action_moves c.args.action c.args.name.now c.args.place in
     let inner : innermost c.args.of inside.machines.items ≡ Some k = rw (← c.store.view_is) at (sym c.innermost.ensures ∙ c.in-Some.is) in
     let own : slice_get inside.machines.items k ≡ Some x = at_place inside.machines.items k x (omega (arith, c.if-k-len.false, c.len.ensures, inside.machines.ok.0)) c.index_mut-own.ensures.value in

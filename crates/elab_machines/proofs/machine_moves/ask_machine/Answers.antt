@@ -13,7 +13,7 @@ returns c =
     let inside = c.store.inside in
     let k = c.args.number in
     let x : OwnMachine = c.index_mut.result.now in
-    let held : Held = record { pool = c.args.pool.now; store = record { things = inside.things; kept = inside.kept.items; modules = inside.modules.items; patterns = inside.patterns.items; top = inside.top; components = inside.components; hierarchy = inside.hierarchy; clock_domains = inside.clock_domains; machines = inside.machines.items; memories = inside.memories.items; domains = inside.domains; told = inside.told; simulation = inside.simulation } } in
+    let held : Held = record { pool = c.args.pool.now; store = record { things = inside.things; kept = inside.kept.items; modules = inside.modules.items; patterns = inside.patterns.items; top = inside.top; components = inside.components; hierarchy = inside.hierarchy; clock_domains = inside.clock_domains; machines = inside.machines.items; memories = inside.memories.items; wrappings = inside.wrappings.items; wrapped = inside.wrapped.items; domains = inside.domains; told = inside.told; simulation = inside.simulation } } in
     let own : slice_get inside.machines.items k ≡ Some x = at_place inside.machines.items k x (omega (arith, c.if-number-len.false, c.len.ensures, inside.machines.ok.0)) c.index_mut.ensures.value in
     ap (λ (s : Stored). asked_of k (slice_get s.machines k) c.args.name.now c.args.place (record { pool = c.args.pool.now; store = s })) (sym c.store.view_is)
     ∙ asked-made k held c.args.name.now c.args.place x own c.ongoing.new.pool c.ongoing.new.self c.in_default.ensures.made.0 (c.in_default.ensures.made.2 ∙ ap (and_asked x.machine c.args.name.now c.args.place) c.in_default.ensures.made.1) c.in_default.ensures.made.3
@@ -23,7 +23,7 @@ returns-in-Err c =
     let inside = c.store.inside in
     let k = c.args.number in
     let x : OwnMachine = c.index_mut.result.now in
-    let held : Held = record { pool = c.args.pool.now; store = record { things = inside.things; kept = inside.kept.items; modules = inside.modules.items; patterns = inside.patterns.items; top = inside.top; components = inside.components; hierarchy = inside.hierarchy; clock_domains = inside.clock_domains; machines = inside.machines.items; memories = inside.memories.items; domains = inside.domains; told = inside.told; simulation = inside.simulation } } in
+    let held : Held = record { pool = c.args.pool.now; store = record { things = inside.things; kept = inside.kept.items; modules = inside.modules.items; patterns = inside.patterns.items; top = inside.top; components = inside.components; hierarchy = inside.hierarchy; clock_domains = inside.clock_domains; machines = inside.machines.items; memories = inside.memories.items; wrappings = inside.wrappings.items; wrapped = inside.wrapped.items; domains = inside.domains; told = inside.told; simulation = inside.simulation } } in
     let own : slice_get inside.machines.items k ≡ Some x = at_place inside.machines.items k x (omega (arith, c.if-number-len.false, c.len.ensures, inside.machines.ok.0)) c.index_mut.ensures.value in
     let same : c.in_ok-why.why ≡ c.in-Err.stop = c.in_ok-why.ensures.0 in
     let owed : ongoing_refusal c.args.pool.now x.machine c.args.name.now ≡ Some c.in-Err.stop = owed_is _ c.in-Err.stop c.in-Err.ensures.refused c.in_ok-why.ensures.1 in

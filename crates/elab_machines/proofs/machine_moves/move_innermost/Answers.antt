@@ -23,7 +23,7 @@ returns-in-Some-next_stop c =
     let k = c.in-Some.k in
     let x : OwnMachine = c.index_mut.result.now in
     let b : Built = c.index_mut-b.result.now in
-    let held : Held = record { pool = c.args.pool.now; store = record { things = inside.things; kept = inside.kept.items; modules = inside.modules.items; patterns = inside.patterns.items; top = inside.top; components = inside.components; hierarchy = inside.hierarchy; clock_domains = inside.clock_domains; machines = inside.machines.items; memories = inside.memories.items; domains = inside.domains; told = inside.told; simulation = inside.simulation } } in
+    let held : Held = record { pool = c.args.pool.now; store = record { things = inside.things; kept = inside.kept.items; modules = inside.modules.items; patterns = inside.patterns.items; top = inside.top; components = inside.components; hierarchy = inside.hierarchy; clock_domains = inside.clock_domains; machines = inside.machines.items; memories = inside.memories.items; wrappings = inside.wrappings.items; wrapped = inside.wrapped.items; domains = inside.domains; told = inside.told; simulation = inside.simulation } } in
     let f : Held → Move = λ h. next_goes c.args.of h c.args.name.now c.args.place in
     let inner : innermost c.args.of inside.machines.items ≡ Some k = rw (← c.store.view_is) at (sym c.innermost.ensures ∙ c.in-Some.is) in
     let own : slice_get inside.machines.items k ≡ Some x = at_place inside.machines.items k x (omega (arith, c.if-k-len.false, c.len.ensures, inside.machines.ok.0)) c.index_mut.ensures.value in
@@ -39,7 +39,7 @@ returns-then-added-gt65536 c =
     let k = c.in-Some.k in
     let x : OwnMachine = c.index_mut.result.now in
     let b : Built = c.index_mut-b.result.now in
-    let seen : Inside → Stored = λ (i : Inside). record { things = i.things; kept = i.kept.items; modules = i.modules.items; patterns = i.patterns.items; top = i.top; components = i.components; hierarchy = i.hierarchy; clock_domains = i.clock_domains; machines = i.machines.items; memories = i.memories.items; domains = i.domains; told = i.told; simulation = i.simulation } in
+    let seen : Inside → Stored = λ (i : Inside). record { things = i.things; kept = i.kept.items; modules = i.modules.items; patterns = i.patterns.items; top = i.top; components = i.components; hierarchy = i.hierarchy; clock_domains = i.clock_domains; machines = i.machines.items; memories = i.memories.items; wrappings = i.wrappings.items; wrapped = i.wrapped.items; domains = i.domains; told = i.told; simulation = i.simulation } in
     let held : Held = record { pool = c.args.pool.now; store = seen inside } in
     let f : Held → Move = λ h. next_goes c.args.of h c.args.name.now c.args.place in
     let inner : innermost c.args.of inside.machines.items ≡ Some k = rw (← c.store.view_is) at (sym c.innermost.ensures ∙ c.in-Some.is) in
@@ -91,7 +91,7 @@ returns-in-Ok c =
     let k = c.in-Some.k in
     let x : OwnMachine = c.index_mut.result.now in
     let b : Built = c.index_mut-b.result.now in
-    let seen : Inside → Stored = λ (i : Inside). record { things = i.things; kept = i.kept.items; modules = i.modules.items; patterns = i.patterns.items; top = i.top; components = i.components; hierarchy = i.hierarchy; clock_domains = i.clock_domains; machines = i.machines.items; memories = i.memories.items; domains = i.domains; told = i.told; simulation = i.simulation } in
+    let seen : Inside → Stored = λ (i : Inside). record { things = i.things; kept = i.kept.items; modules = i.modules.items; patterns = i.patterns.items; top = i.top; components = i.components; hierarchy = i.hierarchy; clock_domains = i.clock_domains; machines = i.machines.items; memories = i.memories.items; wrappings = i.wrappings.items; wrapped = i.wrapped.items; domains = i.domains; told = i.told; simulation = i.simulation } in
     let held : Held = record { pool = c.args.pool.now; store = seen inside } in
     let f : Held → Move = λ h. next_goes c.args.of h c.args.name.now c.args.place in
     let inner : innermost c.args.of inside.machines.items ≡ Some k = rw (← c.store.view_is) at (sym c.innermost.ensures ∙ c.in-Some.is) in

@@ -27,7 +27,7 @@ pub returns-clause-begun : goal.returns-clause-begun
 returns-clause-begun c =
     let inside = c.store.inside in
     let b : Built = c.index_mut.result.now in
-    let held : List Built → List OwnMachine → Stored = λ (bs : List Built) (ms : List OwnMachine). record { things = inside.things; kept = inside.kept.items; modules = bs; patterns = inside.patterns.items; top = inside.top; components = inside.components; hierarchy = inside.hierarchy; clock_domains = inside.clock_domains; machines = ms; memories = inside.memories.items; domains = inside.domains; told = inside.told; simulation = inside.simulation } in
+    let held : List Built → List OwnMachine → Stored = λ (bs : List Built) (ms : List OwnMachine). record { things = inside.things; kept = inside.kept.items; modules = bs; patterns = inside.patterns.items; top = inside.top; components = inside.components; hierarchy = inside.hierarchy; clock_domains = inside.clock_domains; machines = ms; memories = inside.memories.items; wrappings = inside.wrappings.items; wrapped = inside.wrapped.items; domains = inside.domains; told = inside.told; simulation = inside.simulation } in
     let below : c.args.of < length inside.modules.items = placed_there c.args.of inside.modules.items inside.machines.items (rw (← c.store.view_is) at c.requires) in
     let at : slice_get inside.modules.items c.args.of ≡ Some b = at_get inside.modules.items c.args.of b below c.index_mut.ensures.value in
     let ended : c.end_chain.new.b ≡ chain_ended c.args.machine.register b = c.in_ok-end_chain.ensures.ended ∙ ap (λ r. chain_ended r b) c.register.ensures in

@@ -1,4 +1,4 @@
-use Rattle.elab_eval.proofs.finish.finish.Given as goal
+use Rattle.elab_eval.proofs.finish.resolved_design.Given as goal
 
 abbrev pub ghost-tree : goal.ghost-tree
 ghost-tree a = a.modules.items
