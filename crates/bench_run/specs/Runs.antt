@@ -287,7 +287,7 @@ state_of (Halts h s) = s
 -- more units than that
 abbrev pub HasUsed : Run → Testbench → List Answer → ℕ → Type 0
 HasUsed x b [] used = used ≡ 0
-HasUsed x b (a ∷ as) used = (budget : ℕ) → used < budget → (state_of (ask_bench x.program x.frozen b.callee x.ctx (world budget (a ∷ as)))).used ≡ used
+HasUsed x b (a ∷ more) used = (budget : ℕ) → used < budget → (state_of (ask_bench x.program x.frozen b.callee x.ctx (world budget (a ∷ more)))).used ≡ used
 
 abbrev pub IsUsed : Run → Testbench → ℕ → Type 0
 IsUsed x b used = HasUsed x b b.given used
@@ -315,8 +315,8 @@ pub record Comes (x : Run) (rows : List Row) (p : Point) (next : Next) : Type 0 
 -- from the point before a run: the rows so far, and the point behind them
 pub data Follows (x : Run) (first : Point) : List Row → Point → Type 0 where
   here : Follows x first [] first
-  goes : (rows : List Row) (p q : Point) → Follows x first rows p → Comes x rows p (Goes q) → Follows x first rows q
-  happens : (rows : List Row) (p q : Point) (r : Row) → Follows x first rows p → Comes x rows p (Happens r q) → Follows x first (rows ++ r ∷ []) q
+  moves : (rows : List Row) (p q : Point) → Follows x first rows p → Comes x rows p (Goes q) → Follows x first rows q
+  takes : (rows : List Row) (p q : Point) (r : Row) → Follows x first rows p → Comes x rows p (Happens r q) → Follows x first (rows ++ r ∷ []) q
 
 -- the run has these rows, and ends so
 pub record IsRun (x : Run) (first : Point) (rows : List Row) (end : End) : Type 0 where
