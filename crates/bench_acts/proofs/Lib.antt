@@ -1,0 +1,3 @@
+pub mod TargetLaws
+pub mod ReadLaws
+pub mod SoundLaws

@@ -34,10 +34,10 @@ pub(crate) fn only_placed(call: &Called) -> Option<Val>
 pub(crate) fn one_or_none(call: &Called, name: &str) -> Option<Option<Val>>
     ensures { result ≡ one_or_none name.now (called_of call.now) }
 {
-    match (call.placed, call.keyword_vals) {
-        ([], []) => Some(None),
-        ([v], []) => Some(Some(*v)),
-        ([], [v]) if is_text(call.keywords[0].as_str(), name) => Some(Some(*v)),
+    match (call.placed, call.keyword_vals, call.keywords) {
+        ([], [], _) => Some(None),
+        ([v], [], _) => Some(Some(*v)),
+        ([], [v], [named]) if is_text(named.as_str(), name) => Some(Some(*v)),
         _ => None,
     }
 }

@@ -5,6 +5,10 @@ ghost use Rattle.elab_store.specs.Held.{held_of};
 ghost use Rattle.elab_store.specs.Seen.{called_of};
 ghost use Rattle.bench_acts.specs.Context.{raises, part_given, part_asked, part_attribute, serving, call_named, method_named, is_open_tick, ticks_at, part_called, get_called, read_of, set_called, tick_called, wait_given, delay_called, tick_with, sample_called, until_called, repeat_called, shown};
 ghost use Rattle.bench_acts.specs.Held.{IsBench, Serves};
+ghost use Rattle.bench_acts.specs.declared.serving.Served.TheVariants as served;
+ghost use Rattle.py_frames.specs.declared.request.Answer.TheVariants as answer;
+ghost use Rattle.py_frames.specs.declared.request.Cause.TheVariants.{Raised};
+ghost use Rattle.py_values.specs.declared.val.Val.TheVariants as val;
 
 use crate::arguments::{domain_name, number_set, one_or_none, only_placed, sampled};
 use crate::serving::{Bench, Served};
@@ -47,7 +51,9 @@ pub(crate) fn serve_part(
     }
 }
 
-pub(crate) fn refused() -> Served {
+pub(crate) fn refused() -> Served
+    ensures { result ≡ served.Answer (answer.Refuse Raised) }
+{
     Served::Answer(Answer::Refuse(Cause::Raised))
 }
 
@@ -257,8 +263,8 @@ fn tick_with(bench: &mut Bench, k: u32, more: &[Sample], end: TickEnd) -> Result
     for x in tick.samples.as_slice() {
         samples.push(*x)?;
     }
-    for x in more {
-        samples.push(*x)?;
+    for y in more {
+        samples.push(*y)?;
     }
     let domain = tick.domain;
     wait_for(
@@ -333,6 +339,8 @@ pub(crate) fn shown(bench: &Bench, reading: Reading, n: amh_bits::Int) -> Val
     }
 }
 
-fn int_val(n: amh_bits::Int) -> Val {
+fn int_val(n: amh_bits::Int) -> Val
+    ensures { result ≡ val.Int n }
+{
     Val::Int(py_values::Number::of(n))
 }

@@ -18,17 +18,18 @@ pub(crate) fn input_bits(design: &Design, e: ExprId) -> Option<InputBits>
     requires { e.0 < length design.now.pool.exprs }
     ensures { result ≡ input_bits design.now e }
 {
+    let _ = design.count();
     let width = design.shape(e).width as u32;
     let mut low = 0;
-    let mut e = e;
+    let mut part = e;
     loop {
-        match design.at(e) {
+        match design.at(part) {
             Expr::Sig(s) => return input_of(design, *s, low, width),
             Expr::Slice { a, low: more, .. } => {
                 low += *more as u32;
-                e = *a;
+                part = *a;
             }
-            Expr::Cast { a, .. } => e = *a,
+            Expr::Cast { a, .. } => part = *a,
             _ => return None,
         }
     }
@@ -49,7 +50,7 @@ fn is_clock(design: &Design, sig: SigId) -> bool
     ensures { result ≡ is_clock design.now sig.0 }
 {
     for d in 0..design.domains() {
-        if design.domain(DomainId(d)).clk == sig {
+        if design.domain(DomainId(d)).clk.0 == sig.0 {
             return true;
         }
     }
