@@ -47,19 +47,13 @@ use Rattle.bench_acts.specs.declared.serving.Served.{Served}
 use Rattle.bench_acts.specs.declared.serving.Served.TheVariants as asked
 use Rattle.bench_acts.specs.Context.{Serving, shown, ticks_at}
 use Rattle.bench_acts.specs.Serving.{bench_served}
+use Rattle.bench_run.specs.declared.testbench.Stand.{Stand}
+use Rattle.bench_run.specs.declared.testbench.Stand.TheVariants as stand
 use Rattle.bench_run.specs.Setting.{number_with}
 
 -- ---- testbenches
 
--- where a testbench stands: it goes on by an answer, waits for ticks or for a moment, or has ended
-pub data Stand : Type 0 where
-  Ready : Answer → Stand
-  -- of what has this number, so many more where they are counted
-  Ticks : (wait left : ℕ) → Stand
-  At : (moment : ℕ) → Stand
-  Ended : Stand
-
--- a testbench with all answers that it was given
+-- a testbench with all answers that it was given, and where it stands: it goes on by an answer, waits for ticks or for a moment, or has ended
 pub record Testbench : Type 0 where
   pub callee : Val
   pub background : Bool
@@ -135,7 +129,7 @@ with_bench i b p = record p { benches = slice_set p.benches i b }
 
 -- where a testbench stands that waits: a delay whose moment is not below 2^63 raises
 abbrev pub delayed : ℕ → Stand
-delayed t = if nat_lt t (2 ^ 63) then At t else Ready (answer.Refuse Raised)
+delayed t = if nat_lt t (2 ^ 63) then stand.Until t else stand.Ready (answer.Refuse Raised)
 
 abbrev pub count_of : TickEnd → ℕ
 count_of (end.Times n) = n
@@ -143,14 +137,14 @@ count_of e = 0
 
 abbrev pub waiting : ℕ → ℕ → Option Wait → Stand
 waiting now k (Some (wait.Delay t)) = delayed (now + t)
-waiting now k (Some (wait.Tick t)) = Ticks k (count_of t.end)
-waiting now k None = Ready (answer.Refuse Raised)
+waiting now k (Some (wait.Tick t)) = stand.Ticks k (count_of t.end)
+waiting now k None = stand.Ready (answer.Refuse Raised)
 
 -- what is asked is done; `ctx.get` and `ctx.set` speak of the environment now
 abbrev pub asked_done : Run → List ℤ → ℕ → Testbench → Served → Point → Next
-asked_done x env i b (asked.Answer a) p = Goes (with_bench i (record b { stand = Ready a }) p)
-asked_done x env i b (asked.Get y) p = Goes (with_bench i (record b { stand = Ready (answer.Give (value_at p.held env y)) }) p)
-asked_done x env i b (asked.Set bits n) p = happens (Set bits.sig (number_with (signal_form x.design.pool.signals bits.sig.0) bits (at env bits.sig.0) n)) (with_bench i (record b { stand = Ready (answer.Give val.None) }) p)
+asked_done x env i b (asked.Answer a) p = Goes (with_bench i (record b { stand = stand.Ready a }) p)
+asked_done x env i b (asked.Get y) p = Goes (with_bench i (record b { stand = stand.Ready (answer.Give (value_at p.held env y)) }) p)
+asked_done x env i b (asked.Set bits n) p = happens (Set bits.sig (number_with (signal_form x.design.pool.signals bits.sig.0) bits (at env bits.sig.0) n)) (with_bench i (record b { stand = stand.Ready (answer.Give val.None) }) p)
 asked_done x env i b (asked.Wait k) p = Goes (with_bench i (record b { stand = waiting (time_of p) k (ticks_at p.held k) }) p)
 
 abbrev pub served : Run → List ℤ → ℕ → Testbench → Serving → Point → Next
@@ -163,7 +157,7 @@ outcome_of x b a budget = ask_bench x.program x.frozen b.callee x.ctx (world bud
 -- what is left where it used so many units in all, of which it had used so many
 abbrev pub gone_on : Run → List ℤ → ℕ → Testbench → Answer → (used : ℕ) → Outcome → Point → Next
 gone_on x env i b a used (Done got s) p =
-    Goes (with_bench i (record b { given = b.given ++ a ∷ []; stand = Ended }) (record p { left = p.left + used - s.used }))
+    Goes (with_bench i (record b { given = b.given ++ a ∷ []; stand = stand.Ended }) (record p { left = p.left + used - s.used }))
 gone_on x env i b a used (Halts (halt.Asks r) s) p =
     let q = record p { left = p.left + used - s.used } in
     let c = record b { given = b.given ++ a ∷ [] } in
@@ -172,25 +166,22 @@ gone_on x env i b a used o p = option_map_or (λ (w : Stop × ℕ). Ends (StopsA
 
 -- the testbench of a number goes on where it is ready; else it is the next one's turn
 abbrev pub turned : Run → List ℤ → ℕ → Testbench → (used : ℕ) → Stand → Point → Next
-turned x env i b used (Ready a) p = gone_on x env i b a used (outcome_of x b a (used + p.left)) p
+turned x env i b used (stand.Ready a) p = gone_on x env i b a used (outcome_of x b a (used + p.left)) p
 turned x env i b used s p = Goes (record p { turn = suc i })
 
 -- ---- a moment
 
 -- waits for a moment are over
-abbrev pub woken_at : ℕ → Testbench → Testbench
-woken_at t b = woken b.stand
-  where
-    woken : Stand → Testbench
-    woken (At m) = if m == t then record b { stand = Ready (answer.Give val.None) } else b
-    woken s = b
+abbrev pub woken : ℕ → Stand → Stand
+woken t (stand.Until m) = if m == t then stand.Ready (answer.Give val.None) else stand.Until m
+woken t x = x
 
-abbrev pub is_due : ℕ → Testbench → Bool
-is_due t b = due b.stand
-  where
-    due : Stand → Bool
-    due (At m) = m == t
-    due s = false
+abbrev pub woken_at : ℕ → Testbench → Testbench
+woken_at t b = record b { stand = woken t b.stand }
+
+abbrev pub is_due : ℕ → Stand → Bool
+is_due t (stand.Until m) = m == t
+is_due t x = false
 
 -- the samples of a tick
 abbrev pub samples_of : Held → List ℤ → Tick → List Val
@@ -198,46 +189,45 @@ samples_of h env t = map (value_at h env) t.samples
 
 -- what a tick brings at the active edge of its domain, where the reset is this, before the event: counted ticks and a condition raise under it
 abbrev pub tick_stand : Held → List ℤ → ℕ → ℕ → Tick → Bool → TickEnd → Stand
-tick_stand h env k left t reset end.Once = Ready (answer.GiveList (val.Bool true ∷ val.Bool reset ∷ samples_of h env t))
-tick_stand h env k left t true (end.Times n) = Ready (answer.Refuse Raised)
-tick_stand h env k left t false (end.Times n) = if nat_lt 1 left then Ticks k (left - 1) else Ready (answer.GiveList (samples_of h env t))
-tick_stand h env k left t true (end.Until y) = Ready (answer.Refuse Raised)
-tick_stand h env k left t false (end.Until y) = if is_zero (number_at h env y) then Ticks k left else Ready (answer.GiveList (samples_of h env t))
+tick_stand h env k left t reset end.Once = stand.Ready (answer.GiveList (val.Bool true ∷ val.Bool reset ∷ samples_of h env t))
+tick_stand h env k left t true (end.Times n) = stand.Ready (answer.Refuse Raised)
+tick_stand h env k left t false (end.Times n) = if nat_lt 1 left then stand.Ticks k (left - 1) else stand.Ready (answer.GiveList (samples_of h env t))
+tick_stand h env k left t true (end.Until y) = stand.Ready (answer.Refuse Raised)
+tick_stand h env k left t false (end.Until y) = if is_zero (number_at h env y) then stand.Ticks k left else stand.Ready (answer.GiveList (samples_of h env t))
+
+abbrev pub wait_ticked : Circuit → Held → List ℤ → List DomainId → ℕ → ℕ → Option Wait → Stand
+wait_ticked c h env toggled k left (Some (wait.Tick t)) = if is_active c env toggled t.domain.0 then tick_stand h env k left t (is_reset c env t.domain.0) t.end else stand.Ticks k left
+wait_ticked c h env toggled k left w = stand.Ticks k left
+
+abbrev pub stand_ticked : Circuit → Held → List ℤ → List DomainId → Stand → Stand
+stand_ticked c h env toggled (stand.Ticks k left) = wait_ticked c h env toggled k left (ticks_at h k)
+stand_ticked c h env toggled x = x
 
 abbrev pub ticked : Circuit → Held → List ℤ → List DomainId → Testbench → Testbench
-ticked c h env toggled b = tick b.stand
-  where
-    at_wait : ℕ → ℕ → Option Wait → Stand
-    at_wait k left (Some (wait.Tick t)) = if is_active c env toggled t.domain.0 then tick_stand h env k left t (is_reset c env t.domain.0) t.end else Ticks k left
-    at_wait k left w = Ticks k left
+ticked c h env toggled b = record b { stand = stand_ticked c h env toggled b.stand }
 
-    tick : Stand → Testbench
-    tick (Ticks k left) = record b { stand = at_wait k left (ticks_at h k) }
-    tick s = b
+-- the clocks of these domains toggle at once, where there are any; ticks sample what was before
+abbrev pub toggles : Run → List ℤ → List DomainId → Point → Next
+toggles x env [] p = Goes p
+toggles x env (d ∷ ds) p = happens (Edge (d ∷ ds)) (record p { benches = map (ticked (design_at x p) p.held env (d ∷ ds)) p.benches })
 
--- at a moment: delays are over, ticks of the domains whose clocks toggle sample what was before, and these toggle in one event
+-- at a moment: delays are over, and clocks toggle
 abbrev pub at_moment : Run → List ℤ → ℕ → Point → Next
 at_moment x env t p =
-    let toggled = due_domains x.clocks (length x.design.domains) t in
-    let woken = map (woken_at t) p.benches in
-    toggles toggled (record p { now = Some t; turn = 0; benches = woken })
-  where
-    toggles : List DomainId → Point → Next
-    toggles [] q = Goes q
-    toggles (d ∷ ds) q = happens (Edge (d ∷ ds)) (record q { benches = map (ticked (design_at x q) q.held env (d ∷ ds)) q.benches })
+    toggles x env (due_domains x.clocks (length x.design.domains) t) (record p { now = Some t; turn = 0; benches = map (woken_at t) p.benches })
 
 -- ---- behind a round
 
-abbrev pub is_over : Testbench → Bool
-is_over b = b.background || ended b.stand
-  where
-    ended : Stand → Bool
-    ended Ended = true
-    ended s = false
+abbrev pub has_ended : Stand → Bool
+has_ended stand.Ended = true
+has_ended x = false
+
+abbrev pub is_over : Bool → Stand → Bool
+is_over background x = background || has_ended x
 
 -- the run may end behind this round
 abbrev pub may_end : RunEnd → List Testbench → Bool
-may_end WithTestbenches bs = list_all is_over bs
+may_end WithTestbenches bs = list_all (λ (b : Testbench). is_over b.background b.stand) bs
 may_end (Until t) bs = false
 
 -- a moment that is behind the end of the run
@@ -245,14 +235,22 @@ abbrev pub is_behind_end : RunEnd → ℕ → Bool
 is_behind_end WithTestbenches m = false
 is_behind_end (Until t) m = nat_lt t m
 
-abbrev pub earliest : Option ℕ → List Testbench → Option ℕ
+-- the moment for which a testbench waits
+abbrev pub moment_of : Stand → Option ℕ
+moment_of (stand.Until t) = Some t
+moment_of x = None
+
+abbrev pub earlier : Option ℕ → Option ℕ → Option ℕ
+earlier None b = b
+earlier (Some a) None = Some a
+earlier (Some a) (Some b) = Some (min a b)
+
+abbrev pub earliest : Option ℕ → List Stand → Option ℕ
 earliest m [] = m
-earliest m (b ∷ bs) = earliest (least m b.stand) bs
-  where
-    least : Option ℕ → Stand → Option ℕ
-    least None (At t) = Some t
-    least (Some n) (At t) = Some (min n t)
-    least n s = n
+earliest m (x ∷ xs) = earliest (earlier m (moment_of x)) xs
+
+abbrev pub stands_of : List Testbench → List Stand
+stands_of bs = map (λ (b : Testbench). b.stand) bs
 
 -- where the next toggle of a clock is this
 abbrev pub moved_on : Run → List ℤ → Option ℕ → Point → Next
@@ -262,23 +260,23 @@ moved_on x env (Some t) p = if is_behind_end x.end t then Ends Over else at_mome
 -- a delay that is due now brings another round; a moment that is due in the first round comes behind it
 abbrev pub is_due_again : Option ℕ → List Testbench → Bool
 is_due_again None bs = false
-is_due_again (Some t) bs = list_any (is_due t) bs
+is_due_again (Some t) bs = list_any (is_due t) (stands_of bs)
 
 abbrev pub round_over : Run → List ℤ → (toggle : Option ℕ) → Point → Next
 round_over x env toggle p =
     if may_end x.end p.benches then Ends Over
     else (if is_due_again p.now p.benches then Goes (record p { turn = 0; benches = map (woken_at (time_of p)) p.benches })
-    else moved_on x env (earliest toggle p.benches) p)
+    else moved_on x env (earliest toggle (stands_of p.benches)) p)
 
 -- ---- a run, from point to point
 
 -- what comes next in an environment, where a testbench used so many units and the next toggle of a clock is this
+abbrev pub turn_of : Run → List ℤ → (used : ℕ) → (toggle : Option ℕ) → Point → Option Testbench → Next
+turn_of x env used toggle p (Some b) = turned x env p.turn b used b.stand p
+turn_of x env used toggle p None = round_over x env toggle p
+
 abbrev pub next_of : Run → List ℤ → (used : ℕ) → (toggle : Option ℕ) → Point → Next
-next_of x env used toggle p = by (slice_get p.benches p.turn)
-  where
-    by : Option Testbench → Next
-    by (Some b) = turned x env p.turn b used b.stand p
-    by None = round_over x env toggle p
+next_of x env used toggle p = turn_of x env used toggle p (slice_get p.benches p.turn)
 
 -- the state in which an outcome leaves a testbench
 abbrev pub state_of : Outcome → State
@@ -287,12 +285,12 @@ state_of (Halts h s) = s
 
 -- how many units a testbench used for the answers that it took: none before the first, and then what it came to by them, in each world that has
 -- more units than that
+abbrev pub HasUsed : Run → Testbench → List Answer → ℕ → Type 0
+HasUsed x b [] used = used ≡ 0
+HasUsed x b (a ∷ as) used = (budget : ℕ) → used < budget → (state_of (ask_bench x.program x.frozen b.callee x.ctx (world budget (a ∷ as)))).used ≡ used
+
 abbrev pub IsUsed : Run → Testbench → ℕ → Type 0
-IsUsed x b used = by b.given
-  where
-    by : List Answer → Type 0
-    by [] = used ≡ 0
-    by (a ∷ as) = (budget : ℕ) → used < budget → (state_of (ask_bench x.program x.frozen b.callee x.ctx (world budget b.given))).used ≡ used
+IsUsed x b used = HasUsed x b b.given used
 
 -- the same of the testbench whose turn it is, where it is one's
 abbrev pub TurnUsed : Run → Option Testbench → ℕ → Type 0

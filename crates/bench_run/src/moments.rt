@@ -6,7 +6,11 @@ use py_frames::request::Answer;
 use py_values::Val;
 
 /// The next moment at which a clock or a delay is due.
-pub(crate) fn next_moment(clocks: &[Clock], after: Option<u64>, benches: &[Running]) -> Option<u64> {
+pub(crate) fn next_moment(
+    clocks: &[Clock],
+    after: Option<u64>,
+    benches: &[Running],
+) -> Option<u64> {
     let mut least = next_toggle(clocks, after);
     for x in benches {
         least = match (least, x.moment()) {

@@ -202,13 +202,9 @@ impl Run {
             self.stage = Stage::Round(i + 1);
             return Ok(None);
         };
-        let turn = self.testbenches[i].machine.resume(
-            &self.program,
-            &self.frozen,
-            answer,
-            &mut self.left,
-            steps,
-        );
+        let turn = self.testbenches[i]
+            .machine
+            .resume(&self.program, &self.frozen, answer, &mut self.left, steps);
         match turn {
             Turn::Asks(request) => {
                 let served = serve(

@@ -1,4 +1,6 @@
 // Testbenches of a run.
+ghost use Rattle.std.specs.Prelude.{◌≡◌};
+ghost use Rattle.bench_run.specs.Runs.{is_over, moment_of, IsRun};
 
 use py_frames::request::Answer;
 use py_machine::Machine;
@@ -25,7 +27,9 @@ pub(crate) struct Running {
 
 impl Running {
     /// Whether the run may end.
-    pub(crate) fn is_over(&self) -> bool {
+    pub(crate) fn is_over(&self) -> bool
+        ensures { result ≡ is_over self.now.background self.now.stand }
+    {
         self.background
             || match self.stand {
                 Stand::Ended => true,
@@ -34,7 +38,9 @@ impl Running {
     }
 
     /// The moment for which it waits.
-    pub(crate) fn moment(&self) -> Option<u64> {
+    pub(crate) fn moment(&self) -> Option<u64>
+        ensures { result ≡ moment_of self.now.stand }
+    {
         match self.stand {
             Stand::Until(at) => Some(at),
             _ => None,

@@ -1,10 +1,11 @@
 -- What knows the first expressions of a pool knows one more, once its number stands in its list.
-use Rattle.std.specs.Prelude.{◌≡◌, ◌≢◌, refl, ℕ, zero, suc, ◌+◌, ◌<◌, ◌==◌, Bool, true, false, List, [], ◌∷◌, ◌++◌, length, slice_get, slice_index_or, slice_set, unwrap_or, Some}
+use Rattle.std.specs.Prelude.{◌≡◌, ◌≢◌, refl, ℕ, zero, suc, ◌+◌, ◌<◌, ◌==◌, Bool, true, false, List, [], ◌∷◌, ◌++◌, length, slice_get, slice_index_or, slice_set, Some}
 use Rattle.std.proofs.Common.{sym, ◌∙◌, ap, arith, cond, subst, append-nil}
 use Rattle.std.proofs.lemmas.Bool.{false≢true, eq-eqb, eqb-true}
 use Rattle.std.proofs.lemmas.Option.{slice_get_within, slice_get_read, slice_get-get_or}
 use Rattle.design_ir.specs.declared.expr.Expr.{Expr}
 use Rattle.design_ir.proofs.Answers.{answers_append, answers_begin}
+use Rattle.design_ir.proofs.Elements.{some_is}
 use Rattle.expr_index.specs.First.{reset_step}
 use Rattle.expr_index.specs.Knows.{Index, Knows, numbers_in}
 use Rattle.expr_index.specs.Lists.{list_of, list_count}
@@ -21,9 +22,6 @@ get_set_other (x ∷ xs) zero zero y h = absurd (h refl)
 get_set_other (x ∷ xs) zero (suc j) y h = refl
 get_set_other (x ∷ xs) (suc i) zero y h = refl
 get_set_other (x ∷ xs) (suc i) (suc j) y h = get_set_other xs i j y (λ s. h (ap suc s))
-
-some_is : {A : Type 0} (a b : A) → Some a ≡ Some b → a ≡ b
-some_is a b h = ap (λ o. unwrap_or o a) h
 
 -- ---- what is known of the list of an expression
 

@@ -14,8 +14,8 @@ use lists::{Items, NoMemory};
 use std::alloc::Global;
 use std::marker::Model;
 
-/// The numbers of a pool's expressions, in lists by what they are made of. Contracts see the lists, and in which expressions a reset
-/// stands.
+/// The numbers of a pool's expressions, in lists by what they are made of, and in which of them a reset stands. Contracts see both; what
+/// they are of a pool is `Knows`.
 #[derive(Drop)]
 pub struct Known {
     lists: Vec<Items<usize>>,
@@ -49,7 +49,7 @@ impl Known {
         Ok(known)
     }
 
-    /// One more, which comes next: its number is the count.
+    /// One more, which comes next: its number is the count of those before it. Where there is no memory, nothing is noted.
     pub fn note(&mut self, e: &Expr) -> Result<(), NoMemory>
         ensures noted { IfOk result (λ _. (es : List Expr) → Knows self.old es → Knows self.new (es ++ e.now ∷ [])) }
         ensures full { OnErr result (self.new ≡ self.old) }
@@ -71,6 +71,7 @@ impl Known {
         requires { Knows self.now (P.pooled pool.now).exprs }
         ensures { option_map (λ id. id.0) result ≡ first_number (P.pooled pool.now).exprs e.now }
     {
+        // What holds expressions has room for 2^30 of them, so each number fits.
         let _ = pool.count();
         for number in self.lists[list_of(e)].as_slice() {
             let id = ExprId(*number as u32);
