@@ -1,3 +1,4 @@
 pub mod TargetLaws
 pub mod ReadLaws
 pub mod SoundLaws
+pub mod ShareLaws

@@ -13,36 +13,37 @@ use Rattle.design_ir.specs.Circuits.{Circuit, is_clock}
 use Rattle.design_ir.specs.PoolRules.{IsPool}
 use Rattle.design_ir.specs.Values.{form}
 use Rattle.design_ir.proofs.Equations.{standing, form_is}
+use Rattle.comb_graph.proofs.GraphTables.{shape_of}
+use Rattle.amh_things.proofs.Drafts.{width_of_form}
 use Rattle.bench_acts.specs.declared.targets.InputBits.{InputBits}
 use Rattle.bench_acts.specs.Targets.{bits_within}
 
 -- ---- as many steps as there are expressions before this one are enough
 
 module _ (c : Circuit) (rules : IsPool c.pool) (width : ℕ) where
-  steps_enough : (n m k low : ℕ) → k < n → k < m → bits_within c n (slice_get c.pool.exprs k) low width ≡ bits_within c m (slice_get c.pool.exprs k) low width
-  step_enough : (n m k low : ℕ) (e : Option Expr) → slice_get c.pool.exprs k ≡ e → k < suc n → k < suc m → bits_within c (suc n) e low width ≡ bits_within c (suc m) e low width
-
-  steps_enough zero m k low h g = absurd (omega (arith, h))
-  steps_enough (suc n) zero k low h g = absurd (omega (arith, g))
-  steps_enough (suc n) (suc m) k low h g = step_enough n m k low (slice_get c.pool.exprs k) refl h g
-
-  step_enough n m k low None is h g = refl
-  step_enough n m k low (Some (Sig s)) is h g = refl
-  step_enough n m k low (Some (Slice a from w)) is h g =
+  step_enough : (n m k low : ℕ) (e : Option Expr) → slice_get c.pool.exprs k ≡ e → k < n → k < m → bits_within c n e low width ≡ bits_within c m e low width
+  step_enough zero m k low e is h g = absurd (omega (arith, h))
+  step_enough (suc n) zero k low e is h g = absurd (omega (arith, g))
+  step_enough (suc n) (suc m) k low None is h g = refl
+  step_enough (suc n) (suc m) k low (Some (Sig s)) is h g = refl
+  step_enough (suc n) (suc m) k low (Some (Slice a from w)) is h g =
       let below = (standing c.pool k (Slice a from w) rules is).names.0 in
-      steps_enough n m a.0 (low + from) (omega (arith, below, h)) (omega (arith, below, g))
-  step_enough n m k low (Some (Cast a signed)) is h g =
+      step_enough n m a.0 (low + from) (slice_get c.pool.exprs a.0) refl (omega (arith, below, h)) (omega (arith, below, g))
+  step_enough (suc n) (suc m) k low (Some (Cast a signed)) is h g =
       let below = (standing c.pool k (Cast a signed) rules is).names.0 in
-      steps_enough n m a.0 low (omega (arith, below, h)) (omega (arith, below, g))
-  step_enough n m k low (Some (Const x s)) is h g = refl
-  step_enough n m k low (Some (Unary op a)) is h g = refl
-  step_enough n m k low (Some (Binary op a b)) is h g = refl
-  step_enough n m k low (Some (Mux s a b)) is h g = refl
-  step_enough n m k low (Some (Cat es)) is h g = refl
-  step_enough n m k low (Some (Part a offset w stride)) is h g = refl
-  step_enough n m k low (Some (Pick index es)) is h g = refl
-  step_enough n m k low (Some (Matches a patterns)) is h g = refl
-  step_enough n m k low (Some (Reset domain place)) is h g = refl
+      step_enough n m a.0 low (slice_get c.pool.exprs a.0) refl (omega (arith, below, h)) (omega (arith, below, g))
+  step_enough (suc n) (suc m) k low (Some (Const x s)) is h g = refl
+  step_enough (suc n) (suc m) k low (Some (Unary op a)) is h g = refl
+  step_enough (suc n) (suc m) k low (Some (Binary op a b)) is h g = refl
+  step_enough (suc n) (suc m) k low (Some (Mux s a b)) is h g = refl
+  step_enough (suc n) (suc m) k low (Some (Cat es)) is h g = refl
+  step_enough (suc n) (suc m) k low (Some (Part a offset w stride)) is h g = refl
+  step_enough (suc n) (suc m) k low (Some (Pick index es)) is h g = refl
+  step_enough (suc n) (suc m) k low (Some (Matches a patterns)) is h g = refl
+  step_enough (suc n) (suc m) k low (Some (Reset domain place)) is h g = refl
+
+  steps_enough : (n m k low : ℕ) → k < n → k < m → bits_within c n (slice_get c.pool.exprs k) low width ≡ bits_within c m (slice_get c.pool.exprs k) low width
+  steps_enough n m k low h g = step_enough n m k low (slice_get c.pool.exprs k) refl h g
 
   -- a slice: the bits that it is of are those of what it is of, from there on
   pub slice_bits : (k low : ℕ) (a : ExprId) (from w : ℕ) (whole : Option InputBits) → slice_get c.pool.exprs k ≡ Some (Slice a from w) → bits_within c (suc k) (slice_get c.pool.exprs k) low width ≡ whole → bits_within c (suc a.0) (slice_get c.pool.exprs a.0) (low + from) width ≡ whole
@@ -64,10 +65,17 @@ module _ (c : Circuit) (rules : IsPool c.pool) (width : ℕ) where
   pub cast_room : (k low : ℕ) (a : ExprId) (signed : Bool) → slice_get c.pool.exprs k ≡ Some (Cast a signed) → low + width ≤ (form c.pool k).width → low + width ≤ (form c.pool a.0).width
   cast_room k low a signed is h = omega (arith, h, ap (λ f. f.width) (form_is c.pool k (Cast a signed) rules is))
 
+  -- no place of a bit is past 128
+  pub slice_fits : (k low : ℕ) (a : ExprId) (from w : ℕ) → slice_get c.pool.exprs k ≡ Some (Slice a from w) → k < length c.pool.exprs → low + width ≤ (form c.pool k).width → low + from ≤ 128
+  slice_fits k low a from w is there h =
+      let below = (standing c.pool k (Slice a from w) rules is).names.0 in
+      let few = width_of_form (form c.pool a.0).width (form c.pool a.0).signed (shape_of c.pool a.0 rules (omega (arith, below, there))) in
+      omega (arith, slice_room k low a from w is h, few)
+
 -- ---- clocks
 
 pub is_no_clock : (ds : List Domain) (i s : ℕ) (d : Domain) (whole : Bool) → slice_get ds i ≡ Some d → (d.clk.0 == s) ≡ false → list_any (λ (x : Domain). x.clk.0 == s) (drop i ds) ≡ whole → list_any (λ (x : Domain). x.clk.0 == s) (drop (i + 1) ds) ≡ whole
-is_no_clock ds i s d whole is no h = sym (ap (list_any (λ (x : Domain). x.clk.0 == s)) (drop_at ds i d is) ∙ ap (λ b. b || list_any (λ (x : Domain). x.clk.0 == s) (drop (i + 1) ds)) no) ∙ h
+is_no_clock ds i s d whole is other h = sym (ap (list_any (λ (x : Domain). x.clk.0 == s)) (drop_at ds i d is) ∙ ap (λ b. b || list_any (λ (x : Domain). x.clk.0 == s) (drop (i + 1) ds)) other) ∙ h
 
 pub is_a_clock : (ds : List Domain) (i s : ℕ) (d : Domain) (whole : Bool) → slice_get ds i ≡ Some d → (d.clk.0 == s) ≡ true → list_any (λ (x : Domain). x.clk.0 == s) (drop i ds) ≡ whole → true ≡ whole
-is_a_clock ds i s d whole is yes h = sym (ap (list_any (λ (x : Domain). x.clk.0 == s)) (drop_at ds i d is) ∙ ap (λ b. b || list_any (λ (x : Domain). x.clk.0 == s) (drop (i + 1) ds)) yes) ∙ h
+is_a_clock ds i s d whole is same h = sym (ap (list_any (λ (x : Domain). x.clk.0 == s)) (drop_at ds i d is) ∙ ap (λ b. b || list_any (λ (x : Domain). x.clk.0 == s) (drop (i + 1) ds)) same) ∙ h

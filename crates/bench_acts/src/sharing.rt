@@ -1,4 +1,10 @@
 // What an act of a testbench makes is put to the design, but for expressions that are there.
+ghost use Rattle.std.specs.Prelude.{◌≡◌, ◌<◌, ◌≤◌, length, IfOk, IfErr, None};
+ghost use Rattle.design_ir.specs.PoolRules.{IsAskable, expr_added, shape_stop, bad_operand, greatest_width};
+ghost use Rattle.design_ir.specs.Values.{form};
+ghost use Rattle.expr_index.specs.Numbers.{number_now};
+ghost use Rattle.bench_acts.specs.Sharing.{begin_now, kept_now};
+ghost use Rattle.bench_acts.specs.Held.{IsShareStop};
 
 use design_ir::{Design, Expr, ExprId, Exprs, PoolStop};
 use elab_store::kept::{Begin, Equation, Kept};
@@ -78,7 +84,14 @@ fn shared_one(
     Ok(id)
 }
 
-fn put<P: Exprs>(pool: &mut P, e: Expr) -> Result<ExprId, ShareStop> {
+// Puts an expression at the end that nothing is wrong with: it is refused exactly where there are too many.
+fn put<P: Exprs>(pool: &mut P, e: Expr) -> Result<ExprId, ShareStop>
+    requires askable { IsAskable (P.pooled pool.old) e }
+    requires shaped { shape_stop (bad_operand (form (P.pooled pool.old)) e) (greatest_width (P.pooled pool.old).signals (form (P.pooled pool.old)) e) ≡ None }
+    ensures added { IfOk result (λ id. (length (P.pooled pool.old).exprs < 262144) × (id ≡ record { 0 = length (P.pooled pool.old).exprs }) × (P.pooled pool.new ≡ expr_added (P.pooled pool.old) e)) }
+    ensures refused { IfErr result (λ stop. IsShareStop stop (262144 ≤ length (P.pooled pool.old).exprs) × (P.pooled pool.new ≡ P.pooled pool.old)) }
+    ensures rest { pool.new ≡ P.grown pool.old (P.pooled pool.new) }
+{
     match pool.expr(e) {
         Ok(id) => Ok(id),
         Err(PoolStop::NoMemory) => Err(ShareStop::NoMemory),
@@ -86,7 +99,9 @@ fn put<P: Exprs>(pool: &mut P, e: Expr) -> Result<ExprId, ShareStop> {
     }
 }
 
-fn begin_now(begin: Begin, before: u32, now: &[ExprId]) -> Begin {
+fn begin_now(begin: Begin, before: u32, now: &[ExprId]) -> Begin
+    ensures { result ≡ begin_now (number_now before now.now) begin }
+{
     match begin {
         Begin::If(e) => Begin::If(number_now(e, before, now)),
         Begin::Elif(e) => Begin::Elif(number_now(e, before, now)),
@@ -95,7 +110,9 @@ fn begin_now(begin: Begin, before: u32, now: &[ExprId]) -> Begin {
     }
 }
 
-fn kept_now(kept: Kept, before: u32, now: &[ExprId]) -> Kept {
+fn kept_now(kept: Kept, before: u32, now: &[ExprId]) -> Kept
+    ensures { result ≡ kept_now (number_now before now.now) kept }
+{
     match kept {
         Kept::Statement(s) => Kept::Statement(Equation {
             target: number_now(s.target, before, now),
