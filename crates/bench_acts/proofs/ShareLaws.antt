@@ -1,12 +1,16 @@
 -- The numbers that expressions get, as things are told of them.
-use Rattle.std.proofs.Common.{◌≡◌, refl, ◌∙◌, ap, ℕ, zero, suc, ◌-◌, Bool, true, false, List, [], ◌∷◌, ◌++◌, map, take, drop}
+use Rattle.std.proofs.Common.{◌≡◌, refl, sym, subst, ◌∙◌, ap, length, Some, ℕ, zero, suc, ◌-◌, Bool, true, false, List, [], ◌∷◌, ◌++◌, map, take, drop}
 use Rattle.std.specs.Prelude.{nat_lt, if◌then◌else◌, slice_get, slice_index_or}
 use Rattle.std.specs.Option.{option_map_or}
 use Rattle.design_ir.specs.declared.ids.ExprId.{ExprId}
 use Rattle.amh_things.specs.declared.thing.Thing.{Thing}
 use Rattle.amh_things.specs.declared.thing.Thing.TheVariants as thing
 use Rattle.amh_things.specs.Renumbered as things
+use Rattle.design_ir.specs.declared.expr.Expr.{Expr}
+use Rattle.design_ir.proofs.Elements.{some_is}
 use Rattle.expr_index.specs.Numbers.{number_now}
+use Rattle.expr_index.specs.Knows.{Index, Knows}
+use Rattle.bench_acts.proofs.ServeLaws.{serves_on}
 
 read_or : (now : List ExprId) (i : ℕ) (e : ExprId) → option_map_or (λ (x : ExprId). x) (slice_get now i) e ≡ slice_index_or now i e
 read_or [] i e = refl
@@ -36,3 +40,14 @@ module _ (f g : ExprId → ExprId) (same : (e : ExprId) → f e ≡ g e) where
 
   pub same_things : (from : ℕ) (ts : List Thing) → things.things_now from f ts ≡ things.things_now from g ts
   same_things from ts = ap (λ xs. take from ts ++ xs) (same_each (drop from ts))
+
+-- ---- an expression at the end
+
+last_is : (es : List Expr) (e : Expr) → slice_get (es ++ e ∷ []) (length es) ≡ Some e
+last_is [] e = refl
+last_is (x ∷ es) e = last_is es e
+
+pub known_more : (x : Index) (es fs : List Expr) (e d : Expr) (k : ℕ) → fs ≡ es ++ e ∷ [] → k ≡ length es → slice_get fs k ≡ Some d → Knows x (es ++ d ∷ []) → Knows x fs
+known_more x es fs e d k is at there h =
+    let same : d ≡ e = some_is d e (sym there ∙ ap (λ l. slice_get l k) is ∙ ap (slice_get (es ++ e ∷ [])) at ∙ last_is es e) in
+    subst (λ l. Knows x l) (ap (λ y. es ++ y ∷ []) same ∙ sym is) h

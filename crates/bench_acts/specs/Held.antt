@@ -1,8 +1,11 @@
 -- What the code of this crate holds, as the definitions see it.
-use Rattle.std.specs.Prelude.{◌≡◌, Result, Ok, Err, ⊤}
+use Rattle.std.specs.Prelude.{◌≡◌, Result, Ok, Err, None, ⊤}
 use Rattle.py_frames.specs.declared.request.Answer.TheVariants as answer
 use Rattle.lists.specs.declared.items.NoMemory.{NoMemory}
-use Rattle.design_ir.specs.Circuits.{Circuit}
+use Rattle.design_ir.specs.declared.expr.Expr.{Expr}
+use Rattle.design_ir.specs.Pools.{Pooled}
+use Rattle.design_ir.specs.PoolRules.{IsAskable, shape_stop, bad_operand, greatest_width}
+use Rattle.design_ir.specs.Values.{form}
 use Rattle.elab_store.specs.Held.{held_of}
 use Rattle.elab_store.specs.Sound.{IsSound}
 use Rattle.expr_index.specs.Knows.{Knows}
@@ -38,3 +41,8 @@ ServesOn (Err e) before behind owed = ⊤
 abbrev pub IsShareStop : ShareStop → Type 0 → Type 0
 IsShareStop stop.Limit many = many
 IsShareStop stop.NoMemory many = ⊤
+
+-- an expression that may stand behind those of a pool, but for their count
+pub record MayCome (p : Pooled) (e : Expr) : Type 0 where
+  pub askable : IsAskable p e
+  pub shaped : shape_stop (bad_operand (form p) e) (greatest_width p.signals (form p) e) ≡ None
