@@ -1,6 +1,6 @@
 -- What an act of a testbench makes, put to the design: an expression that is there already is not made again.
 -- Source: this project's own rule (docs/RULES.md).
-use Rattle.std.specs.Prelude.{◌≡◌, ℕ, List, [], ◌∷◌, ◌++◌, length, map, drop, take, Option, Some, None, fold}
+use Rattle.std.specs.Prelude.{◌≡◌, ℕ, nat_lt, ◌&&◌, Bool, List, [], ◌∷◌, ◌++◌, length, map, drop, take, Option, Some, None, fold}
 use Rattle.design_ir.specs.declared.ids.ExprId.{ExprId}
 use Rattle.design_ir.specs.declared.expr.Expr.{Expr}
 use Rattle.design_ir.specs.Pools.{Pooled}
@@ -67,6 +67,10 @@ held_shared h k = held_over h.pool (length h.store.things) (length h.store.kept)
 -- the expressions of a pool behind an act
 abbrev pub exprs_shared : Pooled → Held → List Expr
 exprs_shared p k = (shared p.exprs (drop (length p.exprs) k.pool.exprs)).exprs
+
+-- one of these expressions more than those of the pool is past the count; a design may have more of its own
+abbrev pub too_many : Pooled → List Expr → Bool
+too_many p es = nat_lt (length p.exprs) (length es) && nat_lt 262144 (length es)
 
 -- an act puts expressions behind those of the pool, and its pool keeps to the rules
 pub record IsBehind (p : Pooled) (k : Held) : Type 0 where

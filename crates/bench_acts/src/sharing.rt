@@ -1,11 +1,11 @@
 // What an act of a testbench makes is put to the design, but for expressions that are there.
-ghost use Rattle.std.specs.Prelude.{◌≡◌, ◌<◌, ◌≤◌, ◌++◌, ◌∷◌, [], length, slice_get, IfOk, IfErr, Some, None};
+ghost use Rattle.std.specs.Prelude.{◌≡◌, ◌<◌, ◌≤◌, ◌++◌, ◌∷◌, [], length, slice_get, IfOk, IfErr, Some, None, true, false};
 ghost use Rattle.design_ir.specs.declared.expr.Expr.{Expr};
 ghost use Rattle.design_ir.specs.PoolRules.{expr_added};
 ghost use Rattle.expr_index.specs.Numbers.{number_now, renumbered};
 ghost use Rattle.expr_index.specs.Knows.{Knows};
 ghost use Rattle.elab_store.specs.Held.{held_of};
-ghost use Rattle.bench_acts.specs.Sharing.{begin_now, kept_now, share_one, held_over, exprs_shared, IsBehind};
+ghost use Rattle.bench_acts.specs.Sharing.{begin_now, kept_now, share_one, held_over, exprs_shared, too_many, IsBehind};
 ghost use Rattle.bench_acts.specs.Held.{IsShareStop, MayCome};
 
 use design_ir::{Design, Expr, ExprId, Exprs, PoolStop};
@@ -55,7 +55,7 @@ pub(crate) fn share(
     ensures held { IfOk result (λ _. held_of held.new ≡ held_over design.old.pool before.things before.kept (held_of held.old)) }
     ensures design { IfOk result (λ _. design.new ≡ record design.old { pool = held.new.pool }) }
     ensures known { IfOk result (λ _. Knows known.new held.new.pool.exprs) }
-    ensures few { IfOk result (λ _. length held.new.pool.exprs ≤ 262144) }
+    ensures few { IfOk result (λ _. too_many design.old.pool held.new.pool.exprs ≡ false) }
     ensures limit { IfErr result (λ stop. IsShareStop stop (262144 < length (exprs_shared design.old.pool (held_of held.old)))) }
 {
     if held.pool.count() == before.exprs {
