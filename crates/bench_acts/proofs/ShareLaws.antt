@@ -10,7 +10,6 @@ use Rattle.design_ir.specs.declared.expr.Expr.{Expr}
 use Rattle.design_ir.proofs.Elements.{some_is}
 use Rattle.expr_index.specs.Numbers.{number_now}
 use Rattle.expr_index.specs.Knows.{Index, Knows}
-use Rattle.bench_acts.proofs.ServeLaws.{serves_on}
 
 read_or : (now : List ExprId) (i : ℕ) (e : ExprId) → option_map_or (λ (x : ExprId). x) (slice_get now i) e ≡ slice_index_or now i e
 read_or [] i e = refl
