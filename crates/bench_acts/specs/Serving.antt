@@ -15,20 +15,17 @@ use Rattle.elab_store.specs.Stores.{Held, Answered, kept_of}
 use Rattle.elab_eval.specs.Table.{prim}
 use Rattle.bench_acts.specs.declared.serving.Served.TheVariants as served
 use Rattle.bench_acts.specs.Context.{Serving, serving, raises, part_asked}
-use Rattle.bench_acts.specs.Sharing.{held_shared}
+use Rattle.bench_acts.specs.Sharing.{held_shared, too_many}
 
 -- signals, modules or memories came
 abbrev pub makes_hardware : Held → Held → Bool
 makes_hardware h k =
     nat_lt (length h.pool.signals) (length k.pool.signals) || (nat_lt (length h.store.modules) (length k.store.modules) || nat_lt (length h.store.memories) (length k.store.memories))
 
-abbrev pub most_exprs : ℕ
-most_exprs = 262144
-
 -- the answer of the table, with what is shared, unless a count is passed
 abbrev pub within_count : Held → Held → Answered → Serving
 within_count h shared a =
-    if nat_lt most_exprs (length shared.pool.exprs) then serving (served.Answer (answer.Refuse Limit)) h else serving (served.Answer a.answer) shared
+    if too_many h.pool shared.pool.exprs then serving (served.Answer (answer.Refuse Limit)) h else serving (served.Answer a.answer) shared
 
 abbrev pub table_served : Held → Answered → Serving
 table_served h a = if makes_hardware h a.held then raises h else within_count h (held_shared h a.held) a

@@ -1,6 +1,6 @@
 -- What an act of a testbench makes, put to the design: an expression that is there already is not made again.
 -- Source: this project's own rule (docs/RULES.md).
-use Rattle.std.specs.Prelude.{ℕ, List, [], ◌∷◌, ◌++◌, length, map, drop, take, Option, Some, None, fold}
+use Rattle.std.specs.Prelude.{◌≡◌, ℕ, nat_lt, ◌&&◌, Bool, List, [], ◌∷◌, ◌++◌, length, map, drop, take, Option, Some, None, fold}
 use Rattle.design_ir.specs.declared.ids.ExprId.{ExprId}
 use Rattle.design_ir.specs.declared.expr.Expr.{Expr}
 use Rattle.design_ir.specs.Pools.{Pooled}
@@ -53,9 +53,26 @@ kept_now to k = k
 abbrev pub kepts_now : ℕ → (ExprId → ExprId) → List Kept → List Kept
 kepts_now from to ks = take from ks ++ map (kept_now to) (drop from ks)
 
--- what is held behind an act over what was held before it: the pool gets what is new, and what the act made stands over it
+-- what is held behind an act, over the pool and the counts of things and of kept ones before it: the pool gets what is new, and what the act
+-- made stands over it
+abbrev pub held_over : Pooled → (things kept : ℕ) → Held → Held
+held_over p things kept k =
+    let s = shared p.exprs (drop (length p.exprs) k.pool.exprs) in
+    let to = number_now (length p.exprs) s.numbers in
+    record k { pool = record p { exprs = s.exprs }; store = record k.store { things = things_now things to k.store.things; kept = kepts_now kept to k.store.kept } }
+
 abbrev pub held_shared : Held → Held → Held
-held_shared h k =
-    let s = shared h.pool.exprs (drop (length h.pool.exprs) k.pool.exprs) in
-    let to = number_now (length h.pool.exprs) s.numbers in
-    record k { pool = record h.pool { exprs = s.exprs }; store = record k.store { things = things_now (length h.store.things) to k.store.things; kept = kepts_now (length h.store.kept) to k.store.kept } }
+held_shared h k = held_over h.pool (length h.store.things) (length h.store.kept) k
+
+-- the expressions of a pool behind an act
+abbrev pub exprs_shared : Pooled → Held → List Expr
+exprs_shared p k = (shared p.exprs (drop (length p.exprs) k.pool.exprs)).exprs
+
+-- one of these expressions more than those of the pool is past the count; a design may have more of its own
+abbrev pub too_many : Pooled → List Expr → Bool
+too_many p es = nat_lt (length p.exprs) (length es) && nat_lt 262144 (length es)
+
+-- an act puts expressions behind those of the pool, and its pool keeps to the rules
+pub record IsBehind (p : Pooled) (k : Held) : Type 0 where
+  pub signals : k.pool.signals ≡ p.signals
+  pub exprs : k.pool.exprs ≡ p.exprs ++ drop (length p.exprs) k.pool.exprs

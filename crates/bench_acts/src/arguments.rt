@@ -1,5 +1,5 @@
 // The arguments of calls on `ctx`.
-ghost use Rattle.std.specs.Prelude.{◌≡◌, length};
+ghost use Rattle.std.specs.Prelude.{◌≡◌, length, IfSome};
 ghost use Rattle.std.specs.Option.{option_copied};
 ghost use Rattle.py_heap.specs.Heaps.{seen};
 ghost use Rattle.amh_things.specs.Held.{AreHeld};
@@ -7,6 +7,7 @@ ghost use Rattle.amh_things.specs.Things.{thing_of};
 ghost use Rattle.amh_things.specs.Operands.{operand_of as operand_seen};
 ghost use Rattle.elab_store.specs.Held.{held_of};
 ghost use Rattle.elab_store.specs.Seen.{called_of};
+ghost use Rattle.elab_store.specs.Sound.{IsSample};
 ghost use Rattle.bench_acts.specs.Context.{only_placed, one_or_none, operand_read, reading_of, number_set, domain_given};
 
 use amh_bits::Int;
@@ -34,10 +35,10 @@ pub(crate) fn only_placed(call: &Called) -> Option<Val>
 pub(crate) fn one_or_none(call: &Called, name: &str) -> Option<Option<Val>>
     ensures { result ≡ one_or_none name.now (called_of call.now) }
 {
-    match (call.placed, call.keyword_vals) {
-        ([], []) => Some(None),
-        ([v], []) => Some(Some(*v)),
-        ([], [v]) if is_text(call.keywords[0].as_str(), name) => Some(Some(*v)),
+    match (call.placed, call.keyword_vals, call.keywords) {
+        ([], [], _) => Some(None),
+        ([v], [], _) => Some(Some(*v)),
+        ([], [v], [named]) if is_text(named.as_str(), name) => Some(Some(*v)),
         _ => None,
     }
 }
@@ -45,7 +46,8 @@ pub(crate) fn one_or_none(call: &Called, name: &str) -> Option<Option<Val>>
 /// What is sampled where a value of the program is: a value by what its bits are read as, or a number. A view is none.
 pub(crate) fn sampled(held: &Elaboration, v: &Val) -> Option<Sample>
     requires { AreHeld (length held.now.pool.exprs) held.now.store.things }
-    ensures { result ≡ operand_read (reading_of (thing_of held.now.store.things v.now)) (operand_seen held.now.pool held.now.store.things v.now) }
+    ensures value { result ≡ operand_read (reading_of (thing_of held.now.store.things v.now)) (operand_seen held.now.pool held.now.store.things v.now) }
+    ensures sound { IfSome result (IsSample held.now.pool) }
 {
     match operand_of(&held.pool, &held.store.things, v)? {
         Operand::Held { e, .. } => match reading_of(held, v) {

@@ -1,10 +1,16 @@
 // `ctx` and what comes of its calls.
-ghost use Rattle.std.specs.Prelude.{◌≡◌, ◌∷◌, [], Ok, OnOk, map, string_bytes, slice_get};
+ghost use Rattle.std.specs.Prelude.{◌≡◌, ◌∷◌, [], Ok, OnOk, IfSome, map, string_bytes, slice_get};
 ghost use Rattle.py_heap.specs.Heaps.{seen};
 ghost use Rattle.elab_store.specs.Held.{held_of};
 ghost use Rattle.elab_store.specs.Seen.{called_of};
+ghost use Rattle.elab_store.specs.Sound.{IsSample, IsTickEnd, IsWait};
+ghost use Rattle.std.specs.List.{AllByRecursion};
 ghost use Rattle.bench_acts.specs.Context.{raises, part_given, part_asked, part_attribute, serving, call_named, method_named, is_open_tick, ticks_at, part_called, get_called, read_of, set_called, tick_called, wait_given, delay_called, tick_with, sample_called, until_called, repeat_called, shown};
 ghost use Rattle.bench_acts.specs.Held.{IsBench, Serves};
+ghost use Rattle.bench_acts.specs.declared.serving.Served.TheVariants as served;
+ghost use Rattle.py_frames.specs.declared.request.Answer.TheVariants as answer;
+ghost use Rattle.py_frames.specs.declared.request.Cause.TheVariants.{Raised};
+ghost use Rattle.py_values.specs.declared.val.Val.TheVariants as val;
 
 use crate::arguments::{domain_name, number_set, one_or_none, only_placed, sampled};
 use crate::serving::{Bench, Served};
@@ -47,10 +53,13 @@ pub(crate) fn serve_part(
     }
 }
 
-pub(crate) fn refused() -> Served {
+pub(crate) fn refused() -> Served
+    ensures { result ≡ served.Answer (answer.Refuse Raised) }
+{
     Served::Answer(Answer::Refuse(Cause::Raised))
 }
 
+#[tactic(auto, using(crate::proofs::SoundLaws::part_sound))]
 fn given(bench: &mut Bench, part: BenchPart) -> Result<Served, NoMemory>
     requires { IsBench bench.old }
     ensures served { Serves result bench.old bench.new (part_given part (held_of bench.old.held)) }
@@ -160,7 +169,8 @@ fn got(bench: &Bench, call: &Called) -> Served
 // What is sampled, where no reset stands in it that no module holds.
 fn usable(bench: &Bench, v: &Val) -> Option<Sample>
     requires { IsBench bench.now }
-    ensures { result ≡ read_of (held_of bench.now.held) v.now }
+    ensures value { result ≡ read_of (held_of bench.now.held) v.now }
+    ensures sound { IfSome result (IsSample bench.now.held.pool) }
 {
     let sample = sampled(&bench.held, v)?;
     match sample {
@@ -218,8 +228,10 @@ fn tick(bench: &mut Bench, heap: &Heap, frozen: &Frozen, call: &Called) -> Resul
     )
 }
 
+#[tactic(auto, using(crate::proofs::SoundLaws::wait_sound))]
 fn wait_for(bench: &mut Bench, wait: Wait) -> Result<Served, NoMemory>
-    requires { IsBench bench.old }
+    requires bench { IsBench bench.old }
+    requires wait { IsWait bench.old.held.pool wait }
     ensures served { Serves result bench.old bench.new (wait_given wait (held_of bench.old.held)) }
     ensures bench { OnOk result (IsBench bench.new) }
 {
@@ -246,7 +258,9 @@ fn delay(bench: &mut Bench, call: &Called) -> Result<Served, NoMemory>
 
 // The ticks of a number with another end, and with more samples.
 fn tick_with(bench: &mut Bench, k: u32, more: &[Sample], end: TickEnd) -> Result<Served, NoMemory>
-    requires { IsBench bench.old }
+    requires bench { IsBench bench.old }
+    requires more { AllByRecursion (IsSample bench.old.held.pool) more.now }
+    requires end { IsTickEnd bench.old.held.pool end }
     ensures served { Serves result bench.old bench.new (tick_with (ticks_at (held_of bench.old.held) k) more.now end (held_of bench.old.held)) }
     ensures bench { OnOk result (IsBench bench.new) }
 {
@@ -257,8 +271,8 @@ fn tick_with(bench: &mut Bench, k: u32, more: &[Sample], end: TickEnd) -> Result
     for x in tick.samples.as_slice() {
         samples.push(*x)?;
     }
-    for x in more {
-        samples.push(*x)?;
+    for y in more {
+        samples.push(*y)?;
     }
     let domain = tick.domain;
     wait_for(
@@ -333,6 +347,8 @@ pub(crate) fn shown(bench: &Bench, reading: Reading, n: amh_bits::Int) -> Val
     }
 }
 
-fn int_val(n: amh_bits::Int) -> Val {
+fn int_val(n: amh_bits::Int) -> Val
+    ensures { result ≡ val.Int n }
+{
     Val::Int(py_values::Number::of(n))
 }

@@ -1,12 +1,12 @@
 // Requests of testbenches.
-ghost use Rattle.std.specs.Prelude.{◌≡◌, IfOk, OnOk, option_map, slice_get};
+ghost use Rattle.std.specs.Prelude.{◌≡◌, IfOk, option_map, slice_get};
 ghost use Rattle.py_heap.specs.Heaps.{seen};
 ghost use Rattle.elab_store.specs.Held.{held_of};
 ghost use Rattle.elab_store.specs.Sound.{IsSound};
 ghost use Rattle.elab_eval.specs.Table.{prim};
 ghost use Rattle.bench_acts.specs.Context.{ticks_at, shown};
 ghost use Rattle.bench_acts.specs.Serving.{asked_part, bench_served, table_served};
-ghost use Rattle.bench_acts.specs.Held.{IsBench, Serves};
+ghost use Rattle.bench_acts.specs.Held.{IsBench, ServesOn};
 
 use crate::context::{refused, serve_part, shown};
 use crate::sharing::{Before, ShareStop, share};
@@ -95,8 +95,7 @@ pub fn serve(
     request: &Request,
 ) -> Result<Served, NoMemory>
     requires { IsBench bench.old }
-    ensures served { Serves result bench.old bench.new (bench_served (seen frozen.now machine.now.going.state.heap) bench.old.design request.now (held_of bench.old.held)) }
-    ensures bench { OnOk result (IsBench bench.new) }
+    ensures { ServesOn result bench.old bench.new (bench_served (seen frozen.now machine.now.going.state.heap) bench.old.design request.now (held_of bench.old.held)) }
 {
     match part_asked(bench, request) {
         Some(part) => serve_part(bench, &machine.going.state.heap, frozen, part, request),
@@ -125,8 +124,7 @@ fn answer_shared(
     request: &Request,
 ) -> Result<Served, NoMemory>
     requires { IsBench bench.old }
-    ensures served { Serves result bench.old bench.new (table_served (held_of bench.old.held) (prim None (seen frozen.now machine.now.going.state.heap) (held_of bench.old.held) request.now)) }
-    ensures bench { OnOk result (IsBench bench.new) }
+    ensures { ServesOn result bench.old bench.new (table_served (held_of bench.old.held) (prim None (seen frozen.now machine.now.going.state.heap) (held_of bench.old.held) request.now)) }
 {
     let before = Before {
         exprs: bench.held.pool.count(),

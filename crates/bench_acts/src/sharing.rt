@@ -1,4 +1,12 @@
 // What an act of a testbench makes is put to the design, but for expressions that are there.
+ghost use Rattle.std.specs.Prelude.{◌≡◌, ◌<◌, ◌≤◌, ◌++◌, ◌∷◌, [], length, slice_get, IfOk, IfErr, Some, None, true, false};
+ghost use Rattle.design_ir.specs.declared.expr.Expr.{Expr};
+ghost use Rattle.design_ir.specs.PoolRules.{expr_added};
+ghost use Rattle.expr_index.specs.Numbers.{number_now, renumbered};
+ghost use Rattle.expr_index.specs.Knows.{Knows};
+ghost use Rattle.elab_store.specs.Held.{held_of};
+ghost use Rattle.bench_acts.specs.Sharing.{begin_now, kept_now, share_one, held_over, exprs_shared, too_many, IsBehind};
+ghost use Rattle.bench_acts.specs.Held.{IsShareStop, MayCome};
 
 use design_ir::{Design, Expr, ExprId, Exprs, PoolStop};
 use elab_store::kept::{Begin, Equation, Kept};
@@ -23,6 +31,11 @@ pub(crate) enum ShareStop {
 }
 
 impl From<NoMemory> for ShareStop {
+    ghost use Rattle.std.specs.Prelude.{◌≡◌};
+    ghost use Rattle.bench_acts.specs.declared.sharing.ShareStop.TheVariants.{NoMemory as no_memory};
+
+    ghost from_gives = { λ _ stop. stop ≡ no_memory };
+
     fn from(_: NoMemory) -> ShareStop {
         ShareStop::NoMemory
     }
@@ -35,7 +48,16 @@ pub(crate) fn share(
     design: &mut Design,
     known: &mut Known,
     before: Before,
-) -> Result<(), ShareStop> {
+) -> Result<(), ShareStop>
+    requires known { Knows known.old design.old.pool.exprs }
+    requires count { before.exprs ≡ length design.old.pool.exprs }
+    requires behind { IsBehind design.old.pool (held_of held.old) }
+    ensures held { IfOk result (λ _. held_of held.new ≡ held_over design.old.pool before.things before.kept (held_of held.old)) }
+    ensures design { IfOk result (λ _. design.new ≡ record design.old { pool = held.new.pool }) }
+    ensures known { IfOk result (λ _. Knows known.new held.new.pool.exprs) }
+    ensures few { IfOk result (λ _. too_many design.old.pool held.new.pool.exprs ≡ false) }
+    ensures limit { IfErr result (λ stop. IsShareStop stop (262144 < length (exprs_shared design.old.pool (held_of held.old)))) }
+{
     if held.pool.count() == before.exprs {
         return Ok(());
     }
@@ -68,7 +90,15 @@ fn shared_one(
     before: u32,
     now: &[ExprId],
     id: ExprId,
-) -> Result<ExprId, ShareStop> {
+) -> Result<ExprId, ShareStop>
+    requires known { Knows known.old design.old.pool.exprs }
+    requires there { id.0 < length held.now.pool.exprs }
+    requires fits { (e : Expr) → slice_get held.now.pool.exprs id.0 ≡ Some e → MayCome design.old.pool (renumbered (number_now before now.now) e) }
+    ensures shared { IfOk result (λ k. (e : Expr) → slice_get held.now.pool.exprs id.0 ≡ Some e → share_one before (record { numbers = now.now; exprs = design.old.pool.exprs }) e ≡ record { numbers = now.now ++ k ∷ []; exprs = design.new.pool.exprs }) }
+    ensures design { IfOk result (λ _. design.new ≡ record design.old { pool = record design.old.pool { exprs = design.new.pool.exprs } }) }
+    ensures known { IfOk result (λ _. Knows known.new design.new.pool.exprs) }
+    ensures limit { IfErr result (λ stop. IsShareStop stop (262144 ≤ length design.old.pool.exprs)) }
+{
     let e = renumbered(held.alloc, held.pool.at(id), before, now)?;
     if let Some(id) = known.find(design, &e) {
         return Ok(id);
@@ -78,7 +108,13 @@ fn shared_one(
     Ok(id)
 }
 
-fn put<P: Exprs>(pool: &mut P, e: Expr) -> Result<ExprId, ShareStop> {
+// Puts an expression at the end that nothing is wrong with: it is refused exactly where there are too many.
+fn put<P: Exprs>(pool: &mut P, e: Expr) -> Result<ExprId, ShareStop>
+    requires { MayCome (P.pooled pool.old) e }
+    ensures added { IfOk result (λ id. (length (P.pooled pool.old).exprs < 262144) × (id ≡ record { 0 = length (P.pooled pool.old).exprs }) × (P.pooled pool.new ≡ expr_added (P.pooled pool.old) e)) }
+    ensures refused { IfErr result (λ stop. IsShareStop stop (262144 ≤ length (P.pooled pool.old).exprs) × (P.pooled pool.new ≡ P.pooled pool.old)) }
+    ensures rest { pool.new ≡ P.grown pool.old (P.pooled pool.new) }
+{
     match pool.expr(e) {
         Ok(id) => Ok(id),
         Err(PoolStop::NoMemory) => Err(ShareStop::NoMemory),
@@ -86,7 +122,9 @@ fn put<P: Exprs>(pool: &mut P, e: Expr) -> Result<ExprId, ShareStop> {
     }
 }
 
-fn begin_now(begin: Begin, before: u32, now: &[ExprId]) -> Begin {
+fn begin_now(begin: Begin, before: u32, now: &[ExprId]) -> Begin
+    ensures { result ≡ begin_now (number_now before now.now) begin }
+{
     match begin {
         Begin::If(e) => Begin::If(number_now(e, before, now)),
         Begin::Elif(e) => Begin::Elif(number_now(e, before, now)),
@@ -95,7 +133,9 @@ fn begin_now(begin: Begin, before: u32, now: &[ExprId]) -> Begin {
     }
 }
 
-fn kept_now(kept: Kept, before: u32, now: &[ExprId]) -> Kept {
+fn kept_now(kept: Kept, before: u32, now: &[ExprId]) -> Kept
+    ensures { result ≡ kept_now (number_now before now.now) kept }
+{
     match kept {
         Kept::Statement(s) => Kept::Statement(Equation {
             target: number_now(s.target, before, now),

@@ -1,9 +1,9 @@
 // What `ctx.set` takes: an input that is no clock, or bits of one.
-ghost use Rattle.std.specs.Prelude.{◌≡◌, ◌<◌, length};
+ghost use Rattle.std.specs.Prelude.{◌≡◌, ◌<◌, ◌==◌, length};
 ghost use Rattle.design_ir.specs.Circuits.{is_clock};
 ghost use Rattle.bench_acts.specs.Targets.{input_bits, input_of};
 
-use design_ir::{Design, DomainId, Expr, ExprId, Exprs, SigId};
+use design_ir::{Design, Domain, DomainId, Expr, ExprId, Exprs, SigId};
 
 /// Bits of an input: so many from `low` on.
 #[derive(Clone, Copy, PartialEq, Eq, Drop)]
@@ -18,17 +18,18 @@ pub(crate) fn input_bits(design: &Design, e: ExprId) -> Option<InputBits>
     requires { e.0 < length design.now.pool.exprs }
     ensures { result ≡ input_bits design.now e }
 {
+    let _ = design.count();
     let width = design.shape(e).width as u32;
     let mut low = 0;
-    let mut e = e;
+    let mut part = e;
     loop {
-        match design.at(e) {
+        match design.at(part) {
             Expr::Sig(s) => return input_of(design, *s, low, width),
             Expr::Slice { a, low: more, .. } => {
                 low += *more as u32;
-                e = *a;
+                part = *a;
             }
-            Expr::Cast { a, .. } => e = *a,
+            Expr::Cast { a, .. } => part = *a,
             _ => return None,
         }
     }
@@ -49,9 +50,15 @@ fn is_clock(design: &Design, sig: SigId) -> bool
     ensures { result ≡ is_clock design.now sig.0 }
 {
     for d in 0..design.domains() {
-        if design.domain(DomainId(d)).clk == sig {
+        if has_clock(design.domain(DomainId(d)), sig) {
             return true;
         }
     }
     false
+}
+
+fn has_clock(domain: &Domain, sig: SigId) -> bool
+    ensures { result ≡ (domain.now.clk.0 == sig.0) }
+{
+    domain.clk.0 == sig.0
 }
