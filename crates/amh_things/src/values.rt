@@ -6,6 +6,8 @@ ghost use Rattle.amh_things.specs.declared.thing.Thing.TheVariants as thing;
 ghost use Rattle.amh_things.specs.Things.{kept_number, bare_expr, held_expr, shown_shape, shown_enumeration, shown_member, shown_layout, shown_view, held_method, shown_name, shown_array, eq_target, name_called, base_called, layout_named, reading_at, reading_held, read_as};
 ghost use Rattle.amh_things.specs.declared.thing.Reading.TheVariants as reading;
 ghost use Rattle.amh_things.specs.Members.{numbering_at, member_of, enumeration_of};
+ghost use Rattle.amh_things.specs.Renumbered.{thing_now, things_now};
+ghost use Rattle.expr_index.specs.Numbers.{number_now};
 
 use crate::members::{behind, enumeration_of, member_place};
 use crate::names::{base_called, layout_named, name_called};
@@ -14,6 +16,7 @@ use crate::thing::{LayoutThing, Member, Method, Reading, Thing, ThingName};
 use amh_bits::Int;
 use data_layouts::EnumShape;
 use design_ir::ExprId;
+use expr_index::number_now;
 use lists::NoMemory;
 use py_values::{Hw, Val};
 use shape_rules::Shape;
@@ -311,6 +314,15 @@ impl Values {
         }
     }
 
+    /// The things behind the first `from` are of other expressions: that of number `before + k` becomes `now[k]`.
+    pub fn renumber(&mut self, from: usize, before: u32, now: &[ExprId])
+        ensures { self.new ≡ things_now from (number_now before now.now) self.old }
+    {
+        for i in from..self.things.len() {
+            renumber_thing(&mut self.things[i], before, now);
+        }
+    }
+
     /// Puts a thing at the end.
     pub fn put(&mut self, thing: Thing) -> Result<Hw, NoMemory>
         ensures put { IfOk result (λ hw. (hw ≡ record { 0 = length self.old }) × (self.new ≡ self.old ++ thing ∷ [])) }
@@ -334,5 +346,18 @@ fn bits(l: &LayoutThing) -> Shape
     Shape {
         width: l.layout.width(),
         signed: false,
+    }
+}
+
+// A thing of an expression gets its new number.
+fn renumber_thing(thing: &mut Thing, before: u32, now: &[ExprId])
+    ensures { thing.new ≡ thing_now (number_now before now.now) thing.old }
+{
+    match thing {
+        Thing::Value(e) => *e = number_now(*e, before, now),
+        Thing::Numbered { value, .. } => *value = number_now(*value, before, now),
+        Thing::View { value, .. } => *value = number_now(*value, before, now),
+        Thing::Method { value, .. } => *value = number_now(*value, before, now),
+        _ => {}
     }
 }
