@@ -64,63 +64,63 @@ equated_there n ts (val.Hw h) e held is = by_thing (slice_get ts h.0) refl is
     by_thing (Some t) at_h is = absurd (true≢false (ap is_some (sym is)))
 equated_there n ts v e held is = absurd (true≢false (ap is_some (sym is)))
 
-name_sound : (s : Seen) (n : HdlName) (c : Called) (h : Held) → IsSound h → IsSound (table.name_called s n c h).held
-name_sound s hdl.Module c h t = module_sound c h t
-name_sound s hdl.Signal c h t = signal_sound s c.name (signal_arguments c) h t
-name_sound s hdl.Like c h t = like_sound s c.name (like_arguments c) c.placed h t
-name_sound s hdl.ClockDomain c h t = clocked.call_sound s c.name (domain_arguments c) h t
-name_sound s hdl.ResetSignal c h t = t
-name_sound s hdl.Elaboratable c h t = t
-name_sound s hdl.Shape c h t = t
-name_sound s hdl.Value c h t = t
-name_sound s hdl.In c h t = component.member_sound s false c h t
-name_sound s hdl.Out c h t = component.member_sound s true c h t
-name_sound s hdl.Wiring c h t = t
-name_sound s hdl.Enumerations c h t = t
-name_sound s hdl.Data c h t = t
-name_sound s hdl.Component c h t = t
-name_sound s hdl.Signature c h t = signed.call_sound s c h t
-name_sound s hdl.Connect c h t = t
-name_sound s hdl.Flipped c h t = flipped_sound c h t
-name_sound s hdl.Stream c h t = t
-name_sound s hdl.StreamSignature c h t = signed.stream_sound s c h t
-name_sound s hdl.Simulator c h t = simulator.called_sound c h t
-name_sound s hdl.MemoryLibrary c h t = t
-name_sound s hdl.Memory c h t = memory.memory_call_sound s c h t
-name_sound s hdl.DomainRenamer c h t = wrapper.renamer_sound s c h t
-name_sound s hdl.ResetInserter c h t = wrapper.inserter_sound s Reset c h t
-name_sound s hdl.EnableInserter c h t = wrapper.inserter_sound s Enable c h t
+name_sound : (s : Seen) (n : HdlName) (c : Called) (h : Held) → IsPool h.pool → IsSound h → IsSound (table.name_called s n c h).held
+name_sound s hdl.Module c h rules t = module_sound c h t
+name_sound s hdl.Signal c h rules t = signal_sound s c.name (signal_arguments c) h t
+name_sound s hdl.Like c h rules t = like_sound s c.name (like_arguments c) c.placed h t
+name_sound s hdl.ClockDomain c h rules t = clocked.call_sound s c.name (domain_arguments c) h rules t
+name_sound s hdl.ResetSignal c h rules t = t
+name_sound s hdl.Elaboratable c h rules t = t
+name_sound s hdl.Shape c h rules t = t
+name_sound s hdl.Value c h rules t = t
+name_sound s hdl.In c h rules t = component.member_sound s false c h t
+name_sound s hdl.Out c h rules t = component.member_sound s true c h t
+name_sound s hdl.Wiring c h rules t = t
+name_sound s hdl.Enumerations c h rules t = t
+name_sound s hdl.Data c h rules t = t
+name_sound s hdl.Component c h rules t = t
+name_sound s hdl.Signature c h rules t = signed.call_sound s c h t
+name_sound s hdl.Connect c h rules t = t
+name_sound s hdl.Flipped c h rules t = flipped_sound c h t
+name_sound s hdl.Stream c h rules t = t
+name_sound s hdl.StreamSignature c h rules t = signed.stream_sound s c h t
+name_sound s hdl.Simulator c h rules t = simulator.called_sound c h t
+name_sound s hdl.MemoryLibrary c h rules t = t
+name_sound s hdl.Memory c h rules t = memory.memory_call_sound s c h t
+name_sound s hdl.DomainRenamer c h rules t = wrapper.renamer_sound s c h t
+name_sound s hdl.ResetInserter c h rules t = wrapper.inserter_sound s Reset c h t
+name_sound s hdl.EnableInserter c h rules t = wrapper.inserter_sound s Enable c h t
 
-placed_sound : (s : Seen) (n : HdlName) (c : Called) (p : Place) (h : Held) → IsSound h → IsSound (placed_called s n c p h).held
-placed_sound s hdl.Connect c p h t = connect_sound c p h t
-placed_sound s hdl.ResetSignal c p h t = reset_sound s c p h t
-placed_sound s hdl.Module c p h t = name_sound s hdl.Module c h t
-placed_sound s hdl.Signal c p h t = name_sound s hdl.Signal c h t
-placed_sound s hdl.Like c p h t = name_sound s hdl.Like c h t
-placed_sound s hdl.Elaboratable c p h t = name_sound s hdl.Elaboratable c h t
-placed_sound s hdl.Shape c p h t = name_sound s hdl.Shape c h t
-placed_sound s hdl.Value c p h t = name_sound s hdl.Value c h t
-placed_sound s hdl.Wiring c p h t = name_sound s hdl.Wiring c h t
-placed_sound s hdl.Enumerations c p h t = name_sound s hdl.Enumerations c h t
-placed_sound s hdl.Data c p h t = name_sound s hdl.Data c h t
-placed_sound s hdl.In c p h t = name_sound s hdl.In c h t
-placed_sound s hdl.Out c p h t = name_sound s hdl.Out c h t
-placed_sound s hdl.Component c p h t = name_sound s hdl.Component c h t
-placed_sound s hdl.ClockDomain c p h t = name_sound s hdl.ClockDomain c h t
-placed_sound s hdl.Simulator c p h t = name_sound s hdl.Simulator c h t
-placed_sound s hdl.MemoryLibrary c p h t = name_sound s hdl.MemoryLibrary c h t
-placed_sound s hdl.Memory c p h t = name_sound s hdl.Memory c h t
-placed_sound s hdl.DomainRenamer c p h t = name_sound s hdl.DomainRenamer c h t
-placed_sound s hdl.ResetInserter c p h t = name_sound s hdl.ResetInserter c h t
-placed_sound s hdl.EnableInserter c p h t = name_sound s hdl.EnableInserter c h t
-placed_sound s hdl.Signature c p h t = name_sound s hdl.Signature c h t
-placed_sound s hdl.Flipped c p h t = name_sound s hdl.Flipped c h t
-placed_sound s hdl.Stream c p h t = name_sound s hdl.Stream c h t
-placed_sound s hdl.StreamSignature c p h t = name_sound s hdl.StreamSignature c h t
+placed_sound : (s : Seen) (n : HdlName) (c : Called) (p : Place) (h : Held) → IsPool h.pool → IsSound h → IsSound (placed_called s n c p h).held
+placed_sound s hdl.Connect c p h rules t = connect_sound c p h t
+placed_sound s hdl.ResetSignal c p h rules t = reset_sound s c p h t
+placed_sound s hdl.Module c p h rules t = name_sound s hdl.Module c h rules t
+placed_sound s hdl.Signal c p h rules t = name_sound s hdl.Signal c h rules t
+placed_sound s hdl.Like c p h rules t = name_sound s hdl.Like c h rules t
+placed_sound s hdl.Elaboratable c p h rules t = name_sound s hdl.Elaboratable c h rules t
+placed_sound s hdl.Shape c p h rules t = name_sound s hdl.Shape c h rules t
+placed_sound s hdl.Value c p h rules t = name_sound s hdl.Value c h rules t
+placed_sound s hdl.Wiring c p h rules t = name_sound s hdl.Wiring c h rules t
+placed_sound s hdl.Enumerations c p h rules t = name_sound s hdl.Enumerations c h rules t
+placed_sound s hdl.Data c p h rules t = name_sound s hdl.Data c h rules t
+placed_sound s hdl.In c p h rules t = name_sound s hdl.In c h rules t
+placed_sound s hdl.Out c p h rules t = name_sound s hdl.Out c h rules t
+placed_sound s hdl.Component c p h rules t = name_sound s hdl.Component c h rules t
+placed_sound s hdl.ClockDomain c p h rules t = name_sound s hdl.ClockDomain c h rules t
+placed_sound s hdl.Simulator c p h rules t = name_sound s hdl.Simulator c h rules t
+placed_sound s hdl.MemoryLibrary c p h rules t = name_sound s hdl.MemoryLibrary c h rules t
+placed_sound s hdl.Memory c p h rules t = name_sound s hdl.Memory c h rules t
+placed_sound s hdl.DomainRenamer c p h rules t = name_sound s hdl.DomainRenamer c h rules t
+placed_sound s hdl.ResetInserter c p h rules t = name_sound s hdl.ResetInserter c h rules t
+placed_sound s hdl.EnableInserter c p h rules t = name_sound s hdl.EnableInserter c h rules t
+placed_sound s hdl.Signature c p h rules t = name_sound s hdl.Signature c h rules t
+placed_sound s hdl.Flipped c p h rules t = name_sound s hdl.Flipped c h rules t
+placed_sound s hdl.Stream c p h rules t = name_sound s hdl.Stream c h rules t
+placed_sound s hdl.StreamSignature c p h rules t = name_sound s hdl.StreamSignature c h rules t
 
 own_call_sound : (s : Seen) (o : Option Kept) (c : Called) (p : Place) (h : Held) → IsPool h.pool → IsSound h → IsSound (kept_called s o c p h).held
 own_call_sound s None c p h rules t = t
-own_call_sound s (Some (kept_as.Name n)) c p h rules t = placed_sound s n c p h t
+own_call_sound s (Some (kept_as.Name n)) c p h rules t = placed_sound s n c p h rules t
 own_call_sound s (Some (kept_as.Module n)) c p h rules t = t
 own_call_sound s (Some (kept_as.Domains n)) c p h rules t = t
 own_call_sound s (Some (kept_as.Domain n d)) c p h rules t = t
@@ -142,6 +142,7 @@ own_call_sound s (Some (kept_as.BlockName m n)) c p h rules t = block_call_sound
 own_call_sound s (Some (kept_as.Block m b)) c p h rules t = t
 own_call_sound s (Some (kept_as.OfMachine x)) c p h rules t = machine.part_call_sound s x c p h t
 own_call_sound s (Some (kept_as.OfSimulator x)) c p h rules t = simulator.part_called_sound s x c p h t
+own_call_sound s (Some (kept_as.OfBench x)) c p h rules t = t
 
 call_sound : (s : Seen) (r : Request) (c : Called) (h : Held) → IsPool h.pool → IsSound h → IsSound (call_answered s r c h).held
 call_sound s r c h rules t = by_eq (equated_by (thing_of h.store.things c.callee)) (λ e is. equated_there (length h.pool.exprs) h.store.things c.callee e t.things is)
@@ -206,6 +207,7 @@ attribute_sound (Some (kept_as.BlockName m n)) name h t f = t
 attribute_sound (Some (kept_as.Block m b)) name h t f = t
 attribute_sound (Some (kept_as.OfMachine x)) name h t f = machine.part_attribute_sound x name h t
 attribute_sound (Some (kept_as.OfSimulator x)) name h t f = simulator.attribute_sound x name h t
+attribute_sound (Some (kept_as.OfBench x)) name h t f = t
 
 by_value_sound : (v : Val) (name : List ℕ) (h : Held) → IsSound h → IsSound (attribute_by v name h).held
 by_value_sound (val.Object o) name h t = object_attribute_sound o name h t
@@ -245,6 +247,7 @@ attribute_stored_sound s (Some (kept_as.BlockName m n)) name v p h t = t
 attribute_stored_sound s (Some (kept_as.Block m b)) name v p h t = t
 attribute_stored_sound s (Some (kept_as.OfMachine x)) name v p h t = t
 attribute_stored_sound s (Some (kept_as.OfSimulator x)) name v p h t = t
+attribute_stored_sound s (Some (kept_as.OfBench x)) name v p h t = t
 
 stores_sound : (s : Seen) (vs : List Val) (o : Option (List ℕ)) (p : Place) (h : Held) → IsSound h → IsSound (store_answered s vs o p h).held
 stores_sound s [] o p h t = t
@@ -277,6 +280,7 @@ index_sound s (Some (kept_as.BlockName m n)) i h t = t
 index_sound s (Some (kept_as.Block m b)) i h t = t
 index_sound s (Some (kept_as.OfMachine x)) i h t = t
 index_sound s (Some (kept_as.OfSimulator x)) i h t = t
+index_sound s (Some (kept_as.OfBench x)) i h t = t
 
 indices_sound : (s : Seen) (vs : List Val) (h : Held) → IsSound h → IsSound (index_answered s vs h).held
 indices_sound s [] h t = t
@@ -308,6 +312,7 @@ index_stored_sound s (Some (kept_as.BlockName m n)) i v h t = t
 index_stored_sound s (Some (kept_as.Block m b)) i v h t = t
 index_stored_sound s (Some (kept_as.OfMachine x)) i v h t = t
 index_stored_sound s (Some (kept_as.OfSimulator x)) i v h t = t
+index_stored_sound s (Some (kept_as.OfBench x)) i v h t = t
 
 index_stores_sound : (s : Seen) (vs : List Val) (h : Held) → IsSound h → IsSound (index_store_answered s vs h).held
 index_stores_sound s [] h t = t
@@ -342,6 +347,7 @@ added_sound s (Some (kept_as.BlockName m n)) x v p h t = t
 added_sound s (Some (kept_as.Block m b)) x v p h t = t
 added_sound s (Some (kept_as.OfMachine y)) x v p h t = t
 added_sound s (Some (kept_as.OfSimulator y)) x v p h t = t
+added_sound s (Some (kept_as.OfBench y)) x v p h t = t
 
 operator_sound : (s : Seen) (vs : List Val) (o : Option (List ℕ)) (p : Place) (h : Held) → IsSound h → IsSound (operator_answered s vs o p h).held
 operator_sound s [] o p h t = t
@@ -355,6 +361,7 @@ operator_sound s (x ∷ v ∷ w ∷ vs) o p h t = t
 kept_entered_sound : (s : Seen) (o : Option Kept) (h : Held) → IsPool h.pool → IsSound h → ((k : Kept) → o ≡ Some k → IsKept h.pool h.store.components.signatures h.store.components.ends k) → IsSound (kept_entered s o h).held
 kept_entered_sound s (Some (kept_as.OfMachine x)) h rules t f = machine.part_entered_sound s x h rules t
 kept_entered_sound s (Some (kept_as.OfSimulator x)) h rules t f = simulator.passed_sound x h t
+kept_entered_sound s (Some (kept_as.OfBench x)) h rules t f = t
 kept_entered_sound s None h rules t f = enter_sound None h t f
 kept_entered_sound s (Some (kept_as.Name n)) h rules t f = enter_sound (Some (kept_as.Name n)) h t f
 kept_entered_sound s (Some (kept_as.Module m)) h rules t f = enter_sound (Some (kept_as.Module m)) h t f
@@ -385,6 +392,7 @@ enters_sound s (x ∷ y ∷ vs) h rules t = t
 kept_left_sound : (o : Option Kept) (h : Held) → IsSound h → IsSound (kept_left o h).held
 kept_left_sound (Some (kept_as.OfMachine x)) h t = machine.part_left_sound x h t
 kept_left_sound (Some (kept_as.OfSimulator x)) h t = simulator.passed_sound x h t
+kept_left_sound (Some (kept_as.OfBench x)) h t = t
 kept_left_sound None h t = leave_sound None h t
 kept_left_sound (Some (kept_as.Name n)) h t = leave_sound (Some (kept_as.Name n)) h t
 kept_left_sound (Some (kept_as.Module m)) h t = leave_sound (Some (kept_as.Module m)) h t
