@@ -1,0 +1,11 @@
+pub mod TargetLaws
+pub mod ReadLaws
+pub mod SoundLaws
+pub mod NumberedLaws
+pub mod ShareLaws
+pub mod HeldLaws
+pub mod SharedSound
+pub mod PoolLaws
+pub mod ServeLaws
+pub mod ActLaws
+pub mod GrowLaws
