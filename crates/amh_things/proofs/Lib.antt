@@ -7,3 +7,5 @@ pub mod MeaningLaws
 pub mod RangeLaws
 pub mod PatternSamples
 pub mod RangeSamples
+pub mod RenumberLaws
+mod RenumberSamples

@@ -9,3 +9,4 @@ pub mod Ranges
 pub mod Meant
 pub mod Patterns
 pub mod Laws
+pub mod Renumbered

@@ -6,6 +6,7 @@ ghost use Rattle.amh_things.specs.declared.thing.Thing.TheVariants as thing;
 ghost use Rattle.amh_things.specs.Things.{kept_number, bare_expr, held_expr, shown_shape, shown_enumeration, shown_member, shown_layout, shown_view, held_method, shown_name, shown_array, eq_target, name_called, base_called, layout_named, reading_at, reading_held, read_as};
 ghost use Rattle.amh_things.specs.declared.thing.Reading.TheVariants as reading;
 ghost use Rattle.amh_things.specs.Members.{numbering_at, member_of, enumeration_of};
+ghost use Rattle.amh_things.specs.Renumbered.{number_now, thing_now, things_now};
 
 use crate::members::{behind, enumeration_of, member_place};
 use crate::names::{base_called, layout_named, name_called};
@@ -311,6 +312,15 @@ impl Values {
         }
     }
 
+    /// The things behind the first `from` are of other expressions: that of number `before + k` becomes `now[k]`.
+    pub fn renumber(&mut self, from: usize, before: u32, now: &[ExprId])
+        ensures { self.new ≡ things_now from (number_now before now.now) self.old }
+    {
+        for i in from..self.things.len() {
+            renumber_thing(&mut self.things[i], before, now);
+        }
+    }
+
     /// Puts a thing at the end.
     pub fn put(&mut self, thing: Thing) -> Result<Hw, NoMemory>
         ensures put { IfOk result (λ hw. (hw ≡ record { 0 = length self.old }) × (self.new ≡ self.old ++ thing ∷ [])) }
@@ -334,5 +344,31 @@ fn bits(l: &LayoutThing) -> Shape
     Shape {
         width: l.layout.width(),
         signed: false,
+    }
+}
+
+/// The number that an expression gets: those behind the first `before` are counted from there.
+pub fn number_now(e: ExprId, before: u32, now: &[ExprId]) -> ExprId
+    ensures { result ≡ number_now before now.now e }
+{
+    if e.0 < before {
+        return e;
+    }
+    match now.get((e.0 - before) as usize) {
+        Some(id) => *id,
+        None => e,
+    }
+}
+
+// A thing of an expression gets its new number.
+fn renumber_thing(thing: &mut Thing, before: u32, now: &[ExprId])
+    ensures { thing.new ≡ thing_now (number_now before now.now) thing.old }
+{
+    match thing {
+        Thing::Value(e) => *e = number_now(*e, before, now),
+        Thing::Numbered { value, .. } => *value = number_now(*value, before, now),
+        Thing::View { value, .. } => *value = number_now(*value, before, now),
+        Thing::Method { value, .. } => *value = number_now(*value, before, now),
+        _ => {}
     }
 }

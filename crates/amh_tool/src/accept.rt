@@ -8,11 +8,14 @@ ghost use Rattle.play_text.specs.Trace.{Done};
 ghost use Rattle.play_text.specs.ScriptGives.{ReadsScript};
 ghost use Rattle.amh_tool.specs.Views.{plan_seen};
 
-use crate::design_text::{Ranked, read_design};
+use crate::design_text::{Ranked, Rest, read_design};
 use crate::plan::Plan;
 use crate::refusal::{DesignStop, Refusal};
 use amh_host::{Host, HostStop, Items, Kind, NoMemory, Place, Steps, Whole, read_whole};
+use bench_run::Run;
+use comb_graph::Ranks;
 use design_ir::Event;
+use elab_eval::Elaborated;
 use play_text::board::{Board, board_of};
 use play_text::script::{ScriptStop, read_script};
 use std::alloc::Global;
@@ -39,6 +42,15 @@ pub enum Verdict {
     Spent(Place),
     BadLine(u32),
     Accepted(Accepted),
+    Runs(Runs),
+}
+
+/// A run of the file's simulator over its design, with its columns.
+#[derive(Drop)]
+pub struct Runs {
+    pub run: Run,
+    pub ranks: Ranks,
+    pub board: Board,
 }
 
 /// Reads the design and then the script, and says what they ask for. It changes nothing.
@@ -92,8 +104,32 @@ fn accept_script<H: Host>(
 {
     match plan.script {
         Some(name) => accept_played(alloc, host, name, ranked),
-        None => Ok(accept_unplayed(alloc, ranked)?),
+        None if plan.top.is_some() => Ok(accept_unplayed(alloc, ranked)?),
+        None => Ok(accept_run(alloc, ranked)?),
     }
+}
+
+// A design with the run of its simulator.
+fn accept_run(alloc: Global, ranked: Ranked) -> Result<Verdict, NoMemory> {
+    let board = board_of(alloc, &ranked.design)?;
+    let Ranked {
+        design,
+        ranks,
+        rest,
+    } = ranked;
+    let Rest {
+        program,
+        store,
+        frozen,
+        left,
+    } = rest;
+    let built = Elaborated {
+        design,
+        store,
+        frozen,
+    };
+    let run = Run::start(alloc, program, built, &ranks, left)?;
+    Ok(Verdict::Runs(Runs { run, ranks, board }))
 }
 
 // A design without events.

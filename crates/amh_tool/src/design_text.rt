@@ -14,8 +14,9 @@ use crate::refusal::{DesignStop, Refusal};
 use amh_host::{Budget, Kind, Place, Steps};
 use comb_graph::{GraphStop, Ranks, ordered_have_no_loop, rank};
 use design_ir::Design;
-use elab_eval::{ElabStop, elaborate};
+use elab_eval::{ElabStop, Elaborated, Store, elaborate};
 use private_names::mangled;
+use py_heap::Frozen;
 use py_lexer::{LexStop, Lines, cut_lines};
 use py_parser::{ParseStop, parse};
 use py_tree::Program;
@@ -28,6 +29,16 @@ use std::sync::ledger::Ledger;
 pub struct Ranked {
     pub design: Design,
     pub ranks: Ranks,
+    pub rest: Rest,
+}
+
+/// What a run needs beside the design: the program, what elaboration held and made, and what is left of the budget.
+#[derive(Drop)]
+pub struct Rest {
+    pub program: Program,
+    pub store: Store,
+    pub frozen: Frozen,
+    pub left: Budget,
 }
 
 /// Reads a design file, as the plan has it: its budget, and the name of the top where the words give one.
@@ -134,7 +145,7 @@ fn read_parsed<L: Ledger>(
     ensures counted { steps.old ≤ steps.new }
 {
     match mangled(alloc, program) {
-        Ok(program) => read_program(alloc, &program, plan, steps),
+        Ok(program) => read_program(alloc, program, plan, steps),
         Err(_) => Err(DesignStop::NoMemory),
     }
 }
@@ -142,7 +153,7 @@ fn read_parsed<L: Ledger>(
 // The design of a program.
 fn read_program<L: Ledger>(
     alloc: Global,
-    program: &Program,
+    program: Program,
     plan: &Plan<'_>,
     steps: &mut Steps<L>,
 ) -> Result<Ranked, DesignStop>
@@ -152,8 +163,24 @@ fn read_program<L: Ledger>(
     ensures counted { steps.old ≤ steps.new }
 {
     let mut left = Budget { left: plan.budget };
-    match elaborate(alloc, program, plan.top, &mut left, steps) {
-        Ok(elaborated) => rank_design(alloc, elaborated.design),
+    match elaborate(alloc, &program, plan.top, &mut left, steps) {
+        Ok(elaborated) => {
+            let Elaborated {
+                design,
+                store,
+                frozen,
+            } = elaborated;
+            rank_design(
+                alloc,
+                design,
+                Rest {
+                    program,
+                    store,
+                    frozen,
+                    left,
+                },
+            )
+        }
         Err(stop) => Err(design_stop(stop)),
     }
 }
@@ -170,13 +197,17 @@ fn design_stop(stop: ElabStop) -> DesignStop
 }
 
 // The design with the order of its bits, where none needs itself.
-fn rank_design(alloc: Global, design: Design) -> Result<Ranked, DesignStop>
+fn rank_design(alloc: Global, design: Design, rest: Rest) -> Result<Ranked, DesignStop>
     ensures given { RankGives design result }
     ensures ready { IfOk result IsReady }
 {
     ordered_have_no_loop();
     match rank(alloc, &design) {
-        Ok(ranks) => Ok(Ranked { design, ranks }),
+        Ok(ranks) => Ok(Ranked {
+            design,
+            ranks,
+            rest,
+        }),
         Err(GraphStop::Loop { place, .. }) => Err(refused(Kind::Loop, place)),
         Err(GraphStop::NoMemory) => Err(DesignStop::NoMemory),
     }

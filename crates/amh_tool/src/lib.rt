@@ -12,6 +12,7 @@ mod perform;
 mod plan;
 mod playing;
 mod refusal;
+mod run_trace;
 mod running;
 mod texts;
 mod trace;

@@ -9,6 +9,7 @@ ghost use Rattle.amh_tool.specs.Work.{Works, Fails};
 use crate::accept::{Verdict, accept};
 use crate::laws::outcomes_are_one;
 use crate::perform::perform;
+use crate::run_trace::perform_run;
 use crate::plan::plan_of;
 use crate::texts::{bad_line, fault_text, refusal, spent, usage_text};
 use amh_host::{Host, HostStop, Steps, Words};
@@ -112,5 +113,6 @@ fn work<H: Host, L: Ledger>(
             perform(alloc, host, &plan, &accepted)?;
             Ok(Status::Done)
         }
+        Verdict::Runs(runs) => perform_run(alloc, host, &plan, runs, steps),
     }
 }

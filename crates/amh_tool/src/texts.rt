@@ -3,7 +3,8 @@ ghost use Rattle.std.specs.Prelude.{◌≡◌, IfOk, string_bytes};
 ghost use Rattle.amh_tool.specs.Outcome.{kind_text, refusal_text, spent_text, bad_line_text, done_text, fault_text, usage_text};
 
 use crate::refusal::Refusal;
-use amh_host::Kind;
+use amh_host::{Kind, Place};
+use py_frames::request::{Cause, Stop};
 use std::alloc::{AllocError, Global};
 
 const USAGE: &str =
@@ -75,4 +76,25 @@ fn kind_text(kind: Kind) -> &'static str
         Kind::Limit => "limit",
         Kind::Script => "script",
     }
+}
+
+/// Where an assertion of a testbench is false.
+pub fn assertion_text(alloc: Global, name: &str, place: Place) -> Result<String, AllocError> {
+    let line = place.line;
+    let col = place.col;
+    format!(in alloc; "{name}:{line}:{col}: assertion failed\n")
+}
+
+/// The last line of the trace of a run that stopped.
+pub fn end_line(alloc: Global, stop: Stop) -> Result<String, AllocError> {
+    let line = stop.place.line;
+    let col = stop.place.col;
+    let why = match stop.cause {
+        Cause::Raised => "raised",
+        Cause::Width => "width",
+        Cause::Limit => "limit",
+        Cause::Assert => "assert",
+        Cause::Spent => return format!(in alloc; "end spent\n"),
+    };
+    format!(in alloc; "end {why} {line}:{col}\n")
 }

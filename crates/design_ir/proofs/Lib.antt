@@ -37,3 +37,4 @@ pub mod Whole
 pub mod Runs
 pub mod Needs
 pub mod PlacingLaws
+pub mod PrefixLaws

@@ -1,5 +1,5 @@
 // The pool: signals and expressions by number.
-ghost use Rattle.std.specs.Prelude.{◌≡◌, ◌≢◌, ◌++◌, ◌∷◌, [], ◌<◌, ◌≤◌, ◌^◌, length, false, IfOk, IfErr, OnErr, None, Some, slice_get};
+ghost use Rattle.std.specs.Prelude.{◌≡◌, ◌≢◌, ◌++◌, ◌∷◌, [], ◌<◌, ◌≤◌, ◌^◌, length, false, IfOk, IfErr, OnErr, None, Some, slice_get, take};
 ghost use Rattle.shape_rules.specs.Forms.{IsForm, unsigned, common};
 ghost use Rattle.shape_rules.specs.Operators.{form_of};
 ghost use Rattle.shape_rules.specs.Stops.{is_bad_operand, widest};
@@ -134,6 +134,15 @@ impl Pool {
         self.exprs[e.0 as usize] = Expr::Sig(s);
     }
 
+    /// Keeps the first so many expressions, and lets go of those behind them.
+    pub fn keep_first(&mut self, count: u32)
+        requires { count ≤ length self.old.exprs }
+        ensures { self.new ≡ record self.old { exprs = take count self.old.exprs } }
+    {
+        self.exprs.truncate(count as usize);
+        self.shapes.truncate(count as usize);
+    }
+
     /// Opens the pool, so that a caller knows its rules.
     pub fn known(&self)
         ensures { IsPool self.now }
@@ -154,7 +163,7 @@ impl Pool {
     }
 
     // How many signals there are.
-    pub(crate) fn signals(&self) -> u32
+    pub fn signals(&self) -> u32
         ensures { result ≡ length self.now.signals }
     {
         self.sigs.len() as u32

@@ -83,7 +83,7 @@ member_sound s is_out c h t = placed_sound s is_out c.placed c.keywords c.keywor
 -- ---- classes: no act on one changes what is kept of pools, things or modules
 
 made_sound : (class : Val) (base : Option ObjId) (ms : Option (List NamedMember)) (h : Held) → IsSound h → IsSound (component_made class base ms h).held
-made_sound (val.Class c) base (Some ms) h s = record { names = s.names; things = s.things; kept = s.kept; modules = s.modules; components = record { names = s.components.names; ends = s.components.ends; objects = s.components.objects }; machines = s.machines; domains = s.domains; additions = s.additions; clock_domains = s.clock_domains; memories = s.memories; registers = s.registers; wrappings = s.wrappings }
+made_sound (val.Class c) base (Some ms) h s = record { names = s.names; things = s.things; kept = s.kept; modules = s.modules; components = record { names = s.components.names; ends = s.components.ends; objects = s.components.objects }; machines = s.machines; domains = s.domains; additions = s.additions; clock_domains = s.clock_domains; memories = s.memories; registers = s.registers; wrappings = s.wrappings; waits = s.waits }
 made_sound (val.Class c) base None h s = s
 made_sound val.None base ms h s = s
 made_sound (val.Bool b) base ms h s = s
@@ -187,6 +187,7 @@ bound_sound o f ports (Some names) h s face are free = record {
       (memory_bound h.pool h.store.clock_domains.made h.store.components.objects o.0 (record { face = f; ports = ports })) s.memories free;
   registers = s.registers;
   wrappings = s.wrappings;
+  waits = s.waits;
   components = record {
     names = s.components.names;
     ends = s.components.ends;

@@ -100,6 +100,7 @@ with_domain_sound p x h t before new le since = record {
       (with_clock h.pool h.store.clock_domains.made h.store.components.objects (length p.signals) x since.past) t.memories since.memories;
   registers = t.registers;
   wrappings = t.wrappings;
+  waits = t.waits;
 }
 
 kept_sound : (p : Pooled) (x : ClockDomain) (h : Held) → IsSound h → AreClockDomains p h.store.clock_domains.made → IsClockDomain h.pool x → length p.signals ≤ x.domain.clk.0 → IsSince p x h → IsSound (clock_domain_kept x h).held
@@ -165,7 +166,7 @@ attribute_sound k name h t = own_sound _ name h t
 
 defined_sound : (m : ℕ) (o : Option ℕ) (gives : Val) (p : Place) (h : Held) → IsSound h → IsSound (domain_defined m o gives p h).held
 defined_sound m None gives p h t = t
-defined_sound m (Some k) gives p h t = record { names = t.names; things = t.things; kept = t.kept; modules = t.modules; machines = t.machines; domains = t.domains; additions = t.additions; clock_domains = t.clock_domains; memories = t.memories; registers = t.registers; wrappings = t.wrappings; components = t.components }
+defined_sound m (Some k) gives p h t = record { names = t.names; things = t.things; kept = t.kept; modules = t.modules; machines = t.machines; domains = t.domains; additions = t.additions; clock_domains = t.clock_domains; memories = t.memories; registers = t.registers; wrappings = t.wrappings; waits = t.waits; components = t.components }
 
 pub added_sound : (m : ℕ) (v x : Val) (p : Place) (h : Held) → IsSound h → IsSound (definition_added m v x p h).held
 added_sound m v x p h t = defined_sound m (clock_domain_of (kept_of h.store v)) x p h t

@@ -133,6 +133,7 @@ kept_faces q sigs tigs ends others g (kept_as.BlockName m n) h = tt
 kept_faces q sigs tigs ends others g (kept_as.Block m b) h = h
 kept_faces q sigs tigs ends others g (kept_as.OfMachine x) h = tt
 kept_faces q sigs tigs ends others g (kept_as.OfSimulator x) h = tt
+kept_faces q sigs tigs ends others g (kept_as.OfBench x) h = tt
 
 -- an end more
 pub with_end_sound : (e : End) (h : Held) → IsSound h → IsEnd h.pool e → IsSound (with_end e h)
@@ -151,6 +152,7 @@ with_end_sound e h s is =
       memories = s.memories;
       registers = s.registers;
       wrappings = s.wrappings;
+      waits = s.waits;
       components = record {
         names = s.components.names;
         ends = all_and (IsEnd h.pool) ends (e ∷ []) s.components.ends (is, tt);
@@ -176,6 +178,7 @@ signing_sound ms h s named =
       memories = s.memories;
       registers = s.registers;
       wrappings = s.wrappings;
+      waits = s.waits;
       components = record {
         names = all_and (λ (xs : List NamedMember). AllByRecursion (λ (m : NamedMember). IsName m.name) xs) sigs (ms ∷ []) s.components.names (named, tt);
         ends = s.components.ends;

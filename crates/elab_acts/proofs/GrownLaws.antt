@@ -30,11 +30,17 @@ use Rattle.elab_store.specs.Stores.{Held, kept_given}
 use Rattle.elab_store.specs.declared.faces.End.{End}
 use Rattle.elab_store.specs.Leaves.{Signatures}
 use Rattle.elab_store.specs.Components.{Components}
-use Rattle.elab_store.specs.Sound.{IsEnd, AreComponents, IsAssigned, IsBegin, IsKept, IsOpening, IsTold, IsBuilt, IsMachine, IsEnableThere, IsMemoryPort, IsOwnMemory, HasOwnRegister, IsWrapping, IsSound}
+use Rattle.elab_store.specs.Sound.{IsEnd, AreComponents, IsAssigned, IsBegin, IsKept, IsOpening, IsTold, IsBuilt, IsMachine, IsEnableThere, IsMemoryPort, IsOwnMemory, HasOwnRegister, IsWrapping, IsSample, IsTickEnd, IsWait, IsSound}
 use Rattle.elab_store.specs.declared.own_machine.OwnMachine.{OwnMachine}
 use Rattle.elab_store.specs.declared.kept.MemoryPort.{MemoryPort}
 use Rattle.elab_store.specs.declared.wrappings.Wrapping.{Wrapping}
 use Rattle.elab_store.specs.declared.wrappings.Wrapping.TheVariants as wrapping
+use Rattle.elab_store.specs.declared.simulation.Sample.{Sample}
+use Rattle.elab_store.specs.declared.simulation.Sample.TheVariants as sample
+use Rattle.elab_store.specs.declared.simulation.TickEnd.{TickEnd}
+use Rattle.elab_store.specs.declared.simulation.TickEnd.TheVariants as end
+use Rattle.elab_store.specs.declared.simulation.Wait.{Wait}
+use Rattle.elab_store.specs.declared.simulation.Wait.TheVariants as wait
 use Rattle.domain_transforms.specs.declared.controls.Control.{Control}
 use Rattle.domain_transforms.specs.Placed.{AreControls}
 use Rattle.memory_ports.specs.Ports as ports
@@ -102,6 +108,7 @@ kept_stays p q sigs ends g (kept_as.BlockName m n) h = tt
 kept_stays p q sigs ends g (kept_as.Block m b) h = begin_stays p q g b h
 kept_stays p q sigs ends g (kept_as.OfMachine x) h = tt
 kept_stays p q sigs ends g (kept_as.OfSimulator x) h = tt
+kept_stays p q sigs ends g (kept_as.OfBench x) h = tt
 
 opening_stays : (p q : Pooled) → IsGrown p q → (o : Opening) → IsOpening p o → IsOpening q o
 opening_stays p q g (opening.If e) h = there_stays p q e.0 g h
@@ -182,6 +189,19 @@ wrapping_stays p q g (wrapping.Rename names) h = h
 wrapping_stays p q g (wrapping.Reset controls) h = controls_stay (length p.exprs) (length q.exprs) (grown_length p q g) controls h
 wrapping_stays p q g (wrapping.Enable controls) h = controls_stay (length p.exprs) (length q.exprs) (grown_length p q g) controls h
 
+sample_stays : (p q : Pooled) → IsGrown p q → (x : Sample) → IsSample p x → IsSample q x
+sample_stays p q g (sample.Value e reading) h = there_stays p q e.0 g h
+sample_stays p q g (sample.Number n) h = tt
+
+tick_end_stays : (p q : Pooled) → IsGrown p q → (x : TickEnd) → IsTickEnd p x → IsTickEnd q x
+tick_end_stays p q g end.Once h = tt
+tick_end_stays p q g (end.Times n) h = tt
+tick_end_stays p q g (end.Until x) h = sample_stays p q g x h
+
+pub wait_stays : (p q : Pooled) → IsGrown p q → (w : Wait) → IsWait p w → IsWait q w
+wait_stays p q g (wait.Tick t) h = (all_each (IsSample p) (IsSample q) t.samples (sample_stays p q g) h.0, tick_end_stays p q g t.end h.1)
+wait_stays p q g (wait.Delay n) h = tt
+
 -- what was held stands under a pool that grew by such signals and such expressions
 pub pool_grown : (h : Held) (q : Pooled) (xs : List Sig) (es : List Expr) → IsSound h → q.signals ≡ h.pool.signals ++ xs → q.exprs ≡ h.pool.exprs ++ es
     → AllByRecursion (λ (x : Sig). IsName x.name) xs → IsSound (record h { pool = q })
@@ -202,6 +222,7 @@ pool_grown h q xs es s e1 e2 names =
       memories = all_each (IsOwnMemory h.pool made objects) (IsOwnMemory q made objects) h.store.memories (memory_stays h.pool q made objects both) s.memories;
       registers = all_each (HasOwnRegister h.pool h.store.memories) (HasOwnRegister q h.store.memories) h.store.machines (register_stays h.pool q made objects h.store.memories both s.memories) s.registers;
       wrappings = all_each (IsWrapping h.pool) (IsWrapping q) h.store.wrappings (wrapping_stays h.pool q g) s.wrappings;
+      waits = all_each (IsWait h.pool) (IsWait q) h.store.simulation.waits (wait_stays h.pool q g) s.waits;
     }
 
 -- things that are sound are put behind the others
@@ -218,6 +239,7 @@ things_grown h ts s held = record {
   memories = s.memories;
   registers = s.registers;
   wrappings = s.wrappings;
+  waits = s.waits;
   things = all_and (IsHeld (length h.pool.exprs)) h.store.things ts s.things held;
 }
 
@@ -240,6 +262,7 @@ kept_grown h k s held = record {
   memories = s.memories;
   registers = s.registers;
   wrappings = s.wrappings;
+  waits = s.waits;
   kept = all_and (IsKeptIn h) h.store.kept (k ∷ []) s.kept (held, tt);
 }
 
@@ -257,7 +280,7 @@ module_built q (x ∷ bs) zero b h e = let same : x ≡ b = cc in subst (IsBuilt
 module_built q (x ∷ bs) (suc m) b h e = module_built q bs m b h.1 e
 
 pub with_top_sound : (h : Held) (t : Top) → IsSound h → IsSound (record h { store = record h.store { top = t } })
-with_top_sound h t s = record { names = s.names; things = s.things; kept = s.kept; modules = s.modules; components = s.components; machines = s.machines; domains = s.domains; additions = s.additions; clock_domains = s.clock_domains; memories = s.memories; registers = s.registers; wrappings = s.wrappings }
+with_top_sound h t s = record { names = s.names; things = s.things; kept = s.kept; modules = s.modules; components = s.components; machines = s.machines; domains = s.domains; additions = s.additions; clock_domains = s.clock_domains; memories = s.memories; registers = s.registers; wrappings = s.wrappings; waits = s.waits }
 
 -- ---- a new thing of this crate
 
@@ -273,6 +296,7 @@ keeping_sound h k s held = record {
   memories = s.memories;
   registers = s.registers;
   wrappings = s.wrappings;
+  waits = s.waits;
   things = all_and (IsHeld (length h.pool.exprs)) h.store.things (thing.Kept (length h.store.kept) ∷ []) s.things (tt, tt);
   kept = all_and (IsKeptIn h) h.store.kept (k ∷ []) s.kept (held, tt);
 }

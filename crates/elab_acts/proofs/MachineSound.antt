@@ -45,14 +45,14 @@ use Rattle.elab_store.specs.Stores.{Held, Answered, refused}
 use Rattle.elab_acts.specs.Sides.{part_given}
 use Rattle.elab_store.specs.OpenMachines.{innermost}
 use Rattle.elab_machines.specs.StateMachines.{part_attribute, machine_arguments, machine_said, machine_from, init_said, is_clocked, domain_said, name_said, state_argument, state_said, state_string, stop_told, unless_stopped, chain_ended, modules_begun, with_machine, machine_made, is_placed, machine_begun, register_name, domain_name, init_name, Moved, unless_refused, with_moved, move_answer, own_moved, number_moved, moved, in_place, is_at_choice, is_at_case, state_made, state_begins, state_ends, is_unsettled, machine_ends, next_refused, next_goes, next_said, next_stored, with_asked, asked_of, ongoing_said, part_called, part_entered, part_left}
-use Rattle.elab_store.specs.Sound.{IsKept, IsTold, IsBuilt, IsMachine, IsBit, IsOwnMemory, HasOwnRegister, IsWrapping, IsSound}
+use Rattle.elab_store.specs.Sound.{IsKept, IsTold, IsBuilt, IsMachine, IsBit, IsOwnMemory, HasOwnRegister, IsWrapping, IsWait, IsSound}
 use Rattle.memory_ports.specs.Laws.{IsApart}
 use Rattle.elab_store.specs.declared.memories.OwnMemory.{OwnMemory}
 use Rattle.elab_store.proofs.Pools.{IsGrown, signal_there}
 use Rattle.elab_store.proofs.MemoryLaws.{register_stays, register_fresh, memories_settled, registers_settled}
 use Rattle.std.proofs.lemmas.Bool.Decides.{nat_tests}
 use Rattle.elab_acts.proofs.EachLaws.{all_each}
-use Rattle.elab_acts.proofs.GrownLaws.{IsKeptIn, components_stay, all_and, pool_grown, things_grown, keeping_sound, built_stays, kept_stays, told_module, module_built, machine_stays, wrapping_stays, name_more}
+use Rattle.elab_acts.proofs.GrownLaws.{IsKeptIn, components_stay, all_and, pool_grown, things_grown, keeping_sound, built_stays, kept_stays, told_module, module_built, machine_stays, wrapping_stays, wait_stays, name_more}
 use Rattle.elab_acts.proofs.PortLaws.{and_split}
 use Rattle.elab_acts.proofs.DomainLaws.{domains_stay, settled_bit}
 use Rattle.std.proofs.lemmas.Bool.{eqb-true}
@@ -64,7 +64,7 @@ if_sound false x y h g = g
 -- ---- refusals
 
 told_sound : (p : Place) (h : Held) → IsSound h → IsSound (record h { store = record h.store { told = Some p } })
-told_sound p h t = record { names = t.names; things = t.things; kept = t.kept; modules = t.modules; machines = t.machines; domains = t.domains; additions = t.additions; clock_domains = t.clock_domains; memories = t.memories; registers = t.registers; wrappings = t.wrappings; components = t.components }
+told_sound p h t = record { names = t.names; things = t.things; kept = t.kept; modules = t.modules; machines = t.machines; domains = t.domains; additions = t.additions; clock_domains = t.clock_domains; memories = t.memories; registers = t.registers; wrappings = t.wrappings; waits = t.waits; components = t.components }
 
 stop_sound : (p : Place) (why : FsmStop) (h : Held) → IsSound h → IsSound (stop_told p why h).held
 stop_sound p (stop.UndefinedState at) h t = told_sound at h t
@@ -155,6 +155,7 @@ moved_sound h k m x y at t own built same = record {
   memories = t.memories;
   registers = with_register_still y.pool h.store.memories h.store.machines k x y.machine t.registers at same;
   wrappings = t.wrappings;
+  waits = t.waits;
   modules = told_module y.pool m y.built h.store.modules built t.modules;
 }
 
@@ -231,6 +232,7 @@ begun_sound m domain name init p h rules t side named =
       clock_domains = u.clock_domains;
       memories = u.memories;
       wrappings = u.wrappings;
+      waits = u.waits;
       registers = all_and (HasOwnRegister q h.store.memories) h.store.machines (new ∷ []) u.registers (
         register_stays h.pool q h.store.clock_domains.made h.store.components.objects h.store.memories record { more_signals = _; more_exprs = _; signals = refl; exprs = refl } t.memories new (register_fresh h.pool h.store.clock_domains.made h.store.components.objects h.store.memories new t.memories (omega arith)),
         tt,
@@ -391,6 +393,7 @@ pool_sound h sigs t names le bits memories registers =
       memories = memories;
       registers = registers;
       wrappings = all_each (IsWrapping h.pool) (IsWrapping q) h.store.wrappings (wrapping_stays h.pool q g) t.wrappings;
+      waits = all_each (IsWait h.pool) (IsWait q) h.store.simulation.waits (wait_stays h.pool q g) t.waits;
     }
 
 end_sound : (h : Held) → IsSound h → SoundMove h machine_ends
@@ -443,6 +446,7 @@ asked_sound k (Some x) name p h t at f =
       clock_domains = u.clock_domains;
       memories = u.memories;
       wrappings = u.wrappings;
+      waits = u.waits;
       registers = with_register_still q h.store.memories h.store.machines k x (and_asked x.machine name p (record { 0 = length h.pool.exprs })) u.registers at refl;
       machines = set_machine q h.store.machines k _ u.machines (record { register = stays.register; target = stays.target; side = stays.side; front = stays.front });
     } in

@@ -152,6 +152,7 @@ with_spec_sound h k x m s own apart = record {
   clock_domains = s.clock_domains;
   components = s.components;
   wrappings = s.wrappings;
+  waits = s.waits;
   memories = all_set (IsOwnMemory h.pool h.store.clock_domains.made h.store.components.objects) h.store.memories k (record { spec = m; reading = x.reading }) s.memories own;
   registers = all_both (HasOwnRegister h.pool h.store.memories) (λ (c : OwnMachine). IsApart h.pool c.machine.signal.0 m) (HasOwnRegister h.pool (slice_set h.store.memories k (record { spec = m; reading = x.reading }))) h.store.machines
       (λ c r a. all_set (λ (y : OwnMemory). IsApart h.pool c.machine.signal.0 y.spec) h.store.memories k (record { spec = m; reading = x.reading }) r a) s.registers apart;

@@ -82,6 +82,7 @@ with_memory_sound x h s own apart = record {
   clock_domains = s.clock_domains;
   components = s.components;
   wrappings = s.wrappings;
+  waits = s.waits;
   memories = all_and (IsOwnMemory h.pool h.store.clock_domains.made h.store.components.objects) h.store.memories (x ∷ []) s.memories (own, tt);
   registers = all_each (HasOwnRegister h.pool h.store.memories) (HasOwnRegister h.pool (h.store.memories ++ x ∷ [])) h.store.machines
       (λ m r. all_and (λ (y : OwnMemory). IsApart h.pool m.machine.signal.0 y.spec) h.store.memories (x ∷ []) r (apart m.machine.signal.0, tt)) s.registers;

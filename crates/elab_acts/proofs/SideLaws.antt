@@ -141,6 +141,7 @@ module _ (q : Pooled) (store : Stored) (kept : AllByRecursion (IsKept q store.co
       by_kept (Some (kept_as.Block m b)) f e = absurd (true≢false (ap is_some (sym e)))
       by_kept (Some (kept_as.OfMachine x)) f e = absurd (true≢false (ap is_some (sym e)))
       by_kept (Some (kept_as.OfSimulator x)) f e = absurd (true≢false (ap is_some (sym e)))
+      by_kept (Some (kept_as.OfBench x)) f e = absurd (true≢false (ap is_some (sym e)))
 
   all_append : (xs ys : List Equation) → AllByRecursion (IsEquation q) xs → AllByRecursion (IsEquation q) ys → AllByRecursion (IsEquation q) (xs ++ ys)
   all_append [] ys h g = g

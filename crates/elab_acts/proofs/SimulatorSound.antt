@@ -1,6 +1,7 @@
 -- What is held stays sound by the calls of a simulator.
 use Rattle.std.proofs.Common.{ℕ, nat_lt, Bool, true, false, List, [], ◌∷◌, length, Option, Some, None, is_some}
 use Rattle.std.specs.Prelude.{if◌then◌else◌}
+use Rattle.std.specs.List.{AllByRecursion}
 use Rattle.amh_host.specs.declared.place.Place.{Place}
 use Rattle.py_values.specs.declared.val.FuncId.{FuncId}
 use Rattle.py_values.specs.declared.val.Val.{Val}
@@ -12,7 +13,7 @@ use Rattle.elab_store.specs.declared.kept.Kept.TheVariants as kept
 use Rattle.elab_store.specs.Calls.{Called}
 use Rattle.elab_store.specs.Simulations.{Simulation, with_subject}
 use Rattle.elab_store.specs.Stores.{Held, Answered, given}
-use Rattle.elab_store.specs.Sound.{IsSound}
+use Rattle.elab_store.specs.Sound.{IsWait, IsSound}
 use Rattle.elab_acts.specs.declared.simulators.ClockArguments.{ClockArguments}
 use Rattle.elab_acts.specs.declared.simulators.BenchArguments.{BenchArguments}
 use Rattle.elab_components.specs.Signals.{without_arguments, signal_reset_less}
@@ -23,12 +24,12 @@ if_sound : (b : Bool) (x y : Answered) → IsSound x.held → IsSound y.held →
 if_sound true x y h g = h
 if_sound false x y h g = g
 
--- where only what the simulator was told is another
-simulation_sound : (x : Simulation) (h : Held) → IsSound h → IsSound (with_simulation x h)
-simulation_sound x h t = record { names = t.names; things = t.things; kept = t.kept; modules = t.modules; components = t.components; machines = t.machines; domains = t.domains; additions = t.additions; clock_domains = t.clock_domains; memories = t.memories; registers = t.registers; wrappings = t.wrappings }
+-- where only what the simulator was told is another, with waits that stand
+simulation_sound : (x : Simulation) (h : Held) → AllByRecursion (IsWait h.pool) x.waits → IsSound h → IsSound (with_simulation x h)
+simulation_sound x h waits t = record { names = t.names; things = t.things; kept = t.kept; modules = t.modules; components = t.components; machines = t.machines; domains = t.domains; additions = t.additions; clock_domains = t.clock_domains; memories = t.memories; registers = t.registers; wrappings = t.wrappings; waits = waits }
 
 simulated_sound : (v : Val) (o : Option Val) (h : Held) → IsSound h → IsSound (simulated v o h).held
-simulated_sound v None h t = keeping_sound (with_simulation (with_subject v h.store.simulation) h) (kept.OfSimulator part.Whole) (simulation_sound (with_subject v h.store.simulation) h t) tt
+simulated_sound v None h t = keeping_sound (with_simulation (with_subject v h.store.simulation) h) (kept.OfSimulator part.Whole) (simulation_sound (with_subject v h.store.simulation) h t.waits t) tt
 simulated_sound v (Some x) h t = t
 
 placed_sound : (vs : List Val) (ns : List (List ℕ)) (h : Held) → IsSound h → IsSound (simulator_placed vs ns h).held
@@ -56,7 +57,7 @@ attribute_sound part.Vcd n h t = t
 -- ---- clocks
 
 clock_said_sound : (period : ℕ) (phase : Option ℕ) (domain : Option (List ℕ)) (p : Place) (h : Held) → IsSound h → IsSound (clock_said period phase domain p h).held
-clock_said_sound period (Some phase) (Some domain) p h t = simulation_sound _ h t
+clock_said_sound period (Some phase) (Some domain) p h t = simulation_sound _ h t.waits t
 clock_said_sound period None domain p h t = t
 clock_said_sound period (Some phase) None p h t = t
 
@@ -71,7 +72,7 @@ clock_from_sound s (Some args) p h t = clock_timed_sound s (given_time args.peri
 -- ---- testbenches
 
 bench_said_sound : (f : Option FuncId) (b : Option Bool) (h : Held) → IsSound h → IsSound (bench_said f b h).held
-bench_said_sound (Some f) (Some b) h t = if_sound (nat_lt (length h.store.simulation.testbenches) most_testbenches) _ _ (simulation_sound _ h t) t
+bench_said_sound (Some f) (Some b) h t = if_sound (nat_lt (length h.store.simulation.testbenches) most_testbenches) _ _ (simulation_sound _ h t.waits t) t
 bench_said_sound None b h t = t
 bench_said_sound (Some f) None h t = t
 
@@ -82,13 +83,13 @@ bench_from_sound s (Some args) h t = bench_said_sound (bench_function s args.fun
 -- ---- runs and `write_vcd`
 
 run_sound : (vs : List Val) (ns : List (List ℕ)) (h : Held) → IsSound h → IsSound (without_arguments vs ns (given val.None (with_run None h)) h).held
-run_sound [] [] h t = simulation_sound _ h t
+run_sound [] [] h t = simulation_sound _ h t.waits t
 run_sound (v ∷ vs) ns h t = t
 run_sound [] (n ∷ ns) h t = t
 
 until_timed_sound : (o : Option ℕ) (h : Held) → IsSound h → IsSound (until_timed o h).held
 until_timed_sound None h t = t
-until_timed_sound (Some n) h t = simulation_sound _ h t
+until_timed_sound (Some n) h t = simulation_sound _ h t.waits t
 
 until_sound : (vs : List Val) (ns : List (List ℕ)) (h : Held) → IsSound h → IsSound (until_placed vs ns h).held
 until_sound [] ns h t = t

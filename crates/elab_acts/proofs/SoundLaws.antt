@@ -147,6 +147,7 @@ module_sound c h s =
       memories = s.memories;
       registers = s.registers;
       wrappings = s.wrappings;
+      waits = s.waits;
       modules = all_and (IsBuilt h.pool) h.store.modules (record { name = []; steps = [] } ∷ []) s.modules (record { steps = tt }, tt);
     } tt) s
 
@@ -323,7 +324,7 @@ plain_sound m b (v ∷ vs) ns h t i = t
 case_sound : (m : ℕ) (o : Option (List Pattern)) (h : Held) → IsSound h → IsSound (case_given m o h).held
 case_sound m None h t = t
 case_sound m (Some ps) h t =
-    keeping_sound (with_patterns ps h) (kept_as.Block m (begin.Case (length h.store.patterns))) (record { names = t.names; things = t.things; kept = t.kept; modules = t.modules; components = t.components; machines = t.machines; domains = t.domains; additions = t.additions; clock_domains = t.clock_domains; memories = t.memories; registers = t.registers; wrappings = t.wrappings }) tt
+    keeping_sound (with_patterns ps h) (kept_as.Block m (begin.Case (length h.store.patterns))) (record { names = t.names; things = t.things; kept = t.kept; modules = t.modules; components = t.components; machines = t.machines; domains = t.domains; additions = t.additions; clock_domains = t.clock_domains; memories = t.memories; registers = t.registers; wrappings = t.wrappings; waits = t.waits }) tt
 
 case_in_sound : (s : Seen) (m : ℕ) (vs : List Val) (o : Option ExprId) (h : Held) → IsSound h → IsSound (case_in s m vs o h).held
 case_in_sound s m vs None h t = keeping_sound h (kept_as.Block m begin.Misplaced) t tt
@@ -389,6 +390,7 @@ entered_sound h m b x t k i = by_expr (condition_made (built_blocks b) x) (openi
       memories = u.memories;
       registers = u.registers;
       wrappings = u.wrappings;
+      waits = u.waits;
       modules = told_module q m (and_entered h.pool b x) h.store.modules (record { steps = all_and (IsTold q) b.steps (Enter (opening_of (length h.pool.exprs) x) ∷ []) l.steps (o, tt) }) u.modules;
     }
 
@@ -420,6 +422,7 @@ enter_sound (Some (kept_as.Block m b)) h t f = if_sound (in_machine m h.store.ma
         passed_sound (entering m (slice_get h.store.modules m) x h) (entering_sound h m (slice_get h.store.modules m) x t (λ c e. module_built h.pool h.store.modules m c t.modules e) (g x refl))
 enter_sound (Some (kept_as.OfMachine x)) h t f = t
 enter_sound (Some (kept_as.OfSimulator x)) h t f = t
+enter_sound (Some (kept_as.OfBench x)) h t f = t
 enter_sound None h t f = t
 enter_sound (Some (kept_as.Name n)) h t f = t
 enter_sound (Some (kept_as.Module m)) h t f = t
@@ -454,6 +457,7 @@ left_sound h m b t k = record {
   memories = t.memories;
   registers = t.registers;
   wrappings = t.wrappings;
+  waits = t.waits;
   modules = told_module h.pool m (and_left b) h.store.modules (record { steps = all_and (IsTold h.pool) b.steps (Leave ∷ []) k.steps (tt, tt) }) t.modules;
 }
 
@@ -472,6 +476,7 @@ leave_sound (Some (kept_as.Block m b)) h t = by_pair (leaving m (slice_get h.sto
     by_pair (s, why) u = passed_sound (record h { store = s }, why) u
 leave_sound (Some (kept_as.OfMachine x)) h t = t
 leave_sound (Some (kept_as.OfSimulator x)) h t = t
+leave_sound (Some (kept_as.OfBench x)) h t = t
 leave_sound None h t = t
 leave_sound (Some (kept_as.Name n)) h t = t
 leave_sound (Some (kept_as.Module m)) h t = t
@@ -509,6 +514,7 @@ naming_sound n h t name = record {
   memories = t.memories;
   registers = t.registers;
   wrappings = t.wrappings;
+  waits = t.waits;
 }
 
 pub domain_sound : (m : ℕ) (name : Option (List ℕ)) (h : Held) → IsSound h → IsSound (domain_given m name h).held
@@ -551,6 +557,7 @@ put_sound_by h None m b d q t k named e = record {
   memories = t.memories;
   registers = t.registers;
   wrappings = t.wrappings;
+  waits = t.waits;
   modules = told_module h.pool m (built_with b d q) h.store.modules (record { steps = all_and (IsTold h.pool) b.steps (Assign d q.target q.value q.place ∷ []) k.steps ((named, e), tt) }) t.modules;
 }
 

@@ -32,7 +32,7 @@ AreNamed = AllByRecursion (λ (a : Addition). IsName a.name)
 
 -- where only the hierarchy is another one
 hierarchy_sound : (h : Held) (t : Hierarchy) → IsSound h → AreNamed t.additions → IsSound (record h { store = record h.store { hierarchy = t } })
-hierarchy_sound h t s named = record { names = s.names; things = s.things; kept = s.kept; modules = s.modules; components = s.components; machines = s.machines; domains = s.domains; additions = named; clock_domains = s.clock_domains; memories = s.memories; registers = s.registers; wrappings = s.wrappings }
+hierarchy_sound h t s named = record { names = s.names; things = s.things; kept = s.kept; modules = s.modules; components = s.components; machines = s.machines; domains = s.domains; additions = named; clock_domains = s.clock_domains; memories = s.memories; registers = s.registers; wrappings = s.wrappings; waits = s.waits }
 
 no_refusal : (a b c : Bool) (o : Option Cause) → (if a || (b || c) then Some Raised else o) ≡ None → b ≡ false
 no_refusal true b c o e = absurd (true≢false (ap is_some e))
@@ -85,7 +85,7 @@ node_sound : (m : NodeOf) (h : Held) → IsSound h → IsSound (with_node m h)
 node_sound m h t = hierarchy_sound h (node_taken m h.store.hierarchy) t (subst AreNamed (sym (additions_stay m h.store.hierarchy.waiting h.store.hierarchy)) t.additions)
 
 pub entered_sound : (m : ℕ) (h : Held) → IsSound h → IsSound (with_top m h)
-entered_sound m h t = record { names = t.names; things = t.things; kept = t.kept; modules = t.modules; components = t.components; machines = t.machines; domains = t.domains; additions = t.additions; clock_domains = t.clock_domains; memories = t.memories; registers = t.registers; wrappings = t.wrappings }
+entered_sound m h t = record { names = t.names; things = t.things; kept = t.kept; modules = t.modules; components = t.components; machines = t.machines; domains = t.domains; additions = t.additions; clock_domains = t.clock_domains; memories = t.memories; registers = t.registers; wrappings = t.wrappings; waits = t.waits }
 
 below_sound : (c : Option Calling) (h : Held) → IsSound h → IsSound (below_called c h).held
 below_sound None h t = t

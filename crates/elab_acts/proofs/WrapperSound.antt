@@ -32,6 +32,7 @@ with_wrapping_sound w h t own = record {
   memories = t.memories;
   registers = t.registers;
   wrappings = all_and (IsWrapping h.pool) h.store.wrappings (w ∷ []) t.wrappings (own, tt);
+  waits = t.waits;
 }
 
 with_wrapped_sound : (w : Wrapped) (h : Held) → IsSound h → IsSound (wrapped_given w h).held
@@ -49,6 +50,7 @@ with_wrapped_sound w h t =
       memories = t.memories;
       registers = t.registers;
       wrappings = t.wrappings;
+      waits = t.waits;
     }) tt
 
 argument_sound : (s : Seen) (k : ℕ) (v : Val) (h : Held) → IsSound h → IsSound (argument_wrapped s k v h).held

@@ -117,8 +117,8 @@ fn seconds(n: Int) -> Option<u64>
     whole_seconds(n.size)
 }
 
-// A time itself, and an integer or a boolean as so many seconds.
-fn time_meant(v: Val) -> Option<u64>
+/// A time itself, and an integer or a boolean as so many seconds, in femtoseconds.
+pub fn time_meant(v: Val) -> Option<u64>
     ensures { result ≡ time_meant v }
 {
     match v {

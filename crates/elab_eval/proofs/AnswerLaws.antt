@@ -49,7 +49,7 @@ pub planned_sound : (s : Seen) (h : Held) (r : Request) (a : Acted) (q : Pooled)
 planned_sound s h r a q ts acts held sound = by_plan (acted s h.pool h.store.things r) acts
   where
     with_things : (k : Held) → IsSound k → AreHeld (length k.pool.exprs) ts → IsSound (record k { store = record k.store { things = ts } })
-    with_things k t g = record { names = t.names; kept = t.kept; modules = t.modules; components = t.components; machines = t.machines; domains = t.domains; additions = t.additions; clock_domains = t.clock_domains; memories = t.memories; registers = t.registers; wrappings = t.wrappings; things = g }
+    with_things k t g = record { names = t.names; kept = t.kept; modules = t.modules; components = t.components; machines = t.machines; domains = t.domains; additions = t.additions; clock_domains = t.clock_domains; memories = t.memories; registers = t.registers; wrappings = t.wrappings; waits = t.waits; things = g }
 
     same_pool : q ≡ h.pool → IsSound (held_with q h.store ts)
     same_pool e = subst (λ p. IsSound (held_with p h.store ts)) (sym e) (with_things h sound (subst (λ (p : Pooled). AreHeld (length p.exprs) ts) e held))

@@ -30,7 +30,7 @@ use Rattle.elab_eval.specs.Elaborates.{Found, Comes, design_of, without_simulati
 use Rattle.elab_eval.specs.Running.{IsRunning, HasEnded, Steps_to}
 
 nothing_sound : IsSound nothing_held
-nothing_sound = record { names = tt; things = tt; kept = tt; modules = tt; components = record { names = tt; ends = tt; objects = tt }; machines = tt; domains = tt; additions = tt; clock_domains = record { each = tt; order = tt }; memories = tt; registers = tt; wrappings = tt }
+nothing_sound = record { names = tt; things = tt; kept = tt; modules = tt; components = record { names = tt; ends = tt; objects = tt }; machines = tt; domains = tt; additions = tt; clock_domains = record { each = tt; order = tt }; memories = tt; registers = tt; wrappings = tt; waits = tt }
 
 -- before the first answer
 pub begun : (program : Steps) (top : Option (List ℕ)) (budget : ℕ) (m : Machine) (h : Held) → Stands program nothing [] m → m.stage ≡ stage.Before → m.going.state.used ≡ 0 → h ≡ nothing_held → 0 < budget → IsRunning program top budget m h answer.Begin budget

@@ -142,6 +142,7 @@ own_call_sound s (Some (kept_as.BlockName m n)) c p h rules t = block_call_sound
 own_call_sound s (Some (kept_as.Block m b)) c p h rules t = t
 own_call_sound s (Some (kept_as.OfMachine x)) c p h rules t = machine.part_call_sound s x c p h t
 own_call_sound s (Some (kept_as.OfSimulator x)) c p h rules t = simulator.part_called_sound s x c p h t
+own_call_sound s (Some (kept_as.OfBench x)) c p h rules t = t
 
 call_sound : (s : Seen) (r : Request) (c : Called) (h : Held) → IsPool h.pool → IsSound h → IsSound (call_answered s r c h).held
 call_sound s r c h rules t = by_eq (equated_by (thing_of h.store.things c.callee)) (λ e is. equated_there (length h.pool.exprs) h.store.things c.callee e t.things is)
@@ -206,6 +207,7 @@ attribute_sound (Some (kept_as.BlockName m n)) name h t f = t
 attribute_sound (Some (kept_as.Block m b)) name h t f = t
 attribute_sound (Some (kept_as.OfMachine x)) name h t f = machine.part_attribute_sound x name h t
 attribute_sound (Some (kept_as.OfSimulator x)) name h t f = simulator.attribute_sound x name h t
+attribute_sound (Some (kept_as.OfBench x)) name h t f = t
 
 by_value_sound : (v : Val) (name : List ℕ) (h : Held) → IsSound h → IsSound (attribute_by v name h).held
 by_value_sound (val.Object o) name h t = object_attribute_sound o name h t
@@ -245,6 +247,7 @@ attribute_stored_sound s (Some (kept_as.BlockName m n)) name v p h t = t
 attribute_stored_sound s (Some (kept_as.Block m b)) name v p h t = t
 attribute_stored_sound s (Some (kept_as.OfMachine x)) name v p h t = t
 attribute_stored_sound s (Some (kept_as.OfSimulator x)) name v p h t = t
+attribute_stored_sound s (Some (kept_as.OfBench x)) name v p h t = t
 
 stores_sound : (s : Seen) (vs : List Val) (o : Option (List ℕ)) (p : Place) (h : Held) → IsSound h → IsSound (store_answered s vs o p h).held
 stores_sound s [] o p h t = t
@@ -277,6 +280,7 @@ index_sound s (Some (kept_as.BlockName m n)) i h t = t
 index_sound s (Some (kept_as.Block m b)) i h t = t
 index_sound s (Some (kept_as.OfMachine x)) i h t = t
 index_sound s (Some (kept_as.OfSimulator x)) i h t = t
+index_sound s (Some (kept_as.OfBench x)) i h t = t
 
 indices_sound : (s : Seen) (vs : List Val) (h : Held) → IsSound h → IsSound (index_answered s vs h).held
 indices_sound s [] h t = t
@@ -308,6 +312,7 @@ index_stored_sound s (Some (kept_as.BlockName m n)) i v h t = t
 index_stored_sound s (Some (kept_as.Block m b)) i v h t = t
 index_stored_sound s (Some (kept_as.OfMachine x)) i v h t = t
 index_stored_sound s (Some (kept_as.OfSimulator x)) i v h t = t
+index_stored_sound s (Some (kept_as.OfBench x)) i v h t = t
 
 index_stores_sound : (s : Seen) (vs : List Val) (h : Held) → IsSound h → IsSound (index_store_answered s vs h).held
 index_stores_sound s [] h t = t
@@ -342,6 +347,7 @@ added_sound s (Some (kept_as.BlockName m n)) x v p h t = t
 added_sound s (Some (kept_as.Block m b)) x v p h t = t
 added_sound s (Some (kept_as.OfMachine y)) x v p h t = t
 added_sound s (Some (kept_as.OfSimulator y)) x v p h t = t
+added_sound s (Some (kept_as.OfBench y)) x v p h t = t
 
 operator_sound : (s : Seen) (vs : List Val) (o : Option (List ℕ)) (p : Place) (h : Held) → IsSound h → IsSound (operator_answered s vs o p h).held
 operator_sound s [] o p h t = t
@@ -355,6 +361,7 @@ operator_sound s (x ∷ v ∷ w ∷ vs) o p h t = t
 kept_entered_sound : (s : Seen) (o : Option Kept) (h : Held) → IsPool h.pool → IsSound h → ((k : Kept) → o ≡ Some k → IsKept h.pool h.store.components.signatures h.store.components.ends k) → IsSound (kept_entered s o h).held
 kept_entered_sound s (Some (kept_as.OfMachine x)) h rules t f = machine.part_entered_sound s x h rules t
 kept_entered_sound s (Some (kept_as.OfSimulator x)) h rules t f = simulator.passed_sound x h t
+kept_entered_sound s (Some (kept_as.OfBench x)) h rules t f = t
 kept_entered_sound s None h rules t f = enter_sound None h t f
 kept_entered_sound s (Some (kept_as.Name n)) h rules t f = enter_sound (Some (kept_as.Name n)) h t f
 kept_entered_sound s (Some (kept_as.Module m)) h rules t f = enter_sound (Some (kept_as.Module m)) h t f
@@ -385,6 +392,7 @@ enters_sound s (x ∷ y ∷ vs) h rules t = t
 kept_left_sound : (o : Option Kept) (h : Held) → IsSound h → IsSound (kept_left o h).held
 kept_left_sound (Some (kept_as.OfMachine x)) h t = machine.part_left_sound x h t
 kept_left_sound (Some (kept_as.OfSimulator x)) h t = simulator.passed_sound x h t
+kept_left_sound (Some (kept_as.OfBench x)) h t = t
 kept_left_sound None h t = leave_sound None h t
 kept_left_sound (Some (kept_as.Name n)) h t = leave_sound (Some (kept_as.Name n)) h t
 kept_left_sound (Some (kept_as.Module m)) h t = leave_sound (Some (kept_as.Module m)) h t

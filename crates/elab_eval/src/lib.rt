@@ -26,4 +26,4 @@ pub use elab_store::shapes::Shaped;
 pub use elab_store::store::Store;
 pub use laws::outcome_is_one;
 pub use refusal::ElabStop;
-pub use running::{Elaborated, elaborate};
+pub use running::{Elaborated, answer_request, elaborate};

@@ -63,7 +63,7 @@ fn serve(
 }
 
 // What a request is answered.
-fn answer_request(
+pub fn answer_request(
     elaboration: &mut Elaboration,
     machine: &Machine,
     frozen: &Frozen,

@@ -8,6 +8,7 @@ pub mod MemoryLaws
 pub mod NumberNames
 pub mod Pools
 pub mod Standing
+mod WaitSamples
 pub mod WalkLaws
 pub mod WrapLaws
 mod WrappingSamples

@@ -4,6 +4,7 @@ use Rattle.py_values.specs.declared.val.Val.{Val}
 use Rattle.elab_store.specs.declared.simulation.ClockCall.{ClockCall}
 use Rattle.elab_store.specs.declared.simulation.Testbench.{Testbench}
 use Rattle.elab_store.specs.declared.simulation.RunEnd.{RunEnd}
+use Rattle.elab_store.specs.declared.simulation.Wait.{Wait}
 
 pub record Simulation : Type 0 where
   -- what is simulated, once `Simulator` was called
@@ -13,10 +14,12 @@ pub record Simulation : Type 0 where
   pub testbenches : List Testbench
   -- how the run ends, once it was called
   pub run_end : Option RunEnd
+  -- what testbenches may wait for, in order of making
+  pub waits : List Wait
 
 -- before the body of a program
 abbrev pub no_simulation : Simulation
-no_simulation = record { subject = None; clocks = []; testbenches = []; run_end = None }
+no_simulation = record { subject = None; clocks = []; testbenches = []; run_end = None; waits = [] }
 
 abbrev pub with_subject : Val → Simulation → Simulation
 with_subject v x = record x { subject = Some v }
@@ -29,3 +32,6 @@ with_testbench t x = record x { testbenches = x.testbenches ++ t ∷ [] }
 
 abbrev pub with_end : RunEnd → Simulation → Simulation
 with_end e x = record x { run_end = Some e }
+
+abbrev pub with_wait : Wait → Simulation → Simulation
+with_wait w x = record x { waits = x.waits ++ w ∷ [] }

@@ -45,6 +45,12 @@ use Rattle.elab_store.specs.declared.domains.ClockDomain.{ClockDomain}
 use Rattle.elab_store.specs.declared.faces.End.{End}
 use Rattle.elab_store.specs.declared.faces.ComponentObject.{ComponentObject}
 use Rattle.elab_store.specs.declared.members.NamedMember.{NamedMember}
+use Rattle.elab_store.specs.declared.simulation.Sample.{Sample}
+use Rattle.elab_store.specs.declared.simulation.Sample.TheVariants as sample
+use Rattle.elab_store.specs.declared.simulation.TickEnd.{TickEnd}
+use Rattle.elab_store.specs.declared.simulation.TickEnd.TheVariants as end
+use Rattle.elab_store.specs.declared.simulation.Wait.{Wait}
+use Rattle.elab_store.specs.declared.simulation.Wait.TheVariants as wait
 use Rattle.elab_store.specs.Leaves.{Signatures}
 use Rattle.elab_store.specs.Faces.{IsFace}
 use Rattle.elab_store.specs.Components.{Components}
@@ -103,6 +109,7 @@ IsKept q sigs ends (kept.BlockName m n) = ⊤
 IsKept q sigs ends (kept.Block m b) = IsBegin q b
 IsKept q sigs ends (kept.OfMachine x) = ⊤
 IsKept q sigs ends (kept.OfSimulator x) = ⊤
+IsKept q sigs ends (kept.OfBench x) = ⊤
 
 abbrev pub IsOpening : Pooled → Opening → Type 0
 IsOpening q (opening.If e) = e.0 < length q.exprs
@@ -222,6 +229,23 @@ IsWrapping q (wrapping.Rename names) = AllByRecursion (λ (p : NamePair). IsName
 IsWrapping q (wrapping.Reset controls) = AreControls (length q.exprs) controls
 IsWrapping q (wrapping.Enable controls) = AreControls (length q.exprs) controls
 
+-- ---- waits
+
+-- the expression of a sample is one of the pool
+abbrev pub IsSample : Pooled → Sample → Type 0
+IsSample q (sample.Value e reading) = e.0 < length q.exprs
+IsSample q (sample.Number n) = ⊤
+
+abbrev pub IsTickEnd : Pooled → TickEnd → Type 0
+IsTickEnd q end.Once = ⊤
+IsTickEnd q (end.Times n) = ⊤
+IsTickEnd q (end.Until x) = IsSample q x
+
+-- what is sampled at ticks, and what they are waited for until, are expressions of the pool
+abbrev pub IsWait : Pooled → Wait → Type 0
+IsWait q (wait.Tick t) = AllByRecursion (IsSample q) t.samples × IsTickEnd q t.end
+IsWait q (wait.Delay n) = ⊤
+
 pub record IsSound (h : Held) : Type 0 where
   pub names : AllByRecursion (λ (x : Sig). IsName x.name) h.pool.signals
   pub things : AreHeld (length h.pool.exprs) h.store.things
@@ -235,3 +259,4 @@ pub record IsSound (h : Held) : Type 0 where
   pub memories : AllByRecursion (IsOwnMemory h.pool h.store.clock_domains.made h.store.components.objects) h.store.memories
   pub registers : AllByRecursion (HasOwnRegister h.pool h.store.memories) h.store.machines
   pub wrappings : AllByRecursion (IsWrapping h.pool) h.store.wrappings
+  pub waits : AllByRecursion (IsWait h.pool) h.store.simulation.waits

@@ -140,6 +140,29 @@ pub enum SimulatorPart {
     Vcd,
 }
 
+/// What belongs to `ctx` of a testbench. A number is that of what may be waited for.
+#[derive(Clone, Copy, PartialEq, Eq, Drop)]
+pub enum BenchPart {
+    /// `ctx` itself.
+    Context,
+    /// `ctx.get`.
+    Get,
+    /// `ctx.set`.
+    Set,
+    /// `ctx.tick`.
+    Tick,
+    /// `ctx.delay`.
+    Delay,
+    /// What a call of `ctx.tick` or `ctx.delay` gave, or of a method of such a thing.
+    Wait(u32),
+    /// `.sample` of a tick.
+    Sample(u32),
+    /// `.until` of a tick.
+    Until(u32),
+    /// `.repeat` of a tick.
+    Repeat(u32),
+}
+
 /// The name of a method of a signature.
 #[derive(Clone, Copy, PartialEq, Eq, Drop)]
 pub enum SignatureMethod {
@@ -236,6 +259,8 @@ pub enum Kept {
     OfMachine(MachinePart),
     /// What belongs to the simulator.
     OfSimulator(SimulatorPart),
+    /// What belongs to a testbench.
+    OfBench(BenchPart),
 }
 
 /// What is elaborated: the object of which it was asked first, where it was one, and the module that came of it.

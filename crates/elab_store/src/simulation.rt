@@ -1,9 +1,12 @@
 // What the simulator of a file was told: what is simulated, its clocks and testbenches, and how the run ends.
-ghost use Rattle.std.specs.Prelude.{◌≡◌, OnOk};
-ghost use Rattle.elab_store.specs.Simulations.{no_simulation, with_subject, with_clock, with_testbench, with_end};
+ghost use Rattle.std.specs.Prelude.{◌≡◌, OnOk, IfOk, length};
+ghost use Rattle.elab_store.specs.Simulations.{no_simulation, with_subject, with_clock, with_testbench, with_end, with_wait};
 
 use crate::store::Store;
-use amh_host::{Place, Text};
+use amh_bits::Int;
+use amh_host::{Items, Place, Text};
+use amh_things::thing::Reading;
+use design_ir::{DomainId, ExprId};
 use lists::NoMemory;
 use py_values::{FuncId, Val};
 use std::alloc::Global;
@@ -34,6 +37,39 @@ pub enum RunEnd {
     Until(u64),
 }
 
+/// A value that is sampled: of an expression, by what its bits are read as, or a number.
+#[derive(Clone, Copy, PartialEq, Eq, Drop)]
+pub enum Sample {
+    Value { e: ExprId, reading: Reading },
+    Number(Int),
+}
+
+/// What is sampled, one after the other.
+pub type Samples = Items<Sample>;
+
+/// How long ticks are waited for: once, so many times, or until a value is not 0.
+#[derive(Clone, Copy, PartialEq, Eq, Drop)]
+pub enum TickEnd {
+    Once,
+    Times(u128),
+    Until(Sample),
+}
+
+/// Ticks of a domain, with what is sampled at the last of them.
+#[derive(Drop)]
+pub struct Tick {
+    pub domain: DomainId,
+    pub samples: Samples,
+    pub end: TickEnd,
+}
+
+/// What a testbench may wait for: ticks, or so many femtoseconds.
+#[derive(Drop)]
+pub enum Wait {
+    Tick(Tick),
+    Delay(u64),
+}
+
 /// What the simulator was told, in order. Contracts see it as `Simulation`.
 #[derive(Drop)]
 pub struct Simulation {
@@ -41,6 +77,7 @@ pub struct Simulation {
     clocks: Vec<ClockCall>,
     testbenches: Vec<Testbench>,
     run_end: Option<RunEnd>,
+    waits: Vec<Wait>,
 }
 
 impl Model for Simulation {
@@ -48,7 +85,7 @@ impl Model for Simulation {
 
     ghost Value = { Simulation };
 
-    ghost view = { λ a. record { subject = a.subject; clocks = a.clocks.items; testbenches = a.testbenches.items; run_end = a.run_end } };
+    ghost view = { λ a. record { subject = a.subject; clocks = a.clocks.items; testbenches = a.testbenches.items; run_end = a.run_end; waits = a.waits.items } };
 }
 
 impl Simulation {
@@ -61,6 +98,7 @@ impl Simulation {
             clocks: Vec::new(alloc),
             testbenches: Vec::new(alloc),
             run_end: None,
+            waits: Vec::new(alloc),
         }
     }
 
@@ -83,6 +121,13 @@ impl Simulation {
         ensures { result.now ≡ self.now.testbenches }
     {
         self.testbenches.as_slice()
+    }
+
+    /// What testbenches may wait for, in order of making.
+    pub fn waits(&self) -> &[Wait]
+        ensures { result.now ≡ self.now.waits }
+    {
+        self.waits.as_slice()
     }
 
     /// How the run ends, where it was called.
@@ -122,6 +167,19 @@ impl Store {
     {
         self.simulation.testbenches.push(testbench)?;
         Ok(())
+    }
+
+    /// Something that a testbench may wait for.
+    pub fn add_wait(&mut self, wait: Wait) -> Result<u32, NoMemory>
+        ensures { IfOk result (λ k. (k ≡ length self.old.simulation.waits) × (self.new ≡ record self.old { simulation = with_wait wait self.old.simulation })) }
+    {
+        let number = self.simulation.waits.len();
+        if number >= 4_294_967_295 {
+            drop(wait);
+            return Err(NoMemory);
+        }
+        self.simulation.waits.push(wait)?;
+        Ok(number as u32)
     }
 
     /// The run is called, and ends so.

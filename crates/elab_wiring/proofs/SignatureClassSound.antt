@@ -37,7 +37,7 @@ any_class_sound (class ∷ base ∷ vs) names h other s = if_sound (is_signature
 signed_sound : (o : ObjId) (ms : List NamedMember) (h : Held) → IsSound h → AllByRecursion (λ (m : NamedMember). IsName m.name) ms → IsSound (signed_by o ms h)
 signed_sound o ms h s named =
     let t : IsSound (signing ms h) = signing_sound ms h s named in
-    record { names = t.names; things = t.things; kept = t.kept; modules = t.modules; machines = t.machines; domains = t.domains; additions = t.additions; clock_domains = t.clock_domains; memories = t.memories; registers = t.registers; wrappings = t.wrappings; components = record { names = t.components.names; ends = t.components.ends; objects = t.components.objects } }
+    record { names = t.names; things = t.things; kept = t.kept; modules = t.modules; machines = t.machines; domains = t.domains; additions = t.additions; clock_domains = t.clock_domains; memories = t.memories; registers = t.registers; wrappings = t.wrappings; waits = t.waits; components = record { names = t.components.names; ends = t.components.ends; objects = t.components.objects } }
 
 abbrev chosen : Bool → ObjId → List NamedMember → Held → Answered
 chosen b o ms h = if b then record { answer = answer.Bind []; held = signed_by o ms h } else refused Raised h

@@ -1,0 +1,5 @@
+pub mod TargetLaws
+pub mod ReadLaws
+pub mod SoundLaws
+pub mod ShareLaws
+pub mod ServeLaws

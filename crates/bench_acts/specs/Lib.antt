@@ -1,0 +1,5 @@
+pub mod Sharing
+pub mod Targets
+pub mod Context
+pub mod Serving
+pub mod Held

@@ -1,0 +1,151 @@
+// What an act of a testbench makes is put to the design, but for expressions that are there.
+ghost use Rattle.std.specs.Prelude.{◌≡◌, ◌<◌, ◌≤◌, ◌++◌, ◌∷◌, [], length, slice_get, IfOk, IfErr, Some, None, true, false};
+ghost use Rattle.design_ir.specs.declared.expr.Expr.{Expr};
+ghost use Rattle.design_ir.specs.PoolRules.{expr_added};
+ghost use Rattle.expr_index.specs.Numbers.{number_now, renumbered};
+ghost use Rattle.expr_index.specs.Knows.{Knows};
+ghost use Rattle.elab_store.specs.Held.{held_of};
+ghost use Rattle.bench_acts.specs.Sharing.{begin_now, kept_now, share_one, held_over, exprs_shared, too_many, IsBehind};
+ghost use Rattle.bench_acts.specs.Held.{IsShareStop, MayCome};
+
+use design_ir::{Design, Expr, ExprId, Exprs, PoolStop};
+use elab_store::kept::{Begin, Equation, Kept};
+use elab_store::store::Elaboration;
+use expr_index::{Known, number_now, renumbered};
+use lists::NoMemory;
+use std::alloc::Global;
+
+/// How much there was before an act.
+#[derive(Clone, Copy, PartialEq, Eq, Drop)]
+pub(crate) struct Before {
+    pub exprs: u32,
+    pub things: usize,
+    pub kept: usize,
+}
+
+/// Why an act cannot be kept.
+#[derive(Clone, Copy, PartialEq, Eq, Drop)]
+pub(crate) enum ShareStop {
+    Limit,
+    NoMemory,
+}
+
+impl From<NoMemory> for ShareStop {
+    ghost use Rattle.std.specs.Prelude.{◌≡◌};
+    ghost use Rattle.bench_acts.specs.declared.sharing.ShareStop.TheVariants.{NoMemory as no_memory};
+
+    ghost from_gives = { λ _ stop. stop ≡ no_memory };
+
+    fn from(_: NoMemory) -> ShareStop {
+        ShareStop::NoMemory
+    }
+}
+
+/// Expressions behind the first ones of the pool are put to the design where it has none like them. Then the pool is the design's again, and
+/// things are of the numbers that their expressions got.
+pub(crate) fn share(
+    held: &mut Elaboration,
+    design: &mut Design,
+    known: &mut Known,
+    before: Before,
+) -> Result<(), ShareStop>
+    requires known { Knows known.old design.old.pool.exprs }
+    requires count { before.exprs ≡ length design.old.pool.exprs }
+    requires behind { IsBehind design.old.pool (held_of held.old) }
+    ensures held { IfOk result (λ _. held_of held.new ≡ held_over design.old.pool before.things before.kept (held_of held.old)) }
+    ensures design { IfOk result (λ _. design.new ≡ record design.old { pool = held.new.pool }) }
+    ensures known { IfOk result (λ _. Knows known.new held.new.pool.exprs) }
+    ensures few { IfOk result (λ _. too_many design.old.pool held.new.pool.exprs ≡ false) }
+    ensures limit { IfErr result (λ stop. IsShareStop stop (262144 < length (exprs_shared design.old.pool (held_of held.old)))) }
+{
+    if held.pool.count() == before.exprs {
+        return Ok(());
+    }
+    let mut now = Vec::new(held.alloc);
+    for i in before.exprs..held.pool.count() {
+        let id = shared_one(held, design, known, before.exprs, now.as_slice(), ExprId(i))?;
+        if let Err(_) = now.push(id) {
+            return Err(ShareStop::NoMemory);
+        }
+    }
+    held.pool.keep_first(before.exprs);
+    for i in before.exprs..design.count() {
+        let e = renumbered(held.alloc, design.at(ExprId(i)), u32::MAX, &[])?;
+        put(&mut held.pool, e)?;
+    }
+    held.store
+        .things
+        .renumber(before.things, before.exprs, now.as_slice());
+    for i in before.kept..held.store.kept.len() {
+        held.store.kept[i] = kept_now(held.store.kept[i], before.exprs, now.as_slice());
+    }
+    Ok(())
+}
+
+// The number of one expression in the design, which may get it.
+fn shared_one(
+    held: &Elaboration,
+    design: &mut Design,
+    known: &mut Known,
+    before: u32,
+    now: &[ExprId],
+    id: ExprId,
+) -> Result<ExprId, ShareStop>
+    requires known { Knows known.old design.old.pool.exprs }
+    requires there { id.0 < length held.now.pool.exprs }
+    requires fits { (e : Expr) → slice_get held.now.pool.exprs id.0 ≡ Some e → MayCome design.old.pool (renumbered (number_now before now.now) e) }
+    ensures shared { IfOk result (λ k. (e : Expr) → slice_get held.now.pool.exprs id.0 ≡ Some e → share_one before (record { numbers = now.now; exprs = design.old.pool.exprs }) e ≡ record { numbers = now.now ++ k ∷ []; exprs = design.new.pool.exprs }) }
+    ensures design { IfOk result (λ _. design.new ≡ record design.old { pool = record design.old.pool { exprs = design.new.pool.exprs } }) }
+    ensures known { IfOk result (λ _. Knows known.new design.new.pool.exprs) }
+    ensures limit { IfErr result (λ stop. IsShareStop stop (262144 ≤ length design.old.pool.exprs)) }
+{
+    let e = renumbered(held.alloc, held.pool.at(id), before, now)?;
+    if let Some(id) = known.find(design, &e) {
+        return Ok(id);
+    }
+    let id = put(design, e)?;
+    known.note(design.at(id))?;
+    Ok(id)
+}
+
+// Puts an expression at the end that nothing is wrong with: it is refused exactly where there are too many.
+fn put<P: Exprs>(pool: &mut P, e: Expr) -> Result<ExprId, ShareStop>
+    requires { MayCome (P.pooled pool.old) e }
+    ensures added { IfOk result (λ id. (length (P.pooled pool.old).exprs < 262144) × (id ≡ record { 0 = length (P.pooled pool.old).exprs }) × (P.pooled pool.new ≡ expr_added (P.pooled pool.old) e)) }
+    ensures refused { IfErr result (λ stop. IsShareStop stop (262144 ≤ length (P.pooled pool.old).exprs) × (P.pooled pool.new ≡ P.pooled pool.old)) }
+    ensures rest { pool.new ≡ P.grown pool.old (P.pooled pool.new) }
+{
+    match pool.expr(e) {
+        Ok(id) => Ok(id),
+        Err(PoolStop::NoMemory) => Err(ShareStop::NoMemory),
+        Err(_) => Err(ShareStop::Limit),
+    }
+}
+
+fn begin_now(begin: Begin, before: u32, now: &[ExprId]) -> Begin
+    ensures { result ≡ begin_now (number_now before now.now) begin }
+{
+    match begin {
+        Begin::If(e) => Begin::If(number_now(e, before, now)),
+        Begin::Elif(e) => Begin::Elif(number_now(e, before, now)),
+        Begin::Switch(e) => Begin::Switch(number_now(e, before, now)),
+        other => other,
+    }
+}
+
+fn kept_now(kept: Kept, before: u32, now: &[ExprId]) -> Kept
+    ensures { result ≡ kept_now (number_now before now.now) kept }
+{
+    match kept {
+        Kept::Statement(s) => Kept::Statement(Equation {
+            target: number_now(s.target, before, now),
+            value: number_now(s.value, before, now),
+            place: s.place,
+        }),
+        Kept::Block { of, begin } => Kept::Block {
+            of,
+            begin: begin_now(begin, before, now),
+        },
+        other => other,
+    }
+}
