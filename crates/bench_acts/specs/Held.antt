@@ -1,5 +1,5 @@
 -- What the code of this crate holds, as the definitions see it.
-use Rattle.std.specs.Prelude.{◌≡◌, Result, Ok, Err, None, ⊤}
+use Rattle.std.specs.Prelude.{◌≡◌, ◌≤◌, length, Result, Ok, Err, None, ⊤}
 use Rattle.py_frames.specs.declared.request.Answer.TheVariants as answer
 use Rattle.lists.specs.declared.items.NoMemory.{NoMemory}
 use Rattle.design_ir.specs.declared.expr.Expr.{Expr}
@@ -16,9 +16,10 @@ use Rattle.bench_acts.specs.declared.sharing.ShareStop.{ShareStop}
 use Rattle.bench_acts.specs.declared.sharing.ShareStop.TheVariants as stop
 use Rattle.bench_acts.specs.Context.{Serving}
 
--- the design has the pool of what is held, which is sound, and its expressions are known
+-- the design has the pool of what is held, which is sound, and its expressions are known and not too many
 pub record IsBench (b : Bench) : Type 0 where
   pub pool : b.held.pool ≡ b.design.pool
+  pub few : length b.design.pool.exprs ≤ 262144
   pub sound : IsSound (held_of b.held)
   pub known : Knows b.known b.design.pool.exprs
 
