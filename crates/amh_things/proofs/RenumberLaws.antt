@@ -1,14 +1,14 @@
 -- Things of expressions that got other numbers: what is held of them, and how one thing after the other gets its number.
-use Rattle.std.specs.Prelude.{◌≡◌, refl, ℕ, zero, suc, ◌+◌, ◌-◌, ◌<◌, ◌≤◌, Bool, true, false, nat_lt, if◌then◌else◌, List, [], ◌∷◌, length, map, take, drop, slice_get, slice_set, get_or, Some, None}
-use Rattle.std.specs.Option.{option_map_or}
+use Rattle.std.specs.Prelude.{◌≡◌, refl, ℕ, zero, suc, ◌+◌, ◌-◌, ◌<◌, ◌≤◌, Bool, true, false, nat_lt, if◌then◌else◌, List, [], ◌∷◌, length, map, take, slice_index_or, slice_set, get_or}
 use Rattle.std.specs.List.{AllByRecursion}
-use Rattle.std.proofs.Common.{ap, sym, ◌∙◌, arith}
+use Rattle.std.proofs.Common.{ap, arith}
 use Rattle.std.proofs.lemmas.Bool.{ltb-true, ltb-false}
 use Rattle.design_ir.specs.declared.ids.ExprId.{ExprId}
+use Rattle.expr_index.specs.Numbers.{number_now}
 use Rattle.amh_things.specs.declared.thing.Thing.{Thing}
 use Rattle.amh_things.specs.declared.thing.Thing.TheVariants as thing
 use Rattle.amh_things.specs.Held.{IsHeld, AreHeld}
-use Rattle.amh_things.specs.Renumbered.{number_now, thing_now, things_now}
+use Rattle.amh_things.specs.Renumbered.{thing_now, things_now}
 
 -- ---- what is held
 
@@ -16,7 +16,7 @@ abbrev pub AreBelow : ℕ → List ExprId → Type 0
 AreBelow m es = AllByRecursion (λ (x : ExprId). x.0 < m) es
 
 -- one of these is below, where it stands among them
-told_below : (m : ℕ) (now : List ExprId) (k : ℕ) (e : ExprId) → k < length now → AreBelow m now → (option_map_or (λ (x : ExprId). x) (slice_get now k) e).0 < m
+told_below : (m : ℕ) (now : List ExprId) (k : ℕ) (e : ExprId) → k < length now → AreBelow m now → (slice_index_or now k e).0 < m
 told_below m [] k e lt h = absurd (omega (arith, lt))
 told_below m (x ∷ now) zero e lt h = h.0
 told_below m (x ∷ now) (suc k) e lt h = told_below m now k e (omega (arith, lt)) h.1
@@ -25,7 +25,7 @@ told_below m (x ∷ now) (suc k) e lt h = told_below m now k e (omega (arith, lt
 pub number_below : (before n m : ℕ) (now : List ExprId) → before ≤ m → n ≤ before + length now → AreBelow m now → (e : ExprId) → e.0 < n → (number_now before now e).0 < m
 number_below before n m now le room below e lt = by_test (nat_lt e.0 before) refl
   where
-    by_test : (b : Bool) → nat_lt e.0 before ≡ b → (if b then e else option_map_or (λ (x : ExprId). x) (slice_get now (e.0 - before)) e).0 < m
+    by_test : (b : Bool) → nat_lt e.0 before ≡ b → (if b then e else slice_index_or now (e.0 - before) e).0 < m
     by_test true is = let first = ltb-true e.0 before is in omega (arith, first, le)
     by_test false is = let behind = ltb-false e.0 before is in told_below m now (e.0 - before) e (omega (arith, behind, lt, room)) below
 

@@ -2,10 +2,11 @@
 -- at 4. Of five things the first two stay.
 use Rattle.std.specs.Prelude.{◌≡◌, refl, ℕ, List, [], ◌∷◌}
 use Rattle.design_ir.specs.declared.ids.ExprId.{ExprId}
+use Rattle.expr_index.specs.Numbers.{number_now}
 use Rattle.amh_things.specs.declared.thing.Thing.{Thing}
 use Rattle.amh_things.specs.declared.thing.Thing.TheVariants as thing
 use Rattle.amh_things.specs.declared.thing.Method.TheVariants as method
-use Rattle.amh_things.specs.Renumbered.{number_now, things_now}
+use Rattle.amh_things.specs.Renumbered.{things_now}
 
 e : ℕ → ExprId
 e n = record { 0 = n }

@@ -1,14 +1,10 @@
 -- Things whose expressions got other numbers: where expressions of a pool are kept once, and those behind a number stand at other places
--- than they were put, or at those of expressions that were there. (This project's own; no text of Amaranth says it.)
-use Rattle.std.specs.Prelude.{ℕ, ◌-◌, nat_lt, if◌then◌else◌, List, ◌++◌, map, take, drop, slice_get}
-use Rattle.std.specs.Option.{option_map_or}
+-- than they were put, or at those of expressions that were there. Which number an expression gets is not known here. (This project's own; no
+-- text of Amaranth says it.)
+use Rattle.std.specs.Prelude.{ℕ, List, ◌++◌, map, take, drop}
 use Rattle.design_ir.specs.declared.ids.ExprId.{ExprId}
 use Rattle.amh_things.specs.declared.thing.Thing.{Thing}
 use Rattle.amh_things.specs.declared.thing.Thing.TheVariants as thing
-
--- the number that an expression gets: those below stay, and those behind are counted from there; one that is not told of stays too
-abbrev pub number_now : ℕ → List ExprId → ExprId → ExprId
-number_now before now e = if nat_lt e.0 before then e else option_map_or (λ (x : ExprId). x) (slice_get now (e.0 - before)) e
 
 -- a thing that stands for an expression stands for the one of its new number
 abbrev pub thing_now : (ExprId → ExprId) → Thing → Thing

@@ -6,7 +6,8 @@ ghost use Rattle.amh_things.specs.declared.thing.Thing.TheVariants as thing;
 ghost use Rattle.amh_things.specs.Things.{kept_number, bare_expr, held_expr, shown_shape, shown_enumeration, shown_member, shown_layout, shown_view, held_method, shown_name, shown_array, eq_target, name_called, base_called, layout_named, reading_at, reading_held, read_as};
 ghost use Rattle.amh_things.specs.declared.thing.Reading.TheVariants as reading;
 ghost use Rattle.amh_things.specs.Members.{numbering_at, member_of, enumeration_of};
-ghost use Rattle.amh_things.specs.Renumbered.{number_now, thing_now, things_now};
+ghost use Rattle.amh_things.specs.Renumbered.{thing_now, things_now};
+ghost use Rattle.expr_index.specs.Numbers.{number_now};
 
 use crate::members::{behind, enumeration_of, member_place};
 use crate::names::{base_called, layout_named, name_called};
@@ -15,6 +16,7 @@ use crate::thing::{LayoutThing, Member, Method, Reading, Thing, ThingName};
 use amh_bits::Int;
 use data_layouts::EnumShape;
 use design_ir::ExprId;
+use expr_index::number_now;
 use lists::NoMemory;
 use py_values::{Hw, Val};
 use shape_rules::Shape;
@@ -344,19 +346,6 @@ fn bits(l: &LayoutThing) -> Shape
     Shape {
         width: l.layout.width(),
         signed: false,
-    }
-}
-
-/// The number that an expression gets: those behind the first `before` are counted from there.
-pub fn number_now(e: ExprId, before: u32, now: &[ExprId]) -> ExprId
-    ensures { result ≡ number_now before now.now e }
-{
-    if e.0 < before {
-        return e;
-    }
-    match now.get((e.0 - before) as usize) {
-        Some(id) => *id,
-        None => e,
     }
 }
 

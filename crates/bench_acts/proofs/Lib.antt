@@ -1,5 +1,6 @@
 pub mod TargetLaws
 pub mod ReadLaws
 pub mod SoundLaws
+pub mod NumberedLaws
 pub mod ShareLaws
 pub mod ServeLaws

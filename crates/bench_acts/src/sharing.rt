@@ -1,14 +1,14 @@
 // What an act of a testbench makes is put to the design, but for expressions that are there.
-ghost use Rattle.std.specs.Prelude.{◌≡◌, ◌<◌, ◌≤◌, ◌++◌, ◌∷◌, [], length, slice_get, IfOk, IfErr, Some, None, true, false};
+ghost use Rattle.std.specs.Prelude.{◌≡◌, ◌<◌, ◌≤◌, ◌++◌, ◌∷◌, [], length, take, drop, slice_get, IfOk, IfErr, Some, true, false};
 ghost use Rattle.design_ir.specs.declared.expr.Expr.{Expr};
-ghost use Rattle.design_ir.specs.PoolRules.{expr_added};
+ghost use Rattle.design_ir.specs.PoolRules.{IsPool, expr_added};
 ghost use Rattle.expr_index.specs.Numbers.{number_now, renumbered};
 ghost use Rattle.expr_index.specs.Knows.{Knows};
 ghost use Rattle.elab_store.specs.Held.{held_of};
-ghost use Rattle.bench_acts.specs.Sharing.{begin_now, kept_now, share_one, held_over, exprs_shared, too_many, IsBehind};
+ghost use Rattle.bench_acts.specs.Sharing.{begin_now, kept_now, kepts_now, share_one, shared, held_over, exprs_shared, too_many, IsBehind};
 ghost use Rattle.bench_acts.specs.Held.{IsShareStop, MayCome};
 
-use design_ir::{Design, Expr, ExprId, Exprs, PoolStop};
+use design_ir::{Design, Expr, ExprId, Exprs, Pool, PoolStop};
 use elab_store::kept::{Begin, Equation, Kept};
 use elab_store::store::Elaboration;
 use expr_index::{Known, number_now, renumbered};
@@ -56,35 +56,68 @@ pub(crate) fn share(
     ensures design { IfOk result (λ _. design.new ≡ record design.old { pool = held.new.pool }) }
     ensures known { IfOk result (λ _. Knows known.new held.new.pool.exprs) }
     ensures few { IfOk result (λ _. too_many design.old.pool held.new.pool.exprs ≡ false) }
-    ensures limit { IfErr result (λ stop. IsShareStop stop (262144 < length (exprs_shared design.old.pool (held_of held.old)))) }
+    ensures limit { IfErr result (λ stop. IsShareStop stop (too_many design.old.pool (exprs_shared design.old.pool (held_of held.old)) ≡ true)) }
 {
-    if held.pool.count() == before.exprs {
-        return Ok(());
-    }
-    let mut now = Vec::new(held.alloc);
-    for i in before.exprs..held.pool.count() {
-        let id = shared_one(held, design, known, before.exprs, now.as_slice(), ExprId(i))?;
-        if let Err(_) = now.push(id) {
-            return Err(ShareStop::NoMemory);
-        }
-    }
-    held.pool.keep_first(before.exprs);
-    for i in before.exprs..design.count() {
-        let e = renumbered(held.alloc, design.at(ExprId(i)), u32::MAX, &[])?;
-        put(&mut held.pool, e)?;
-    }
+    let now = numbers_of(&held.pool, held.alloc, design, known, before.exprs)?;
+    put_anew(&mut held.pool, held.alloc, design, before.exprs)?;
     held.store
         .things
         .renumber(before.things, before.exprs, now.as_slice());
-    for i in before.kept..held.store.kept.len() {
-        held.store.kept[i] = kept_now(held.store.kept[i], before.exprs, now.as_slice());
-    }
+    renumber_kept(
+        held.store.kept.as_mut_slice(),
+        before.kept,
+        before.exprs,
+        now.as_slice(),
+    );
     Ok(())
+}
+
+// The numbers in the design of the expressions behind the first ones, one after another.
+fn numbers_of(
+    pool: &Pool,
+    alloc: Global,
+    design: &mut Design,
+    known: &mut Known,
+    before: u32,
+) -> Result<Vec<ExprId>, ShareStop>
+    requires known { Knows known.old design.old.pool.exprs }
+    requires count { before ≡ length design.old.pool.exprs }
+    requires signals { pool.now.signals ≡ design.old.pool.signals }
+    requires exprs { pool.now.exprs ≡ design.old.pool.exprs ++ drop (length design.old.pool.exprs) pool.now.exprs }
+    ensures shared { IfOk result (λ v. record { numbers = v.items; exprs = design.new.pool.exprs } ≡ shared design.old.pool.exprs (drop (length design.old.pool.exprs) pool.now.exprs)) }
+    ensures design { IfOk result (λ _. design.new ≡ record design.old { pool = record design.old.pool { exprs = design.new.pool.exprs } }) }
+    ensures first { IfOk result (λ _. (before ≤ length design.new.pool.exprs) × (take before pool.now.exprs ≡ take before design.new.pool.exprs)) }
+    ensures known { IfOk result (λ _. Knows known.new design.new.pool.exprs) }
+    ensures few { IfOk result (λ _. too_many design.old.pool design.new.pool.exprs ≡ false) }
+    ensures limit { IfErr result (λ stop. IsShareStop stop (too_many design.old.pool (shared design.old.pool.exprs (drop (length design.old.pool.exprs) pool.now.exprs)).exprs ≡ true)) }
+{
+    let _ = design.count();
+    let mut now = Vec::new(alloc);
+    for i in before..pool.count() {
+        match shared_one(
+            pool,
+            alloc,
+            design,
+            known,
+            before,
+            now.as_slice(),
+            ExprId(i),
+        ) {
+            Ok(id) => {
+                if let Err(_) = now.push(id) {
+                    return Err(ShareStop::NoMemory);
+                }
+            }
+            Err(stop) => return Err(stop),
+        }
+    }
+    Ok(now)
 }
 
 // The number of one expression in the design, which may get it.
 fn shared_one(
-    held: &Elaboration,
+    pool: &Pool,
+    alloc: Global,
     design: &mut Design,
     known: &mut Known,
     before: u32,
@@ -92,14 +125,17 @@ fn shared_one(
     id: ExprId,
 ) -> Result<ExprId, ShareStop>
     requires known { Knows known.old design.old.pool.exprs }
-    requires there { id.0 < length held.now.pool.exprs }
-    requires fits { (e : Expr) → slice_get held.now.pool.exprs id.0 ≡ Some e → MayCome design.old.pool (renumbered (number_now before now.now) e) }
-    ensures shared { IfOk result (λ k. (e : Expr) → slice_get held.now.pool.exprs id.0 ≡ Some e → share_one before (record { numbers = now.now; exprs = design.old.pool.exprs }) e ≡ record { numbers = now.now ++ k ∷ []; exprs = design.new.pool.exprs }) }
+    requires there { id.0 < length pool.now.exprs }
+    requires fits { (e : Expr) → slice_get pool.now.exprs id.0 ≡ Some e → MayCome design.old.pool (renumbered (number_now before now.now) e) }
+    ensures shared { IfOk result (λ k. (e : Expr) → slice_get pool.now.exprs id.0 ≡ Some e → share_one before (record { numbers = now.now; exprs = design.old.pool.exprs }) e ≡ record { numbers = now.now ++ k ∷ []; exprs = design.new.pool.exprs }) }
     ensures design { IfOk result (λ _. design.new ≡ record design.old { pool = record design.old.pool { exprs = design.new.pool.exprs } }) }
+    ensures rules { IfOk result (λ _. IsPool design.new.pool) }
     ensures known { IfOk result (λ _. Knows known.new design.new.pool.exprs) }
-    ensures limit { IfErr result (λ stop. IsShareStop stop (262144 ≤ length design.old.pool.exprs)) }
+    ensures few { IfOk result (λ _. too_many design.old.pool design.new.pool.exprs ≡ false) }
+    ensures limit { IfErr result (λ stop. (e : Expr) → slice_get pool.now.exprs id.0 ≡ Some e → IsShareStop stop (too_many design.old.pool (share_one before (record { numbers = now.now; exprs = design.old.pool.exprs }) e).exprs ≡ true)) }
 {
-    let e = renumbered(held.alloc, held.pool.at(id), before, now)?;
+    let e = renumbered(alloc, pool.at(id), before, now)?;
+    let _ = design.count();
     if let Some(id) = known.find(design, &e) {
         return Ok(id);
     }
@@ -114,11 +150,38 @@ fn put<P: Exprs>(pool: &mut P, e: Expr) -> Result<ExprId, ShareStop>
     ensures added { IfOk result (λ id. (length (P.pooled pool.old).exprs < 262144) × (id ≡ record { 0 = length (P.pooled pool.old).exprs }) × (P.pooled pool.new ≡ expr_added (P.pooled pool.old) e)) }
     ensures refused { IfErr result (λ stop. IsShareStop stop (262144 ≤ length (P.pooled pool.old).exprs) × (P.pooled pool.new ≡ P.pooled pool.old)) }
     ensures rest { pool.new ≡ P.grown pool.old (P.pooled pool.new) }
+    ensures rules { IsPool (P.pooled pool.new) }
 {
     match pool.expr(e) {
         Ok(id) => Ok(id),
         Err(PoolStop::NoMemory) => Err(ShareStop::NoMemory),
         Err(_) => Err(ShareStop::Limit),
+    }
+}
+
+// The pool becomes the design's, of which it has the first expressions.
+fn put_anew(pool: &mut Pool, alloc: Global, design: &Design, before: u32) -> Result<(), NoMemory>
+    requires there { before ≤ length pool.old.exprs }
+    requires first { take before pool.old.exprs ≡ take before design.now.pool.exprs }
+    requires least { before ≤ length design.now.pool.exprs }
+    requires signals { pool.old.signals ≡ design.now.pool.signals }
+    ensures { IfOk result (λ _. pool.new ≡ design.now.pool) }
+{
+    pool.keep_first(before);
+    for i in before..design.count() {
+        let e = renumbered(alloc, design.at(ExprId(i)), before, &[])?;
+        pool.known();
+        pool.more(e)?;
+    }
+    Ok(())
+}
+
+// Those behind the first ones are of the new numbers.
+fn renumber_kept(kept: &mut [Kept], from: usize, before: u32, now: &[ExprId])
+    ensures { kept.new ≡ kepts_now from (number_now before now.now) kept.old }
+{
+    for i in from..kept.len() {
+        kept[i] = kept_now(kept[i], before, now);
     }
 }
 

@@ -1,5 +1,6 @@
 use Rattle.std.proofs.Common.{◌≡◌}
-use Rattle.amh_things.specs.Renumbered.{number_now, things_now}
+use Rattle.expr_index.specs.Numbers.{number_now}
+use Rattle.amh_things.specs.Renumbered.{things_now}
 use Rattle.amh_things.proofs.values.Values.renumber.Given as goal
 
 -- what is left gives the whole
