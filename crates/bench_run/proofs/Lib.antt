@@ -1,0 +1,4 @@
+pub mod BenchLists
+pub mod EnvLaws
+pub mod LinkLaws
+pub mod TurnLaws

@@ -326,11 +326,16 @@ abbrev pub IsToggle : Run → Point → Option ℕ → Option ℕ → Type 0
 IsToggle x p toggle (Some i) = ⊤
 IsToggle x p toggle None = IsNext x.clocks p.now toggle
 
--- what comes next at a point, behind these rows: in an environment that the design can then have, and by the next toggle of a clock
-pub record Comes (x : Run) (rows : List Row) (p : Point) (next : Next) : Type 0 where
+-- the environment that a design has behind these events, and no other
+pub record HasEnv (c : Circuit) (events : List Event) (env : List ℤ) : Type 0 where
   pub state : Circuits.State
+  pub reached : Reaches c events state env
+  pub only : (other : Circuits.State) (others : List ℤ) → Reaches c events other others → others ≡ env
+
+-- what comes next at a point, behind these rows: in the environment that the design then has, and by the next toggle of a clock
+pub record Comes (x : Run) (rows : List Row) (p : Point) (next : Next) : Type 0 where
   pub env : List ℤ
-  pub reached : Reaches x.design (events_in rows) state env
+  pub has : HasEnv x.design (events_in rows) env
   pub toggle : Option ℕ
   pub is_next : IsToggle x p toggle (next_ready p.turn (stands_of p.benches))
   pub is : next ≡ next_of x env toggle p

@@ -12,6 +12,7 @@ use Rattle.design_ir.specs.Histories.{Reaches}
 use Rattle.design_ir.specs.Legal.{AllLegal}
 use Rattle.design_ir.specs.PoolRules.{IsPool}
 use Rattle.design_ir.specs.Values.{signal_form}
+use Rattle.comb_graph.specs.Laws.{HasOneHistory}
 use Rattle.fragment_laws.specs.Growth.{IsGrown}
 use Rattle.delta_sim.specs.Standing.{IsSimOf, Stands, Tells, state_of}
 use Rattle.py_tree.specs.Programs.{program_of}
@@ -27,6 +28,8 @@ use Rattle.py_frames.specs.declared.request.Turn.{Turn}
 use Rattle.py_frames.specs.declared.state.Halt.TheVariants as halt
 use Rattle.py_frames.specs.Doing.{Halts}
 use Rattle.py_machine.specs.declared.machine.Machine.{Machine}
+use Rattle.py_machine.specs.declared.machine.Stage.{Stage as MachineStage}
+use Rattle.py_machine.specs.declared.machine.Stage.TheVariants as machine_stage
 use Rattle.py_machine.specs.Lives.{IsOf, StandsForBench, again}
 use Rattle.calendar.specs.Due.{AreWithin}
 use Rattle.calendar.specs.declared.clock.Clock.{Clock}
@@ -51,7 +54,7 @@ use Rattle.bench_run.specs.declared.testbench.Stand.{Stand}
 use Rattle.bench_run.specs.declared.testbench.Stand.TheVariants as stand
 use Rattle.bench_run.specs.declared.turns.Step.{Step}
 use Rattle.bench_run.specs.declared.turns.Step.TheVariants as step
-use Rattle.bench_run.specs.Runs.{Testbench, Run, Point, End, Over, StopsAt, design_at, spent_at, Follows, IsRun, is_over, has_ended, may_end, is_due, is_due_again, is_behind_end, earliest, moment_of, woken, stand_ticked, next_ready, stands_of, outcome_of, bench_behind, point_behind, with_bench}
+use Rattle.bench_run.specs.Runs.{Testbench, Run, Point, End, Over, StopsAt, design_at, spent_at, HasEnv, Follows, IsRun, is_over, has_ended, may_end, is_due, is_due_again, is_behind_end, earliest, moment_of, woken, stand_ticked, next_ready, stands_of, outcome_of, bench_behind, point_behind, with_bench}
 
 -- ---- testbenches of the code, as the definitions see them
 
@@ -126,6 +129,7 @@ pub record IsLinked (s : Setting) (c : CodePoint) (x : Run) (rows : List Row) (p
   pub setting : IsSettingOf s x
   pub pool : IsPool x.design.pool
   pub is_design : IsDesign x.design
+  pub one : (events : List Event) → AllLegal x.design events → HasOneHistory x.design events
   pub held : held_of c.bench.held ≡ p.held
   pub design : c.bench.design ≡ design_at x p
   pub grown : IsGrown x.design c.bench.design
@@ -169,7 +173,7 @@ pub record IsRefused (s : Setting) (c : CodePoint) (i : ℕ) (why : Cause) (x : 
   pub now_there : slice_get c.testbenches.items i ≡ Some running
   pub is_bench : StandsForBench x.program x.frozen bench.callee x.ctx bench.given running.machine
   pub used : running.machine.going.state.used ≡ bench.used
-  pub reached : Reaches x.design (events_in rows) (state_of c.sim.held c.sim.rows) c.sim.env
+  pub has : HasEnv x.design (events_in rows) c.sim.env
   pub left : c.left.left ≡ point.left
   pub end : IsSome x.end
 
@@ -290,9 +294,17 @@ abbrev pub IsStop : Step → Type 0
 IsStop (step.Stops stop) = ⊤
 IsStop s = ⊥
 
--- its machine is not over
+-- its machine has asked, and waits for the answer
+abbrev pub IsWaitingAt : MachineStage → Type 0
+IsWaitingAt (machine_stage.Waiting act place rounds) = ⊤
+IsWaitingAt machine_stage.Before = ⊥
+IsWaitingAt (machine_stage.BeforeBench callee ctx) = ⊥
+IsWaitingAt (machine_stage.Ended v) = ⊥
+IsWaitingAt (machine_stage.Stopped stop) = ⊥
+IsWaitingAt machine_stage.NoMemory = ⊥
+
 abbrev pub IsWaiting : Running → Type 0
-IsWaiting y = again y.machine.stage ≡ None
+IsWaiting y = IsWaitingAt y.machine.stage
 
 -- a clock or a delay is due
 abbrev pub IsDue : ℕ → List Clock → List Running → Type 0
