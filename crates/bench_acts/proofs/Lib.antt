@@ -4,3 +4,4 @@ pub mod SoundLaws
 pub mod NumberedLaws
 pub mod ShareLaws
 pub mod ServeLaws
+pub mod GrowLaws

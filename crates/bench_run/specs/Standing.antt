@@ -18,6 +18,7 @@ use Rattle.delta_sim.specs.Standing.{IsSimOf, Stands, Tells, state_of}
 use Rattle.py_tree.specs.Programs.{program_of}
 use Rattle.py_heap.specs.Heaps.{Made}
 use Rattle.py_values.specs.declared.val.Val.{Val}
+use Rattle.py_values.specs.declared.val.Val.TheVariants as val
 use Rattle.py_values.specs.declared.val.Hw.{Hw}
 use Rattle.py_frames.specs.declared.request.Answer.{Answer}
 use Rattle.py_frames.specs.declared.request.Answer.TheVariants as answer
@@ -30,11 +31,12 @@ use Rattle.py_frames.specs.Doing.{Halts}
 use Rattle.py_machine.specs.declared.machine.Machine.{Machine}
 use Rattle.py_machine.specs.declared.machine.Stage.{Stage as MachineStage}
 use Rattle.py_machine.specs.declared.machine.Stage.TheVariants as machine_stage
-use Rattle.py_machine.specs.Lives.{IsOf, StandsForBench, again}
+use Rattle.py_machine.specs.Lives.{IsOf, IsOfAny, StandsForBench, StandsBeforeBench, again}
 use Rattle.calendar.specs.Due.{AreWithin}
 use Rattle.calendar.specs.declared.clock.Clock.{Clock}
-use Rattle.calendar.specs.Moments.{AreClocks, IsMoment, IsNext}
+use Rattle.calendar.specs.Moments.{AreClocks, IsMoment}
 use Rattle.elab_store.specs.declared.simulation.RunEnd.{RunEnd}
+use Rattle.elab_store.specs.declared.simulation.Testbench.{Testbench as CodeTestbench}
 use Rattle.elab_store.specs.declared.simulation.RunEnd.TheVariants.{WithTestbenches, Until}
 use Rattle.elab_store.specs.Held.{held_of}
 use Rattle.elab_store.specs.Stores.{Held}
@@ -54,7 +56,7 @@ use Rattle.bench_run.specs.declared.testbench.Stand.{Stand}
 use Rattle.bench_run.specs.declared.testbench.Stand.TheVariants as stand
 use Rattle.bench_run.specs.declared.turns.Step.{Step}
 use Rattle.bench_run.specs.declared.turns.Step.TheVariants as step
-use Rattle.bench_run.specs.Runs.{Testbench, Run, Point, End, Over, StopsAt, design_at, spent_at, HasEnv, Follows, IsRun, is_over, has_ended, may_end, is_due, is_due_again, is_behind_end, earliest, moment_of, woken, stand_ticked, next_ready, stands_of, outcome_of, bench_behind, point_behind, with_bench}
+use Rattle.bench_run.specs.Runs.{Testbench, Run, Point, End, Over, StopsAt, design_at, spent_at, HasEnv, Comes, at_moment, Follows, IsRun, is_over, has_ended, is_due, moment_of, woken, stand_ticked, next_ready, stands_of, outcome_of, bench_behind, point_behind, with_bench}
 
 -- ---- testbenches of the code, as the definitions see them
 
@@ -182,15 +184,7 @@ pub record IsMoving (s : Setting) (c : CodePoint) (t : ℕ) (x : Run) (first : P
   pub point : Point
   pub follows : Follows x first rows point
   pub linked : IsLinked s c x rows point
-  pub how : RunEnd
-  pub end : x.end ≡ Some how
-  pub over : next_ready point.turn (stands_of point.benches) ≡ None
-  pub lasts : may_end how point.benches ≡ false
-  pub no_delay : is_due_again point.now (stands_of point.benches) ≡ false
-  pub toggle : Option ℕ
-  pub is_next : IsNext x.clocks point.now toggle
-  pub least : earliest toggle (stands_of point.benches) ≡ Some t
-  pub within : is_behind_end how t ≡ false
+  pub comes : Comes x rows point (at_moment x c.sim.env t point)
 
 abbrev pub row_at : CodePoint → Event → Row
 row_at c e = record { time = option_map_or (λ t. t) c.now 0; event = e }
@@ -322,3 +316,20 @@ IsBehind (step.Happens d) e old new =
     × ((events : List Event) → Stands old.bench.design events old.sim → Stands old.bench.design (events ++ e ∷ []) new.sim)
     × Tells old.bench.design old.sim new.sim
 IsBehind s e old new = ⊤
+
+-- ---- before a run
+
+-- a testbench of one that was added, before its first answer
+pub record IsAnew (frozen : Made) (ctx : Hw) (t : CodeTestbench) (y : Running) : Type 0 where
+  pub of : IsOfAny y.machine
+  pub stands : StandsBeforeBench frozen (val.Func t.function) ctx y.machine
+  pub before : y.machine.stage ≡ machine_stage.BeforeBench (val.Func t.function) ctx
+  pub unused : y.machine.going.state.used ≡ 0
+  pub background : y.background ≡ t.background
+  pub stand : y.stand ≡ stand.Ready answer.Begin
+
+abbrev pub AreAnew : Made → Hw → List CodeTestbench → List Running → Type 0
+AreAnew frozen ctx [] [] = ⊤
+AreAnew frozen ctx (t ∷ ts) (y ∷ ys) = IsAnew frozen ctx t y × AreAnew frozen ctx ts ys
+AreAnew frozen ctx [] (y ∷ ys) = ⊥
+AreAnew frozen ctx (t ∷ ts) [] = ⊥

@@ -1,4 +1,12 @@
 // A run, from row to row.
+ghost use Rattle.std.specs.Prelude.{◌≡◌, ◌<◌, ◌≤◌, List, [], IfOk};
+ghost use Rattle.comb_graph.specs.Rankings.{IsRanking};
+ghost use Rattle.py_tree.specs.Programs.{program_of};
+ghost use Rattle.elab_eval.specs.Elaborates.{found_of};
+ghost use Rattle.elab_eval.specs.Fit.{IsFit};
+ghost use Rattle.play_text.specs.Trace.{Row as Abstract_row};
+ghost use Rattle.bench_run.specs.Runs.{Run as Abstract_run, Point as Abstract, run_of, first_point};
+ghost use Rattle.bench_run.specs.Standing.{StandsFor, CanGoOn, NextRow, RowMoves, AreAnew};
 
 use crate::point::Point;
 use crate::setting::{Setting, clocks_of};
@@ -63,7 +71,15 @@ impl Run {
         built: Elaborated,
         ranks: &Ranks,
         left: Budget,
-    ) -> Result<Run, NoMemory> {
+    ) -> Result<Run, NoMemory>
+        requires fit { IsFit built }
+        requires ranked { IsRanking built.design ranks.now }
+        requires units { 0 < left.left }
+        ensures stands { IfOk result (λ r. StandsFor r (run_of (program_of program) (found_of built)) (first_point (found_of built) left.left) []) }
+        ensures going { IfOk result CanGoOn }
+        ensures before { IfOk result (λ r. r.stage ≡ Stage.Before) }
+        ensures design { IfOk result (λ r. r.point.bench.design ≡ built.design) }
+    {
         let Elaborated {
             design,
             store,
@@ -101,22 +117,34 @@ impl Run {
     }
 
     /// The design that was given, grown by expressions alone.
-    pub fn design(&self) -> &Design {
+    pub fn design(&self) -> &Design
+        ensures { result.now ≡ self.now.point.bench.design }
+    {
         &self.point.bench.design
     }
 
     /// The numbers of all signals.
-    pub fn values(&self) -> &[Int] {
+    pub fn values(&self) -> &[Int]
+        ensures { result.now ≡ self.now.point.sim.env }
+    {
         self.point.sim.values()
     }
 
     /// The signals whose numbers the last event changed.
-    pub fn moved(&self) -> &[usize] {
+    pub fn moved(&self) -> &[usize]
+        ensures { result.now ≡ self.now.point.sim.moved.list }
+    {
         self.point.sim.moved()
     }
 
     /// The first row, then one for each event, then how the run ended, and that again.
-    pub fn next_row<L: Ledger>(&mut self, steps: &mut Steps<L>) -> RunTurn {
+    pub fn next_row<L: Ledger>(&mut self, steps: &mut Steps<L>) -> RunTurn
+        requires { CanGoOn self.old }
+        ensures going { CanGoOn self.new }
+        ensures row { (x : Abstract_run) (first : Abstract) (rows : List Abstract_row) → StandsFor self.old x first rows → NextRow result self.old.stage self.new x first rows }
+        ensures moved { RowMoves result self.old self.new }
+        ensures counted { steps.old ≤ steps.new }
+    {
         match self.stage {
             Stage::Before => {
                 self.stage = Stage::Goes;
@@ -133,7 +161,14 @@ impl Run {
     }
 
     // The row of the next event, or how the run ended.
-    fn next_event<L: Ledger>(&mut self, steps: &mut Steps<L>) -> RunTurn {
+    fn next_event<L: Ledger>(&mut self, steps: &mut Steps<L>) -> RunTurn
+        requires going { CanGoOn self.old }
+        requires stage { self.old.stage ≡ Stage.Goes }
+        ensures going { CanGoOn self.new }
+        ensures row { (x : Abstract_run) (first : Abstract) (rows : List Abstract_row) → StandsFor self.old x first rows → NextRow result Stage.Goes self.new x first rows }
+        ensures moved { RowMoves result self.old self.new }
+        ensures counted { steps.old ≤ steps.new }
+    {
         loop {
             match next_step(&self.setting, &mut self.point, steps) {
                 Ok(Step::Goes) => {}
@@ -166,7 +201,9 @@ fn testbenches_of(
     frozen: &Frozen,
     ctx: Hw,
     added: &[Testbench],
-) -> Result<Vec<Running>, NoMemory> {
+) -> Result<Vec<Running>, NoMemory>
+    ensures { IfOk result (λ v. AreAnew frozen.now ctx added.now v.items) }
+{
     let mut testbenches = Vec::new(alloc);
     for x in added {
         testbenches.push(Running {

@@ -50,6 +50,7 @@ pub(crate) fn next_step<L: Ledger>(
     ensures comes { (x : Run) (first : Abstract) (rows : List Row) → IsAt setting.now point.old x first rows → Owed result setting.now point.new x first rows }
     ensures closer { IsCloser result point.old point.new }
     ensures moved { StepMoves result point.old point.new }
+    ensures counted { steps.old ≤ steps.new }
 {
     let Some(end) = setting.end else {
         return Ok(Step::Ends);
@@ -76,6 +77,7 @@ fn go_on<L: Ledger>(
     ensures comes { (x : Run) (first : Abstract) (rows : List Row) → IsAt setting.now point.old x first rows → Owed result setting.now point.new x first rows }
     ensures closer { IsCloser result point.old point.new }
     ensures moved { StepMoves result point.old point.new }
+    ensures counted { steps.old ≤ steps.new }
 {
     let answer = point.testbenches[i].take();
     point.turn = i;
@@ -109,6 +111,7 @@ fn asked<L: Ledger>(
     ensures comes { (x : Run) (first : Abstract) (rows : List Row) → IsAsking setting.now point.old i request.now x first rows → Owed result setting.now point.new x first rows }
     ensures answers { IfGoes result (all_left point.new.testbenches.items ≡ all_left point.old.testbenches.items) }
     ensures moved { StepMoves result point.old point.new }
+    ensures counted { steps.old ≤ steps.new }
 {
     let served = serve(
         &mut point.bench,
@@ -148,6 +151,7 @@ fn refused<L: Ledger>(
     requires waits { IfSome (slice_get point.old.testbenches.items i) IsWaiting }
     ensures comes { (x : Run) (first : Abstract) (rows : List Row) → IsRefused setting.now point.old i why x first rows → Owed result setting.now point.new x first rows }
     ensures stops { IfOk result (λ step. IsStop step) }
+    ensures counted { steps.old ≤ steps.new }
 {
     match point.testbenches[i].machine.resume(
         &setting.program,
@@ -194,6 +198,7 @@ fn happen<L: Ledger>(
     requires legal { IsLegal point.old.bench.design event }
     ensures step { result ≡ happened point.old.left.left place event }
     ensures behind { IsBehind result event point.old point.new }
+    ensures counted { steps.old ≤ steps.new }
 {
     if point.left.left <= 1 {
         return Step::Stops(Stop {
@@ -222,7 +227,9 @@ fn round_over<L: Ledger>(
     ensures comes { (x : Run) (first : Abstract) (rows : List Row) → IsAt setting.now point.old x first rows → Owed result setting.now point.new x first rows }
     ensures closer { IsCloser result point.old point.new }
     ensures moved { StepMoves result point.old point.new }
+    ensures counted { steps.old ≤ steps.new }
 {
+    let toggle = next_toggle(setting.clocks.as_slice(), point.now);
     if may_end(end, point.testbenches.as_slice()) {
         return Ok(Step::Ends);
     }
@@ -233,7 +240,6 @@ fn round_over<L: Ledger>(
             return Ok(Step::Goes);
         }
     }
-    let toggle = next_toggle(setting.clocks.as_slice(), point.now);
     match earliest(toggle, point.testbenches.as_slice()) {
         Some(t) if !is_behind_end(end, t) => at_moment(setting, point, t, steps),
         _ => Ok(Step::Ends),
@@ -256,6 +262,7 @@ fn at_moment<L: Ledger>(
     ensures ready { IfGoes result (IsSome (next_ready 0 (stands_in point.new.testbenches.items))) }
     ensures turn { IfGoes result (point.new.turn ≡ 0) }
     ensures moved { StepMoves result point.old point.new }
+    ensures counted { steps.old ≤ steps.new }
 {
     point.now = Some(t);
     point.turn = 0;
