@@ -5,3 +5,4 @@ pub mod TurnLaws
 pub mod SafeLaws
 pub mod MomentLaws
 pub mod SetLaws
+pub mod OneRun

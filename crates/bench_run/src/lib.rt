@@ -7,6 +7,7 @@
 #![tactic(auto)]
 
 mod answers;
+mod laws;
 mod moments;
 mod point;
 mod run;
@@ -15,4 +16,5 @@ mod testbench;
 mod ticks;
 mod turns;
 
+pub use laws::runs_are_one;
 pub use run::{Row, Run, RunTurn};
