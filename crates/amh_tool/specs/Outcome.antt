@@ -21,14 +21,18 @@ use Rattle.amh_tool.specs.Designs.{Given, circuit_of, Designed, gives, refuses, 
 use Rattle.play_text.specs.Boards.{board_of}
 use Rattle.play_text.specs.Script.{script_events}
 
-pub data Outcome : Type 0 where
+-- why nothing is accepted
+pub data Rejection : Type 0 where
   -- a file that is to be read is not held
-  Unread : Outcome
-  BadWords : Outcome
-  Refuses : Refusal → Outcome
+  Unread : Rejection
+  BadWords : Rejection
+  Refuses : Refusal → Rejection
   -- the budget is spent before the run
-  Spends : Place → Outcome
-  BadLine : (line : ℕ) → Outcome
+  Spends : Place → Rejection
+  BadLine : (line : ℕ) → Rejection
+
+pub data Outcome : Type 0 where
+  Rejects : Rejection → Outcome
   Accepts : (design : Circuit) (rows : List Row) (end : End) → Outcome
 
 -- ---- before anything is written it is known what is asked of a design, or that nothing is accepted
@@ -39,8 +43,7 @@ pub data Task : Type 0 where
   Runs : Task
 
 pub data Verdict : Type 0 where
-  -- nothing is accepted, and this is the outcome
-  Stays : Outcome → Verdict
+  Rejected : Rejection → Verdict
   Takes : Given → Task → Verdict
 
 -- each event costs a unit before it takes place, and the unit with which the cost reaches the budget is not carried out
@@ -53,11 +56,11 @@ end_within left rows = if nat_lt (length rows) left then EndDone else EndSpends
 -- a script's events take place one after another
 abbrev pub played : Given → Result (List Event) ℕ → Verdict
 played g (Ok events) = let rows = timed 1 events in Takes g (Plays (rows_within g.left rows) (end_within g.left rows))
-played g (Err line) = Stays (BadLine line)
+played g (Err line) = Rejected (BadLine line)
 
 -- what follows from the bytes of a file, where it is held
 abbrev pub Follows : Files → List ℕ → (List ℕ → Verdict → Type 0) → Verdict → Type 0
-Follows files name from v = MatchOption (files name) (v ≡ Stays Unread) (λ bytes. from bytes v)
+Follows files name from v = MatchOption (files name) (v ≡ Rejected Unread) (λ bytes. from bytes v)
 
 -- The script is read. Without one the file's simulator runs, but where the words name the top there are no events.
 abbrev pub IsAsked : (script top : Option (List ℕ)) → Files → Given → Verdict → Type 0
@@ -67,8 +70,8 @@ IsAsked None None files g v = v ≡ Takes g Runs
 
 -- the design is refused, or its budget is spent, or it is asked for something
 abbrev pub IsJudged : Plan → Files → Designed → Verdict → Type 0
-IsJudged p files (refuses r) v = v ≡ Stays (Refuses r)
-IsJudged p files (spends place) v = v ≡ Stays (Spends place)
+IsJudged p files (refuses r) v = v ≡ Rejected (Refuses r)
+IsJudged p files (spends place) v = v ≡ Rejected (Spends place)
 IsJudged p files (gives g) v = IsAsked p.script p.top files g v
 
 -- what a design file leads to
@@ -82,7 +85,7 @@ IsPlanned p files v = Follows files p.design (FromDesign p files) v
 
 -- the verdict of the words; there is one, and no other
 abbrev pub IsVerdict : List (List ℕ) → Files → Verdict → Type 0
-IsVerdict words files v = MatchOption (plan_of words) (v ≡ Stays BadWords) (λ p. IsPlanned p files v)
+IsVerdict words files v = MatchOption (plan_of words) (v ≡ Rejected BadWords) (λ p. IsPlanned p files v)
 
 -- ---- what comes of it
 
@@ -105,7 +108,7 @@ pub record IsRunTo (g : Given) (o : Outcome) : Type 0 where
   pub is : o ≡ Accepts (circuit_of g) rows (end_of end)
 
 abbrev pub ComesOf : Verdict → Outcome → Type 0
-ComesOf (Stays x) o = o ≡ x
+ComesOf (Rejected r) o = o ≡ Rejects r
 ComesOf (Takes g (Plays rows end)) o = o ≡ Accepts (circuit_of g) rows end
 ComesOf (Takes g Runs) o = IsRunTo g o
 
@@ -126,12 +129,15 @@ end_status (EndPassesLimit p) = Refused
 end_status EndSpends = Spent
 
 -- there is none where a file is missing
+abbrev pub rejection_status : Rejection → Option Status
+rejection_status Unread = None
+rejection_status BadWords = Some Usage
+rejection_status (Refuses r) = Some Refused
+rejection_status (Spends place) = Some Spent
+rejection_status (BadLine line) = Some Refused
+
 abbrev pub status_of : Outcome → Option Status
-status_of Unread = None
-status_of BadWords = Some Usage
-status_of (Refuses r) = Some Refused
-status_of (Spends place) = Some Spent
-status_of (BadLine line) = Some Refused
+status_of (Rejects r) = rejection_status r
 status_of (Accepts c rows end) = Some (end_status end)
 
 -- ---- the texts
@@ -157,11 +163,7 @@ end_said c rows e = []
 
 abbrev pub said_of : Outcome → List ℕ
 said_of (Accepts c rows end) = end_said c rows end
-said_of Unread = []
-said_of BadWords = []
-said_of (Refuses r) = []
-said_of (Spends place) = []
-said_of (BadLine line) = []
+said_of (Rejects r) = []
 
 unfoldable pub fault_text : List ℕ
 fault_text = codes "host fault" ▸ line_feed
@@ -196,12 +198,15 @@ end_warned p (EndPassesWidth place) = refusal_text p.design (refusal Width place
 end_warned p (EndPassesLimit place) = refusal_text p.design (refusal Limit place)
 end_warned p EndSpends = spent_text p.budget
 
+abbrev pub rejection_warned : Plan → Rejection → List ℕ
+rejection_warned p Unread = []
+rejection_warned p BadWords = usage_text
+rejection_warned p (Refuses r) = refusal_text p.design r
+rejection_warned p (Spends place) = spent_text p.budget
+rejection_warned p (BadLine line) = bad_line_text (unwrap_or p.script []) line
+
 abbrev pub warned_of : Plan → Outcome → List ℕ
-warned_of p Unread = []
-warned_of p BadWords = usage_text
-warned_of p (Refuses r) = refusal_text p.design r
-warned_of p (Spends place) = spent_text p.budget
-warned_of p (BadLine line) = bad_line_text (unwrap_or p.script []) line
+warned_of p (Rejects r) = rejection_warned p r
 warned_of p (Accepts c rows end) = end_warned p end
 
 -- the exit code of an answer

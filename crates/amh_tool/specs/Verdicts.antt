@@ -41,8 +41,8 @@ pub record IsRunFitting (g : Given) (r : Runs) : Type 0 where
 
 -- what was found is what the plan leads to
 abbrev pub IsFound : Plan → Option Files → verdict.Verdict → Type 0
-IsFound p told (verdict.Refused r) = IsFor p (Stays (Refuses r)) told
-IsFound p told (verdict.Spent place) = IsFor p (Stays (Spends place)) told
-IsFound p told (verdict.BadLine line) = IsFor p (Stays (BadLine line)) told
+IsFound p told (verdict.Refused r) = IsFor p (Rejected (Refuses r)) told
+IsFound p told (verdict.Spent place) = IsFor p (Rejected (Spends place)) told
+IsFound p told (verdict.BadLine line) = IsFor p (Rejected (BadLine line)) told
 IsFound p told (verdict.Accepted a) = IsFitting a × (IsFor p (Takes (given_seen a.ranked) (Plays (timed 1 a.events) (end_seen a.spent))) told)
 IsFound p told (verdict.Runs r) = (g : Given) × IsRunFitting g r × IsFor p (Takes g Runs) told

@@ -11,7 +11,7 @@ use Rattle.play_text.specs.Boards.{board_of}
 use Rattle.play_text.specs.Trace.{Row, End, Done, events_in, front_text}
 use Rattle.amh_tool.specs.Plan.{Plan}
 use Rattle.amh_tool.specs.Designs.{Given, circuit_of}
-use Rattle.amh_tool.specs.Outcome.{Outcome, Unread, BadWords, Refuses, Spends, BadLine, Accepts, Verdict, Stays, Takes, Plays, Runs, IsPlanned, IsRunTo, ComesOf, status_of, end_said, end_warned, warned_of, usage_text, fault_text}
+use Rattle.amh_tool.specs.Outcome.{Rejection, Unread, Outcome, Rejects, Accepts, Verdict, Rejected, Takes, Plays, Runs, IsPlanned, IsRunTo, ComesOf, status_of, end_said, end_warned, rejection_warned, usage_text, fault_text}
 use Rattle.amh_tool.specs.Headline.{StandsFor, IsTrace}
 use Rattle.amh_tool.specs.declared.running.Status.{Status}
 use Rattle.amh_tool.specs.declared.running.Status.TheVariants.{Usage}
@@ -37,13 +37,14 @@ abbrev pub ClosesFront : Plan → Circuit → List Row → End → Seen → Seen
 ClosesFront p c rows Done old new = AddsFront with_said (end_said c rows Done) old new
 ClosesFront p c rows end old new = AddsFront with_warned (end_warned p end) old new
 
+-- nothing but a text is warned
+abbrev pub CarriesRejection : Plan → Rejection → Seen → Seen → Type 0
+CarriesRejection p Unread old new = ⊥
+CarriesRejection p r old new = new ≡ with_warned (rejection_warned p r) old
+
 -- the host has all that the outcome asks for, and nothing else is changed
 abbrev pub Carries : Plan → Outcome → Seen → Seen → Type 0
-Carries p Unread old new = ⊥
-Carries p BadWords old new = new ≡ with_warned (warned_of p BadWords) old
-Carries p (Refuses r) old new = new ≡ with_warned (warned_of p (Refuses r)) old
-Carries p (Spends place) old new = new ≡ with_warned (warned_of p (Spends place)) old
-Carries p (BadLine line) old new = new ≡ with_warned (warned_of p (BadLine line)) old
+Carries p (Rejects r) old new = CarriesRejection p r old new
 Carries p (Accepts c rows end) old new = (owed : Owed c rows end) × (new ≡ with_closing p c rows end (with_files p owed.il owed.trace old))
 
 -- the host has a front of RTLIL
@@ -57,14 +58,18 @@ pub record WritesTracePart (p : Plan) (c : Circuit) (rows : List Row) (end : End
   pub owed : Owed c rows end
   pub part : WritesFront p.trace owed.trace (with_file p.il owed.il old) new ⊎ ClosesFront p c rows end (with_files p owed.il owed.trace old) new
 
--- the host has a part of what the outcome asks for, in its order
+-- a front of what is warned
+abbrev pub RejectionPart : Plan → Rejection → Seen → Seen → Type 0
+RejectionPart p Unread old new = new ≡ old
+RejectionPart p r old new = AddsFront with_warned (rejection_warned p r) old new
+
+-- the host has a part of what is accepted, in its order
+abbrev pub AcceptedPart : Plan → Circuit → List Row → End → Seen → Seen → Type 0
+AcceptedPart p c rows end old new = (new ≡ old) ⊎ WritesRtlilPart p c old new ⊎ WritesTracePart p c rows end old new
+
 abbrev pub CarriesPart : Plan → Outcome → Seen → Seen → Type 0
-CarriesPart p Unread old new = new ≡ old
-CarriesPart p BadWords old new = AddsFront with_warned (warned_of p BadWords) old new
-CarriesPart p (Refuses r) old new = AddsFront with_warned (warned_of p (Refuses r)) old new
-CarriesPart p (Spends place) old new = AddsFront with_warned (warned_of p (Spends place)) old new
-CarriesPart p (BadLine line) old new = AddsFront with_warned (warned_of p (BadLine line)) old new
-CarriesPart p (Accepts c rows end) old new = (new ≡ old) ⊎ WritesRtlilPart p c old new ⊎ WritesTracePart p c rows end old new
+CarriesPart p (Rejects r) old new = RejectionPart p r old new
+CarriesPart p (Accepts c rows end) old new = AcceptedPart p c rows end old new
 
 -- ---- a run of which no more is known than its rows so far
 
@@ -89,8 +94,8 @@ CarriesRun p g old new = (new ≡ old) ⊎ WritesRtlilPart p (circuit_of g) old 
 
 -- a part of what a verdict asks for
 abbrev pub VerdictPart : Plan → Verdict → Seen → Seen → Type 0
-VerdictPart p (Stays o) old new = CarriesPart p o old new
-VerdictPart p (Takes g (Plays rows end)) old new = CarriesPart p (Accepts (circuit_of g) rows end) old new
+VerdictPart p (Rejected r) old new = RejectionPart p r old new
+VerdictPart p (Takes g (Plays rows end)) old new = AcceptedPart p (circuit_of g) rows end old new
 VerdictPart p (Takes g Runs) old new = CarriesRun p g old new
 
 -- ---- what was done of a plan
