@@ -23,13 +23,14 @@ use Rattle.elab_store.specs.declared.simulation.Wait.{Wait}
 use Rattle.elab_store.specs.declared.simulation.Wait.TheVariants as wait
 use Rattle.elab_store.specs.Stores.{Held, Answered}
 use Rattle.elab_store.specs.Seen.{Called, called}
+use Rattle.amh_values.specs.Acts.{acted}
 use Rattle.elab_eval.specs.Table.{prim}
 use Rattle.expr_index.specs.First.{first_number}
 use Rattle.expr_index.specs.Numbers.{number_now, renumbered}
 use Rattle.bench_acts.specs.declared.targets.InputBits.{InputBits}
 use Rattle.bench_acts.specs.declared.serving.Served.TheVariants as served
 use Rattle.bench_acts.specs.Context.{Serving, serving, raises, ticks_at, got_from, set_from, set_placed, tick_of, delay_of, tick_with, sampled_more, sample_placed, until_from, repeat_from, part_called, part_asked, named_given, part_attribute, part_awaited}
-use Rattle.bench_acts.specs.Serving.{makes_hardware, within_count, table_served, served_by, asked_part, bench_served}
+use Rattle.bench_acts.specs.Serving.{is_served, table_served, served_by, asked_part, bench_served}
 use Rattle.bench_acts.specs.Sharing.{Shared, number_in, share_one, shared, held_shared, too_many}
 
 -- ---- `ctx`
@@ -163,8 +164,9 @@ shared_behind es more = behind_all es (length es) (record { numbers = []; exprs 
 same_more : (p q : Pooled) → q ≡ p → IsMore p q
 same_more p q e = record { signals = ap (λ (x : Pooled). x.signals) e; more = []; exprs = ap (λ (x : Pooled). x.exprs) e ∙ sym (append-nil p.exprs) }
 
-table_more : (h : Held) (a : Answered) → IsMore h.pool (table_served h a).held.pool
-table_more h a = by_hardware (makes_hardware h a.held)
+table_more : (served : Bool) (h : Held) (a : Answered) → IsMore h.pool (table_served served h a).held.pool
+table_more false h a = same_more h.pool h.pool refl
+table_more true h a = by_count (too_many h.pool (held_shared h a.held).pool.exprs)
   where
     by_count : (b : Bool) → IsMore h.pool (if b then serving (served.Answer (answer.Refuse Limit)) h else serving (served.Answer a.answer) (held_shared h a.held)).held.pool
     by_count true = same_more h.pool h.pool refl
@@ -172,14 +174,10 @@ table_more h a = by_hardware (makes_hardware h a.held)
         let b = shared_behind h.pool.exprs (drop (length h.pool.exprs) a.held.pool.exprs) in
         record { signals = refl; more = b.more; exprs = b.is }
 
-    by_hardware : (b : Bool) → IsMore h.pool (if b then raises h else within_count h (held_shared h a.held) a).held.pool
-    by_hardware true = same_more h.pool h.pool refl
-    by_hardware false = by_count (too_many h.pool (held_shared h a.held).pool.exprs)
-
 -- the pool behind a request is the one before it, with more expressions behind it
 pub served_more : (s : Seen) (d : Circuit) (r : Request) (h : Held) → IsMore h.pool (bench_served s d r h).held.pool
 served_more s d r h = by_part (asked_part h r.vals)
   where
     by_part : (o : Option BenchPart) → IsMore h.pool (served_by o s d r h).held.pool
     by_part (Some p) = same_more h.pool (part_asked s d p r r.act h).held.pool (keeps_asked s d p r r.act h)
-    by_part None = table_more h (prim None s h r)
+    by_part None = table_more (is_served r.act (acted s h.pool h.store.things r)) h (prim None s h r)

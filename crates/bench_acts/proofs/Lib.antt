@@ -3,5 +3,9 @@ pub mod ReadLaws
 pub mod SoundLaws
 pub mod NumberedLaws
 pub mod ShareLaws
+pub mod HeldLaws
+pub mod SharedSound
+pub mod PoolLaws
 pub mod ServeLaws
+pub mod ActLaws
 pub mod GrowLaws

@@ -53,7 +53,7 @@ found_from e k (x ∷ es) j h = by_test (same x e) refl h (found_from e (k + 1) 
     by_test true t f later = let here : k ≡ j = cc in (0, omega (arith, here), ap Some (same_are x e t))
     by_test false t f later = let r = later f in (suc r.0, omega (arith, r.1), r.2)
 
-first_is : (es : List Expr) (e : Expr) (j : ℕ) → first_number es e ≡ Some j → slice_get es j ≡ Some e
+pub first_is : (es : List Expr) (e : Expr) (j : ℕ) → first_number es e ≡ Some j → slice_get es j ≡ Some e
 first_is es e j h =
     let r = found_from e 0 es j (sym (position_from-zero (λ x. same x e) es) ∙ h) in
     let at : j ≡ r.0 = omega (arith, r.1) in
@@ -96,7 +96,7 @@ put_one before s e x fs h =
 
 -- ---- the first ones of a list
 
-take_whole : {A : Type 0} (xs ys : List A) → take (length xs) (xs ++ ys) ≡ xs
+pub take_whole : {A : Type 0} (xs ys : List A) → take (length xs) (xs ++ ys) ≡ xs
 take_whole [] ys = refl
 take_whole (x ∷ xs) ys = ap (λ zs. x ∷ zs) (take_whole xs ys)
 
@@ -156,7 +156,7 @@ pub record IsShared (before : ℕ) (k q : Pooled) (now : List ExprId) (i : ℕ) 
   pub there : (e : ExprId) → e.0 < i → (number_now before now e).0 < length q.exprs
   pub forms : (e : ExprId) → e.0 < i → form q (number_now before now e).0 ≡ form k e.0
 
-stays : (before : ℕ) (e : ExprId) → number_now before [] e ≡ e
+pub stays : (before : ℕ) (e : ExprId) → number_now before [] e ≡ e
 stays before e = by_test (nat_lt e.0 before)
   where
     by_test : (b : Bool) → (if b then e else slice_index_or [] (e.0 - before) e) ≡ e
@@ -239,7 +239,7 @@ module _ (before i : ℕ) (k q : Pooled) (now : List ExprId) (rules : IsPool k) 
 pub share_turn : (before : ℕ) (s t all : Shared) (es : List Expr) (i : ℕ) (e : Expr) → slice_get es i ≡ Some e → share_one before s e ≡ t → fold (share_one before) s (drop i es) ≡ all → fold (share_one before) t (drop (i + 1) es) ≡ all
 share_turn before s t all es i e is one h = ap (λ x. fold (share_one before) x (drop (i + 1) es)) (sym one) ∙ sym (ap (fold (share_one before) s) (drop_at es i e is)) ∙ h
 
-none_left : {A : Type 0} (xs : List A) (i : ℕ) → length xs ≤ i → drop i xs ≡ []
+pub none_left : {A : Type 0} (xs : List A) (i : ℕ) → length xs ≤ i → drop i xs ≡ []
 none_left [] zero le = refl
 none_left [] (suc i) le = refl
 none_left (x ∷ xs) zero le = absurd (omega (arith, le))

@@ -1,5 +1,6 @@
 -- What the code of this crate holds, as the definitions see it.
-use Rattle.std.specs.Prelude.{◌≡◌, ◌≤◌, length, Result, Ok, Err, None, ⊤}
+use Rattle.std.specs.Prelude.{◌≡◌, ◌≤◌, length, Bool, true, false, Result, Ok, Err, Option, Some, None, ⊤}
+use Rattle.py_frames.specs.declared.request.Answer.{Answer}
 use Rattle.py_frames.specs.declared.request.Answer.TheVariants as answer
 use Rattle.lists.specs.declared.items.NoMemory.{NoMemory}
 use Rattle.design_ir.specs.declared.expr.Expr.{Expr}
@@ -7,6 +8,7 @@ use Rattle.design_ir.specs.Pools.{Pooled}
 use Rattle.design_ir.specs.PoolRules.{IsAskable, shape_stop, bad_operand, greatest_width}
 use Rattle.design_ir.specs.Values.{form}
 use Rattle.elab_store.specs.Held.{held_of}
+use Rattle.elab_store.specs.Stores.{Held, Answered}
 use Rattle.elab_store.specs.Sound.{IsSound}
 use Rattle.expr_index.specs.Knows.{Knows}
 use Rattle.bench_acts.specs.declared.serving.Bench.{Bench}
@@ -15,6 +17,7 @@ use Rattle.bench_acts.specs.declared.serving.Served.TheVariants as served
 use Rattle.bench_acts.specs.declared.sharing.ShareStop.{ShareStop}
 use Rattle.bench_acts.specs.declared.sharing.ShareStop.TheVariants as stop
 use Rattle.bench_acts.specs.Context.{Serving}
+use Rattle.bench_acts.specs.Sharing.{IsBehind, held_shared}
 
 -- the design has the pool of what is held, which is sound, and its expressions are known and not too many
 pub record IsBench (b : Bench) : Type 0 where
@@ -47,3 +50,8 @@ IsShareStop stop.NoMemory many = ⊤
 pub record MayCome (p : Pooled) (e : Expr) : Type 0 where
   pub askable : IsAskable p e
   pub shaped : shape_stop (bad_operand (form p) e) (greatest_width p.signals (form p) e) ≡ None
+
+-- an answer, with what is then held, which stays sound where its expressions are shared; or none
+abbrev pub IsActed : Bool → Option Answer → Held → Held → Answered → Type 0
+IsActed on (Some a) before behind owed = (on ≡ true) × (owed ≡ record { answer = a; held = behind }) × IsBehind before.pool behind × IsSound (held_shared before behind)
+IsActed on None before behind owed = on ≡ false

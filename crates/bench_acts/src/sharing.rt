@@ -4,13 +4,14 @@ ghost use Rattle.design_ir.specs.declared.expr.Expr.{Expr};
 ghost use Rattle.design_ir.specs.PoolRules.{IsPool, expr_added};
 ghost use Rattle.expr_index.specs.Numbers.{number_now, renumbered};
 ghost use Rattle.expr_index.specs.Knows.{Knows};
+ghost use Rattle.amh_things.specs.Renumbered.{things_now};
 ghost use Rattle.elab_store.specs.Held.{held_of};
 ghost use Rattle.bench_acts.specs.Sharing.{begin_now, kept_now, kepts_now, share_one, shared, held_over, exprs_shared, too_many, IsBehind};
 ghost use Rattle.bench_acts.specs.Held.{IsShareStop, MayCome};
 
 use design_ir::{Design, Expr, ExprId, Exprs, Pool, PoolStop};
 use elab_store::kept::{Begin, Equation, Kept};
-use elab_store::store::Elaboration;
+use elab_store::store::{Elaboration, Store};
 use expr_index::{Known, number_now, renumbered};
 use lists::NoMemory;
 use std::alloc::Global;
@@ -58,17 +59,14 @@ pub(crate) fn share(
     ensures few { IfOk result (λ _. too_many design.old.pool held.new.pool.exprs ≡ false) }
     ensures limit { IfErr result (λ stop. IsShareStop stop (too_many design.old.pool (exprs_shared design.old.pool (held_of held.old)) ≡ true)) }
 {
-    let now = numbers_of(&held.pool, held.alloc, design, known, before.exprs)?;
-    put_anew(&mut held.pool, held.alloc, design, before.exprs)?;
-    held.store
-        .things
-        .renumber(before.things, before.exprs, now.as_slice());
-    renumber_kept(
-        held.store.kept.as_mut_slice(),
-        before.kept,
-        before.exprs,
-        now.as_slice(),
-    );
+    let now = match numbers_of(&held.pool, held.alloc, design, known, before.exprs) {
+        Ok(now) => now,
+        Err(stop) => return Err(stop),
+    };
+    if let Err(_) = put_anew(&mut held.pool, held.alloc, design, before.exprs) {
+        return Err(ShareStop::NoMemory);
+    }
+    renumber_store(&mut held.store, before, now.as_slice());
     Ok(())
 }
 
@@ -174,6 +172,14 @@ fn put_anew(pool: &mut Pool, alloc: Global, design: &Design, before: u32) -> Res
         pool.more(e)?;
     }
     Ok(())
+}
+
+// What stands over the expressions is of their new numbers.
+fn renumber_store(store: &mut Store, before: Before, now: &[ExprId])
+    ensures { store.new ≡ record store.old { things = things_now before.things (number_now before.exprs now.now) store.old.things; kept = kepts_now before.kept (number_now before.exprs now.now) store.old.kept } }
+{
+    store.things.renumber(before.things, before.exprs, now);
+    renumber_kept(store.kept.as_mut_slice(), before.kept, before.exprs, now);
 }
 
 // Those behind the first ones are of the new numbers.

@@ -26,12 +26,13 @@ use Rattle.elab_store.specs.declared.simulation.Wait.{Wait}
 use Rattle.elab_store.specs.declared.simulation.Wait.TheVariants as wait
 use Rattle.elab_store.specs.Stores.{Held, Answered}
 use Rattle.elab_store.specs.Seen.{Called, called}
+use Rattle.amh_values.specs.Acts.{acted}
 use Rattle.elab_eval.specs.Table.{prim}
 use Rattle.bench_acts.specs.declared.targets.InputBits.{InputBits}
 use Rattle.bench_acts.specs.declared.serving.Served.{Served}
 use Rattle.bench_acts.specs.declared.serving.Served.TheVariants as served
 use Rattle.bench_acts.specs.Context.{Serving, serving, raises, ticks_at, target_of, got_from, set_from, set_placed, tick_of, delay_of, tick_with, sampled_more, sample_placed, until_from, repeat_from, part_called, part_asked, named_given, part_attribute, part_awaited}
-use Rattle.bench_acts.specs.Serving.{makes_hardware, within_count, table_served, served_by, asked_part, bench_served}
+use Rattle.bench_acts.specs.Serving.{is_served, table_served, served_by, asked_part, bench_served}
 use Rattle.bench_acts.specs.Sharing.{held_shared, too_many}
 use Rattle.bench_acts.specs.Targets.{input_of, bits_within, input_bits}
 use Rattle.bench_acts.proofs.TargetLaws.{slice_room, cast_room}
@@ -209,20 +210,17 @@ module _ (c : Circuit) (rules : IsPool c.pool) where
   sets_asked s p r act.BodyEnd h bits m e = absurd ((cc))
   sets_asked s p r act.Returned h bits m e = absurd ((cc))
 
-  sets_table : (h : Held) (a : Answered) → Sets (table_served h a)
-  sets_table h a = by_hardware (makes_hardware h a.held)
+  sets_table : (is : Bool) (h : Held) (a : Answered) → Sets (table_served is h a)
+  sets_table false h a bits m e = absurd ((cc))
+  sets_table true h a = by_count (too_many h.pool (held_shared h a.held).pool.exprs)
     where
       by_count : (b : Bool) → Sets (if b then serving (served.Answer (answer.Refuse Limit)) h else serving (served.Answer a.answer) (held_shared h a.held))
       by_count true bits m e = absurd ((cc))
       by_count false bits m e = absurd ((cc))
-
-      by_hardware : (b : Bool) → Sets (if b then raises h else within_count h (held_shared h a.held) a)
-      by_hardware true bits m e = absurd ((cc))
-      by_hardware false = by_count (too_many h.pool (held_shared h a.held).pool.exprs)
 
   pub served_settable : (s : Seen) (r : Request) (h : Held) (bits : InputBits) (n : ℤ) → (bench_served s c r h).served ≡ served.Set bits n → IsSettable c bits
   served_settable s r h = by_part (asked_part h r.vals)
     where
       by_part : (o : Option BenchPart) → Sets (served_by o s c r h)
       by_part (Some p) = sets_asked s p r r.act h
-      by_part None = sets_table h (prim None s h r)
+      by_part None = sets_table (is_served r.act (acted s h.pool h.store.things r)) h (prim None s h r)
