@@ -10,6 +10,7 @@ pub mod NamedResets
 pub mod OwnMemories
 pub mod ObjectLaws
 pub mod ObjectSamples
+pub mod PlacedSound
 pub mod PortSamples
 pub mod RunLaws
 pub mod StandingLaws
