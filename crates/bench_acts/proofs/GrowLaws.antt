@@ -1,6 +1,6 @@
 -- What is served leaves the pool as it is, or puts expressions behind it.
 use Rattle.std.proofs.Common.{◌≡◌, refl, sym, ◌∙◌, ap, Some, None, ℕ, suc, Bool, true, false, List, [], ◌∷◌, ◌++◌, Option, length}
-use Rattle.std.specs.Prelude.{◌×◌, if◌then◌else◌, nat_lt, pos, negsuc, ℤ, fold, drop}
+use Rattle.std.specs.Prelude.{if◌then◌else◌, nat_lt, pos, negsuc, ℤ, fold, drop}
 use Rattle.std.proofs.lemmas.List.{append_assoc, append-nil}
 use Rattle.design_ir.specs.declared.ids.ExprId.{ExprId}
 use Rattle.design_ir.specs.declared.expr.Expr.{Expr}

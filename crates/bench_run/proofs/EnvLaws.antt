@@ -1,6 +1,6 @@
 -- The one environment of a design behind its events, also where the design has grown by expressions.
 use Rattle.std.proofs.Common.{◌≡◌, refl, sym, ◌∙◌, ap, subst, List, [], ◌∷◌, ◌++◌}
-use Rattle.std.specs.Prelude.{ℤ, ◌↔◌, ◌×◌}
+use Rattle.std.specs.Prelude.{ℤ, ◌↔◌}
 use Rattle.std.specs.List.{AllByRecursion}
 use Rattle.design_ir.specs.declared.event.Event.{Event}
 use Rattle.design_ir.specs.Circuits.{Circuit, State}

@@ -1,6 +1,6 @@
 -- A run stays linked to a point where a testbench goes on, an event takes place, or a moment comes.
 use Rattle.std.proofs.Common.{◌≡◌, refl, sym, ◌∙◌, ap, subst, length, Some, None, ℕ, ◌+◌, ◌-◌, ◌<◌, Bool, true, false, List, [], ◌∷◌, ◌++◌, map, Option, arith}
-use Rattle.std.specs.Prelude.{◌×◌, Ok, ◌^◌, nat_lt, if◌then◌else◌, slice_get, slice_set, IsSome, IfSome, ℤ}
+use Rattle.std.specs.Prelude.{Ok, ◌^◌, nat_lt, if◌then◌else◌, slice_get, slice_set, IsSome, IfSome, ℤ}
 use Rattle.std.specs.Option.{option_map_or}
 use Rattle.amh_host.specs.declared.place.Place.{Place}
 use Rattle.design_ir.specs.declared.event.Event.{Event}

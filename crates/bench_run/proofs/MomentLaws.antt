@@ -1,6 +1,6 @@
 -- What a run comes to behind a round, and at a moment.
 use Rattle.std.proofs.Common.{◌≡◌, refl, sym, ◌∙◌, ap, subst, length, Some, None, ℕ, zero, suc, ◌+◌, ◌<◌, ◌==◌, List, [], ◌∷◌, ◌++◌, map, Option, arith, Bool, true, false, inl, inr}
-use Rattle.std.specs.Prelude.{Ok, ◌×◌, ◌⊎◌, ◌||◌, ◌≢◌, min, nat_lt, if◌then◌else◌, IsSome, slice_get, ℤ}
+use Rattle.std.specs.Prelude.{Ok, ◌⊎◌, ◌||◌, ◌≢◌, min, nat_lt, if◌then◌else◌, IsSome, slice_get, ℤ}
 use Rattle.std.specs.List.{list_any}
 use Rattle.std.specs.Option.{option_map_or}
 use Rattle.std.proofs.lemmas.Bool.{eq-eqb}

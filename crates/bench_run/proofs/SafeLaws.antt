@@ -1,6 +1,6 @@
 -- A run stays safe, and comes closer to its next row.
 use Rattle.std.proofs.Common.{◌≡◌, refl, sym, ◌∙◌, ap, subst, length, Some, None, ℕ, zero, suc, ◌+◌, ◌-◌, ◌*◌, ◌<◌, ◌≤◌, List, [], ◌∷◌, ◌++◌, map, Option, arith, Bool, true, false}
-use Rattle.std.specs.Prelude.{◌×◌, ◌^◌, slice_get, slice_set, IsSome, IfSome}
+use Rattle.std.specs.Prelude.{◌^◌, slice_get, slice_set, IsSome, IfSome}
 use Rattle.std.specs.List.{AllByRecursion}
 use Rattle.design_ir.specs.Circuits.{Circuit}
 use Rattle.py_tree.specs.Programs.{program_of}

@@ -1,6 +1,6 @@
 -- What `ctx.set` is served with may be set.
 use Rattle.std.proofs.Common.{◌≡◌, refl, sym, ◌∙◌, ap, subst, Some, None, ℕ, zero, suc, ◌+◌, ◌≤◌, ◌==◌, Bool, true, false, List, [], ◌∷◌, Option, arith}
-use Rattle.std.specs.Prelude.{◌×◌, ◌||◌, not, if◌then◌else◌, nat_lt, slice_get, option_and_then, pos, negsuc, ℤ, IsTrue, ◌<◌}
+use Rattle.std.specs.Prelude.{◌||◌, not, if◌then◌else◌, nat_lt, slice_get, option_and_then, pos, negsuc, ℤ, IsTrue, ◌<◌}
 use Rattle.std.proofs.lemmas.Bool.{eqb-true, eq-eqb}
 use Rattle.design_ir.specs.declared.ids.ExprId.{ExprId}
 use Rattle.design_ir.specs.declared.ids.SigId.{SigId}

@@ -1,7 +1,7 @@
 -- What a testbench comes to by an answer, and what a run then comes to.
 use Rattle.std.proofs.Common.{◌≡◌, refl, sym, ◌∙◌, ap, subst, length, Some, None, ℕ, zero, suc, ◌+◌, ◌-◌, ◌<◌, List, [], ◌∷◌, ◌++◌, Option, arith}
 use Rattle.std.proofs.Common.{length-append}
-use Rattle.std.specs.Prelude.{◌×◌, ◌^◌, slice_get, slice_set, IsSome}
+use Rattle.std.specs.Prelude.{◌^◌, slice_get, slice_set, IsSome}
 use Rattle.py_tree.specs.Steps.{Steps}
 use Rattle.py_tree.specs.Programs.{program_of}
 use Rattle.py_heap.specs.Heaps.{Made}

@@ -1,6 +1,6 @@
 -- What is proved of runs.
 -- Source: those of Runs.
-use Rattle.std.specs.Prelude.{◌≡◌, ◌×◌, List}
+use Rattle.std.specs.Prelude.{◌≡◌, List}
 use Rattle.play_text.specs.Trace.{Row}
 use Rattle.bench_run.specs.Runs.{Run, Point, End, Follows, IsRun}
 
