@@ -1,6 +1,7 @@
 pub mod Clocks
 pub mod ComponentTops
 pub mod Elaborates
+pub mod Fit
 pub mod ObjectTops
 pub mod Reaches
 pub mod Running

@@ -9,6 +9,7 @@ ghost use Rattle.amh_values.specs.Acts.{acted, Acts};
 ghost use Rattle.amh_things.specs.Held.{AreHeld};
 ghost use Rattle.design_ir.specs.Rising.{AllRisingSync};
 ghost use Rattle.elab_eval.specs.Elaborates.{IsElaborated, stop_of, told_at, without_simulation};
+ghost use Rattle.elab_eval.specs.Fit.{IsFit};
 ghost use Rattle.elab_eval.specs.Running.{IsRunning, Steps_to, Runs_to};
 ghost use Rattle.elab_eval.specs.Table.{prim};
 ghost use Rattle.elab_store.specs.Sound.{IsSound};
@@ -205,7 +206,8 @@ fn leave_simulation(elaboration: &mut Elaboration, top: Option<&str>)
 }
 
 /// Elaborates a program: the design that it makes, or why it makes none, exactly as `Elaborates` says within what is left, of which what
-/// it used is taken. The words may name the top. Want of memory may come at any time.
+/// it used is taken. What a run needs of the two stands: the store is sound over the design's pool, and the design has all of its clocks. The
+/// words may name the top. Want of memory may come at any time.
 pub fn elaborate<L: Ledger>(
     alloc: Global,
     program: &Program,
@@ -216,6 +218,7 @@ pub fn elaborate<L: Ledger>(
     requires { 0 < left.old.left }
     ensures comes { IsElaborated (program_of program.now) (option_copied top.entry) left.old.left left.new.left result }
     ensures rising { IfOk result (λ e. AllRisingSync e.design) }
+    ensures fit { IfOk result IsFit }
     ensures ticks { steps.old ≤ steps.new }
 {
     let frozen = Frozen::empty(alloc);

@@ -3,10 +3,13 @@ use Rattle.py_heap.specs.Heaps.{seen, nothing}
 use Rattle.clock_domains.specs.Resolved.{resolved}
 use Rattle.elab_store.specs.Simulations.{Simulation}
 use Rattle.elab_store.specs.Stores.{Held}
-use Rattle.elab_eval.specs.Elaborates.{held_of_modules, design_of}
+use Rattle.elab_eval.specs.Clocks.{clock_refused}
+use Rattle.elab_eval.specs.Elaborates.{held_of_modules, design_of, root_module}
 use Rattle.elab_eval.proofs.ClockLaws.{checked_design}
-use Rattle.elab_eval.proofs.DesignLaws.{design_refused, tree_resolvable, refused_design, made_design, unresolved_design}
+use Rattle.elab_eval.proofs.DesignLaws.{design_refused, tree_made, tree_resolvable, refused_design, made_design, unresolved_design}
 use Rattle.elab_eval.proofs.NamedResets.{resets_named}
+use Rattle.elab_eval.proofs.PlacedSound.{resolved_sound}
+use Rattle.elab_eval.proofs.StandingLaws.{tree_more}
 use Rattle.elab_eval.proofs.finish.resolved_design.Goals as goal
 
 pub tree-requires : goal.tree-requires
@@ -49,3 +52,17 @@ returns-in-None-clause-found c =
     let owed = made_design h heap pool c.in-Ok.root (Some c.in-Some.ports) c.requires.named c.in-Ok.ensures.tree (sym c.in-Some.is ∙ c.requires.ports) in
     checked_design h heap (resolved pool c.in-Ok.root c.in-Some.ports) c.in-Ok-resolve.design None c.clocks.result.now owed c.in-Ok-resolve.ensures.design c.in-None.ensures
     (c.clocks.ensures ∙ ap (λ (x : Simulation). x.clocks) c.simulation.ensures)
+
+pub returns-in-None-clause-fit : goal.returns-in-None-clause-fit
+returns-in-None-clause-fit c =
+    let q = c.args.pool in
+    let s = c.args.store.now in
+    let bs = c.args.modules.items in
+    let pool = c.tree.new.pool in
+    let h : Held = held_of_modules q s bs in
+    let made = tree_made h.store (root_module h.store) q pool c.in-Ok.root c.in-Ok.ensures.tree in
+    let more = tree_more h.store made.built q (c.in-Ok.root, pool) made.tree in
+    record {
+      sound = resolved_sound q pool s bs c.in-Ok.root c.in-Some.ports c.in-Ok-resolve.design c.requires.sound c.known.ensures c.requires.apart more c.in-Ok.ensures.stands c.in-Ok-resolve.ensures.design;
+      clocks = sym (c.in-None.ensures ∙ ap (clock_refused c.in-Ok-resolve.design) (c.clocks.ensures ∙ ap (λ (x : Simulation). x.clocks) c.simulation.ensures));
+    }
