@@ -8,3 +8,4 @@ pub mod SharedSound
 pub mod PoolLaws
 pub mod ServeLaws
 pub mod ActLaws
+pub mod GrowLaws

@@ -1,5 +1,5 @@
 -- What the code of this crate holds, as the definitions see it.
-use Rattle.std.specs.Prelude.{◌≡◌, Bool, true, false, Result, Ok, Err, Option, Some, None, ⊤}
+use Rattle.std.specs.Prelude.{◌≡◌, ◌≤◌, length, Bool, true, false, Result, Ok, Err, Option, Some, None, ⊤}
 use Rattle.py_frames.specs.declared.request.Answer.{Answer}
 use Rattle.py_frames.specs.declared.request.Answer.TheVariants as answer
 use Rattle.lists.specs.declared.items.NoMemory.{NoMemory}
@@ -19,9 +19,10 @@ use Rattle.bench_acts.specs.declared.sharing.ShareStop.TheVariants as stop
 use Rattle.bench_acts.specs.Context.{Serving}
 use Rattle.bench_acts.specs.Sharing.{IsBehind, held_shared}
 
--- the design has the pool of what is held, which is sound, and its expressions are known
+-- the design has the pool of what is held, which is sound, and its expressions are known and not too many
 pub record IsBench (b : Bench) : Type 0 where
   pub pool : b.held.pool ≡ b.design.pool
+  pub few : length b.design.pool.exprs ≤ 262144
   pub sound : IsSound (held_of b.held)
   pub known : Knows b.known b.design.pool.exprs
 

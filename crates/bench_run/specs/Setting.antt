@@ -6,13 +6,13 @@ use Rattle.amh_bits.specs.Patterns.{number}
 use Rattle.shape_rules.specs.Forms.{Form}
 use Rattle.bench_acts.specs.declared.targets.InputBits.{InputBits}
 
--- the bits below, those of the new number, and the bits above
-abbrev pub bits_with : BitVector → (low width : ℕ) → ℤ → BitVector
-bits_with old low width n = joined (joined (sliced 0 low old) (bits_of width n)) (sliced (low + width) (old.width - (low + width)) old)
+-- the bits below, the new ones, and the bits above
+abbrev pub bits_put : BitVector → (low : ℕ) → BitVector → BitVector
+bits_put old low new = joined (joined (sliced 0 low old) new) (sliced (low + new.width) (old.width - (low + new.width)) old)
 
 abbrev pub number_of : Form → BitVector → ℤ
 number_of f b = number f.signed b.width b.bits
 
 -- the number of a signal of this shape that had this number
 abbrev pub number_with : Form → InputBits → (old new : ℤ) → ℤ
-number_with f bits old new = number_of f (bits_with (bits_of f.width old) bits.low bits.width new)
+number_with f bits old new = number_of f (bits_put (bits_of f.width old) bits.low (bits_of bits.width new))

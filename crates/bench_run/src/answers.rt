@@ -1,109 +1,79 @@
 // What testbenches are answered by the simulator.
+ghost use Rattle.std.specs.Prelude.{◌≡◌, ◌+◌, ◌≤◌};
+ghost use Rattle.design_ir.specs.Circuits.{at};
+ghost use Rattle.design_ir.specs.Legal.{IsLegal};
+ghost use Rattle.design_ir.specs.Values.{signal_form};
+ghost use Rattle.design_ir.specs.declared.event.Event.TheVariants.{Set};
+ghost use Rattle.delta_sim.specs.Standing.{IsSimOf};
+ghost use Rattle.elab_store.specs.Held.{held_of};
+ghost use Rattle.elab_store.specs.Sound.{IsSample};
+ghost use Rattle.bench_acts.specs.Held.{IsBench};
+ghost use Rattle.bench_run.specs.Runs.{number_at, value_at};
+ghost use Rattle.bench_run.specs.Setting.{bits_put, number_with};
+ghost use Rattle.bench_run.specs.Standing.{IsSettable};
 
 use amh_bits::{Bits, Int};
 use bench_acts::{Bench, InputBits};
 use delta_sim::Sim;
-use design_ir::{Design, DomainId, Event};
-use elab_store::simulation::{Sample, Tick, TickEnd};
-use lists::NoMemory;
-use py_frames::request::{Answer, Cause};
-use py_values::{Number, Val, Vals};
-use std::alloc::Global;
+use design_ir::{Design, Event};
+use elab_store::simulation::Sample;
+use py_values::{Number, Val};
 
-/// A sampled value now.
-pub(crate) fn sampled(bench: &Bench, sim: &mut Sim, x: Sample) -> Val {
+/// A sampled value now, as it is shown.
+pub(crate) fn value_of(bench: &Bench, sim: &mut Sim, x: Sample) -> Val
+    requires bench { IsBench bench.now }
+    requires sim { IsSimOf bench.now.design sim.old }
+    requires there { IsSample bench.now.held.pool x }
+    ensures value { result ≡ value_at (held_of bench.now.held) sim.old.env x }
+    ensures same { sim.new ≡ sim.old }
+{
     match x {
         Sample::Value { e, reading } => bench.shown(reading, sim.eval(&bench.design, e)),
         Sample::Number(n) => Val::Int(Number::of(n)),
     }
 }
 
-// Whether a sampled value is not 0.
-fn is_set(bench: &Bench, sim: &mut Sim, x: Sample) -> bool {
+/// A sampled number now.
+pub(crate) fn number_of(bench: &Bench, sim: &mut Sim, x: Sample) -> Int
+    requires bench { IsBench bench.now }
+    requires sim { IsSimOf bench.now.design sim.old }
+    requires there { IsSample bench.now.held.pool x }
+    ensures number { result ≡ number_at (held_of bench.now.held) sim.old.env x }
+    ensures same { sim.new ≡ sim.old }
+{
     match x {
-        Sample::Value { e, .. } => sim.eval(&bench.design, e).size != 0,
-        Sample::Number(n) => n.size != 0,
-    }
-}
-
-/// Whether the next edge of a domain's clock is its rise.
-pub(crate) fn rises(design: &Design, sim: &Sim, d: DomainId) -> bool {
-    sim.value(design.domain(d).clk).size == 0
-}
-
-// Whether the reset of a domain is 1.
-fn is_reset(design: &Design, sim: &Sim, d: DomainId) -> bool {
-    match design.domain(d).rst {
-        Some(rst) => sim.value(rst).size != 0,
-        None => false,
-    }
-}
-
-fn samples(
-    alloc: Global,
-    bench: &Bench,
-    sim: &mut Sim,
-    tick: &Tick,
-    vals: Vals,
-) -> Result<Answer, NoMemory> {
-    let mut vals = vals;
-    for x in tick.samples.as_slice() {
-        vals.push(sampled(bench, sim, *x))?;
-    }
-    Ok(Answer::GiveList(vals))
-}
-
-/// What a tick answers where its domain's clock is about to rise, where so many are still wanted: an answer, or how many are wanted then.
-pub(crate) fn ticked(
-    alloc: Global,
-    bench: &Bench,
-    sim: &mut Sim,
-    tick: &Tick,
-    left: u128,
-) -> Result<Result<Answer, u128>, NoMemory> {
-    let reset = is_reset(&bench.design, sim, tick.domain);
-    let mut vals = Vals::new(alloc);
-    match tick.end {
-        TickEnd::Once => {
-            vals.push(Val::Bool(true))?;
-            vals.push(Val::Bool(reset))?;
-            Ok(Ok(samples(alloc, bench, sim, tick, vals)?))
-        }
-        _ if reset => Ok(Ok(Answer::Refuse(Cause::Raised))),
-        TickEnd::Times(_) => {
-            if left > 1 {
-                Ok(Err(left - 1))
-            } else {
-                Ok(Ok(samples(alloc, bench, sim, tick, vals)?))
-            }
-        }
-        TickEnd::Until(c) => {
-            if is_set(bench, sim, c) {
-                Ok(Ok(samples(alloc, bench, sim, tick, vals)?))
-            } else {
-                Ok(Err(left))
-            }
-        }
+        Sample::Value { e, .. } => sim.eval(&bench.design, e),
+        Sample::Number(n) => n,
     }
 }
 
 /// The event of bits of an input that take a number.
-pub(crate) fn set_event(design: &Design, sim: &Sim, bits: InputBits, value: Int) -> Event {
+pub(crate) fn set_event(design: &Design, sim: &Sim, bits: InputBits, value: Int) -> Event
+    requires bits { IsSettable design.now bits }
+    requires sim { IsSimOf design.now sim.now }
+    ensures event { result ≡ Set bits.sig (number_with (signal_form design.now.pool.signals bits.sig.0) bits (at sim.now.env bits.sig.0) value) }
+    ensures legal { IsLegal design.now result }
+{
     let shape = design.sig_at(bits.sig).shape;
     let old = sim.value(bits.sig).to_bits(shape.width);
-    let behind = bits.low + bits.width;
-    let low = old.slice(0, bits.low as u8);
-    let high = old.slice(behind as u8, shape.width - behind as u8);
     let new = value.to_bits(bits.width as u8);
-    let joined = match Bits::concat(low, new) {
-        Ok(b) => match Bits::concat(b, high) {
-            Ok(b) => b,
-            Err(_) => old,
-        },
-        Err(_) => old,
-    };
     Event::Set {
         sig: bits.sig,
-        value: Int::of_bits(joined, shape.signed),
+        value: Int::of_bits(with_bits(old, bits.low as u8, new), shape.signed),
     }
+}
+
+// Bits of which some, from a place on, are others.
+fn with_bits(old: Bits, low: u8, new: Bits) -> Bits
+    requires { low + new.width ≤ old.width }
+    ensures { result ≡ bits_put old low new }
+{
+    let behind = low + new.width;
+    let Ok(front) = Bits::concat(old.slice(0, low), new) else {
+        unreachable!()
+    };
+    let Ok(whole) = Bits::concat(front, old.slice(behind, old.width - behind)) else {
+        unreachable!()
+    };
+    whole
 }

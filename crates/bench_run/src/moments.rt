@@ -1,18 +1,23 @@
 // Moments: what is due when.
+ghost use Rattle.std.specs.Prelude.{◌≡◌, ◌<◌, ◌^◌, IfSome, map};
+ghost use Rattle.std.specs.List.{AllByRecursion, list_any};
+ghost use Rattle.bench_run.specs.Runs.{earliest, is_behind_end, may_end, is_due};
+ghost use Rattle.bench_run.specs.Standing.{stands_in, woken_in, all_over, IsBelow};
 
 use crate::testbench::{Running, Stand};
-use calendar::{Clock, next_toggle};
+use elab_store::simulation::RunEnd;
 use py_frames::request::Answer;
 use py_values::Val;
 
-/// The next moment at which a clock or a delay is due.
-pub(crate) fn next_moment(
-    clocks: &[Clock],
-    after: Option<u64>,
-    benches: &[Running],
-) -> Option<u64> {
-    let mut least = next_toggle(clocks, after);
-    for x in benches {
+/// The earliest of a moment and those for which testbenches wait.
+pub(crate) fn earliest(toggle: Option<u64>, testbenches: &[Running]) -> Option<u64>
+    requires toggle { IfSome toggle (λ t. t < 2 ^ 63) }
+    requires waits { AllByRecursion IsBelow testbenches.now }
+    ensures least { result ≡ earliest toggle (stands_in testbenches.now) }
+    ensures below { IfSome result (λ t. t < 2 ^ 63) }
+{
+    let mut least = toggle;
+    for x in testbenches {
         least = match (least, x.moment()) {
             (Some(a), Some(b)) => Some(a.min(b)),
             (None, b) => b,
@@ -22,14 +27,45 @@ pub(crate) fn next_moment(
     least
 }
 
-/// Testbenches that wait for this moment go on; whether there are any.
-pub(crate) fn wake(benches: &mut [Running], now: u64) -> bool {
-    let mut woken = false;
-    for i in 0..benches.len() {
-        if benches[i].moment() == Some(now) {
-            benches[i].stand = Stand::Ready(Answer::Give(Val::None));
-            woken = true;
+/// Whether some testbench waits for this moment.
+pub(crate) fn is_due(testbenches: &[Running], now: u64) -> bool
+    ensures { result ≡ list_any (is_due now) (stands_in testbenches.now) }
+{
+    for x in testbenches {
+        if x.moment() == Some(now) {
+            return true;
         }
     }
-    woken
+    false
+}
+
+/// Testbenches that wait for this moment go on.
+pub(crate) fn wake(testbenches: &mut Vec<Running>, now: u64)
+    ensures { testbenches.new.items ≡ map (woken_in now) testbenches.old.items }
+{
+    for i in 0..testbenches.len() {
+        if testbenches[i].moment() == Some(now) {
+            testbenches[i].stand = Stand::Ready(Answer::Give(Val::None));
+        }
+    }
+}
+
+/// Whether the run may end behind a round.
+pub(crate) fn may_end(end: RunEnd, testbenches: &[Running]) -> bool
+    ensures { result ≡ all_over end testbenches.now }
+{
+    match end {
+        RunEnd::WithTestbenches => testbenches.iter().all(|x| x.is_over()),
+        RunEnd::Until(_) => false,
+    }
+}
+
+/// Whether a moment is behind the end of the run.
+pub(crate) fn is_behind_end(end: RunEnd, moment: u64) -> bool
+    ensures { result ≡ is_behind_end end moment }
+{
+    match end {
+        RunEnd::WithTestbenches => false,
+        RunEnd::Until(last) => moment > last,
+    }
 }

@@ -1,30 +1,33 @@
 // A run, from row to row.
+ghost use Rattle.std.specs.Prelude.{◌≡◌, ◌<◌, ◌≤◌, List, [], IfOk};
+ghost use Rattle.comb_graph.specs.Rankings.{IsRanking};
+ghost use Rattle.py_tree.specs.Programs.{program_of};
+ghost use Rattle.elab_eval.specs.Elaborates.{found_of};
+ghost use Rattle.elab_eval.specs.Fit.{IsFit};
+ghost use Rattle.play_text.specs.Trace.{Row as Abstract_row};
+ghost use Rattle.bench_run.specs.Runs.{Run as Abstract_run, Point as Abstract, run_of, first_point};
+ghost use Rattle.bench_run.specs.Standing.{StandsFor, CanGoOn, NextRow, RowMoves, AreAnew};
 
-use crate::answers::{rises, sampled, set_event, ticked};
-use crate::moments::{next_moment, wake};
+use crate::point::Point;
+use crate::setting::{Setting, clocks_of};
 use crate::testbench::{Running, Stand};
+use crate::turns::{Step, next_step};
 use amh_bits::Int;
-use amh_host::{Budget, Place, Steps};
-use bench_acts::{Bench, Served, serve};
-use calendar::{Clock, due};
+use amh_host::{Budget, Steps};
+use bench_acts::Bench;
 use comb_graph::Ranks;
 use delta_sim::Sim;
-use design_ir::{Clocks, Design, Event, SigId};
+use design_ir::{Design, Event};
 use elab_eval::Elaborated;
-use elab_store::simulation::{RunEnd, TickEnd, Wait};
-use elab_store::store::Store;
+use elab_store::simulation::Testbench;
 use lists::NoMemory;
-use py_frames::request::{Answer, Cause, Stop, Turn};
+use py_frames::request::{Answer, Stop};
 use py_heap::Frozen;
 use py_machine::Machine;
 use py_tree::Program;
-use py_values::Val;
+use py_values::{Hw, Val};
 use std::alloc::Global;
-use std::mem::replace;
 use std::sync::ledger::Ledger;
-
-// Moments are below this.
-const LIMIT: u64 = 1 << 63;
 
 /// A row: its time in femtoseconds, and what happened; nothing in the first one.
 #[derive(Drop)]
@@ -42,12 +45,11 @@ pub enum RunTurn {
     NoMemory,
 }
 
-#[derive(Drop)]
-enum Stage {
+#[derive(Clone, Copy, PartialEq, Eq, Drop)]
+pub(crate) enum Stage {
     /// Before the first row.
     Before,
-    /// The testbench of this number goes on.
-    Round(usize),
+    Goes,
     Ended,
     Stopped(Stop),
     NoMemory,
@@ -56,32 +58,9 @@ enum Stage {
 /// A run of a simulator.
 #[derive(Drop)]
 pub struct Run {
-    alloc: Global,
-    program: Program,
-    frozen: Frozen,
-    bench: Bench,
-    sim: Sim,
-    clocks: Vec<Clock>,
-    end: Option<RunEnd>,
-    testbenches: Vec<Running>,
-    left: Budget,
-    now: Option<u64>,
-    stage: Stage,
-}
-
-// The clocks of a simulator by the domains of the design.
-fn clocks_of(alloc: Global, design: &Design, store: &Store) -> Result<Vec<Clock>, NoMemory> {
-    let mut clocks = Vec::new(alloc);
-    for x in store.simulation().clocks() {
-        if let Some(domain) = design.domain_named(x.domain.as_str()) {
-            clocks.push(Clock {
-                domain,
-                half: x.period / 2,
-                phase: x.phase,
-            })?;
-        }
-    }
-    Ok(clocks)
+    pub(crate) setting: Setting,
+    pub(crate) point: Point,
+    pub(crate) stage: Stage,
 }
 
 impl Run {
@@ -92,62 +71,121 @@ impl Run {
         built: Elaborated,
         ranks: &Ranks,
         left: Budget,
-    ) -> Result<Run, NoMemory> {
+    ) -> Result<Run, NoMemory>
+        requires fit { IsFit built }
+        requires ranked { IsRanking built.design ranks.now }
+        requires units { 0 < left.left }
+        ensures stands { IfOk result (λ r. StandsFor r (run_of (program_of program) (found_of built)) (first_point (found_of built) left.left) []) }
+        ensures going { IfOk result CanGoOn }
+        ensures before { IfOk result (λ r. r.stage ≡ Stage.Before) }
+        ensures design { IfOk result (λ r. r.point.bench.design ≡ built.design) }
+    {
         let Elaborated {
             design,
             store,
             frozen,
         } = built;
         let sim = Sim::start(alloc, &design, ranks)?;
-        let clocks = clocks_of(alloc, &design, &store)?;
+        let clocks = clocks_of(alloc, &design, store.simulation().clocks())?;
         let end = store.simulation().run_end();
         let mut bench = Bench::new(alloc, design, store)?;
         let ctx = bench.context()?;
-        let mut testbenches = Vec::new(alloc);
-        for x in bench.held.store.simulation().testbenches() {
-            let machine = Machine::bench(alloc, &frozen, Val::Func(x.function), ctx)?;
-            testbenches.push(Running {
-                machine,
-                background: x.background,
-                stand: Stand::Ready(Answer::Begin),
-            })?;
-        }
-        Ok(Run {
+        let testbenches = testbenches_of(
             alloc,
-            program,
-            frozen,
-            bench,
-            sim,
-            clocks,
-            end,
-            testbenches,
-            left,
-            now: None,
+            &frozen,
+            ctx,
+            bench.held.store.simulation().testbenches(),
+        )?;
+        Ok(Run {
+            setting: Setting {
+                alloc,
+                program,
+                frozen,
+                clocks,
+                end,
+            },
+            point: Point {
+                bench,
+                sim,
+                testbenches,
+                turn: 0,
+                now: None,
+                left,
+            },
             stage: Stage::Before,
         })
     }
 
     /// The design that was given, grown by expressions alone.
-    pub fn design(&self) -> &Design {
-        &self.bench.design
+    pub fn design(&self) -> &Design
+        ensures { result.now ≡ self.now.point.bench.design }
+    {
+        &self.point.bench.design
     }
 
     /// The numbers of all signals.
-    pub fn values(&self) -> &[Int] {
-        self.sim.values()
+    pub fn values(&self) -> &[Int]
+        ensures { result.now ≡ self.now.point.sim.env }
+    {
+        self.point.sim.values()
     }
 
     /// The signals whose numbers the last event changed.
-    pub fn moved(&self) -> &[usize] {
-        self.sim.moved()
+    pub fn moved(&self) -> &[usize]
+        ensures { result.now ≡ self.now.point.sim.moved.list }
+    {
+        self.point.sim.moved()
     }
 
     /// The first row, then one for each event, then how the run ended, and that again.
-    pub fn next_row<L: Ledger>(&mut self, steps: &mut Steps<L>) -> RunTurn {
+    pub fn next_row<L: Ledger>(&mut self, steps: &mut Steps<L>) -> RunTurn
+        requires { CanGoOn self.old }
+        ensures going { CanGoOn self.new }
+        ensures row { (x : Abstract_run) (first : Abstract) (rows : List Abstract_row) → StandsFor self.old x first rows → NextRow result self.old.stage self.new x first rows }
+        ensures moved { RowMoves result self.old self.new }
+        ensures counted { steps.old ≤ steps.new }
+    {
+        match self.stage {
+            Stage::Before => {
+                self.stage = Stage::Goes;
+                RunTurn::Row(Row {
+                    time: 0,
+                    event: None,
+                })
+            }
+            Stage::Goes => self.next_event(steps),
+            Stage::Ended => RunTurn::Ended,
+            Stage::Stopped(stop) => RunTurn::Stopped(stop),
+            Stage::NoMemory => RunTurn::NoMemory,
+        }
+    }
+
+    // The row of the next event, or how the run ended.
+    fn next_event<L: Ledger>(&mut self, steps: &mut Steps<L>) -> RunTurn
+        requires going { CanGoOn self.old }
+        requires stage { self.old.stage ≡ Stage.Goes }
+        ensures going { CanGoOn self.new }
+        ensures row { (x : Abstract_run) (first : Abstract) (rows : List Abstract_row) → StandsFor self.old x first rows → NextRow result Stage.Goes self.new x first rows }
+        ensures moved { RowMoves result self.old self.new }
+        ensures counted { steps.old ≤ steps.new }
+    {
         loop {
-            match self.step(steps) {
-                Ok(Some(turn)) => return turn,
-                Ok(None) => {}
+            match next_step(&self.setting, &mut self.point, steps) {
+                Ok(Step::Goes) => {}
+                Ok(Step::Happens(event)) => {
+                    return RunTurn::Row(Row {
+                        time: self.point.time(),
+                        event: Some(event),
+                    });
+                }
+                Ok(Step::Ends) => {
+                    self.stage = Stage::Ended;
+                    return RunTurn::Ended;
+                }
+                Ok(Step::Stops(stop)) => {
+                    self.stage = Stage::Stopped(stop);
+                    return RunTurn::Stopped(stop);
+                }
                 Err(_) => {
                     self.stage = Stage::NoMemory;
                     return RunTurn::NoMemory;
@@ -155,227 +193,24 @@ impl Run {
             }
         }
     }
+}
 
-    // One step: what is told of it, where anything is.
-    fn step<L: Ledger>(&mut self, steps: &mut Steps<L>) -> Result<Option<RunTurn>, NoMemory> {
-        match &self.stage {
-            Stage::Before => {
-                self.stage = match self.end {
-                    Some(_) => Stage::Round(0),
-                    None => Stage::Ended,
-                };
-                Ok(Some(RunTurn::Row(Row {
-                    time: 0,
-                    event: None,
-                })))
-            }
-            Stage::Round(i) => {
-                let i = *i;
-                if i < self.testbenches.len() {
-                    self.go_on(i, steps)
-                } else {
-                    self.round_over(steps)
-                }
-            }
-            Stage::Ended => Ok(Some(RunTurn::Ended)),
-            Stage::Stopped(stop) => Ok(Some(RunTurn::Stopped(*stop))),
-            Stage::NoMemory => Ok(Some(RunTurn::NoMemory)),
-        }
+// The testbenches before a run, in the order in which they were added.
+fn testbenches_of(
+    alloc: Global,
+    frozen: &Frozen,
+    ctx: Hw,
+    added: &[Testbench],
+) -> Result<Vec<Running>, NoMemory>
+    ensures { IfOk result (λ v. AreAnew frozen.now ctx added.now v.items) }
+{
+    let mut testbenches = Vec::new(alloc);
+    for x in added {
+        testbenches.push(Running {
+            machine: Machine::bench(alloc, frozen, Val::Func(x.function), ctx)?,
+            background: x.background,
+            stand: Stand::Ready(Answer::Begin),
+        })?;
     }
-
-    fn time(&self) -> u64 {
-        match self.now {
-            Some(t) => t,
-            None => 0,
-        }
-    }
-
-    // A testbench goes on by its answer, or the next one does.
-    fn go_on<L: Ledger>(
-        &mut self,
-        i: usize,
-        steps: &mut Steps<L>,
-    ) -> Result<Option<RunTurn>, NoMemory> {
-        let stand = replace(&mut self.testbenches[i].stand, Stand::Ended);
-        let Stand::Ready(answer) = stand else {
-            self.testbenches[i].stand = stand;
-            self.stage = Stage::Round(i + 1);
-            return Ok(None);
-        };
-        let turn = self.testbenches[i]
-            .machine
-            .resume(&self.program, &self.frozen, answer, &mut self.left, steps);
-        match turn {
-            Turn::Asks(request) => {
-                let served = serve(
-                    &mut self.bench,
-                    &self.testbenches[i].machine,
-                    &self.frozen,
-                    &request,
-                )?;
-                self.served(i, served, steps)
-            }
-            Turn::Ended(_) => Ok(None),
-            Turn::Stopped(stop) => Ok(self.stopped(stop)),
-            Turn::NoMemory => Err(NoMemory),
-        }
-    }
-
-    fn stopped(&mut self, stop: Stop) -> Option<RunTurn> {
-        self.stage = Stage::Stopped(stop);
-        None
-    }
-
-    // What a request comes to is done.
-    fn served<L: Ledger>(
-        &mut self,
-        i: usize,
-        served: Served,
-        steps: &mut Steps<L>,
-    ) -> Result<Option<RunTurn>, NoMemory> {
-        match served {
-            Served::Answer(answer) => {
-                self.testbenches[i].stand = Stand::Ready(answer);
-                Ok(None)
-            }
-            Served::Get(x) => {
-                let v = sampled(&self.bench, &mut self.sim, x);
-                self.testbenches[i].stand = Stand::Ready(Answer::Give(v));
-                Ok(None)
-            }
-            Served::Set { bits, value } => {
-                self.testbenches[i].stand = Stand::Ready(Answer::Give(Val::None));
-                let event = set_event(&self.bench.design, &self.sim, bits, value);
-                self.happen(event, steps)
-            }
-            Served::Wait(k) => {
-                self.testbenches[i].stand = self.waiting(k);
-                Ok(None)
-            }
-        }
-    }
-
-    // Where a testbench stands that waits.
-    fn waiting(&self, k: u32) -> Stand {
-        match self.bench.wait(k) {
-            Some(Wait::Delay(t)) => {
-                let at = self.time() + *t;
-                if at < LIMIT {
-                    Stand::Until(at)
-                } else {
-                    Stand::Ready(Answer::Refuse(Cause::Raised))
-                }
-            }
-            Some(Wait::Tick(tick)) => Stand::Ticks {
-                wait: k,
-                left: match tick.end {
-                    TickEnd::Times(n) => n,
-                    _ => 0,
-                },
-            },
-            None => Stand::Ready(Answer::Refuse(Cause::Raised)),
-        }
-    }
-
-    // An event, which costs a unit before it takes place.
-    fn happen<L: Ledger>(
-        &mut self,
-        event: Event,
-        steps: &mut Steps<L>,
-    ) -> Result<Option<RunTurn>, NoMemory> {
-        if self.left.left <= 1 {
-            return Ok(self.stopped(Stop {
-                cause: Cause::Spent,
-                place: Place { line: 1, col: 1 },
-            }));
-        }
-        self.left.left -= 1;
-        self.sim.apply(&self.bench.design, &event, steps)?;
-        Ok(Some(RunTurn::Row(Row {
-            time: self.time(),
-            event: Some(event),
-        })))
-    }
-
-    // Whether the run is over behind a round.
-    fn is_over(&self) -> bool {
-        match self.end {
-            Some(RunEnd::WithTestbenches) => self.testbenches.iter().all(|x| x.is_over()),
-            _ => false,
-        }
-    }
-
-    // Behind a round: the end, another round at the same moment, or the next moment.
-    fn round_over<L: Ledger>(&mut self, steps: &mut Steps<L>) -> Result<Option<RunTurn>, NoMemory> {
-        self.stage = Stage::Round(0);
-        if self.is_over() {
-            self.stage = Stage::Ended;
-            return Ok(None);
-        }
-        if let Some(now) = self.now {
-            if wake(self.testbenches.as_mut_slice(), now) {
-                return Ok(None);
-            }
-        }
-        let next = next_moment(
-            self.clocks.as_slice(),
-            self.now,
-            self.testbenches.as_slice(),
-        );
-        match (next, self.end) {
-            (Some(t), Some(RunEnd::Until(last))) if t > last => {
-                self.stage = Stage::Ended;
-                Ok(None)
-            }
-            (Some(t), _) => self.at_moment(t, steps),
-            (None, _) => {
-                self.stage = Stage::Ended;
-                Ok(None)
-            }
-        }
-    }
-
-    // At a moment the clocks that are due toggle, and testbenches are woken.
-    fn at_moment<L: Ledger>(
-        &mut self,
-        t: u64,
-        steps: &mut Steps<L>,
-    ) -> Result<Option<RunTurn>, NoMemory> {
-        self.now = Some(t);
-        let _ = wake(self.testbenches.as_mut_slice(), t);
-        let toggled = due(
-            self.alloc,
-            self.clocks.as_slice(),
-            self.bench.design.domains() as usize,
-            t,
-        )?;
-        if toggled.len() == 0 {
-            return Ok(None);
-        }
-        for i in 0..self.testbenches.len() {
-            self.tick_one(i, &toggled)?;
-        }
-        self.happen(Event::Edge(toggled), steps)
-    }
-
-    // A testbench that waits for a tick of one of these domains is answered, with what it samples before the event.
-    fn tick_one(&mut self, i: usize, toggled: &Clocks) -> Result<(), NoMemory> {
-        let Stand::Ticks { wait, left } = self.testbenches[i].stand else {
-            return Ok(());
-        };
-        let Some(Wait::Tick(tick)) = self.bench.wait(wait) else {
-            return Ok(());
-        };
-        if !toggled.as_slice().contains(&tick.domain)
-            || !rises(&self.bench.design, &self.sim, tick.domain)
-        {
-            return Ok(());
-        }
-        let ticked = ticked(self.alloc, &self.bench, &mut self.sim, tick, left)?;
-        self.testbenches[i].stand = match ticked {
-            Ok(answer) => Stand::Ready(answer),
-            Err(left) => Stand::Ticks { wait, left },
-        };
-        Ok(())
-    }
+    Ok(testbenches)
 }

@@ -1,9 +1,11 @@
 // Testbenches of a run.
-ghost use Rattle.std.specs.Prelude.{◌≡◌};
-ghost use Rattle.bench_run.specs.Runs.{is_over, moment_of, IsRun};
+ghost use Rattle.std.specs.Prelude.{◌≡◌, ◌≤◌, ◌<◌, IsTrue, IfSome, length};
+ghost use Rattle.bench_run.specs.Runs.{is_over, is_ready, moment_of, next_ready};
+ghost use Rattle.bench_run.specs.Standing.{stands_in};
 
 use py_frames::request::Answer;
 use py_machine::Machine;
+use std::mem::replace;
 
 /// Where a testbench stands.
 #[derive(Drop)]
@@ -37,6 +39,28 @@ impl Running {
             }
     }
 
+    /// Takes the answer by which it goes on.
+    pub(crate) fn take(&mut self) -> Answer
+        requires { IsTrue (is_ready self.old.stand) }
+        ensures taken { self.old.stand ≡ Stand.Ready result }
+        ensures rest { self.new ≡ record self.old { stand = Stand.Ended } }
+    {
+        match replace(&mut self.stand, Stand::Ended) {
+            Stand::Ready(answer) => answer,
+            _ => unreachable!(),
+        }
+    }
+
+    /// Whether it goes on in this round.
+    pub(crate) fn is_ready(&self) -> bool
+        ensures { result ≡ is_ready self.now.stand }
+    {
+        match self.stand {
+            Stand::Ready(_) => true,
+            _ => false,
+        }
+    }
+
     /// The moment for which it waits.
     pub(crate) fn moment(&self) -> Option<u64>
         ensures { result ≡ moment_of self.now.stand }
@@ -46,4 +70,17 @@ impl Running {
             _ => None,
         }
     }
+}
+
+/// The first testbench that is ready, of a number and behind it.
+pub(crate) fn next_ready(testbenches: &[Running], from: usize) -> Option<usize>
+    ensures next { result ≡ next_ready from (stands_in testbenches.now) }
+    ensures there { IfSome result (λ i. i < length testbenches.now) }
+{
+    for i in from..testbenches.len() {
+        if testbenches[i].is_ready() {
+            return Some(i);
+        }
+    }
+    None
 }

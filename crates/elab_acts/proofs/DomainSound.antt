@@ -13,13 +13,15 @@ use Rattle.py_values.specs.declared.val.Val.TheVariants as val
 use Rattle.py_heap.specs.Heaps.{Seen, text_at}
 use Rattle.design_ir.specs.declared.ids.SigId.{SigId}
 use Rattle.design_ir.specs.Pools.{Pooled}
+use Rattle.design_ir.specs.PoolRules.{IsPool}
 use Rattle.clock_domains.specs.Resolved.{bit_signal, domain_prefix}
 use Rattle.amh_things.specs.declared.thing.Reading.TheVariants as reading
 use Rattle.elab_store.specs.declared.domains.ClockDomain.{ClockDomain}
 use Rattle.elab_store.specs.declared.kept.Kept.TheVariants as kept
 use Rattle.elab_store.specs.Stores.{Held, Answered, next_thing, kept_of}
-use Rattle.elab_store.specs.Sound.{IsBit, IsClockDomain, AreClockDomains, IsOwnMemory, IsSound}
-use Rattle.elab_store.proofs.MemoryLaws.{HasDataBelow, data_below, with_clock, all_both}
+use Rattle.elab_store.specs.Sound.{IsBit, IsClockDomain, AreClockDomains, IsMachine, IsOwnMemory, HasOwnRegister, IsSound}
+use Rattle.elab_store.proofs.Pools.{signal_there}
+use Rattle.elab_store.proofs.MemoryLaws.{HasDataBelow, HasRegisterBelow, data_below, with_clock, register_with_clock, all_both}
 use Rattle.clock_domains.specs.Resolvable.{domain_numbers}
 use Rattle.elab_acts.proofs.EachLaws.{all_each}
 use Rattle.elab_components.specs.declared.signals.SignalArguments.{SignalArguments}
@@ -80,10 +82,11 @@ signal_named name end n e all = by_test (text_eq name (codes "sync"))
 bit_sound : (name : List ℕ) (h : Held) → IsName name → IsSound h → IsSound (with_bit (bit_signal name) h)
 bit_sound name h named t = unlimited_sound reading.Plain (bit_signal name) h named t
 
--- memories had their data before the signals of the domain were made
+-- memories had their data, and machines their registers, before the signals of the domain were made
 pub record IsSince (p : Pooled) (x : ClockDomain) (h : Held) : Type 0 where
   pub past : AllByRecursion (λ n. length p.signals ≤ n) (domain_numbers x.domain)
   pub memories : AllByRecursion (HasDataBelow (length p.signals)) h.store.memories
+  pub registers : AllByRecursion (HasRegisterBelow (length p.signals)) h.store.machines
 
 with_domain_sound : (p : Pooled) (x : ClockDomain) (h : Held) → IsSound h → AreClockDomains p h.store.clock_domains.made → IsClockDomain h.pool x → length p.signals ≤ x.domain.clk.0 → IsSince p x h → IsSound (record h { store = keeping_domain x h.store })
 with_domain_sound p x h t before new le since = record {
@@ -98,7 +101,8 @@ with_domain_sound p x h t before new le since = record {
   components = t.components;
   memories = all_both (IsOwnMemory h.pool h.store.clock_domains.made h.store.components.objects) (HasDataBelow (length p.signals)) (IsOwnMemory h.pool (h.store.clock_domains.made ++ x ∷ []) h.store.components.objects) h.store.memories
       (with_clock h.pool h.store.clock_domains.made h.store.components.objects (length p.signals) x since.past) t.memories since.memories;
-  registers = t.registers;
+  registers = all_both (HasOwnRegister h.pool h.store.clock_domains.made h.store.memories) (HasRegisterBelow (length p.signals)) (HasOwnRegister h.pool (h.store.clock_domains.made ++ x ∷ []) h.store.memories) h.store.machines
+      (register_with_clock h.pool h.store.clock_domains.made h.store.memories (length p.signals) x since.past) t.registers since.registers;
   wrappings = t.wrappings;
   waits = t.waits;
 }
@@ -108,8 +112,8 @@ kept_sound p x h t before new le since = keeping_sound (record h { store = keepi
 
 module _ (name : List ℕ) (named : IsName name) where
   -- the pool p is that before the clock
-  reset_sound : (p : Pooled) (clk : SigId) (h : Held) → IsSound h → AreClockDomains p h.store.clock_domains.made → IsBit h.pool clk → length p.signals ≤ clk.0 → AllByRecursion (HasDataBelow (length p.signals)) h.store.memories → IsSound (reset_made name clk h).held
-  reset_sound p clk h t before clock le low = if_sound (signal_passes h 1) _ _ t (
+  reset_sound : (p : Pooled) (clk : SigId) (h : Held) → IsSound h → AreClockDomains p h.store.clock_domains.made → IsBit h.pool clk → length p.signals ≤ clk.0 → AllByRecursion (HasDataBelow (length p.signals)) h.store.memories → AllByRecursion (HasRegisterBelow (length p.signals)) h.store.machines → IsSound (reset_made name clk h).held
+  reset_sound p clk h t before clock le low registers = if_sound (signal_passes h 1) _ _ t (
       kept_sound p (clock_domain name clk (Some (record { sig = next_signal h; val = next_thing h }))) (with_bit (reset_signal name) h) after before (
       record {
         name = named;
@@ -118,14 +122,14 @@ module _ (name : List ℕ) (named : IsName name) where
         rising = refl;
         sync_reset = refl;
       }
-      ) le (record { past = (le, (omega (arith, le, clock.there), tt)); memories = low })
+      ) le (record { past = (le, (omega (arith, le, clock.there), tt)); memories = low; registers = registers })
       )
     where
       after : IsSound (with_bit (reset_signal name) h)
       after = bit_sound (domain_prefix name ++ codes "rst") h (signal_named name (codes "rst") named rst_named refl) t
 
-  made_sound : (reset_less : Bool) (h : Held) → IsSound h → IsSound (clock_made name reset_less h).held
-  made_sound reset_less h t = if_sound (signal_passes h 1) _ _ t (by_reset reset_less)
+  made_sound : (reset_less : Bool) (h : Held) → IsPool h.pool → IsSound h → IsSound (clock_made name reset_less h).held
+  made_sound reset_less h rules t = if_sound (signal_passes h 1) _ _ t (by_reset reset_less)
     where
       after : IsSound (with_bit (clock_signal name) h)
       after = bit_sound (domain_prefix name ++ codes "clk") h (signal_named name (codes "clk") named clk_named refl) t
@@ -136,18 +140,21 @@ module _ (name : List ℕ) (named : IsName name) where
       low : AllByRecursion (HasDataBelow (length h.pool.signals)) h.store.memories
       low = all_each (IsOwnMemory h.pool h.store.clock_domains.made h.store.components.objects) (HasDataBelow (length h.pool.signals)) h.store.memories (data_below h.pool h.store.clock_domains.made h.store.components.objects) t.memories
 
+      registers : AllByRecursion (HasRegisterBelow (length h.pool.signals)) h.store.machines
+      registers = all_each (IsMachine h.pool) (HasRegisterBelow (length h.pool.signals)) h.store.machines (λ m own. signal_there h.pool.signals [] h.pool.exprs m.machine.register.0 m.machine.signal rules.exprs own.register) t.machines
+
       by_reset : (b : Bool) → IsSound (if b then clock_domain_kept (clock_domain name (next_signal h) None) (with_bit (clock_signal name) h) else reset_made name (next_signal h) (with_bit (clock_signal name) h)).held
-      by_reset true = kept_sound h.pool (clock_domain name (next_signal h) None) (with_bit (clock_signal name) h) after t.clock_domains (record { name = named; clock = clock; reset = tt; rising = refl; sync_reset = refl }) (omega arith) (record { past = (omega arith, tt); memories = low })
-      by_reset false = reset_sound h.pool (next_signal h) (with_bit (clock_signal name) h) after t.clock_domains clock (omega arith) low
+      by_reset true = kept_sound h.pool (clock_domain name (next_signal h) None) (with_bit (clock_signal name) h) after t.clock_domains (record { name = named; clock = clock; reset = tt; rising = refl; sync_reset = refl }) (omega arith) (record { past = (omega arith, tt); memories = low; registers = registers })
+      by_reset false = reset_sound h.pool (next_signal h) (with_bit (clock_signal name) h) after t.clock_domains clock (omega arith) low registers
 
-said_sound : (name : Option (List ℕ)) (r : Option Bool) (h : Held) → IsSound h → ((x : List ℕ) → name ≡ Some x → is_identifier x ≡ true) → IsSound (clock_domain_said name r h).held
-said_sound None r h t named = t
-said_sound (Some name) None h t named = t
-said_sound (Some name) (Some r) h t named = made_sound name (identifier_is_name name (named name refl)) r h t
+said_sound : (name : Option (List ℕ)) (r : Option Bool) (h : Held) → IsPool h.pool → IsSound h → ((x : List ℕ) → name ≡ Some x → is_identifier x ≡ true) → IsSound (clock_domain_said name r h).held
+said_sound None r h rules t named = t
+said_sound (Some name) None h rules t named = t
+said_sound (Some name) (Some r) h rules t named = made_sound name (identifier_is_name name (named name refl)) r h rules t
 
-pub call_sound : (s : Seen) (name : List ℕ) (args : Option SignalArguments) (h : Held) → IsSound h → IsSound (clock_domain_from s name args h).held
-call_sound s name None h t = t
-call_sound s name (Some args) h t = said_sound (clock_domain_name s name args.name) (signal_reset_less s args.reset_less) h t (λ x e. given_name s name args.name x e)
+pub call_sound : (s : Seen) (name : List ℕ) (args : Option SignalArguments) (h : Held) → IsPool h.pool → IsSound h → IsSound (clock_domain_from s name args h).held
+call_sound s name None h rules t = t
+call_sound s name (Some args) h rules t = said_sound (clock_domain_name s name args.name) (signal_reset_less s args.reset_less) h rules t (λ x e. given_name s name args.name x e)
 
 -- ---- attributes
 

@@ -220,7 +220,7 @@ pool_grown h q xs es s e1 e2 names =
       additions = s.additions;
       clock_domains = domains_stay h.pool q h.store.clock_domains.made (bit_stays h.pool q xs e1) s.clock_domains;
       memories = all_each (IsOwnMemory h.pool made objects) (IsOwnMemory q made objects) h.store.memories (memory_stays h.pool q made objects both) s.memories;
-      registers = all_each (HasOwnRegister h.pool h.store.memories) (HasOwnRegister q h.store.memories) h.store.machines (register_stays h.pool q made objects h.store.memories both s.memories) s.registers;
+      registers = all_each (HasOwnRegister h.pool made h.store.memories) (HasOwnRegister q made h.store.memories) h.store.machines (register_stays h.pool q made objects h.store.memories both s.memories) s.registers;
       wrappings = all_each (IsWrapping h.pool) (IsWrapping q) h.store.wrappings (wrapping_stays h.pool q g) s.wrappings;
       waits = all_each (IsWait h.pool) (IsWait q) h.store.simulation.waits (wait_stays h.pool q g) s.waits;
     }

@@ -45,9 +45,10 @@ use Rattle.elab_store.specs.Stores.{Held, Answered, refused}
 use Rattle.elab_acts.specs.Sides.{part_given}
 use Rattle.elab_store.specs.OpenMachines.{innermost}
 use Rattle.elab_machines.specs.StateMachines.{part_attribute, machine_arguments, machine_said, machine_from, init_said, is_clocked, domain_said, name_said, state_argument, state_said, state_string, stop_told, unless_stopped, chain_ended, modules_begun, with_machine, machine_made, is_placed, machine_begun, register_name, domain_name, init_name, Moved, unless_refused, with_moved, move_answer, own_moved, number_moved, moved, in_place, is_at_choice, is_at_case, state_made, state_begins, state_ends, is_unsettled, machine_ends, next_refused, next_goes, next_said, next_stored, with_asked, asked_of, ongoing_said, part_called, part_entered, part_left}
-use Rattle.elab_store.specs.Sound.{IsKept, IsTold, IsBuilt, IsMachine, IsBit, IsOwnMemory, HasOwnRegister, IsWrapping, IsWait, IsSound}
+use Rattle.elab_store.specs.Sound.{IsKept, IsTold, IsBuilt, IsMachine, IsBit, HasNoClock, IsOwnMemory, HasOwnRegister, IsWrapping, IsWait, IsSound}
 use Rattle.memory_ports.specs.Laws.{IsApart}
 use Rattle.elab_store.specs.declared.memories.OwnMemory.{OwnMemory}
+use Rattle.elab_store.specs.declared.domains.ClockDomain.{ClockDomain}
 use Rattle.elab_store.proofs.Pools.{IsGrown, signal_there}
 use Rattle.elab_store.proofs.MemoryLaws.{register_stays, register_fresh, memories_settled, registers_settled}
 use Rattle.std.proofs.lemmas.Bool.Decides.{nat_tests}
@@ -125,20 +126,24 @@ get_machine q [] k x h e = absurd cc
 get_machine q (y ∷ xs) zero x h e = let same : y ≡ x = cc in subst (IsMachine q) same h.0
 get_machine q (y ∷ xs) (suc k) x h e = get_machine q xs k x h.1 e
 
-set_register : (q : Pooled) (ms : List OwnMemory) (xs : List OwnMachine) (k : ℕ) (x : OwnMachine) → AllByRecursion (HasOwnRegister q ms) xs → HasOwnRegister q ms x → AllByRecursion (HasOwnRegister q ms) (slice_set xs k x)
-set_register q ms [] k x h g = tt
-set_register q ms (y ∷ xs) zero x h g = (g, h.1)
-set_register q ms (y ∷ xs) (suc k) x h g = (h.0, set_register q ms xs k x h.1 g)
+set_register : (q : Pooled) (made : List ClockDomain) (ms : List OwnMemory) (xs : List OwnMachine) (k : ℕ) (x : OwnMachine) → AllByRecursion (HasOwnRegister q made ms) xs → HasOwnRegister q made ms x → AllByRecursion (HasOwnRegister q made ms) (slice_set xs k x)
+set_register q made ms [] k x h g = tt
+set_register q made ms (y ∷ xs) zero x h g = (g, h.1)
+set_register q made ms (y ∷ xs) (suc k) x h g = (h.0, set_register q made ms xs k x h.1 g)
 
-get_register : (q : Pooled) (ms : List OwnMemory) (xs : List OwnMachine) (k : ℕ) (x : OwnMachine) → AllByRecursion (HasOwnRegister q ms) xs → slice_get xs k ≡ Some x → HasOwnRegister q ms x
-get_register q ms [] k x h e = absurd cc
-get_register q ms (y ∷ xs) zero x h e = let same : y ≡ x = cc in subst (HasOwnRegister q ms) same h.0
-get_register q ms (y ∷ xs) (suc k) x h e = get_register q ms xs k x h.1 e
+get_register : (q : Pooled) (made : List ClockDomain) (ms : List OwnMemory) (xs : List OwnMachine) (k : ℕ) (x : OwnMachine) → AllByRecursion (HasOwnRegister q made ms) xs → slice_get xs k ≡ Some x → HasOwnRegister q made ms x
+get_register q made ms [] k x h e = absurd cc
+get_register q made ms (y ∷ xs) zero x h e = let same : y ≡ x = cc in subst (HasOwnRegister q made ms) same h.0
+get_register q made ms (y ∷ xs) (suc k) x h e = get_register q made ms xs k x h.1 e
 
 -- a machine with the same register
-with_register_still : (q : Pooled) (ms : List OwnMemory) (xs : List OwnMachine) (k : ℕ) (x : OwnMachine) (y : Machine) → AllByRecursion (HasOwnRegister q ms) xs → slice_get xs k ≡ Some x → y.signal ≡ x.machine.signal → AllByRecursion (HasOwnRegister q ms) (slice_set xs k (record x { machine = y }))
-with_register_still q ms xs k x y h e same =
-    set_register q ms xs k (record x { machine = y }) h (subst (λ (s : SigId). AllByRecursion (λ (z : OwnMemory). IsApart q s.0 z.spec) ms) (sym same) (get_register q ms xs k x h e))
+with_register_still : (q : Pooled) (made : List ClockDomain) (ms : List OwnMemory) (xs : List OwnMachine) (k : ℕ) (x : OwnMachine) (y : Machine) → AllByRecursion (HasOwnRegister q made ms) xs → slice_get xs k ≡ Some x → y.signal ≡ x.machine.signal → AllByRecursion (HasOwnRegister q made ms) (slice_set xs k (record x { machine = y }))
+with_register_still q made ms xs k x y h e same =
+    let own = get_register q made ms xs k x h e in
+    set_register q made ms xs k (record x { machine = y }) h (record {
+      clocks = subst (λ (s : SigId). AllByRecursion (HasNoClock s.0) made) (sym same) own.clocks;
+      ports = subst (λ (s : SigId). AllByRecursion (λ (z : OwnMemory). IsApart q s.0 z.spec) ms) (sym same) own.ports;
+    })
 
 -- the pool, a machine and its module go on
 moved_sound : (h : Held) (k m : ℕ) (x : OwnMachine) (y : Moved) → slice_get h.store.machines k ≡ Some x → IsSound (record h { pool = y.pool }) → IsMachine y.pool (record x { machine = y.machine }) → IsBuilt y.pool y.built → y.machine.signal ≡ x.machine.signal
@@ -153,7 +158,7 @@ moved_sound h k m x y at t own built same = record {
   additions = t.additions;
   clock_domains = t.clock_domains;
   memories = t.memories;
-  registers = with_register_still y.pool h.store.memories h.store.machines k x y.machine t.registers at same;
+  registers = with_register_still y.pool h.store.clock_domains.made h.store.memories h.store.machines k x y.machine t.registers at same;
   wrappings = t.wrappings;
   waits = t.waits;
   modules = told_module y.pool m y.built h.store.modules built t.modules;
@@ -233,8 +238,8 @@ begun_sound m domain name init p h rules t side named =
       memories = u.memories;
       wrappings = u.wrappings;
       waits = u.waits;
-      registers = all_and (HasOwnRegister q h.store.memories) h.store.machines (new ∷ []) u.registers (
-        register_stays h.pool q h.store.clock_domains.made h.store.components.objects h.store.memories record { more_signals = _; more_exprs = _; signals = refl; exprs = refl } t.memories new (register_fresh h.pool h.store.clock_domains.made h.store.components.objects h.store.memories new t.memories (omega arith)),
+      registers = all_and (HasOwnRegister q h.store.clock_domains.made h.store.memories) h.store.machines (new ∷ []) u.registers (
+        register_stays h.pool q h.store.clock_domains.made h.store.components.objects h.store.memories record { more_signals = _; more_exprs = _; signals = refl; exprs = refl } t.memories new (register_fresh h.pool h.store.clock_domains.made h.store.components.objects h.store.memories new t.clock_domains.each t.memories (omega arith)),
         tt,
       );
       machines = all_and (IsMachine q) h.store.machines (record { of = m; machine = machine_at h.pool domain init p } ∷ []) u.machines (
@@ -276,7 +281,7 @@ IsSoundMove h x y = IsSound (record h { pool = y.pool }) × (IsMachine y.pool (r
 
 -- where it is not refused, all that it moves stays sound
 SoundMove : Held → (Pooled → Machine → Built → Result Moved FsmStop) → Type 0
-SoundMove h f = (x : OwnMachine) (b : Built) (y : Moved) → IsMachine h.pool x → HasOwnRegister h.pool h.store.memories x → IsBuilt h.pool b → f h.pool x.machine b ≡ Ok y → IsSoundMove h x y
+SoundMove h f = (x : OwnMachine) (b : Built) (y : Moved) → IsMachine h.pool x → HasOwnRegister h.pool h.store.clock_domains.made h.store.memories x → IsBuilt h.pool b → f h.pool x.machine b ≡ Ok y → IsSoundMove h x y
 
 answer_sound : (h : Held) (k m : ℕ) (x : OwnMachine) (p : Place) (r : Result Moved FsmStop) → slice_get h.store.machines k ≡ Some x → IsSound h → ((y : Moved) → r ≡ Ok y → IsSoundMove h x y) → IsSound (move_answer k x m p r h).held
 answer_sound h k m x p (Err why) at t f = stop_sound p why h t
@@ -290,7 +295,7 @@ move_sound f m p h t sound = by_number (innermost m h.store.machines)
     by_own k None c e1 e2 = t
     by_own k (Some x) None e1 e2 = t
     by_own k (Some x) (Some b) e1 e2 =
-        answer_sound h k m x p (f h.pool x.machine b) e1 t (λ y is. sound x b y (get_machine h.pool h.store.machines k x t.machines e1) (get_register h.pool h.store.memories h.store.machines k x t.registers e1) (module_built h.pool h.store.modules m b t.modules e2) is)
+        answer_sound h k m x p (f h.pool x.machine b) e1 t (λ y is. sound x b y (get_machine h.pool h.store.machines k x t.machines e1) (get_register h.pool h.store.clock_domains.made h.store.memories h.store.machines k x t.registers e1) (module_built h.pool h.store.modules m b t.modules e2) is)
 
     by_number : (o : Option ℕ) → IsSound (number_moved f o m p h).held
     by_number None = t
@@ -376,7 +381,7 @@ no_width q x e = eqb-true (signal_form q.signals x.signal.0).width 0 (and_split 
 
 -- a pool with as many signals and the same expressions
 pool_sound : (h : Held) (sigs : List Sig) → IsSound h → AllByRecursion (λ (x : Sig). IsName x.name) sigs → length h.pool.signals ≤ length sigs → ((s : SigId) → IsBit h.pool s → IsBit (record h.pool { signals = sigs }) s)
-    → AllByRecursion (IsOwnMemory (record h.pool { signals = sigs }) h.store.clock_domains.made h.store.components.objects) h.store.memories → AllByRecursion (HasOwnRegister (record h.pool { signals = sigs }) h.store.memories) h.store.machines
+    → AllByRecursion (IsOwnMemory (record h.pool { signals = sigs }) h.store.clock_domains.made h.store.components.objects) h.store.memories → AllByRecursion (HasOwnRegister (record h.pool { signals = sigs }) h.store.clock_domains.made h.store.memories) h.store.machines
     → IsSound (record h { pool = record h.pool { signals = sigs } })
 pool_sound h sigs t names le bits memories registers =
     let q : Pooled = record h.pool { signals = sigs } in
@@ -419,7 +424,7 @@ end_sound h t x b y own apart built e =
           pool_sound h sigs t (settled_names h.pool.signals x.machine.signal.0 f (pos n) t.names) (settled_length h.pool.signals x.machine.signal.0 f (pos n))
               (λ s bit. settled_bit h.pool x.machine.signal.0 f (pos n) none s bit (settled_length h.pool.signals x.machine.signal.0 f (pos n)))
               (memories_settled h.pool h.store.clock_domains.made h.store.components.objects h.store.memories x f (pos n) t.memories apart)
-              (all_each (HasOwnRegister h.pool h.store.memories) (HasOwnRegister q h.store.memories) h.store.machines (registers_settled h.pool h.store.memories x.machine.signal.0 f (pos n)) t.registers),
+              (all_each (HasOwnRegister h.pool h.store.clock_domains.made h.store.memories) (HasOwnRegister q h.store.clock_domains.made h.store.memories) h.store.machines (registers_settled h.pool h.store.clock_domains.made h.store.memories x.machine.signal.0 f (pos n)) t.registers),
           (
             record { register = stays.register; target = stays.target; side = stays.side; front = stays.front },
             (ended q (built_stays h.pool q g b built) (is_begun x.machine), refl),
@@ -447,7 +452,7 @@ asked_sound k (Some x) name p h t at f =
       memories = u.memories;
       wrappings = u.wrappings;
       waits = u.waits;
-      registers = with_register_still q h.store.memories h.store.machines k x (and_asked x.machine name p (record { 0 = length h.pool.exprs })) u.registers at refl;
+      registers = with_register_still q h.store.clock_domains.made h.store.memories h.store.machines k x (and_asked x.machine name p (record { 0 = length h.pool.exprs })) u.registers at refl;
       machines = set_machine q h.store.machines k _ u.machines (record { register = stays.register; target = stays.target; side = stays.side; front = stays.front });
     } in
     unless_sound (ongoing_refusal h.pool x.machine name) p _ h t (things_grown (with_asked k x name p h) (thing.Value (record { 0 = length h.pool.exprs }) ∷ []) after (omega (arith, length-append h.pool.exprs (made ∷ [])), tt))

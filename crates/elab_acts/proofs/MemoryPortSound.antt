@@ -3,7 +3,6 @@ use Rattle.std.proofs.Common.{◌≡◌, ◌≢◌, ℕ, zero, suc, ◌+◌, ◌
 use Rattle.std.specs.Prelude.{◌||◌, not, if◌then◌else◌, map, slice_get, slice_set, IfSome, codes}
 use Rattle.std.specs.Fmt.{decimal}
 use Rattle.std.specs.List.{AllByRecursion, list_any, list_all}
-use Rattle.std.specs.Option.{option_map_or}
 use Rattle.std.proofs.lemmas.Bool.Decides.{nat_tests}
 use Rattle.std.proofs.lemmas.List.{length-append}
 use Rattle.std.proofs.lemmas.List.Sums.{AllPass-from_list_all}
@@ -26,7 +25,7 @@ use Rattle.design_ir.specs.Circuits.{option_test}
 use Rattle.design_ir.specs.Pools.{Pooled}
 use Rattle.design_ir.specs.PoolRules.{IsPool}
 use Rattle.design_ir.specs.Settling.{is_signal}
-use Rattle.clock_domains.specs.Resolvable.{IsPortOf, domain_numbers}
+use Rattle.clock_domains.specs.Resolvable.{IsPortOf}
 use Rattle.memory_ports.specs.declared.refusal.MemStop.{MemStop}
 use Rattle.memory_ports.specs.declared.refusal.MemStop.TheVariants as stop
 use Rattle.memory_ports.specs.Ports as ports
@@ -46,9 +45,9 @@ use Rattle.elab_store.specs.declared.kept.Kept.TheVariants as kept_as
 use Rattle.elab_store.specs.declared.kept.MemoryMethod.{MemoryMethod}
 use Rattle.elab_store.specs.declared.kept.MemoryMethod.TheVariants.{WritePort, ReadPort}
 use Rattle.elab_store.specs.Calls.{Called}
-use Rattle.elab_store.specs.Sound.{HasNoClock, HasNoPort, IsNamedRead, IsOwnData, IsClockDomain, IsMachine, IsMemoryPort, IsObject, IsResetBehind, IsOwnMemory, HasOwnRegister, IsSound}
+use Rattle.elab_store.specs.Sound.{HasNoClock, HasNoPort, IsNamedRead, IsOwnData, IsClockDomain, IsMachine, IsMemoryPort, IsObject, IsOwnMemory, HasOwnRegister, IsSound}
 use Rattle.elab_store.proofs.Pools.{signal_there}
-use Rattle.elab_store.proofs.MemoryLaws.{all_both, each_holds, none_among, memory_stays, apart_stays}
+use Rattle.elab_store.proofs.MemoryLaws.{all_both, each_holds, none_among, memory_stays, apart_stays, domain_low}
 use Rattle.elab_store.proofs.NumberNames.{decimal_continues}
 use Rattle.elab_memories.specs.declared.ports.PortArguments.{PortArguments}
 use Rattle.elab_memories.specs.Ports.{port_arguments, domain_formed, domain_given, granule_given, transparent_given, pool_where, ported, store_with_spec, ported_given, write_kept, write_made, write_put, write_from, read_domain, read_kept, read_made, read_put, read_from, port_called}
@@ -154,18 +153,11 @@ with_spec_sound h k x m s own apart = record {
   wrappings = s.wrappings;
   waits = s.waits;
   memories = all_set (IsOwnMemory h.pool h.store.clock_domains.made h.store.components.objects) h.store.memories k (record { spec = m; reading = x.reading }) s.memories own;
-  registers = all_both (HasOwnRegister h.pool h.store.memories) (λ (c : OwnMachine). IsApart h.pool c.machine.signal.0 m) (HasOwnRegister h.pool (slice_set h.store.memories k (record { spec = m; reading = x.reading }))) h.store.machines
-      (λ c r a. all_set (λ (y : OwnMemory). IsApart h.pool c.machine.signal.0 y.spec) h.store.memories k (record { spec = m; reading = x.reading }) r a) s.registers apart;
+  registers = all_both (HasOwnRegister h.pool h.store.clock_domains.made h.store.memories) (λ (c : OwnMachine). IsApart h.pool c.machine.signal.0 m) (HasOwnRegister h.pool h.store.clock_domains.made (slice_set h.store.memories k (record { spec = m; reading = x.reading }))) h.store.machines
+      (λ c r a. record { clocks = r.clocks; ports = all_set (λ (y : OwnMemory). IsApart h.pool c.machine.signal.0 y.spec) h.store.memories k (record { spec = m; reading = x.reading }) r.ports a }) s.registers apart;
 }
 
 -- ---- signals that were there are none of a new port
-
-domain_low : (q : Pooled) (s : ℕ) → length q.signals ≤ s → (x : ClockDomain) → IsClockDomain q x → HasNoClock s x
-domain_low q s past x h = none_among (domain_numbers x.domain) s (omega (arith, past, h.clock.there), by_reset x.domain.rst h.reset)
-  where
-    by_reset : (o : Option SigId) → IsResetBehind q x.domain.clk o → AllByRecursion (λ n. n < s) (option_map_or (λ (t : SigId). t.0 ∷ []) o [])
-    by_reset None r = tt
-    by_reset (Some t) r = (omega (arith, past, r.0.there), tt)
 
 object_low : (q : Pooled) (s : ℕ) → length q.signals ≤ s → (o : ℕ × ComponentObject) → AllByRecursion (IsPortOf q) o.1.ports → HasNoPort s o
 object_low q s past o h = none_among (map (λ (p : Port). p.sig.0) o.1.ports) s (each_low o.1.ports h)
@@ -299,10 +291,10 @@ module _ (h : Held) (k : ℕ) (x : OwnMemory) (s : IsSound h) (rules : IsPool h.
     apart : IsApart h.pool c.machine.signal.0 x.spec
 
   lows : AllByRecursion IsLow h.store.machines
-  lows = all_both (IsMachine h.pool) (HasOwnRegister h.pool h.store.memories) IsLow h.store.machines
+  lows = all_both (IsMachine h.pool) (HasOwnRegister h.pool h.store.clock_domains.made h.store.memories) IsLow h.store.machines
       (λ c m r. record {
         there = signal_there h.pool.signals [] h.pool.exprs c.machine.register.0 c.machine.signal rules.exprs m.register;
-        apart = all_at (λ (y : OwnMemory). IsApart h.pool c.machine.signal.0 y.spec) h.store.memories k x r at;
+        apart = all_at (λ (y : OwnMemory). IsApart h.pool c.machine.signal.0 y.spec) h.store.memories k x r.ports at;
       }) s.machines s.registers
 
   left_sound : (why : MemStop) (left : Pooled) → IsNamedGrowth h.pool left → IsSound (record { pool = pool_where why h.pool left; store = h.store })

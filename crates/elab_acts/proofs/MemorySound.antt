@@ -84,8 +84,8 @@ with_memory_sound x h s own apart = record {
   wrappings = s.wrappings;
   waits = s.waits;
   memories = all_and (IsOwnMemory h.pool h.store.clock_domains.made h.store.components.objects) h.store.memories (x ∷ []) s.memories (own, tt);
-  registers = all_each (HasOwnRegister h.pool h.store.memories) (HasOwnRegister h.pool (h.store.memories ++ x ∷ [])) h.store.machines
-      (λ m r. all_and (λ (y : OwnMemory). IsApart h.pool m.machine.signal.0 y.spec) h.store.memories (x ∷ []) r (apart m.machine.signal.0, tt)) s.registers;
+  registers = all_each (HasOwnRegister h.pool h.store.clock_domains.made h.store.memories) (HasOwnRegister h.pool h.store.clock_domains.made (h.store.memories ++ x ∷ [])) h.store.machines
+      (λ m r. record { clocks = r.clocks; ports = all_and (λ (y : OwnMemory). IsApart h.pool m.machine.signal.0 y.spec) h.store.memories (x ∷ []) r.ports (apart m.machine.signal.0, tt) }) s.registers;
 }
 
 wrapped_fit : (f : Form) (ns : List ℤ) → AllByRecursion (IsOf f.signed f.width) (wrapped_rows f ns)

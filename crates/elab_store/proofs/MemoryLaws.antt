@@ -1,6 +1,7 @@
 -- What is held of memories stays: as the pool grows, where a register gets its shape, and where other things are made.
 use Rattle.std.specs.Prelude.{◌≡◌, ◌≢◌, refl, ℕ, zero, suc, ◌<◌, ◌≤◌, ◌==◌, ◌||◌, Bool, true, false, List, [], ◌∷◌, ◌++◌, map, length, slice_get, ℤ, Option, Some, None}
 use Rattle.std.specs.List.{AllByRecursion, list_any}
+use Rattle.std.specs.Option.{option_map_or}
 use Rattle.std.proofs.Common.{sym, ◌∙◌, ap, arith}
 use Rattle.std.proofs.lemmas.Bool.Decides.{nat_tests}
 use Rattle.shape_rules.specs.Forms.{Form}
@@ -23,7 +24,7 @@ use Rattle.elab_store.specs.declared.own_machine.OwnMachine.{OwnMachine}
 use Rattle.elab_store.specs.declared.memories.OwnMemory.{OwnMemory}
 use Rattle.elab_store.specs.declared.domains.ClockDomain.{ClockDomain}
 use Rattle.elab_store.specs.declared.faces.ComponentObject.{ComponentObject}
-use Rattle.elab_store.specs.Sound.{HasNoClock, HasNoPort, IsOwnData, IsOwnMemory, HasOwnRegister}
+use Rattle.elab_store.specs.Sound.{HasNoClock, HasNoPort, IsClockDomain, IsResetBehind, IsOwnData, IsOwnMemory, HasOwnRegister}
 
 -- ---- lists
 
@@ -40,7 +41,7 @@ place_below [] k x e = absurd cc
 place_below (y ∷ xs) zero x e = omega arith
 place_below (y ∷ xs) (suc k) x e = omega (arith, place_below xs k x e)
 
-still_at : {A : Type 0} (xs ys : List A) (k : ℕ) (x : A) → slice_get xs k ≡ Some x → slice_get (xs ++ ys) k ≡ Some x
+pub still_at : {A : Type 0} (xs ys : List A) (k : ℕ) (x : A) → slice_get xs k ≡ Some x → slice_get (xs ++ ys) k ≡ Some x
 still_at [] ys k x e = absurd cc
 still_at (z ∷ xs) ys zero x e = e
 still_at (z ∷ xs) ys (suc k) x e = still_at xs ys k x e
@@ -93,9 +94,11 @@ module _ (p q : Pooled) (g : IsGrown p q) (t : ℕ) where
     reads = all_both (HasRead p m.depth m.shape) (IsOtherRead p t) (IsOtherRead q t) m.reads (read_other m.depth m.shape) h.reads a.reads;
   }
 
-pub register_stays : (p q : Pooled) (made : List ClockDomain) (objects : List (ℕ × ComponentObject)) (xs : List OwnMemory) → IsGrown p q → AllByRecursion (IsOwnMemory p made objects) xs → (m : OwnMachine) → HasOwnRegister p xs m → HasOwnRegister q xs m
-register_stays p q made objects xs g are m own =
-    all_both (IsOwnMemory p made objects) (λ (x : OwnMemory). IsApart p m.machine.signal.0 x.spec) (λ (x : OwnMemory). IsApart q m.machine.signal.0 x.spec) xs (λ x h a. apart_stays p q g m.machine.signal.0 x.spec h.ports a) are own
+pub register_stays : (p q : Pooled) (made : List ClockDomain) (objects : List (ℕ × ComponentObject)) (xs : List OwnMemory) → IsGrown p q → AllByRecursion (IsOwnMemory p made objects) xs → (m : OwnMachine) → HasOwnRegister p made xs m → HasOwnRegister q made xs m
+register_stays p q made objects xs g are m own = record {
+  clocks = own.clocks;
+  ports = all_both (IsOwnMemory p made objects) (λ (x : OwnMemory). IsApart p m.machine.signal.0 x.spec) (λ (x : OwnMemory). IsApart q m.machine.signal.0 x.spec) xs (λ x h a. apart_stays p q g m.machine.signal.0 x.spec h.ports a) are own.ports;
+}
 
 -- ---- a signal that is not there yet
 
@@ -124,21 +127,33 @@ module _ (p : Pooled) (t : ℕ) (past : length p.signals ≤ t) where
     reads = each_holds (HasRead p m.depth m.shape) (IsOtherRead p t) m.reads (read_than m.depth m.shape) h.reads;
   }
 
--- the register of a machine that begins is no signal of a port
-pub register_fresh : (p : Pooled) (made : List ClockDomain) (objects : List (ℕ × ComponentObject)) (xs : List OwnMemory) (m : OwnMachine) → AllByRecursion (IsOwnMemory p made objects) xs → length p.signals ≤ m.machine.signal.0 → HasOwnRegister p xs m
-register_fresh p made objects xs m are past = each_holds (IsOwnMemory p made objects) (λ (x : OwnMemory). IsApart p m.machine.signal.0 x.spec) xs (λ x h. apart_from p m.machine.signal.0 past x.spec h.ports) are
+pub domain_low : (q : Pooled) (s : ℕ) → length q.signals ≤ s → (x : ClockDomain) → IsClockDomain q x → HasNoClock s x
+domain_low q s past x h = none_among (domain_numbers x.domain) s (omega (arith, past, h.clock.there), by_reset x.domain.rst h.reset)
+  where
+    by_reset : (o : Option SigId) → IsResetBehind q x.domain.clk o → AllByRecursion (λ n. n < s) (option_map_or (λ (t : SigId). t.0 ∷ []) o [])
+    by_reset None r = tt
+    by_reset (Some t) r = (omega (arith, past, r.0.there), tt)
+
+-- the register of a machine that begins is no signal of a clock domain, and none of a port
+pub register_fresh : (p : Pooled) (made : List ClockDomain) (objects : List (ℕ × ComponentObject)) (xs : List OwnMemory) (m : OwnMachine) → AllByRecursion (IsClockDomain p) made → AllByRecursion (IsOwnMemory p made objects) xs → length p.signals ≤ m.machine.signal.0 → HasOwnRegister p made xs m
+register_fresh p made objects xs m clocks are past = record {
+  clocks = each_holds (IsClockDomain p) (HasNoClock m.machine.signal.0) made (domain_low p m.machine.signal.0 past) clocks;
+  ports = each_holds (IsOwnMemory p made objects) (λ (x : OwnMemory). IsApart p m.machine.signal.0 x.spec) xs (λ x h. apart_from p m.machine.signal.0 past x.spec h.ports) are;
+}
 
 -- ---- a register that gets its shape
 
-pub memories_settled : (p : Pooled) (made : List ClockDomain) (objects : List (ℕ × ComponentObject)) (xs : List OwnMemory) (m : OwnMachine) (f : Form) (n : ℤ) → AllByRecursion (IsOwnMemory p made objects) xs → HasOwnRegister p xs m → AllByRecursion (IsOwnMemory (signal_settled p m.machine.signal.0 f n) made objects) xs
+pub memories_settled : (p : Pooled) (made : List ClockDomain) (objects : List (ℕ × ComponentObject)) (xs : List OwnMemory) (m : OwnMachine) (f : Form) (n : ℤ) → AllByRecursion (IsOwnMemory p made objects) xs → HasOwnRegister p made xs m → AllByRecursion (IsOwnMemory (signal_settled p m.machine.signal.0 f n) made objects) xs
 memories_settled p made objects xs m f n are own =
     all_both (IsOwnMemory p made objects) (λ (x : OwnMemory). IsApart p m.machine.signal.0 x.spec) (IsOwnMemory (signal_settled p m.machine.signal.0 f n) made objects) xs
-    (λ x h a. record { spec = h.spec; ports = others_left p x.spec m.machine.signal.0 f n a h.ports; write_names = h.write_names; read_names = h.read_names; own_data = h.own_data }) are own
+    (λ x h a. record { spec = h.spec; ports = others_left p x.spec m.machine.signal.0 f n a h.ports; write_names = h.write_names; read_names = h.read_names; own_data = h.own_data }) are own.ports
 
 -- the expressions are as before
-pub registers_settled : (p : Pooled) (xs : List OwnMemory) (t : ℕ) (f : Form) (n : ℤ) (m : OwnMachine) → HasOwnRegister p xs m → HasOwnRegister (signal_settled p t f n) xs m
-registers_settled p xs t f n m own =
-    each_holds (λ (x : OwnMemory). IsApart p m.machine.signal.0 x.spec) (λ (x : OwnMemory). IsApart (signal_settled p t f n) m.machine.signal.0 x.spec) xs (λ x a. record { writes = a.writes; reads = a.reads }) own
+pub registers_settled : (p : Pooled) (made : List ClockDomain) (xs : List OwnMemory) (t : ℕ) (f : Form) (n : ℤ) (m : OwnMachine) → HasOwnRegister p made xs m → HasOwnRegister (signal_settled p t f n) made xs m
+registers_settled p made xs t f n m own = record {
+  clocks = own.clocks;
+  ports = each_holds (λ (x : OwnMemory). IsApart p m.machine.signal.0 x.spec) (λ (x : OwnMemory). IsApart (signal_settled p t f n) m.machine.signal.0 x.spec) xs (λ x a. record { writes = a.writes; reads = a.reads }) own.ports;
+}
 
 -- ---- a clock domain and a component more
 
@@ -165,6 +180,17 @@ with_clock q made objects k x past m h data_low = record {
   read_names = h.read_names;
   own_data = all_both (IsOwnData made objects) (λ (r : MemRead). r.word.0 < k) (IsOwnData (made ++ x ∷ []) objects) m.spec.reads
       (λ r own low. record { clocks = all_last (HasNoClock r.word.0) made x own.clocks (above_data k r.word.0 (domain_numbers x.domain) low past); ports = own.ports }) h.own_data data_low;
+}
+
+-- the register of a machine is among the first so many signals
+abbrev pub HasRegisterBelow : ℕ → OwnMachine → Type 0
+HasRegisterBelow k m = m.machine.signal.0 < k
+
+-- nor is it a signal of a clock domain that was made since
+pub register_with_clock : (q : Pooled) (made : List ClockDomain) (memories : List OwnMemory) (k : ℕ) (x : ClockDomain) → AllByRecursion (λ n. k ≤ n) (domain_numbers x.domain) → (m : OwnMachine) → HasOwnRegister q made memories m → HasRegisterBelow k m → HasOwnRegister q (made ++ x ∷ []) memories m
+register_with_clock q made memories k x past m own low = record {
+  clocks = all_last (HasNoClock m.machine.signal.0) made x own.clocks (above_data k m.machine.signal.0 (domain_numbers x.domain) low past);
+  ports = own.ports;
 }
 
 -- the data of its read ports are none of these ports

@@ -217,9 +217,10 @@ pub record IsOwnMemory (q : Pooled) (made : List ClockDomain) (objects : List (�
   pub read_names : AllByRecursion IsNamedRead x.spec.reads
   pub own_data : AllByRecursion (IsOwnData made objects) x.spec.reads
 
--- the register of a machine is no signal of a memory's port
-abbrev pub HasOwnRegister : Pooled → List OwnMemory → OwnMachine → Type 0
-HasOwnRegister q memories m = AllByRecursion (λ (x : OwnMemory). IsApart q m.machine.signal.0 x.spec) memories
+-- the register of a machine is no signal of a clock domain, and no signal of a memory's port
+pub record HasOwnRegister (q : Pooled) (made : List ClockDomain) (memories : List OwnMemory) (m : OwnMachine) : Type 0 where
+  pub clocks : AllByRecursion (HasNoClock m.machine.signal.0) made
+  pub ports : AllByRecursion (λ (x : OwnMemory). IsApart q m.machine.signal.0 x.spec) memories
 
 -- ---- wrappers
 
@@ -257,6 +258,6 @@ pub record IsSound (h : Held) : Type 0 where
   pub clock_domains : AreClockDomains h.pool h.store.clock_domains.made
   pub components : AreComponents h.pool h.store.components
   pub memories : AllByRecursion (IsOwnMemory h.pool h.store.clock_domains.made h.store.components.objects) h.store.memories
-  pub registers : AllByRecursion (HasOwnRegister h.pool h.store.memories) h.store.machines
+  pub registers : AllByRecursion (HasOwnRegister h.pool h.store.clock_domains.made h.store.memories) h.store.machines
   pub wrappings : AllByRecursion (IsWrapping h.pool) h.store.wrappings
   pub waits : AllByRecursion (IsWait h.pool) h.store.simulation.waits
