@@ -1,6 +1,6 @@
 -- What is served leaves the pool as it is, or puts expressions behind it.
 use Rattle.std.proofs.Common.{◌≡◌, refl, sym, ◌∙◌, ap, Some, None, ℕ, suc, Bool, true, false, List, [], ◌∷◌, ◌++◌, Option, length}
-use Rattle.std.specs.Prelude.{◌×◌, if◌then◌else◌, nat_lt, pos, negsuc, ℤ, fold, drop}
+use Rattle.std.specs.Prelude.{if◌then◌else◌, nat_lt, pos, negsuc, ℤ, fold, drop}
 use Rattle.std.proofs.lemmas.List.{append_assoc, append-nil}
 use Rattle.design_ir.specs.declared.ids.ExprId.{ExprId}
 use Rattle.design_ir.specs.declared.expr.Expr.{Expr}
@@ -22,7 +22,7 @@ use Rattle.elab_store.specs.declared.simulation.TickEnd.TheVariants as end
 use Rattle.elab_store.specs.declared.simulation.Wait.{Wait}
 use Rattle.elab_store.specs.declared.simulation.Wait.TheVariants as wait
 use Rattle.elab_store.specs.Stores.{Held, Answered}
-use Rattle.elab_store.specs.Seen.{Called, called}
+use Rattle.elab_store.specs.Calls.{Called, called}
 use Rattle.amh_values.specs.Acts.{acted}
 use Rattle.elab_eval.specs.Table.{prim}
 use Rattle.expr_index.specs.First.{first_number}
