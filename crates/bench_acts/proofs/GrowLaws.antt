@@ -22,7 +22,7 @@ use Rattle.elab_store.specs.declared.simulation.TickEnd.TheVariants as end
 use Rattle.elab_store.specs.declared.simulation.Wait.{Wait}
 use Rattle.elab_store.specs.declared.simulation.Wait.TheVariants as wait
 use Rattle.elab_store.specs.Stores.{Held, Answered}
-use Rattle.elab_store.specs.Seen.{Called, called}
+use Rattle.elab_store.specs.Calls.{Called, called}
 use Rattle.amh_values.specs.Acts.{acted}
 use Rattle.elab_eval.specs.Table.{prim}
 use Rattle.expr_index.specs.First.{first_number}
@@ -164,7 +164,7 @@ shared_behind es more = behind_all es (length es) (record { numbers = []; exprs 
 same_more : (p q : Pooled) → q ≡ p → IsMore p q
 same_more p q e = record { signals = ap (λ (x : Pooled). x.signals) e; more = []; exprs = ap (λ (x : Pooled). x.exprs) e ∙ sym (append-nil p.exprs) }
 
-table_more : (served : Bool) (h : Held) (a : Answered) → IsMore h.pool (table_served served h a).held.pool
+table_more : (on : Bool) (h : Held) (a : Answered) → IsMore h.pool (table_served on h a).held.pool
 table_more false h a = same_more h.pool h.pool refl
 table_more true h a = by_count (too_many h.pool (held_shared h a.held).pool.exprs)
   where

@@ -39,8 +39,7 @@ use Rattle.elab_store.specs.Hierarchies.{added_as}
 use Rattle.elab_components.specs.Imports.{is_hdl, is_utils, own_named, star_names, is_sim, sim_named, sim_imported, hdl_thing, hdl_imported, bound_answer, all_bound, imported, import_answered}
 use Rattle.elab_components.specs.Libraries.{library_given, thing_name_given, library_named, is_enum, is_data, wiring_named, stream_named, memory_named}
 use Rattle.elab_components.specs.Likes.{like_given}
-use Rattle.elab_components.specs.Members.{are_members, turned_members}
-use Rattle.elab_components.specs.Signatures.{signature_attribute, signature_from, signature_turned}
+use Rattle.elab_components.specs.Signatures.{signature_attribute, signature_turned}
 use Rattle.elab_wiring.specs.Interfaces.{interface_attribute, signature_given, member_given, end_given}
 use Rattle.elab_wiring.specs.SignatureClasses.{signed_attribute, object_attribute}
 use Rattle.elab_machines.specs.StateMachines.{part_named, part_attribute}

@@ -1,5 +1,5 @@
 -- What is owed, where a refusal owes less.
-use Rattle.std.proofs.Common.{◌≡◌, refl, sym, subst, ◌∙◌, ap, length, Bool, true, false, Result, Ok, Err}
+use Rattle.std.proofs.Common.{◌≡◌, ◌≤◌, refl, sym, subst, ◌∙◌, ap, length, Bool, true, false, Result, Ok, Err}
 use Rattle.std.specs.Prelude.{OnOk, if◌then◌else◌}
 use Rattle.lists.specs.declared.items.NoMemory.{NoMemory}
 use Rattle.py_frames.specs.declared.request.Answer.{Answer}
@@ -18,6 +18,7 @@ use Rattle.bench_acts.specs.Context.{Serving, serving}
 use Rattle.bench_acts.specs.Serving.{table_served}
 use Rattle.bench_acts.specs.Sharing.{held_over, held_shared, exprs_shared, too_many}
 use Rattle.bench_acts.specs.Held.{IsBench, Serves, GoesOn, ServesOn}
+use Rattle.bench_acts.proofs.ShareLaws.{few_still}
 
 goes_on : (s : Served) (t : Type 0) → t → GoesOn s t
 goes_on (served.Answer (answer.Refuse why)) t h = tt
@@ -54,7 +55,8 @@ module _ (b c : Bench) (on : Bool) (k : Held) (a : Answer) (owed : Answered) whe
         let pool : c.held.pool ≡ (held_shared h k).pool = ap (λ (x : Held). x.pool) over in
         let fewer : too_many h.pool (held_shared h k).pool.exprs ≡ false = ap (λ p. too_many p (held_shared h k).pool.exprs) bench.pool ∙ ap (λ (p : Pooled). too_many b.design.pool p.exprs) (sym pool) ∙ few in
         let same : c.held.pool ≡ c.design.pool = sym (ap (λ (d : Circuit). d.pool) design) in
-        let behind : IsBench c = record { pool = same; sound = subst IsSound (sym over) sound; known = subst (λ (p : Pooled). Knows c.known p.exprs) same known } in
+        let room = few_still b.design.pool c.held.pool.exprs bench.few few in
+        let behind : IsBench c = record { pool = same; few = subst (λ (p : Pooled). length p.exprs ≤ 262144) same room; sound = subst IsSound (sym over) sound; known = subst (λ (p : Pooled). Knows c.known p.exprs) same known } in
         subst (ServesOn (Ok (served.Answer a)) b c) (sym (served_as false fewer)) (refl, goes_on (served.Answer a) _ (sym over, design ∙ ap (λ p. record (b.design) { pool = p }) pool, behind))
 
     pub limit_serves : too_many b.design.pool (exprs_shared b.design.pool k) ≡ true → ServesOn (Ok (served.Answer (answer.Refuse Limit))) b c (table_served on h owed)

@@ -325,6 +325,16 @@ few_within p fs le = by_test (nat_lt (length p.exprs) (length fs)) (nat_lt 26214
     by_test true false h = refl
     by_test false false h = refl
 
+-- and then there is room for all of them
+pub few_still : (p : Pooled) (fs : List Expr) → length p.exprs ≤ 262144 → too_many p fs ≡ false → length fs ≤ 262144
+few_still p fs room few = by_test (nat_lt 262144 (length fs)) refl
+  where
+    by_test : (b : Bool) → nat_lt 262144 (length fs) ≡ b → length fs ≤ 262144
+    by_test false h = omega (arith, ltb-false 262144 (length fs) h)
+    by_test true h =
+        let past = ltb-true 262144 (length fs) h in
+        absurd (false≢true (sym few ∙ many_from (length p.exprs) (length fs) (omega (arith, room, past)) past))
+
 pub few_none : (p q : Pooled) → q ≡ p → too_many p q.exprs ≡ false
 few_none p q is = few_same p q.exprs (omega (arith, ap (λ (x : Pooled). length x.exprs) is))
 

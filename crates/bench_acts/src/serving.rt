@@ -1,5 +1,5 @@
 // Requests of testbenches.
-ghost use Rattle.std.specs.Prelude.{◌≡◌, IfOk, OnOk, length, option_map, slice_get};
+ghost use Rattle.std.specs.Prelude.{◌≡◌, ◌≤◌, IfOk, OnOk, length, option_map, slice_get};
 ghost use Rattle.py_heap.specs.Heaps.{seen};
 ghost use Rattle.elab_store.specs.declared.kept.BenchPart.TheVariants as part;
 ghost use Rattle.elab_store.specs.declared.kept.Kept.TheVariants as kept;
@@ -56,7 +56,8 @@ pub enum Served {
 impl Bench {
     /// Over a design and what elaboration holds.
     pub fn new(alloc: Global, design: Design, store: Store) -> Result<Bench, NoMemory>
-        requires { IsSound (record { pool = design.pool; store = store }) }
+        requires sound { IsSound (record { pool = design.pool; store = store }) }
+        requires few { length design.pool.exprs ≤ 262144 }
         ensures bench { IfOk result IsBench }
         ensures design { IfOk result (λ b. b.design ≡ design) }
         ensures store { IfOk result (λ b. b.held.store ≡ store) }

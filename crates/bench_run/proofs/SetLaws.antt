@@ -210,7 +210,7 @@ module _ (c : Circuit) (rules : IsPool c.pool) where
   sets_asked s p r act.BodyEnd h bits m e = absurd ((cc))
   sets_asked s p r act.Returned h bits m e = absurd ((cc))
 
-  sets_table : (is : Bool) (h : Held) (a : Answered) → Sets (table_served is h a)
+  sets_table : (on : Bool) (h : Held) (a : Answered) → Sets (table_served on h a)
   sets_table false h a bits m e = absurd ((cc))
   sets_table true h a = by_count (too_many h.pool (held_shared h a.held).pool.exprs)
     where
