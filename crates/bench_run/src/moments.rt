@@ -1,7 +1,7 @@
 // Moments: what is due when.
 ghost use Rattle.std.specs.Prelude.{◌≡◌, ◌<◌, ◌^◌, IfSome, map};
-ghost use Rattle.std.specs.List.{AllByRecursion, list_any};
-ghost use Rattle.bench_run.specs.Runs.{earliest, is_behind_end, may_end, is_due};
+ghost use Rattle.std.specs.List.{AllByRecursion, list_all, list_any};
+ghost use Rattle.bench_run.specs.Runs.{earliest, is_behind_end, is_due, is_over};
 ghost use Rattle.bench_run.specs.Standing.{stands_in, woken_in, all_over, IsBelow};
 
 use crate::testbench::{Running, Stand};
@@ -55,9 +55,20 @@ pub(crate) fn may_end(end: RunEnd, testbenches: &[Running]) -> bool
     ensures { result ≡ all_over end testbenches.now }
 {
     match end {
-        RunEnd::WithTestbenches => testbenches.iter().all(|x| x.is_over()),
+        RunEnd::WithTestbenches => are_over(testbenches),
         RunEnd::Until(_) => false,
     }
+}
+
+fn are_over(testbenches: &[Running]) -> bool
+    ensures { result ≡ list_all (λ (y : Running). is_over y.background y.stand) testbenches.now }
+{
+    for x in testbenches {
+        if !x.is_over() {
+            return false;
+        }
+    }
+    true
 }
 
 /// Whether a moment is behind the end of the run.

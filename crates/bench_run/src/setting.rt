@@ -1,9 +1,9 @@
 // What does not change in a run.
-ghost use Rattle.std.specs.Prelude.{◌≡◌, IfOk, None, length};
+ghost use Rattle.std.specs.Prelude.{◌≡◌, ◌<◌, ◌/◌, ◌^◌, IfOk, IfSome, None, length};
 ghost use Rattle.calendar.specs.Moments.{AreClocks};
 ghost use Rattle.calendar.specs.Due.{AreWithin};
 ghost use Rattle.elab_eval.specs.Clocks.{clock_refused};
-ghost use Rattle.bench_run.specs.Runs.{clocks_of};
+ghost use Rattle.bench_run.specs.Runs.{clock_of, clocks_of};
 
 use calendar::Clock;
 use design_ir::Design;
@@ -36,13 +36,25 @@ pub(crate) fn clocks_of(
 {
     let mut clocks = Vec::new(alloc);
     for call in calls {
-        if let Some(domain) = design.domain_named(call.domain.as_str()) {
-            clocks.push(Clock {
-                domain,
-                half: call.period / 2,
-                phase: call.phase,
-            })?;
+        if let Some(clock) = clock_of(design, call) {
+            clocks.push(clock)?;
         }
     }
     Ok(clocks)
+}
+
+fn clock_of(design: &Design, call: &ClockCall) -> Option<Clock>
+    ensures clock { result ≡ clock_of design.now call.now }
+    ensures within { IfSome result (λ c. c.domain.0 < length design.now.domains) }
+    ensures below { IfSome result (λ c. c.half < 2 ^ 63) }
+    ensures half { IfSome result (λ c. c.half ≡ call.now.period / 2) }
+{
+    match design.domain_named(call.domain.as_str()) {
+        Some(domain) => Some(Clock {
+            domain,
+            half: call.period / 2,
+            phase: call.phase,
+        }),
+        None => None,
+    }
 }
