@@ -1,12 +1,12 @@
 // What ticks bring where clocks are about to toggle.
-ghost use Rattle.std.specs.Prelude.{◌≡◌, IfOk, OnOk, map};
+ghost use Rattle.std.specs.Prelude.{◌≡◌, ◌<◌, ◌++◌, IfOk, OnOk, length, map};
 ghost use Rattle.design_ir.specs.Steps.{is_active, is_reset};
 ghost use Rattle.design_ir.specs.Legal.{IsLegal};
 ghost use Rattle.design_ir.specs.declared.event.Event.TheVariants.{Edge};
 ghost use Rattle.delta_sim.specs.Standing.{IsSimOf};
 ghost use Rattle.elab_store.specs.Held.{held_of};
 ghost use Rattle.elab_store.specs.Sound.{IsWait};
-ghost use Rattle.elab_store.specs.declared.simulation.Wait.TheVariants as wait;
+ghost use Rattle.elab_store.specs.declared.simulation.Wait.TheVariants as waits;
 ghost use Rattle.bench_acts.specs.Held.{IsBench};
 ghost use Rattle.bench_run.specs.Runs.{samples_of, tick_stand, stand_ticked};
 ghost use Rattle.bench_run.specs.Standing.{ticked_in};
@@ -103,7 +103,7 @@ fn tick_stand(
 ) -> Result<Stand, NoMemory>
     requires bench { IsBench bench.now }
     requires sim { IsSimOf bench.now.design sim.old }
-    requires tick { IsWait bench.now.held.pool (wait.Tick tick.now) }
+    requires tick { IsWait bench.now.held.pool (waits.Tick tick.now) }
     ensures stand { IfOk result (λ s. s ≡ tick_stand (held_of bench.now.held) sim.old.env wait left tick.now reset tick.now.end) }
     ensures same { sim.new ≡ sim.old }
 {
@@ -133,7 +133,7 @@ fn tick_stand(
 fn samples(bench: &Bench, sim: &mut Sim, tick: &Tick, vals: Vals) -> Result<Stand, NoMemory>
     requires bench { IsBench bench.now }
     requires sim { IsSimOf bench.now.design sim.old }
-    requires tick { IsWait bench.now.held.pool (wait.Tick tick.now) }
+    requires tick { IsWait bench.now.held.pool (waits.Tick tick.now) }
     ensures stand { IfOk result (λ s. s ≡ Stand.Ready (Answer.GiveList (vals ++ samples_of (held_of bench.now.held) sim.old.env tick.now))) }
     ensures same { sim.new ≡ sim.old }
 {
