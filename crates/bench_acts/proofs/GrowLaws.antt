@@ -1,6 +1,6 @@
 -- What is served leaves the pool as it is, or puts expressions behind it.
 use Rattle.std.proofs.Common.{◌≡◌, refl, sym, ◌∙◌, ap, Some, None, ℕ, suc, Bool, true, false, List, [], ◌∷◌, ◌++◌, Option, length}
-use Rattle.std.specs.Prelude.{if◌then◌else◌, nat_lt, pos, negsuc, ℤ, fold, drop}
+use Rattle.std.specs.Prelude.{if◌then◌else◌, nat_lt, pos, negsuc, ℤ, fold, drop, option_and_then}
 use Rattle.std.proofs.lemmas.List.{append_assoc, append-nil}
 use Rattle.design_ir.specs.declared.ids.ExprId.{ExprId}
 use Rattle.design_ir.specs.declared.expr.Expr.{Expr}
@@ -29,7 +29,8 @@ use Rattle.expr_index.specs.First.{first_number}
 use Rattle.expr_index.specs.Numbers.{number_now, renumbered}
 use Rattle.bench_acts.specs.declared.targets.InputBits.{InputBits}
 use Rattle.bench_acts.specs.declared.serving.Served.TheVariants as served
-use Rattle.bench_acts.specs.Context.{Serving, serving, raises, ticks_at, got_from, set_from, set_placed, tick_of, delay_of, tick_with, sampled_more, sample_placed, until_from, repeat_from, part_called, part_asked, named_given, part_attribute, part_awaited}
+use Rattle.amh_things.specs.Members.{counted}
+use Rattle.bench_acts.specs.Context.{only_placed, Serving, serving, raises, ticks_at, got_from, set_from, set_placed, tick_of, delay_of, tick_with, sampled_more, sample_placed, until_from, repeat_from, part_called, part_asked, named_given, part_attribute, part_awaited}
 use Rattle.bench_acts.specs.Serving.{is_served, table_served, served_by, asked_part, bench_served}
 use Rattle.bench_acts.specs.Sharing.{Shared, number_in, share_one, shared, held_shared, too_many}
 
@@ -95,7 +96,7 @@ keeps_called s d part.Tick c h = keeps_tick h _
 keeps_called s d part.Delay c h = keeps_delay h _
 keeps_called s d (part.Sample k) c h = keeps_sample h k c.placed c.keywords
 keeps_called s d (part.Until k) c h = keeps_until h k _
-keeps_called s d (part.Repeat k) c h = keeps_repeat h k _
+keeps_called s d (part.Repeat k) c h = keeps_repeat h k (option_and_then (counted h.store.things) (only_placed c))
 keeps_called s d part.Context c h = refl
 keeps_called s d (part.Wait k) c h = refl
 
