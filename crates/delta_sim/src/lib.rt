@@ -31,6 +31,7 @@ mod statements;
 mod wake;
 mod write;
 
+pub use clocks::{is_active, is_reset};
 pub use growth::growth_keeps_simulators;
 pub use laws::words_are_rows;
 pub use settle::Counts;
