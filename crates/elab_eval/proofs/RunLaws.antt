@@ -1,5 +1,5 @@
 -- One answer more: what it brings, by what the machine promises and what the table answers.
-use Rattle.std.proofs.Common.{◌≡◌, ℕ, ◌+◌, ◌-◌, ◌<◌, refl, ap, ◌∙◌, sym, subst, List, [], ◌∷◌, ◌++◌, length, Option, Some, Result, Ok, Err, inl, inr, arith}
+use Rattle.std.proofs.Common.{◌≡◌, ℕ, ◌+◌, ◌-◌, ◌<◌, refl, ap, ◌∙◌, sym, subst, List, [], ◌∷◌, ◌++◌, length, Option, Some, Result, Ok, Err, inl, inr, arith, IfOk}
 use Rattle.py_tree.specs.Steps.{Steps}
 use Rattle.py_values.specs.declared.val.Val.{Val}
 use Rattle.py_heap.specs.Heaps.{seen, nothing}
@@ -88,6 +88,7 @@ ended program top budget left rest before behind h a v run resumed units =
       got = brings.ends.0;
       ends = subst (λ n. ask_program program (world n (run.given ++ a ∷ [])) ≡ Done brings.ends.0 behind.going.state) run.units brings.ends.1;
       sound = run.sound;
+      below = omega (arith, brings.below, run.units);
       units = omega (arith, units, run.units);
     }
 
@@ -137,3 +138,8 @@ elaborated program top budget left m h (Ok e) ended is = found program top budge
 elaborated program top budget left m h (Err (stop.Refused k p)) ended is = found program top budget left m h (Err (stop.Refused k p)) ended (sym is)
 elaborated program top budget left m h (Err (stop.Spent p)) ended is = found program top budget left m h (Err (stop.Spent p)) ended (sym is)
 elaborated program top budget left m h (Err stop.NoMemory) ended is = tt
+
+-- and units are left where there is a design
+pub units_left : (program : Steps) (top : Option (List ℕ)) (budget left : ℕ) (m : Machine) (h : Held) (r : Result Elaborated ElabStop) → HasEnded program top budget m h left → IfOk r (λ (e : Elaborated). 0 < left)
+units_left program top budget left m h (Ok e) ended = let some : m.going.state.used < budget = ended.below in omega (arith, some, ended.units)
+units_left program top budget left m h (Err stop) ended = tt

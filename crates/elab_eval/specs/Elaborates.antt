@@ -1,6 +1,6 @@
 -- What a program is elaborated to under the name that the words may give the top, within a budget: a design, or why there is none; and at what
 -- cost.
-use Rattle.std.specs.Prelude.{◌≡◌, ◌⊎◌, ℕ, zero, suc, ◌-◌, nat_lt, length, ◌||◌, not, Bool, true, false, if◌then◌else◌, ⊤, List, [], ◌∷◌, slice_get, slice_index_or, Option, Some, None, Result, Ok, Err, codes}
+use Rattle.std.specs.Prelude.{◌≡◌, ◌⊎◌, ℕ, zero, suc, ◌-◌, nat_lt, length, ◌||◌, not, Bool, true, false, if◌then◌else◌, ⊤, List, [], ◌∷◌, slice_get, slice_index_or, Option, Some, None, option_map, Result, Ok, Err, codes}
 use Rattle.std.specs.Option.{option_map_or}
 use Rattle.std.specs.List.{list_any}
 use Rattle.amh_host.specs.declared.place.Place.{Place}
@@ -36,6 +36,7 @@ use Rattle.elab_eval.specs.declared.running.Elaborated.{Elaborated}
 use Rattle.elab_eval.specs.declared.refusal.ElabStop.{ElabStop}
 use Rattle.elab_eval.specs.declared.refusal.ElabStop.TheVariants.{Refused, Spent, NoMemory}
 use Rattle.elab_eval.specs.ObjectTops.{object_ports}
+use Rattle.elab_store.specs.declared.simulation.ClockCall.{ClockCall}
 use Rattle.elab_eval.specs.Clocks.{clock_refused}
 use Rattle.elab_store.specs.declared.hierarchy.Addition.{Addition}
 use Rattle.elab_store.specs.declared.hierarchy.Node.{Node}
@@ -86,13 +87,17 @@ unresolved_stop unresolved.NoMemory = NoMemory
 abbrev pub without_modules : Stored → Stored
 without_modules s = record s { modules = [] }
 
--- a clock that may not be is refused at its call
-abbrev pub found_unless : Option Place → Found → Result Found ElabStop
+-- What a design is refused for that was resolved: more expressions than it may have, or a clock of its simulator that may not be, at its call. The
+-- calls that make expressions refuse one too many, and so do the wrappers, and no expression is made behind these: the first is never told.
+abbrev pub design_stop : Circuit → List ClockCall → Option ElabStop
+design_stop c clocks = if nat_lt 262144 (length c.pool.exprs) then Some (Refused kind.Limit file_start) else option_map (Refused kind.Raised) (clock_refused c clocks)
+
+abbrev pub found_unless : Option ElabStop → Found → Result Found ElabStop
 found_unless None found = Ok found
-found_unless (Some p) found = Err (Refused kind.Raised p)
+found_unless (Some stop) found = Err stop
 
 abbrev pub found_with : Held → Made → Result Circuit ResolveStop → Result Found ElabStop
-found_with h heap (Ok c) = found_unless (clock_refused c h.store.simulation.clocks) (record { circuit = c; store = without_modules h.store; frozen = heap })
+found_with h heap (Ok c) = found_unless (design_stop c h.store.simulation.clocks) (record { circuit = c; store = without_modules h.store; frozen = heap })
 found_with h heap (Err stop) = Err (unresolved_stop stop)
 
 -- ---- the tree of modules and memories

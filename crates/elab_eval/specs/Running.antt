@@ -28,13 +28,14 @@ pub record IsRunning (program : Steps) (top : Option (List ℕ)) (budget : ℕ) 
   pub below : m.going.state.used < budget
   pub units : m.going.state.used + left ≡ budget
 
--- the program ended behind answers that are reached
+-- the program ended behind answers that are reached, and what it used is below the budget
 pub record HasEnded (program : Steps) (top : Option (List ℕ)) (budget : ℕ) (m : Machine) (h : Held) (left : ℕ) : Type 0 where
   pub given : List Answer
   pub reached : Reaches program top budget given h
   pub got : Got
   pub ends : ask_program program (world budget given) ≡ Done got m.going.state
   pub sound : IsSound h
+  pub below : m.going.state.used < budget
   pub units : m.going.state.used + left ≡ budget
 
 -- what one answer brings

@@ -3,7 +3,7 @@ ghost use Rattle.std.specs.Prelude.{◌≡◌, false, [], IfOk, IfErr, Err};
 ghost use Rattle.std.specs.List.{list_any};
 ghost use Rattle.py_heap.specs.Heaps.{nothing, seen};
 ghost use Rattle.design_ir.specs.Rising.{AllRisingSync};
-ghost use Rattle.elab_eval.specs.Elaborates.{IsFound, IsDesignOf, held_of_modules, is_nameless, design_of, top_ports, without_modules, unresolved_stop};
+ghost use Rattle.elab_eval.specs.Elaborates.{IsFound, IsDesignOf, held_of_modules, is_nameless, design_of, design_stop, top_ports, without_modules, unresolved_stop};
 ghost use Rattle.elab_eval.specs.Fit.{FitsDesign, IsFit};
 ghost use Rattle.elab_store.specs.Sound.{IsSound};
 ghost use Rattle.elab_store.specs.Held.{held_of};
@@ -13,9 +13,10 @@ use crate::object_tops::top_ports;
 use crate::refusal::ElabStop;
 use crate::running::Elaborated;
 use crate::trees::{raised, tree};
-use amh_host::Kind;
+use amh_host::{Kind, Place};
 use clock_domains::{ResolveStop, TopPorts, resolve};
 use design_ir::{Design, Expr, ExprId, Exprs, Pool};
+use elab_store::simulation::ClockCall;
 use elab_store::store::{Elaboration, Store};
 use identifiers::is_identifier;
 use lists::NoMemory;
@@ -57,6 +58,19 @@ fn unresolved_stop(stop: ResolveStop) -> ElabStop
         ResolveStop::DrivenInput(place) => ElabStop::Refused(Kind::DrivenInput, place),
         ResolveStop::Limit(place) => ElabStop::Refused(Kind::Limit, place),
         ResolveStop::NoMemory => ElabStop::NoMemory,
+    }
+}
+
+// What a resolved design is refused for: more expressions than it may have, then a clock that may not be.
+fn design_stop(design: &Design, clocks: &[ClockCall]) -> Option<ElabStop>
+    ensures { result ≡ design_stop design.now clocks.now }
+{
+    if design.count() > 262_144 {
+        return Some(ElabStop::Refused(Kind::Limit, Place { line: 1, col: 1 }));
+    }
+    match clock_refused(design, clocks) {
+        Some(place) => Some(ElabStop::Refused(Kind::Raised, place)),
+        None => None,
     }
 }
 
@@ -155,8 +169,8 @@ fn resolved_design(
         return Err(raised());
     };
     match resolve(alloc, pool, root, ports) {
-        Ok(design) => match clock_refused(&design, store.simulation().clocks()) {
-            Some(place) => Err(ElabStop::Refused(Kind::Raised, place)),
+        Ok(design) => match design_stop(&design, store.simulation().clocks()) {
+            Some(stop) => Err(stop),
             None => Ok(design),
         },
         Err(stop) => Err(unresolved_stop(stop)),

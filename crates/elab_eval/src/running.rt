@@ -206,8 +206,8 @@ fn leave_simulation(elaboration: &mut Elaboration, top: Option<&str>)
 }
 
 /// Elaborates a program: the design that it makes, or why it makes none, exactly as `Elaborates` says within what is left, of which what
-/// it used is taken. What a run needs of the two stands: the store is sound over the design's pool, and the design has all of its clocks. The
-/// words may name the top. Want of memory may come at any time.
+/// it used is taken. What a run needs of the two stands: the store is sound over the design's pool, which has 262,144 expressions at most, the
+/// design has all of its clocks, and some unit is left. The words may name the top. Want of memory may come at any time.
 pub fn elaborate<L: Ledger>(
     alloc: Global,
     program: &Program,
@@ -219,6 +219,7 @@ pub fn elaborate<L: Ledger>(
     ensures comes { IsElaborated (program_of program.now) (option_copied top.entry) left.old.left left.new.left result }
     ensures rising { IfOk result (λ e. AllRisingSync e.design) }
     ensures fit { IfOk result IsFit }
+    ensures units { IfOk result (λ _. 0 < left.new.left) }
     ensures ticks { steps.old ≤ steps.new }
 {
     let frozen = Frozen::empty(alloc);

@@ -3,9 +3,8 @@ use Rattle.py_heap.specs.Heaps.{seen, nothing}
 use Rattle.clock_domains.specs.Resolved.{resolved}
 use Rattle.elab_store.specs.Simulations.{Simulation}
 use Rattle.elab_store.specs.Stores.{Held}
-use Rattle.elab_eval.specs.Clocks.{clock_refused}
-use Rattle.elab_eval.specs.Elaborates.{held_of_modules, design_of, root_module}
-use Rattle.elab_eval.proofs.ClockLaws.{checked_design}
+use Rattle.elab_eval.specs.Elaborates.{held_of_modules, design_of, design_stop, root_module}
+use Rattle.elab_eval.proofs.ClockLaws.{checked_design, told_as, no_stop}
 use Rattle.elab_eval.proofs.DesignLaws.{design_refused, tree_made, tree_resolvable, refused_design, made_design, unresolved_design}
 use Rattle.elab_eval.proofs.NamedResets.{resets_named}
 use Rattle.elab_eval.proofs.PlacedSound.{resolved_sound}
@@ -35,14 +34,15 @@ returns-in-Err-resolve-clause-found c =
     let owed = made_design h heap pool c.in-Ok.root (Some c.in-Some.ports) c.requires.named c.in-Ok.ensures.tree (sym c.in-Some.is ∙ c.requires.ports) in
     design_refused h heap c.unresolved_stop.result (design_of h heap) (unresolved_design h heap (resolved pool c.in-Ok.root c.in-Some.ports) c.in-Err-resolve.stop c.unresolved_stop.result owed c.in-Err-resolve.ensures.refused c.unresolved_stop.ensures)
 
-pub returns-in-Some-clock_refused-clause-found : goal.returns-in-Some-clock_refused-clause-found
-returns-in-Some-clock_refused-clause-found c =
+pub returns-in-Some-design_stop-clause-found : goal.returns-in-Some-design_stop-clause-found
+returns-in-Some-design_stop-clause-found c =
     let h : Held = held_of_modules c.args.pool c.args.store.now c.args.modules.items in
     let heap = c.args._heap.now in
     let pool = c.tree.new.pool in
     let owed = made_design h heap pool c.in-Ok.root (Some c.in-Some.ports) c.requires.named c.in-Ok.ensures.tree (sym c.in-Some.is ∙ c.requires.ports) in
-    checked_design h heap (resolved pool c.in-Ok.root c.in-Some.ports) c.in-Ok-resolve.design (Some c.in-Some-clock_refused.place) c.clocks.result.now owed c.in-Ok-resolve.ensures.design c.in-Some-clock_refused.ensures
-    (c.clocks.ensures ∙ ap (λ (x : Simulation). x.clocks) c.simulation.ensures)
+    design_refused h heap c.in-Some-design_stop.stop (design_of h heap) (told_as c.in-Some-design_stop.stop (design_of h heap)
+    (checked_design h heap (resolved pool c.in-Ok.root c.in-Some.ports) c.in-Ok-resolve.design (Some c.in-Some-design_stop.stop) c.clocks.result.now owed c.in-Ok-resolve.ensures.design c.in-Some-design_stop.ensures
+    (c.clocks.ensures ∙ ap (λ (x : Simulation). x.clocks) c.simulation.ensures)))
 
 pub returns-in-None-clause-found : goal.returns-in-None-clause-found
 returns-in-None-clause-found c =
@@ -62,7 +62,9 @@ returns-in-None-clause-fit c =
     let h : Held = held_of_modules q s bs in
     let made = tree_made h.store (root_module h.store) q pool c.in-Ok.root c.in-Ok.ensures.tree in
     let more = tree_more h.store made.built q (c.in-Ok.root, pool) made.tree in
+    let fine = no_stop c.in-Ok-resolve.design h.store.simulation.clocks (c.in-None.ensures ∙ ap (design_stop c.in-Ok-resolve.design) (c.clocks.ensures ∙ ap (λ (x : Simulation). x.clocks) c.simulation.ensures)) in
     record {
+      few = fine.few;
       sound = resolved_sound q pool s bs c.in-Ok.root c.in-Some.ports c.in-Ok-resolve.design c.requires.sound c.known.ensures c.requires.apart more c.in-Ok.ensures.stands c.in-Ok-resolve.ensures.design;
-      clocks = sym (c.in-None.ensures ∙ ap (clock_refused c.in-Ok-resolve.design) (c.clocks.ensures ∙ ap (λ (x : Simulation). x.clocks) c.simulation.ensures));
+      clocks = fine.clocks;
     }
