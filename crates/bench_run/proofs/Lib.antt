@@ -1,0 +1,15 @@
+pub mod BenchLists
+pub mod EnvLaws
+pub mod LinkLaws
+pub mod TurnLaws
+pub mod SafeLaws
+pub mod GoLaws
+pub mod AskLaws
+pub mod MomentLaws
+pub mod SetLaws
+pub mod OneRun
+pub mod ReadyLaws
+pub mod ClockLaws
+pub mod TickLaws
+pub mod MomentSafety
+pub mod StartLaws

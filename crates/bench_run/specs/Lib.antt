@@ -1,0 +1,4 @@
+pub mod Setting
+pub mod Runs
+pub mod Standing
+pub mod Laws
