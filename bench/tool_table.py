@@ -11,11 +11,11 @@ lines indented by four blanks. The parts are
     script     the lines of top.stim; without it the file is empty. `script bytes` gives them in escapes, and `script times` repeats them
     fail       a call of the host that is to fail
     each fault how many calls of each kind there are
-    done       the text that is said; refused, usage, fault, spent: the text that is warned
+    done       the text that is said; refused, assert failed, usage, fault, spent: the text that is warned
     KIND each  lines that are refused with this kind, each alone at the end of the design, at the place before which it has `@`; a line
                that stands further in belongs to the one before it. `script each` has lines that are refused behind the script
     trace      the lines of the trace; `trace lines` how many there are of those of the last case, behind a fault
-    rtlil      `there`, `whole`, `none` or `K lines`; without it `there` where the run is done, else `none`
+    rtlil      `there`, `whole`, `none` or `K lines`; without it `there` where there is a trace, else `none`
 
 The answers were worked out by hand; the program is not run here.
 """
@@ -30,7 +30,7 @@ EXAMPLES = ROOT / "examples"
 PAGE = ROOT / "docs" / "LANGUAGE.md"
 WORDS = "top.py top.il top.tr --play top.stim"
 USAGE = "usage: amh_tool DESIGN IL TRACE [--play FILE] [--top NAME] [--budget N] [--make N]\n"
-CODES = {"done": 0, "refused": 1, "usage": 3, "spent": 4, "fault": 5}
+CODES = {"done": 0, "refused": 1, "assert failed": 2, "usage": 3, "spent": 4, "fault": 5}
 
 
 def cases_in(path):
@@ -161,7 +161,7 @@ def answer_of(case):
     said = case["done"] + "\n" if status == "done" else ""
     warned = {"done": "", "usage": USAGE, "fault": "host fault\n"}.get(status) if status in ("done", "usage", "fault") else case[status] + "\n"
     trace = in_escapes(lines(case["trace"])) if "trace" in case else "none"
-    rtlil = case.get("rtlil", "there" if status == "done" else "none")
+    rtlil = case.get("rtlil", "there" if "trace" in case or status == "done" else "none")
     il, tr = (words + ["", "", ""])[1:3]
     return " | ".join([f"{status} {CODES[status]}", f"said {in_escapes(said)}", f"warned {in_escapes(warned)}", f"{tr} {trace}", f"{il} {rtlil}"])
 

@@ -8,7 +8,7 @@ ghost use Rattle.amh_tool.specs.Work.{Works, Fails};
 
 use crate::accept::{Verdict, accept};
 use crate::laws::outcomes_are_one;
-use crate::perform::perform;
+use crate::perform::{perform, perform_run};
 use crate::plan::plan_of;
 use crate::texts::{bad_line, fault_text, refusal, spent, usage_text};
 use amh_host::{Host, HostStop, Steps, Words};
@@ -51,10 +51,11 @@ impl Status {
     }
 }
 
-/// Does all that the words ask for: reads the design and the script, writes RTLIL whole, then the trace line by
-/// line, and says how it ended. What it promises is the record `Promises` of specs/Promises.antt.
+/// Does all that the words ask for: reads the design and the script, writes RTLIL whole, then the trace of the script or
+/// of the file's simulator line by line, and says how it ended. What it promises is the record `Promises` of
+/// specs/Promises.antt.
 ///
-/// `steps` counts the turns of the machine that evaluates the design file.
+/// `steps` counts the turns of the machines that evaluate the design file and its testbenches.
 pub fn run<H: Host, L: Ledger>(
     alloc: Global,
     words: &Words,
@@ -108,9 +109,10 @@ fn work<H: Host, L: Ledger>(
             host.warn(text.as_str())?;
             Ok(Status::Refused)
         }
-        Verdict::Accepted(accepted) => {
-            perform(alloc, host, &plan, &accepted)?;
-            Ok(Status::Done)
+        Verdict::Accepted(accepted) => perform(alloc, host, &plan, &accepted),
+        Verdict::Runs(runs) => {
+            let mut runs = runs;
+            perform_run(alloc, host, &plan, &mut runs, steps)
         }
     }
 }

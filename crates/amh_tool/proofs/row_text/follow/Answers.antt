@@ -1,0 +1,10 @@
+use Rattle.std.proofs.Common.{◌≡◌, ◌∙◌, ◌∷◌, drop, ap, sym, subst, length, List, ℕ, arith}
+use Rattle.std.proofs.lemmas.List.{drop_all}
+use Rattle.amh_tool.proofs.FollowLaws.{AreMoving, followed, passed, all_followed}
+use Rattle.amh_tool.proofs.TraceLaws.{drop_at}
+use Rattle.amh_tool.proofs.row_text.follow.Goals as goal
+
+pub returns : goal.returns
+returns c =
+    let none = drop_all c.loop-s.s-index c.args.moved.now c.loop-s-test.false in
+    all_followed c.loop-s.before.items c.args.now.now c.loop-s.invariant.count (subst (λ (rest : List ℕ). AreMoving c.loop-s.before.items c.args.now.now rest) none c.loop-s.invariant.all)
