@@ -1,6 +1,6 @@
 #!/usr/bin/env python3
 """Writes random design files, each with a script, into a folder:
-`random_designs.py FOLDER COUNT SEED [--spoiled] [--only NAMES] [--blocks] [--targets] [--machines] [--layouts] [--domains] [--submodules]`.
+`random_designs.py FOLDER COUNT SEED [--spoiled] [--only NAMES] [--blocks] [--targets] [--machines] [--layouts] [--domains] [--edges] [--submodules]`.
 
 Each design is a text in the language that amh_tool accepts, with signals of random shapes, statements of `comb` and `sync` over
 random expressions, and a script of events. With `--spoiled` one thing in each text is broken: a token, a width, an argument, a
@@ -9,7 +9,7 @@ driver, a target, and of what the other words bring a block, a state, a field, a
 and `Default`; with `--targets` parts at an offset, items by an index, joins and casts are assigned, too. With `--machines` blocks are
 state machines, too, beside and in each other; with `--layouts` signals are views and values of enumerations, whose fields and members
 are read, assigned and matched. With `--domains` registers and state machines are of `sync`, `fast` and `slow`, whose clocks toggle alone
-and together. With `--submodules` the statements stand in a tree of modules.
+and together, and with `--edges` besides the top defines some of these, with edges and resets of all kinds. With `--submodules` the statements stand in a tree of modules.
 
 The files are K.py and K.stim, K from 0 on, and depend on the seed and the words alone. Two tools that are run over them can be compared.
 """
@@ -129,10 +129,33 @@ def known_to_scripts(dice, inputs, text):
 
 def clocked_in(text):
     """The domains in which a text has statements, as far as its lines tell."""
-    found = set(re.findall(r"m\.d\.(\w+) \+=", text)) - {"comb"}
+    found = set(re.findall(r"m\.d\.(\w+) \+=", text)) - {"comb"} | set(re.findall(r"m\.domains\.(\w+) =", text))
     if "m.next" in text:
         found |= {name or "sync" for name in re.findall(r'm\.FSM\((?:.*domain="(\w+)")?', text)}
     return sorted(found)
+
+
+DOMAINS = ("sync", "fast", "slow")
+
+
+def with_edges(dice, lines):
+    """The text whose last module defines some of its domains, each with an edge and a reset of some kind."""
+    at = max(i for i, line in enumerate(lines) if line.strip() == "m = Module()")
+    indent = lines[at][: -len("m = Module()")]
+    made = []
+    for name in DOMAINS:
+        if dice.random() < 0.7:
+            words = [f'clk_edge="{dice.choice(["pos", "neg"])}"'] if dice.random() < 0.8 else []
+            words += [f"async_reset={dice.random() < 0.7}"] if dice.random() < 0.8 else []
+            words += [f"reset_less={dice.random() < 0.5}"] if dice.random() < 0.3 else []
+            made.append(f"{indent}m.domains.{name} = ClockDomain({', '.join(words)})")
+    return lines[: at + 1] + made + lines[at + 1 :]
+
+
+def resets_in(text, clocked):
+    """The resets that a script may give: of these domains, those that are not said to have none."""
+    kept = [name for name in clocked if not re.search(rf"m\.domains\.{name} = .*reset_less=True", text)]
+    return ["rst" if name == "sync" else f"{name}_rst" for name in kept]
 
 
 def edge_line(dice, clocked):
@@ -142,14 +165,17 @@ def edge_line(dice, clocked):
     return "edge " + " ".join(dice.sample(clocked, dice.randint(1, len(clocked))))
 
 
-def script_text(dice, inputs, clocked, most):
-    """So many events, at most, on these inputs and on the clocks of these domains."""
-    if not inputs:
+def script_text(dice, inputs, clocked, resets, most):
+    """So many events, at most, on these inputs and resets and on the clocks of these domains."""
+    if not inputs and not resets:
         return [edge_line(dice, clocked) for _ in range(most)] if clocked else []
     lines = []
     for _ in range(dice.randint(2, most)):
         if clocked and dice.random() < 0.4:
             lines.append(edge_line(dice, clocked))
+            continue
+        if not inputs or resets and dice.random() < 0.3:
+            lines.append(f"set {dice.choice(resets)} {dice.randint(0, 1)}")
             continue
         s = dice.choice(inputs)
         low, high = (-(1 << (s.width - 1)), (1 << (s.width - 1)) - 1) if s.signed else (0, (1 << s.width) - 1)
@@ -163,7 +189,7 @@ def words():
     parser.add_argument("count", metavar="COUNT", type=int)
     parser.add_argument("seed", metavar="SEED", type=int)
     parser.add_argument("--only", metavar="NAMES", default=",".join(TOPS))
-    for name in ("spoiled", "blocks", "targets", "machines", "layouts", "domains", "submodules"):
+    for name in ("spoiled", "blocks", "targets", "machines", "layouts", "domains", "edges", "submodules"):
         parser.add_argument(f"--{name}", action="store_true")
     return parser.parse_args()
 
@@ -174,12 +200,15 @@ def main():
     for k in range(options.count):
         dice = random.Random(f"{options.seed} {k}")
         lines, inputs = TOPS[dice.choice(options.only.split(","))](dice, options)
+        if options.edges:
+            lines = with_edges(dice, lines)
         if options.spoiled:
             lines = spoiled(dice, lines, options)
         text = "\n".join(lines) + "\n"
         clocked = clocked_in(text) if options.domains else ["sync"] if "m.d.sync" in text or "m.next" in text else []
         (options.folder / f"{k}.py").write_text(text)
-        script = script_text(dice, known_to_scripts(dice, inputs, text), clocked, 24 if options.machines else 12)
+        resets = resets_in(text, clocked) if options.edges else []
+        script = script_text(dice, known_to_scripts(dice, inputs, text), clocked, resets, 24 if options.machines or options.edges else 12)
         (options.folder / f"{k}.stim").write_text("\n".join(script) + "\n")
 
 

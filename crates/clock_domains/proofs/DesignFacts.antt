@@ -11,7 +11,7 @@ use Rattle.design_ir.specs.Circuits.{is_among, option_test}
 use Rattle.design_ir.specs.Designs.{reset_number, share}
 use Rattle.fragment_walks.proofs.Lists.{all_imp, all_joined, all_mapped, all_unmapped, any-append, any_none, map-append, none_any, or_none}
 use Rattle.clock_domains.specs.Resolvable.{IsDomainOf, IsResetOf, domain_numbers}
-use Rattle.clock_domains.specs.Resolved.{port_of, reset_port, ports_of_domain, domain_ports, signals_of}
+use Rattle.clock_domains.specs.Resolved.{domain_inputs, port_of, reset_port, ports_of_domain, domain_ports, signals_of}
 use Rattle.clock_domains.proofs.DesignSound.{distinct_joined, not_flipped, share_flipped}
 
 abbrev pub Apart : Domain → Domain → Type 0
@@ -160,17 +160,48 @@ some_distinct q ds driven (d ∷ some) h k =
 pub domain_ports_distinct : (q : Pooled) (driven : ℕ → Bool) (ds : List Domain) → AllByRecursion (IsDomainOf q) ds → IsDistinct share (map domain_numbers ds) → IsDistinct nat_eq (signals_of (domain_ports q driven ds))
 domain_ports_distinct q driven ds = some_distinct q ds driven ds
 
--- the clock of each domain is an input
-some_clock : (q : Pooled) (ds : List Domain) (driven : ℕ → Bool) (some : List Domain) → AllByRecursion (λ (d : Domain). list_any (λ (p : Port). p.is_input && (p.sig.0 == d.clk.0)) (flat_map (ports_of_domain q ds driven) some) ≡ true) some
-some_clock q ds driven [] = tt
-some_clock q ds driven (d ∷ some) = (
-  ap (λ b. b || list_any (λ (p : Port). p.is_input && (p.sig.0 == d.clk.0)) (option_map_or (reset_port q ds driven) d.rst [] ++ flat_map (ports_of_domain q ds driven) some)) (eq-eqb d.clk.0 d.clk.0 refl),
-  all_imp (λ x h. any-append (λ (p : Port). p.is_input && (p.sig.0 == x.clk.0)) (ports_of_domain q ds driven d) (flat_map (ports_of_domain q ds driven) some) ∙ or_true (list_any (λ (p : Port). p.is_input && (p.sig.0 == x.clk.0)) (ports_of_domain q ds driven d)) _ h) some (some_clock q ds driven some),
+-- ---- the inputs of domains
+
+abbrev pub IsInputAmong : List Port → ℕ → Type 0
+IsInputAmong ports s = list_any (λ (p : Port). p.is_input && (p.sig.0 == s)) ports ≡ true
+
+or_true : (a b : Bool) → b ≡ true → (a || b) ≡ true
+or_true true b e = refl
+or_true false b e = e
+
+input_left : (xs ys : List Port) (s : ℕ) → IsInputAmong xs s → IsInputAmong (xs ++ ys) s
+input_left xs ys s h = any-append (λ (p : Port). p.is_input && (p.sig.0 == s)) xs ys ∙ ap (λ b. b || list_any (λ (p : Port). p.is_input && (p.sig.0 == s)) ys) h
+
+input_right : (xs ys : List Port) (s : ℕ) → IsInputAmong ys s → IsInputAmong (xs ++ ys) s
+input_right xs ys s h = any-append (λ (p : Port). p.is_input && (p.sig.0 == s)) xs ys ∙ or_true (list_any (λ (p : Port). p.is_input && (p.sig.0 == s)) xs) _ h
+
+-- a clock is a port, and so is a reset that acts at once where nothing drives it
+one_input : (q : Pooled) (ds : List Domain) (driven : ℕ → Bool) (d : Domain) → AllByRecursion (λ s. driven s ≡ false) (domain_inputs d) → AllByRecursion (IsInputAmong (ports_of_domain q ds driven d)) (domain_inputs d)
+one_input q ds driven d h = (
+  ap (λ b. b || list_any (λ (p : Port). p.is_input && (p.sig.0 == d.clk.0)) (option_map_or (reset_port q ds driven) d.rst [])) (eq-eqb d.clk.0 d.clk.0 refl),
+  at_once d.async_reset d.rst h.1,
 )
   where
-    or_true : (a b : Bool) → b ≡ true → (a || b) ≡ true
-    or_true true b e = refl
-    or_true false b e = e
+    at_once : (b : Bool) (o : Option SigId) → AllByRecursion (λ s. driven s ≡ false) (if b then option_map_or (λ (s : SigId). s.0 ∷ []) o [] else [])
+        → AllByRecursion (IsInputAmong (port_of q ds true d.clk.0 ∷ option_map_or (reset_port q ds driven) o [])) (if b then option_map_or (λ (s : SigId). s.0 ∷ []) o [] else [])
+    at_once false o k = tt
+    at_once true None k = tt
+    at_once true (Some s) k = (
+      or_true (d.clk.0 == s.0) (list_any (λ (p : Port). p.is_input && (p.sig.0 == s.0)) (reset_port q ds driven s))
+          (ap (λ b. list_any (λ (p : Port). p.is_input && (p.sig.0 == s.0)) (if b then [] else port_of q ds true s.0 ∷ [])) k.0 ∙ ap (λ b. b || false) (eq-eqb s.0 s.0 refl)),
+      tt,
+    )
 
-pub clock_among : (q : Pooled) (driven : ℕ → Bool) (ds : List Domain) → AllByRecursion (λ (d : Domain). list_any (λ (p : Port). p.is_input && (p.sig.0 == d.clk.0)) (domain_ports q driven ds) ≡ true) ds
-clock_among q driven ds = some_clock q ds driven ds
+some_inputs : (q : Pooled) (ds : List Domain) (driven : ℕ → Bool) (some : List Domain) → AllByRecursion (λ (d : Domain). AllByRecursion (λ s. driven s ≡ false) (domain_inputs d)) some
+    → AllByRecursion (λ (d : Domain). AllByRecursion (IsInputAmong (flat_map (ports_of_domain q ds driven) some)) (domain_inputs d)) some
+some_inputs q ds driven [] h = tt
+some_inputs q ds driven (d ∷ some) h =
+    let own = ports_of_domain q ds driven d in
+    let rest = flat_map (ports_of_domain q ds driven) some in (
+      all_imp (λ s k. input_left own rest s k) (domain_inputs d) (one_input q ds driven d h.0),
+      all_imp (λ (e : Domain) g. all_imp (λ s k. input_right own rest s k) (domain_inputs e) g) some (some_inputs q ds driven some h.1),
+    )
+
+pub inputs_are_ports : (q : Pooled) (driven : ℕ → Bool) (ds : List Domain) → AllByRecursion (λ (d : Domain). AllByRecursion (λ s. driven s ≡ false) (domain_inputs d)) ds
+    → AllByRecursion (λ (d : Domain). AllByRecursion (IsInputAmong (domain_ports q driven ds)) (domain_inputs d)) ds
+inputs_are_ports q driven ds = some_inputs q ds driven ds

@@ -21,8 +21,8 @@ use Rattle.design_ir.specs.Pools.{Pooled}
 use Rattle.design_ir.specs.PoolRules.{IsPool}
 use Rattle.design_ir.specs.Values.{signal_form}
 use Rattle.design_ir.specs.Guards.{driven, block_exprs}
-use Rattle.design_ir.specs.Circuits.{Circuit, is_among, is_register}
-use Rattle.design_ir.specs.Designs.{IsDomain, IsProcess, IsSignalOf, IsReset, IsClockDomain, AreColumns, IsDesign, share, drivers, port_signals}
+use Rattle.design_ir.specs.Circuits.{Circuit, is_among, is_input, is_register}
+use Rattle.design_ir.specs.Designs.{IsDomain, IsProcess, IsSignalOf, IsInputReset, IsReset, IsClockDomain, AreColumns, IsDesign, share, drivers, port_signals}
 use Rattle.design_ir.proofs.Counts.{few_below}
 use Rattle.fragment_walks.specs.Reads.{data_signals, is_driven, is_given, is_read}
 use Rattle.fragment_walks.specs.Walks.{Contents}
@@ -30,10 +30,10 @@ use Rattle.fragment_walks.proofs.Lists.{all_filtered, passes, not_true, all_imp,
 use Rattle.clock_domains.specs.declared.top.TopPorts.{TopPorts}
 use Rattle.clock_domains.specs.declared.top.TopPorts.TheVariants.{Members, Held, Loose}
 use Rattle.clock_domains.specs.Resolvable.{IsBit, IsResetOf, IsDomainOf, domain_numbers, top_inputs, AreTopPorts}
-use Rattle.clock_domains.specs.Resolved.{bit_signal, reset_port, ports_of_domain, domain_number, process_in, is_clocked, has_width, held_port, signal_name, shown_name, port_of, domain_ports, top_ports, signals_of, ports_of, named_registers, column_of_port, column_of_register, register_path, columns_of, circuit_of, data_refusal, driver_refusal, driver_stop, has_twice, design_inputs, loose_port, process_path, memory_path}
+use Rattle.clock_domains.specs.Resolved.{bit_signal, reset_port, ports_of_domain, domain_number, process_in, is_clocked, has_width, held_port, signal_name, shown_name, port_of, domain_inputs, domain_ports, top_ports, signals_of, ports_of, named_registers, column_of_port, column_of_register, register_path, columns_of, circuit_of, data_refusal, driver_refusal, driver_stop, has_twice, design_inputs, loose_port, process_path, memory_path}
 use Rattle.clock_domains.specs.Chosen.{IsSignal, IsResetThere}
 use Rattle.clock_domains.specs.Ready.{IsNaming, IsReady, IsUnder}
-use Rattle.clock_domains.proofs.DesignFacts.{Apart, pairs, clocks_distinct, resets_distinct, clock_no_reset, all_ports, domain_ports_distinct, clock_among}
+use Rattle.clock_domains.proofs.DesignFacts.{Apart, IsInputAmong, pairs, clocks_distinct, resets_distinct, clock_no_reset, all_ports, domain_ports_distinct, inputs_are_ports}
 use Rattle.clock_domains.proofs.DesignNames.{columns_distinct, columns_public, columns_signals, columns_length, columns_keep, name_path, under_path}
 use Rattle.clock_domains.proofs.WalkedNames.{memory_naming, process_naming, top_path}
 use Rattle.clock_domains.proofs.ChoiceLaws.{range_all, top_there}
@@ -246,36 +246,6 @@ module _ (w : Pooled) (ds : List Domain) (own : List Process) (all : Contents) (
         targets = h.targets;
       }) ps r.processes)
 
-  -- ---- domains
-
-  signal_sound : (s : SigId) → IsBit w s → IsSignalOf c (unsigned 1) s
-  signal_sound s h = record { there = h.there; shape = h.form }
-
-  reset_sound : (clk : SigId) (o : Option SigId) → IsResetOf w clk o → IsReset c o
-  reset_sound clk None h = tt
-  reset_sound clk (Some s) h = signal_sound s h.0
-
-  abbrev IsClocked : Domain → Type 0
-  IsClocked d = list_any (λ (p : Port). p.is_input && (p.sig.0 == d.clk.0)) dp ≡ true
-
-  abbrev IsAlone : Domain → Type 0
-  IsAlone d = AllByRecursion (λ (e : Domain). (d ≡ e) ⊎ Apart d e) ds
-
-  domain_sound : (d : Domain) → IsDomainOf w d → IsClocked d → IsAlone d → IsClockDomain c d
-  domain_sound d h input alone = record {
-    clock = signal_sound d.clk h.clock;
-    reset = reset_sound d.clk d.rst h.reset;
-    clock_input =
-        named_any (λ s b. b && (s == d.clk.0)) ports cols ports_fit ∙ any-append (λ (p : Port). p.is_input && (p.sig.0 == d.clk.0)) dp fresh ∙ ap (λ b. b || list_any (λ (p : Port). p.is_input && (p.sig.0 == d.clk.0)) fresh) input;
-    clock_no_reset = clock_no_reset w ds d r.domains alone;
-    async_input = λ t. absurd (false≢true (sym h.sync_reset ∙ t));
-  }
-
-  domains_sound : AllByRecursion (IsClockDomain c) c.domains
-  domains_sound =
-      all_both {P = λ (d : Domain). IsDomainOf w d × IsClocked d} {Q = IsAlone} (λ (d : Domain) h alone. domain_sound d h.0 h.1 alone) ds
-      (all_both {P = IsDomainOf w} {Q = IsClocked} (λ (d : Domain) h input. (h, input)) ds r.domains (clock_among w gives ds)) (pairs ds r.apart)
-
   -- ---- columns
 
   register_sound : (s : ℕ) → is_some (register_path w all s) ≡ true → IsTrue (is_register c s)
@@ -328,11 +298,11 @@ module _ (w : Pooled) (ds : List Domain) (own : List Process) (all : Contents) (
   once = (none_some (has_twice words) _ None stops.0).0
 
   -- what is driven is no input, whichever of these they are
-  clocks_free : AllByRecursion (λ (p : Process). share (driven w p.body) (map (λ (d : Domain). d.clk.0) ds) ≡ false) ps
-  clocks_free = all_imp (λ (p : Process) h. (share_both (driven w p.body) (map (λ (d : Domain). d.clk.0) ds) (top_inputs top) h).0) ps apart.inputs
+  domains_untouched : AllByRecursion (λ (p : Process). share (driven w p.body) (flat_map domain_inputs ds) ≡ false) ps
+  domains_untouched = all_imp (λ (p : Process) h. (share_both (driven w p.body) (flat_map domain_inputs ds) (top_inputs top) h).0) ps apart.inputs
 
   members_free : AllByRecursion (λ (p : Process). share (driven w p.body) (top_inputs top) ≡ false) ps
-  members_free = all_imp (λ (p : Process) h. (share_both (driven w p.body) (map (λ (d : Domain). d.clk.0) ds) (top_inputs top) h).1) ps apart.inputs
+  members_free = all_imp (λ (p : Process) h. (share_both (driven w p.body) (flat_map domain_inputs ds) (top_inputs top) h).1) ps apart.inputs
 
   drivers_are : drivers c ≡ map (λ (p : Process). driven w p.body) ps ++ map single words
   drivers_are = ap (λ xs. xs ++ read_drivers all.memories) (map_map (process_in ds) (λ (p : DesignProcess). driven w p.body) ps) ∙ ap (λ xs. map (λ (p : Process). driven w p.body) ps ++ xs) (read_drivers_are all.memories)
@@ -386,18 +356,40 @@ module _ (w : Pooled) (ds : List Domain) (own : List Process) (all : Contents) (
   right_among : (xs ys : List ℕ) (s : ℕ) → is_among ys s ≡ true → is_among (xs ++ ys) s ≡ true
   right_among xs ys s h = any-append (λ x. x == s) xs ys ∙ or_true (is_among xs s) (is_among ys s) h
 
-  abbrev IsClockAmong : List Domain → Domain → Type 0
-  IsClockAmong xs d = (is_among (map (λ (d : Domain). d.clk.0) xs) d.clk.0 ≡ true) × (is_among (flat_map domain_numbers xs) d.clk.0 ≡ true)
+  -- an input of a domain is one of all domains, and among their signals
+  abbrev IsDomainInput : List Domain → ℕ → Type 0
+  IsDomainInput xs s = (is_among (flat_map domain_inputs xs) s ≡ true) × (is_among (flat_map domain_numbers xs) s ≡ true)
 
-  clocks_in : (xs : List Domain) → AllByRecursion (IsClockAmong xs) xs
-  clocks_in [] = tt
-  clocks_in (x ∷ xs) = (
-    (ap (λ b. b || is_among (map (λ (d : Domain). d.clk.0) xs) x.clk.0) (eq-eqb x.clk.0 x.clk.0 refl), ap (λ b. b || is_among (option_map_or (λ (s : SigId). s.0 ∷ []) x.rst [] ++ flat_map domain_numbers xs) x.clk.0) (eq-eqb x.clk.0 x.clk.0 refl)),
-    (let f : (d : Domain) → IsClockAmong xs d → IsClockAmong (x ∷ xs) d = λ d h. (or_true (x.clk.0 == d.clk.0) (is_among (map (λ (d : Domain). d.clk.0) xs) d.clk.0) h.0, right_among (domain_numbers x) (flat_map domain_numbers xs) d.clk.0 h.1) in all_imp f xs (clocks_in xs)),
+  own_inputs : (d : Domain) → AllByRecursion (λ s. (is_among (domain_inputs d) s ≡ true) × (is_among (domain_numbers d) s ≡ true)) (domain_inputs d)
+  own_inputs d = (
+    (ap (λ b. b || is_among (if d.async_reset then option_map_or (λ (s : SigId). s.0 ∷ []) d.rst [] else []) d.clk.0) (eq-eqb d.clk.0 d.clk.0 refl), ap (λ b. b || is_among (option_map_or (λ (s : SigId). s.0 ∷ []) d.rst []) d.clk.0) (eq-eqb d.clk.0 d.clk.0 refl)),
+    at_once d.async_reset d.rst,
+  )
+    where
+      second : (s : SigId) → is_among (d.clk.0 ∷ s.0 ∷ []) s.0 ≡ true
+      second s = or_true (d.clk.0 == s.0) ((s.0 == s.0) || false) (ap (λ b. b || false) (eq-eqb s.0 s.0 refl))
+
+      at_once : (b : Bool) (o : Option SigId)
+          → AllByRecursion (λ s. (is_among (d.clk.0 ∷ (if b then option_map_or (λ (s : SigId). s.0 ∷ []) o [] else [])) s ≡ true) × (is_among (d.clk.0 ∷ option_map_or (λ (s : SigId). s.0 ∷ []) o []) s ≡ true)) (if b then option_map_or (λ (s : SigId). s.0 ∷ []) o [] else [])
+      at_once false o = tt
+      at_once true None = tt
+      at_once true (Some s) = ((second s, second s), tt)
+
+  inputs_in : (xs : List Domain) → AllByRecursion (λ (d : Domain). AllByRecursion (IsDomainInput xs) (domain_inputs d)) xs
+  inputs_in [] = tt
+  inputs_in (x ∷ xs) = (
+    all_imp (λ s h. (left_among (domain_inputs x) (flat_map domain_inputs xs) s h.0, left_among (domain_numbers x) (flat_map domain_numbers xs) s h.1)) (domain_inputs x) (own_inputs x),
+    (let f : (d : Domain) → AllByRecursion (IsDomainInput xs) (domain_inputs d) → AllByRecursion (IsDomainInput (x ∷ xs)) (domain_inputs d) =
+        λ d h. all_imp (λ s k. (right_among (domain_inputs x) (flat_map domain_inputs xs) s k.0, right_among (domain_numbers x) (flat_map domain_numbers xs) s k.1)) (domain_inputs d) h in
+        all_imp f xs (inputs_in xs)),
   )
 
+  inputs_undriven : AllByRecursion (λ (d : Domain). AllByRecursion (λ s. gives s ≡ false) (domain_inputs d)) ds
+  inputs_undriven =
+      all_imp (λ (d : Domain) h. all_imp (λ s k. free_of (flat_map domain_inputs ds) s domains_untouched k.0 (data_free s (left_among (flat_map domain_numbers ds) (top_inputs top) s k.1))) (domain_inputs d) h) ds (inputs_in ds)
+
   clock_free : AllByRecursion (λ (d : Domain). gives d.clk.0 ≡ false) ds
-  clock_free = all_imp (λ (d : Domain) h. free_of (map (λ (d : Domain). d.clk.0) ds) d.clk.0 clocks_free h.0 (data_free d.clk.0 (left_among (flat_map domain_numbers ds) (top_inputs top) d.clk.0 h.1))) ds (clocks_in ds)
+  clock_free = all_imp (λ (d : Domain) h. h.0) ds inputs_undriven
 
   reset_free : (o : Option SigId) → AllByRecursion IsFreePort (option_map_or (reset_port w ds gives) o [])
   reset_free None = tt
@@ -431,6 +423,45 @@ module _ (w : Pooled) (ds : List Domain) (own : List Process) (all : Contents) (
 
   ports_free : AllByRecursion IsFreePort ports
   ports_free = all_joined IsFreePort dp fresh (domains_free ds clock_free) (all_filtered IsFreePort is_new tp (top_free top members_free (λ s in'. data_free s (right_among (flat_map domain_numbers ds) (top_inputs top) s in'))))
+
+  -- ---- domains
+
+  signal_sound : (s : SigId) → IsBit w s → IsSignalOf c (unsigned 1) s
+  signal_sound s h = record { there = h.there; shape = h.form }
+
+  reset_sound : (clk : SigId) (o : Option SigId) → IsResetOf w clk o → IsReset c o
+  reset_sound clk None h = tt
+  reset_sound clk (Some s) h = signal_sound s h.0
+
+  -- an input among the ports of domains is one of the design
+  as_input : (s : ℕ) → IsInputAmong dp s → IsTrue (is_input c s)
+  as_input s h = named_any (λ k b. b && (k == s)) ports cols ports_fit ∙ any-append (λ (p : Port). p.is_input && (p.sig.0 == s)) dp fresh ∙ ap (λ b. b || list_any (λ (p : Port). p.is_input && (p.sig.0 == s)) fresh) h
+
+  -- so is a reset that acts at once
+  reset_input : (b : Bool) (o : Option SigId) → AllByRecursion (IsInputAmong dp) (if b then option_map_or (λ (s : SigId). s.0 ∷ []) o [] else []) → IsTrue b → IsInputReset c o
+  reset_input false o h t = absurd (false≢true t)
+  reset_input true None h t = tt
+  reset_input true (Some s) h t = as_input s.0 h.0
+
+  abbrev AreInputs : Domain → Type 0
+  AreInputs d = AllByRecursion (IsInputAmong dp) (domain_inputs d)
+
+  abbrev IsAlone : Domain → Type 0
+  IsAlone d = AllByRecursion (λ (e : Domain). (d ≡ e) ⊎ Apart d e) ds
+
+  domain_sound : (d : Domain) → IsDomainOf w d → AreInputs d → IsAlone d → IsClockDomain c d
+  domain_sound d h inputs alone = record {
+    clock = signal_sound d.clk h.clock;
+    reset = reset_sound d.clk d.rst h.reset;
+    clock_input = as_input d.clk.0 inputs.0;
+    clock_no_reset = clock_no_reset w ds d r.domains alone;
+    async_input = reset_input d.async_reset d.rst inputs.1;
+  }
+
+  domains_sound : AllByRecursion (IsClockDomain c) c.domains
+  domains_sound =
+      all_both {P = λ (d : Domain). IsDomainOf w d × AreInputs d} {Q = IsAlone} (λ (d : Domain) h alone. domain_sound d h.0 h.1 alone) ds
+      (all_both {P = IsDomainOf w} {Q = AreInputs} (λ (d : Domain) h inputs. (h, inputs)) ds r.domains (inputs_are_ports w gives ds inputs_undriven)) (pairs ds r.apart)
 
   -- ---- the design
 

@@ -75,7 +75,7 @@ old_bit : (q : Pooled) (names : List (List ℕ)) (s : SigId) → IsBit q s → I
 old_bit q names s h = record { there = omega (arith, h.there, length_with q names); form = old_form q.signals (flat_map domain_signals names) s.0 h.there ∙ h.form }
 
 old_domain : (q : Pooled) (names : List (List ℕ)) (d : Domain) → IsDomainOf q d → IsDomainOf (with_domains q names) d
-old_domain q names d h = record { name = h.name; clock = old_bit q names d.clk h.clock; reset = by d.rst h.reset; rising = h.rising; sync_reset = h.sync_reset }
+old_domain q names d h = record { name = h.name; clock = old_bit q names d.clk h.clock; reset = by d.rst h.reset }
   where
     by : (o : Option SigId) → IsResetOf q d.clk o → IsResetOf (with_domains q names) d.clk o
     by None k = tt
@@ -95,8 +95,6 @@ module _ (q : Pooled) (definitions : List DomainDef) (names : List (List ℕ)) (
         name = is;
         clock = made_bit q made k low (omega (arith, high));
         reset = (made_bit q made (suc k) (omega (arith, low)) (omega (arith, high)), not_equal k (suc k) (λ e. omega (arith, e)));
-        rising = refl;
-        sync_reset = refl;
       }) named (omega arith)
 
   -- ---- names

@@ -101,7 +101,7 @@ module _ (q w : Pooled) (moved : IsMoved q w) where
   moved_bit s h = record { there = moved_there s.0 h.there; form = moved_form s.0 h.there ∙ h.form }
 
   pub moved_domain : (d : Domain) → IsDomainOf q d → IsDomainOf w d
-  moved_domain d h = record { name = h.name; clock = moved_bit d.clk h.clock; reset = by d.rst h.reset; rising = h.rising; sync_reset = h.sync_reset }
+  moved_domain d h = record { name = h.name; clock = moved_bit d.clk h.clock; reset = by d.rst h.reset }
     where
       by : (o : Option SigId) → IsResetOf q d.clk o → IsResetOf w d.clk o
       by None k = tt

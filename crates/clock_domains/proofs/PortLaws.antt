@@ -1,8 +1,10 @@
 -- Ports, one after another.
-use Rattle.std.proofs.Common.{◌≡◌, ℕ, zero, suc, ◌+◌, ◌<◌, ◌≤◌, Bool, true, false, ◌||◌, cond, List, [], ◌∷◌, ◌++◌, map, length, take, Option, Some, slice_get, sym, ap, ◌∙◌, subst, arith, append-nil, append_assoc}
+use Rattle.std.proofs.Common.{◌≡◌, ℕ, zero, suc, ◌+◌, ◌<◌, ◌≤◌, Bool, true, false, ◌||◌, cond, if◌then◌else◌, List, [], ◌∷◌, ◌++◌, map, length, take, Option, Some, None, slice_get, sym, ap, ◌∙◌, subst, arith, append-nil, append_assoc}
 use Rattle.std.specs.List.{AllByRecursion, filter, filter_map, flat_map, range_with_len}
+use Rattle.std.specs.Option.{option_map_or}
 use Rattle.std.proofs.lemmas.List.Elements.{filter-append, filter_map-append}
 use Rattle.std.proofs.lemmas.List.Concat.{flat_map-append}
+use Rattle.design_ir.specs.declared.ids.SigId.{SigId}
 use Rattle.design_ir.specs.declared.port.Port.{Port}
 use Rattle.design_ir.specs.declared.domain.Domain.{Domain}
 use Rattle.design_ir.specs.declared.memory.Memory.{Memory}
@@ -10,16 +12,13 @@ use Rattle.design_ir.specs.declared.process.Process.{Process}
 use Rattle.design_ir.specs.Pools.{Pooled}
 use Rattle.design_ir.specs.Circuits.{is_among}
 use Rattle.fragment_walks.specs.Marks.{Flag, is_marked, marked}
-use Rattle.fragment_walks.proofs.Lists.{all_imp, take-push, map-push, map-append}
+use Rattle.fragment_walks.proofs.Lists.{all_imp, all_joined, take-push, map-push, map-append}
 use Rattle.fragment_walks.proofs.Markings.{marked-append, marked_at, length_marked}
 use Rattle.clock_domains.specs.declared.top.TopPorts.{TopPorts}
 use Rattle.clock_domains.specs.declared.top.TopPorts.TheVariants.{Members, Held, Loose}
 use Rattle.clock_domains.specs.Resolvable.{IsPortOf, ArePorts, AreTopPorts, top_inputs}
-use Rattle.clock_domains.specs.Resolved.{signals_of}
-use Rattle.clock_domains.specs.Chosen.{IsSignal}
-
-abbrev pub clocks_of : List Domain → List ℕ
-clocks_of ds = map (λ (d : Domain). d.clk.0) ds
+use Rattle.clock_domains.specs.Resolved.{domain_inputs, signals_of}
+use Rattle.clock_domains.specs.Chosen.{IsSignal, IsResetThere}
 
 -- these are marked beside those that were
 abbrev pub IsMarking : List Bool → List ℕ → List Bool → Type 0
@@ -73,17 +72,19 @@ inputs_turn ps i p old cur new at h k =
     k ∙ ap (marked (signals_of (filter test (p ∷ [])))) h ∙ sym (marked-append (signals_of (filter test (take i ps))) (signals_of (filter test (p ∷ []))) old)
     ∙ ap (λ ss. marked ss old) (sym (map-append (λ (p : Port). p.sig.0) (filter test (take i ps)) (filter test (p ∷ []))) ∙ ap signals_of (sym (filter-append test (take i ps) (p ∷ [])) ∙ ap (filter test) (sym (take-push ps i p at))))
 
-pub clocks_turn : (ds : List Domain) (i : ℕ) (d : Domain) (old cur new : List Bool) → slice_get ds i ≡ Some d → IsMarking old (clocks_of (take i ds)) cur → new ≡ marked (d.clk.0 ∷ []) cur → IsMarking old (clocks_of (take (i + 1) ds)) new
-clocks_turn ds i d old cur new at h k =
-    k ∙ ap (marked (d.clk.0 ∷ [])) h ∙ sym (marked-append (clocks_of (take i ds)) (d.clk.0 ∷ []) old) ∙ ap (λ ss. marked ss old) (sym (map-push (λ (d : Domain). d.clk.0) (take i ds) d) ∙ ap clocks_of (sym (take-push ds i d at)))
+pub inputs_marked : (ds : List Domain) (i : ℕ) (d : Domain) (old cur new : List Bool) → slice_get ds i ≡ Some d → IsMarking old (flat_map domain_inputs (take i ds)) cur → new ≡ marked (domain_inputs d) cur → IsMarking old (flat_map domain_inputs (take (i + 1) ds)) new
+inputs_marked ds i d old cur new at h k =
+    k ∙ ap (marked (domain_inputs d)) h ∙ sym (marked-append (flat_map domain_inputs (take i ds)) (domain_inputs d) old)
+    ∙ ap (λ ss. marked ss old) (ap (λ ss. flat_map domain_inputs (take i ds) ++ ss) (sym (append-nil (domain_inputs d))) ∙ sym (flat_map-append domain_inputs (take i ds) (d ∷ [])) ∙ ap (flat_map domain_inputs) (sym (take-push ds i d at)))
 
-pub small_clocks : (n : ℕ) (ds : List Domain) → AllByRecursion (λ (d : Domain). d.clk.0 < n) ds → AllByRecursion (λ s. s < n) (clocks_of ds)
-small_clocks n [] h = tt
-small_clocks n (d ∷ ds) h = (h.0, small_clocks n ds h.1)
+-- the inputs of all domains are small where those of each are
+pub small_inputs : (n : ℕ) (ds : List Domain) → AllByRecursion (λ (d : Domain). AllByRecursion (λ s. s < n) (domain_inputs d)) ds → AllByRecursion (λ s. s < n) (flat_map domain_inputs ds)
+small_inputs n [] h = tt
+small_inputs n (d ∷ ds) h = all_joined (λ s. s < n) (domain_inputs d) (flat_map domain_inputs ds) h.0 (small_inputs n ds h.1)
 
 -- those of ports beside those of domains
-pub marking_both : (clocks ss : List ℕ) (old mid new : List Bool) → IsMarking old clocks mid → IsMarking mid ss new → IsMarking old (clocks ++ ss) new
-marking_both clocks ss old mid new h k = k ∙ ap (marked ss) h ∙ sym (marked-append clocks ss old)
+pub marking_both : (inputs ss : List ℕ) (old mid new : List Bool) → IsMarking old inputs mid → IsMarking mid ss new → IsMarking old (inputs ++ ss) new
+marking_both inputs ss old mid new h k = k ∙ ap (marked ss) h ∙ sym (marked-append inputs ss old)
 
 pub domains_turn : (f : Domain → List Port) (ds : List Domain) (i : ℕ) (d : Domain) (cur new : List Port) → slice_get ds i ≡ Some d → cur ≡ flat_map f (take i ds) → new ≡ cur ++ f d → new ≡ flat_map f (take (i + 1) ds)
 domains_turn f ds i d cur new at h k =
@@ -101,8 +102,17 @@ held_turn test f ps i p old cur new at =
 pub given_low : (q : Pooled) (n : ℕ) (ps : List Port) → length q.signals ≤ n → ArePorts q ps → AllByRecursion (λ (p : Port). p.sig.0 < n) ps
 given_low q n ps le h = all_imp (λ (p : Port) (k : IsPortOf q p). let low : p.sig.0 < n = omega (arith, le, k.there) in low) ps h.each
 
-pub clocks_low : (q : Pooled) (n : ℕ) (ds : List Domain) → length q.signals ≤ n → AllByRecursion (IsSignal q) ds → AllByRecursion (λ (d : Domain). d.clk.0 < n) ds
-clocks_low q n ds le h = all_imp (λ (d : Domain) (k : IsSignal q d). let low : d.clk.0 < n = omega (arith, le, k.clock) in low) ds h
+-- the inputs of a domain whose signals are in a pool
+domain_low : (q : Pooled) (n : ℕ) (d : Domain) → length q.signals ≤ n → IsSignal q d → AllByRecursion (λ s. s < n) (domain_inputs d)
+domain_low q n d le h = (omega (arith, le, h.clock), at_once d.async_reset d.rst h.reset)
+  where
+    at_once : (b : Bool) (o : Option SigId) → IsResetThere q o → AllByRecursion (λ s. s < n) (if b then option_map_or (λ (s : SigId). s.0 ∷ []) o [] else [])
+    at_once false o k = tt
+    at_once true None k = tt
+    at_once true (Some s) k = (omega (arith, le, k), tt)
+
+pub domains_low : (q : Pooled) (n : ℕ) (ds : List Domain) → length q.signals ≤ n → AllByRecursion (IsSignal q) ds → AllByRecursion (λ (d : Domain). AllByRecursion (λ s. s < n) (domain_inputs d)) ds
+domains_low q n ds le h = all_imp (λ (d : Domain) (k : IsSignal q d). domain_low q n d le k) ds h
 
 pub inputs_low : (q : Pooled) (top : TopPorts) → length q.signals ≤ 16384 → AreTopPorts q top → AllByRecursion (λ s. s < 16384) (top_inputs top)
 inputs_low q (Members ps) le h = small_filtered (λ (p : Port). p.is_input) ps (given_low q 16384 ps le h)

@@ -25,7 +25,6 @@ use Rattle.design_ir.specs.PoolRules.{IsPool}
 use Rattle.design_ir.specs.Circuits.{Circuit, is_among}
 use Rattle.design_ir.specs.Guards.{block_exprs}
 use Rattle.design_ir.specs.Designs.{IsDesign}
-use Rattle.design_ir.specs.Rising.{AllRisingSync}
 use Rattle.fragment_walks.specs.Held.{fragment_exprs, held_resets, is_within, memory_exprs}
 use Rattle.fragment_walks.specs.Marks.{Flag, is_marked}
 use Rattle.fragment_walks.specs.Reads.{data_signals, is_driven, is_given}
@@ -351,10 +350,6 @@ module _ (q : Pooled) (root : Fragment) (top : TopPorts) where
 
     domains_made_sound : AllByRecursion (IsDomainOf made) domains
     domains_made_sound = tree_sound q root given.tree
-
-    -- every domain rises
-    pub resolved_rising : (c : Circuit) → resolved q root top ≡ Ok c → AllRisingSync c
-    resolved_rising c e = subst AllRisingSync (resolved_whole c e).whole (all_imp (λ (d : Domain) h. record { rising = h.rising; sync_reset = h.sync_reset }) domains domains_made_sound)
 
     abbrev IsHeld : ExprId → Type 0
     IsHeld e = is_within made (fragment_exprs root) e.0 ≡ true

@@ -197,6 +197,28 @@ driven_clock : resolved wide_pool driving_clock Loose ≡ Err (DrivenInput (plac
 unfolding resolved_in resolved held_resets inside placed_pool driving_clock defining define with_reset under set place wide_pool one_bit target_signals
 driven_clock = refl
 
+-- nor is a reset that acts at once
+at_once : List DomainDef
+unfolding place
+at_once = record { domain = record { name = codes "sync"; clk = record { 0 = 2 }; rst = Some (record { 0 = 3 }); falling = true; async_reset = true }; place = place 3 } ∷ []
+
+driving_at_once : Fragment
+unfolding defining at_once under set place
+driving_at_once = defining at_once (under Comb (set 4 3 0 ∷ []) ∷ []) bare
+
+driven_at_once : resolved wide_pool driving_at_once Loose ≡ Err (DrivenInput (place 4))
+unfolding resolved_in resolved held_resets inside placed_pool driving_at_once defining at_once under set place wide_pool one_bit target_signals
+driven_at_once = refl
+
+-- it is an input
+using_at_once : Fragment
+unfolding defining at_once under set place
+using_at_once = defining at_once (under (Clocked (codes "sync")) (set 5 1 0 ∷ []) ∷ []) bare
+
+at_once_ports : shown (resolved wide_pool using_at_once Loose) ≡ port (codes "clk") 2 ∷ port (codes "rst") 3 ∷ port (codes "a") 0 ∷ record (port (codes "b") 1) { is_input = false } ∷ []
+unfolding resolved_in resolved held_resets inside placed_pool using_at_once defining at_once under set place wide_pool one_bit shown port target_signals signals_in offsets_in
+at_once_ports = refl
+
 -- a name that two modules define is told where it is defined again, and before the clock that is driven
 twice_defined : Fragment
 unfolding defining defining_leaf define with_reset under set place

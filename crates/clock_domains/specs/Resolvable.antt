@@ -46,13 +46,11 @@ abbrev pub IsResetOf : Pooled → SigId → Option SigId → Type 0
 IsResetOf q clk None = ⊤
 IsResetOf q clk (Some s) = IsBit q s × (nat_eq clk.0 s.0 ≡ false)
 
--- a domain of the pool that rises, and resets at edges
+-- a domain of the pool
 pub record IsDomainOf (q : Pooled) (d : Domain) : Type 0 where
   pub name : IsName d.name
   pub clock : IsBit q d.clk
   pub reset : IsResetOf q d.clk d.rst
-  pub rising : d.falling ≡ false
-  pub sync_reset : d.async_reset ≡ false
 
 abbrev pub IsDefinition : Pooled → DomainDef → Type 0
 IsDefinition q d = IsDomainOf q d.domain

@@ -134,9 +134,13 @@ limit_where passed = if passed then Some (Limit file_start) else None
 
 -- ---- drivers
 
--- the clocks of the domains, and the inputs among the members of the top
+-- the clock of a domain, and a reset that acts at once: what no statement may drive
+abbrev pub domain_inputs : Domain → List ℕ
+domain_inputs d = d.clk.0 ∷ (if d.async_reset then option_map_or (λ (s : SigId). s.0 ∷ []) d.rst [] else [])
+
+-- those of the domains, and the inputs among the members of the top
 abbrev pub design_inputs : List Domain → TopPorts → List ℕ
-design_inputs domains top = map (λ (d : Domain). d.clk.0) domains ++ top_inputs top
+design_inputs domains top = flat_map domain_inputs domains ++ top_inputs top
 
 -- an input that a statement drives is told before a signal that another process drives
 abbrev pub statement_refusal : Pooled → (inputs before : List ℕ) → Guarded → Option ResolveStop

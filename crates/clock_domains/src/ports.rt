@@ -8,7 +8,7 @@ ghost use Rattle.fragment_walks.specs.Held.{memory_exprs};
 ghost use Rattle.fragment_walks.specs.Reads.{is_given};
 ghost use Rattle.fragment_walks.specs.Walks.{Contents};
 ghost use Rattle.clock_domains.specs.Resolvable.{AreTopPorts, IsSideOf, top_inputs};
-ghost use Rattle.clock_domains.specs.Resolved.{design_inputs, domain_ports, has_width, held_port, port_of, ports_of, ports_of_domain, reset_port, signals_of};
+ghost use Rattle.clock_domains.specs.Resolved.{design_inputs, domain_inputs, domain_ports, has_width, held_port, port_of, ports_of, ports_of_domain, reset_port, signals_of};
 ghost use Rattle.clock_domains.specs.Chosen.{AreThere, IsKnown, IsSignal, is_new, known_port, known_ports, known_side};
 
 use crate::drivers::driven_by;
@@ -53,13 +53,26 @@ fn mark_inputs(marks: &mut Vec<bool>, ports: &[Port])
     }
 }
 
-// Marks the clocks of domains.
-fn mark_clocks(marks: &mut Vec<bool>, domains: &[Domain])
-    requires { AllByRecursion (λ d. d.clk.0 < length marks.old.items) domains.now }
-    ensures { marks.new.items ≡ marked (map (λ d. d.clk.0) domains.now) marks.old.items }
+// Marks the clock of a domain, and its reset where that acts at once.
+fn mark_domain(marks: &mut Vec<bool>, domain: &Domain)
+    requires { AllByRecursion (λ s. s < length marks.old.items) (domain_inputs domain.now) }
+    ensures { marks.new.items ≡ marked (domain_inputs domain.now) marks.old.items }
+{
+    mark(marks, domain.clk.0 as usize);
+    if domain.async_reset {
+        if let Some(reset) = domain.rst {
+            mark(marks, reset.0 as usize);
+        }
+    }
+}
+
+// Marks the clocks of domains, and their resets that act at once.
+fn mark_domains(marks: &mut Vec<bool>, domains: &[Domain])
+    requires { AllByRecursion (λ d. AllByRecursion (λ s. s < length marks.old.items) (domain_inputs d)) domains.now }
+    ensures { marks.new.items ≡ marked (flat_map domain_inputs domains.now) marks.old.items }
 {
     for domain in domains {
-        mark(marks, domain.clk.0 as usize);
+        mark_domain(marks, domain);
     }
 }
 
@@ -76,7 +89,7 @@ fn mark_members(pool: &Pool, marks: &mut Vec<bool>, top: &TopPorts)
     }
 }
 
-/// Marks the clocks of domains, and the inputs among the members of the top.
+/// Marks the clocks of domains, their resets that act at once, and the inputs among the members of the top.
 pub fn mark_design_inputs(
     alloc: Global,
     pool: &Pool,
@@ -89,7 +102,7 @@ pub fn mark_design_inputs(
 {
     let _ = pool.count();
     let mut marks = unmarked(alloc, SIGNALS)?;
-    mark_clocks(&mut marks, domains);
+    mark_domains(&mut marks, domains);
     mark_members(pool, &mut marks, top);
     Ok(marks)
 }

@@ -2,7 +2,6 @@
 ghost use Rattle.std.specs.Prelude.{◌≡◌, ◌<◌, ◌^◌, ◌++◌, List, Ok, None, map, length, IfOk, IfErr, OnOk};
 ghost use Rattle.std.specs.List.{AllByRecursion};
 ghost use Rattle.design_ir.specs.PoolRules.{IsPool};
-ghost use Rattle.design_ir.specs.Rising.{AllRisingSync};
 ghost use Rattle.design_ir.specs.declared.ids.ExprId.{ExprId};
 ghost use Rattle.fragment_walks.specs.Marks.{Flag};
 ghost use Rattle.fragment_walks.specs.Reads.{is_given};
@@ -245,7 +244,7 @@ fn placed_domains(alloc: Global, pool: &mut Pool, root: &Fragment) -> Result<Pla
 ///
 /// The domains are those that the modules define, in whichever of them a name stands, and one for each other name of a
 /// clocked side, of a memory port or of a reset that a module holds. That one is made at the top, with its clock and its
-/// reset; all rise, and reset at edges alone. They come in the order of their names: modules from the top, a parent before
+/// reset; it rises, and resets at edges alone. They come in the order of their names: modules from the top, a parent before
 /// those below it, in each its own definitions, then its clocked sides, its memory ports and its resets in order of making.
 /// Each reset that a module holds becomes, in its own place in the pool, the signal of its domain's reset; one that no module
 /// holds stays. Clocks are inputs, and so are the resets that nothing drives. Both are shown as their domain names them, so a
@@ -258,8 +257,8 @@ fn placed_domains(alloc: Global, pool: &mut Pool, root: &Fragment) -> Result<Pla
 /// `NoReset` exactly where a module holds a reset whose domain has none, at the first of these in order of making. Else
 /// `Limit` exactly where there would be more than 64 domains, or too many signals or bits with those of the domains that are
 /// made. Else `TwoDrivers` at 1:1 exactly where one signal is the data of two read ports. Else `DrivenInput` or `TwoDrivers`
-/// exactly at the first statement that drives a clock or an input of `Members`, or the data of a read port, or a signal that
-/// an earlier one drives from another domain or another module.
+/// exactly at the first statement that drives a clock, a reset that acts at once or an input of `Members`, or the data of a
+/// read port, or a signal that an earlier one drives from another domain or another module.
 pub fn resolve(
     alloc: Global,
     pool: Pool,
@@ -268,7 +267,6 @@ pub fn resolve(
 ) -> Result<Design, ResolveStop>
     requires { IsResolvable pool root top }
     ensures design { IfOk result (λ d. resolved pool root top ≡ Ok d) }
-    ensures rising { IfOk result AllRisingSync }
     ensures refused { IfErr result (IsResolveRefusal (resolved pool root top)) }
 {
     let mut pool = pool;

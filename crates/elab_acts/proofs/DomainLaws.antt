@@ -46,7 +46,7 @@ reset_stays q r f clk None h = tt
 reset_stays q r f clk (Some s) h = (f s h.0, h.1)
 
 domain_stays : (q r : Pooled) → ((s : SigId) → IsBit q s → IsBit r s) → (x : ClockDomain) → IsClockDomain q x → IsClockDomain r x
-domain_stays q r f x h = record { name = h.name; clock = f x.domain.clk h.clock; reset = reset_stays q r f x.domain.clk x.domain.rst h.reset; rising = h.rising; sync_reset = h.sync_reset }
+domain_stays q r f x h = record { name = h.name; clock = f x.domain.clk h.clock; reset = reset_stays q r f x.domain.clk x.domain.rst h.reset }
 
 pub domains_stay : (q r : Pooled) (xs : List ClockDomain) → ((s : SigId) → IsBit q s → IsBit r s) → AreClockDomains q xs → AreClockDomains r xs
 domains_stay q r xs f h = record { each = all_each (IsClockDomain q) (IsClockDomain r) xs (domain_stays q r f) h.each; order = h.order }

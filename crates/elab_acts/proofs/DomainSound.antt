@@ -24,10 +24,11 @@ use Rattle.elab_store.proofs.Pools.{signal_there}
 use Rattle.elab_store.proofs.MemoryLaws.{HasDataBelow, HasRegisterBelow, data_below, with_clock, register_with_clock, all_both}
 use Rattle.clock_domains.specs.Resolvable.{domain_numbers}
 use Rattle.elab_acts.proofs.EachLaws.{all_each}
-use Rattle.elab_components.specs.declared.signals.SignalArguments.{SignalArguments}
-use Rattle.elab_components.specs.Signals.{call_name, domain_formed, signal_reset_less, signal_passes}
+use Rattle.elab_acts.specs.declared.domain_arguments.DomainArguments.{DomainArguments}
+use Rattle.elab_acts.specs.declared.domain_arguments.Sampling.{Sampling}
+use Rattle.elab_components.specs.Signals.{call_name, domain_formed, signal_passes}
 use Rattle.elab_acts.specs.Submodules.{found_given}
-use Rattle.elab_acts.specs.ClockDomains.{without_cd, clock_domain_name, clock_signal, reset_signal, next_signal, with_bit, clock_domain, keeping_domain, clock_domain_kept, reset_made, clock_made, clock_domain_said, clock_domain_from, own_attribute, clock_domain_attribute, clock_domain_of, domain_defined, definition_added, has_domain_name, definition_stored, is_definitions_of, definitions_stored}
+use Rattle.elab_acts.specs.ClockDomains.{without_cd, domain_sampling, clock_domain_name, clock_signal, reset_signal, next_signal, with_bit, clock_domain, keeping_domain, clock_domain_kept, reset_made, clock_made, clock_domain_said, clock_domain_from, own_attribute, clock_domain_attribute, clock_domain_of, domain_defined, definition_added, has_domain_name, definition_stored, is_definitions_of, definitions_stored}
 use Rattle.elab_acts.proofs.GrownLaws.{keeping_sound, name_more}
 use Rattle.elab_acts.proofs.DomainLaws.{bit_stays, new_bit, domains_more}
 use Rattle.elab_acts.proofs.SignalSound.{unlimited_sound}
@@ -110,17 +111,15 @@ with_domain_sound p x h t before new le since = record {
 kept_sound : (p : Pooled) (x : ClockDomain) (h : Held) → IsSound h → AreClockDomains p h.store.clock_domains.made → IsClockDomain h.pool x → length p.signals ≤ x.domain.clk.0 → IsSince p x h → IsSound (clock_domain_kept x h).held
 kept_sound p x h t before new le since = keeping_sound (record h { store = keeping_domain x h.store }) (kept.ClockDomain (length h.store.clock_domains.made)) (with_domain_sound p x h t before new le since) tt
 
-module _ (name : List ℕ) (named : IsName name) where
+module _ (name : List ℕ) (named : IsName name) (sampling : Sampling) where
   -- the pool p is that before the clock
-  reset_sound : (p : Pooled) (clk : SigId) (h : Held) → IsSound h → AreClockDomains p h.store.clock_domains.made → IsBit h.pool clk → length p.signals ≤ clk.0 → AllByRecursion (HasDataBelow (length p.signals)) h.store.memories → AllByRecursion (HasRegisterBelow (length p.signals)) h.store.machines → IsSound (reset_made name clk h).held
+  reset_sound : (p : Pooled) (clk : SigId) (h : Held) → IsSound h → AreClockDomains p h.store.clock_domains.made → IsBit h.pool clk → length p.signals ≤ clk.0 → AllByRecursion (HasDataBelow (length p.signals)) h.store.memories → AllByRecursion (HasRegisterBelow (length p.signals)) h.store.machines → IsSound (reset_made name sampling clk h).held
   reset_sound p clk h t before clock le low registers = if_sound (signal_passes h 1) _ _ t (
-      kept_sound p (clock_domain name clk (Some (record { sig = next_signal h; val = next_thing h }))) (with_bit (reset_signal name) h) after before (
+      kept_sound p (clock_domain name sampling clk (Some (record { sig = next_signal h; val = next_thing h }))) (with_bit (reset_signal name) h) after before (
       record {
         name = named;
         clock = bit_stays h.pool (with_bit (reset_signal name) h).pool (reset_signal name ∷ []) refl clk clock;
         reset = (new_bit h.pool (with_bit (reset_signal name) h).pool (reset_signal name) refl refl, clock.there);
-        rising = refl;
-        sync_reset = refl;
       }
       ) le (record { past = (le, (omega (arith, le, clock.there), tt)); memories = low; registers = registers })
       )
@@ -128,8 +127,8 @@ module _ (name : List ℕ) (named : IsName name) where
       after : IsSound (with_bit (reset_signal name) h)
       after = bit_sound (domain_prefix name ++ codes "rst") h (signal_named name (codes "rst") named rst_named refl) t
 
-  made_sound : (reset_less : Bool) (h : Held) → IsPool h.pool → IsSound h → IsSound (clock_made name reset_less h).held
-  made_sound reset_less h rules t = if_sound (signal_passes h 1) _ _ t (by_reset reset_less)
+  made_sound : (h : Held) → IsPool h.pool → IsSound h → IsSound (clock_made name sampling h).held
+  made_sound h rules t = if_sound (signal_passes h 1) _ _ t (by_reset sampling.reset_less)
     where
       after : IsSound (with_bit (clock_signal name) h)
       after = bit_sound (domain_prefix name ++ codes "clk") h (signal_named name (codes "clk") named clk_named refl) t
@@ -143,18 +142,18 @@ module _ (name : List ℕ) (named : IsName name) where
       registers : AllByRecursion (HasRegisterBelow (length h.pool.signals)) h.store.machines
       registers = all_each (IsMachine h.pool) (HasRegisterBelow (length h.pool.signals)) h.store.machines (λ m own. signal_there h.pool.signals [] h.pool.exprs m.machine.register.0 m.machine.signal rules.exprs own.register) t.machines
 
-      by_reset : (b : Bool) → IsSound (if b then clock_domain_kept (clock_domain name (next_signal h) None) (with_bit (clock_signal name) h) else reset_made name (next_signal h) (with_bit (clock_signal name) h)).held
-      by_reset true = kept_sound h.pool (clock_domain name (next_signal h) None) (with_bit (clock_signal name) h) after t.clock_domains (record { name = named; clock = clock; reset = tt; rising = refl; sync_reset = refl }) (omega arith) (record { past = (omega arith, tt); memories = low; registers = registers })
+      by_reset : (b : Bool) → IsSound (if b then clock_domain_kept (clock_domain name sampling (next_signal h) None) (with_bit (clock_signal name) h) else reset_made name sampling (next_signal h) (with_bit (clock_signal name) h)).held
+      by_reset true = kept_sound h.pool (clock_domain name sampling (next_signal h) None) (with_bit (clock_signal name) h) after t.clock_domains (record { name = named; clock = clock; reset = tt }) (omega arith) (record { past = (omega arith, tt); memories = low; registers = registers })
       by_reset false = reset_sound h.pool (next_signal h) (with_bit (clock_signal name) h) after t.clock_domains clock (omega arith) low registers
 
-said_sound : (name : Option (List ℕ)) (r : Option Bool) (h : Held) → IsPool h.pool → IsSound h → ((x : List ℕ) → name ≡ Some x → is_identifier x ≡ true) → IsSound (clock_domain_said name r h).held
-said_sound None r h rules t named = t
+said_sound : (name : Option (List ℕ)) (o : Option Sampling) (h : Held) → IsPool h.pool → IsSound h → ((x : List ℕ) → name ≡ Some x → is_identifier x ≡ true) → IsSound (clock_domain_said name o h).held
+said_sound None o h rules t named = t
 said_sound (Some name) None h rules t named = t
-said_sound (Some name) (Some r) h rules t named = made_sound name (identifier_is_name name (named name refl)) r h rules t
+said_sound (Some name) (Some sampling) h rules t named = made_sound name (identifier_is_name name (named name refl)) sampling h rules t
 
-pub call_sound : (s : Seen) (name : List ℕ) (args : Option SignalArguments) (h : Held) → IsPool h.pool → IsSound h → IsSound (clock_domain_from s name args h).held
+pub call_sound : (s : Seen) (name : List ℕ) (args : Option DomainArguments) (h : Held) → IsPool h.pool → IsSound h → IsSound (clock_domain_from s name args h).held
 call_sound s name None h rules t = t
-call_sound s name (Some args) h rules t = said_sound (clock_domain_name s name args.name) (signal_reset_less s args.reset_less) h rules t (λ x e. given_name s name args.name x e)
+call_sound s name (Some args) h rules t = said_sound (clock_domain_name s name args.name) (domain_sampling s args) h rules t (λ x e. given_name s name args.name x e)
 
 -- ---- attributes
 

@@ -1,5 +1,6 @@
 pub mod ComponentSamples
 pub mod ComponentSound
+pub mod DomainKeywords
 pub mod DomainLaws
 pub mod DomainNames
 pub mod DomainSamples

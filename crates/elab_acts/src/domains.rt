@@ -1,23 +1,21 @@
 // `ClockDomain(..)`, and `m.domains`.
-ghost use Rattle.std.specs.Prelude.{◌≡◌, ◌++◌, IfOk, map, option_map, string_bytes};
+ghost use Rattle.std.specs.Prelude.{◌≡◌, ◌++◌, IfOk, option_map};
 ghost use Rattle.std.specs.Option.{option_copied};
-ghost use Rattle.std.specs.List.{list_all};
 ghost use Rattle.py_heap.specs.Heaps.{seen};
 ghost use Rattle.clock_domains.specs.Resolved.{bit_signal, domain_prefix};
 ghost use Rattle.amh_things.specs.declared.thing.Reading.TheVariants as reading;
 ghost use Rattle.elab_store.specs.Seen.{called_of};
 ghost use Rattle.elab_store.specs.Held.{held_of, Gives};
 ghost use Rattle.elab_components.specs.Puts.{IsPut};
-ghost use Rattle.elab_acts.specs.ClockDomains.{is_domain_keyword, placed_name, domain_arguments, without_cd, clock_domain_name, clock_domain, clock_domain_kept, reset_made, clock_made, clock_domain_called, clock_domain_attribute, clock_domain_of, domain_defined, definition_added, has_domain_name, definition_stored, is_definitions_of, definitions_stored};
+ghost use Rattle.elab_acts.specs.ClockDomains.{without_cd, clock_domain_name, clock_domain, clock_domain_kept, reset_made, clock_made, clock_domain_called, clock_domain_attribute, clock_domain_of, domain_defined, definition_added, has_domain_name, definition_stored, is_definitions_of, definitions_stored};
 
+use crate::domain_arguments::{Sampling, domain_arguments, domain_sampling};
 use amh_bits::Int;
 use amh_host::{Place, Text};
 use amh_things::thing::Reading;
 use design_ir::{Domain, Sig, SigId};
 use elab_components::interfaces::{NewSignal, copied_text, new_signal};
-use elab_components::signals::{
-    SignalArguments, call_name, domain_formed, signal_reset_less, with_keywords,
-};
+use elab_components::signals::{call_name, domain_formed};
 use elab_store::calls::Called;
 use elab_store::domains::{ClockDomain, Definition};
 use elab_store::kept::Kept;
@@ -29,54 +27,6 @@ use py_heap::{Frozen, Heap};
 use py_values::Val;
 use shape_rules::Shape;
 use std::alloc::Global;
-
-// ---- arguments
-
-fn is_domain_keyword(name: &str) -> bool
-    ensures { result ≡ is_domain_keyword name.now }
-{
-    is_text(name, "name") || is_text(name, "reset_less")
-}
-
-fn are_domain_keywords(keywords: &[String]) -> bool
-    ensures { result ≡ list_all is_domain_keyword (map string_bytes keywords.now) }
-{
-    for keyword in keywords {
-        if !is_domain_keyword(keyword.as_str()) {
-            return false;
-        }
-    }
-    true
-}
-
-// The arguments by their places: the name alone may be given so.
-fn placed_name(placed: &[Val]) -> Option<SignalArguments>
-    ensures { result ≡ placed_name placed.now }
-{
-    let name = match placed {
-        [] => None,
-        [name] => Some(*name),
-        _ => return None,
-    };
-    Some(SignalArguments {
-        shape: None,
-        name,
-        init: None,
-        reset_less: None,
-    })
-}
-
-fn domain_arguments(call: &Called) -> Option<SignalArguments>
-    ensures { result ≡ domain_arguments (called_of call.now) }
-{
-    if !are_domain_keywords(call.keywords) {
-        return None;
-    }
-    match placed_name(call.placed) {
-        Some(args) => with_keywords(call.keywords, call.keyword_vals, args),
-        None => None,
-    }
-}
 
 // ---- the name
 
@@ -157,10 +107,11 @@ fn val_of(reset: &Option<NewSignal>) -> Option<Val>
 fn clock_domain(
     alloc: Global,
     name: &str,
+    sampling: Sampling,
     clk: SigId,
     reset: &Option<NewSignal>,
 ) -> Result<ClockDomain, NoMemory>
-    ensures { IfOk result (λ x. x ≡ clock_domain name.now clk reset.now) }
+    ensures { IfOk result (λ x. x ≡ clock_domain name.now sampling clk reset.now) }
 {
     let mut copy = Text::new(alloc);
     copy.push(name)?;
@@ -168,8 +119,8 @@ fn clock_domain(
         name: copy,
         clk,
         rst: sig_of(reset),
-        falling: false,
-        async_reset: false,
+        falling: sampling.falling,
+        async_reset: sampling.async_reset,
     };
     Ok(ClockDomain {
         domain,
@@ -181,26 +132,32 @@ fn clock_domain(
 fn keep_domain(
     elaboration: &mut Elaboration,
     name: &str,
+    sampling: Sampling,
     clk: SigId,
     reset: &Option<NewSignal>,
 ) -> Result<Answer, NoMemory>
-    ensures { Gives result elaboration.new (clock_domain_kept (clock_domain name.now clk reset.now) (held_of elaboration.old)) }
+    ensures { Gives result elaboration.new (clock_domain_kept (clock_domain name.now sampling clk reset.now) (held_of elaboration.old)) }
 {
     let number = elaboration.store.clock_domains().count();
     if number > 4_294_967_295 {
         return Err(NoMemory);
     }
-    let x = clock_domain(elaboration.alloc, name, clk, reset)?;
+    let x = clock_domain(elaboration.alloc, name, sampling, clk, reset)?;
     elaboration.store.add_clock_domain(x)?;
     elaboration.give_kept(Kept::ClockDomain(number as u32))
 }
 
 // The reset behind the clock.
-fn make_reset(elaboration: &mut Elaboration, name: &str, clk: SigId) -> Result<Answer, NoMemory>
-    ensures { Gives result elaboration.new (reset_made name.now clk (held_of elaboration.old)) }
+fn make_reset(
+    elaboration: &mut Elaboration,
+    name: &str,
+    sampling: Sampling,
+    clk: SigId,
+) -> Result<Answer, NoMemory>
+    ensures { Gives result elaboration.new (reset_made name.now sampling clk (held_of elaboration.old)) }
 {
     match new_bit(elaboration, name, "rst")? {
-        Some(reset) => keep_domain(elaboration, name, clk, &Some(reset)),
+        Some(reset) => keep_domain(elaboration, name, sampling, clk, &Some(reset)),
         None => elaboration.refuse(Cause::Limit),
     }
 }
@@ -209,17 +166,17 @@ fn make_reset(elaboration: &mut Elaboration, name: &str, clk: SigId) -> Result<A
 fn make_clock(
     elaboration: &mut Elaboration,
     name: &str,
-    reset_less: bool,
+    sampling: Sampling,
 ) -> Result<Answer, NoMemory>
-    ensures { Gives result elaboration.new (clock_made name.now reset_less (held_of elaboration.old)) }
+    ensures { Gives result elaboration.new (clock_made name.now sampling (held_of elaboration.old)) }
 {
     let Some(clock) = new_bit(elaboration, name, "clk")? else {
         return elaboration.refuse(Cause::Limit);
     };
-    if reset_less {
-        keep_domain(elaboration, name, clock.sig, &None)
+    if sampling.reset_less {
+        keep_domain(elaboration, name, sampling, clock.sig, &None)
     } else {
-        make_reset(elaboration, name, clock.sig)
+        make_reset(elaboration, name, sampling, clock.sig)
     }
 }
 
@@ -239,8 +196,8 @@ pub fn make_clock_domain(
     let Some(name) = name else {
         return elaboration.refuse(Cause::Raised);
     };
-    match signal_reset_less(heap, frozen, args.reset_less) {
-        Some(reset_less) => make_clock(elaboration, name, reset_less),
+    match domain_sampling(heap, frozen, args) {
+        Some(sampling) => make_clock(elaboration, name, sampling),
         None => elaboration.refuse(Cause::Raised),
     }
 }

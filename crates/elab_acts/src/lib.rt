@@ -8,6 +8,7 @@
 #![tactic(auto)]
 
 pub mod blocks;
+pub mod domain_arguments;
 pub mod domains;
 pub mod sides;
 pub mod simulators;

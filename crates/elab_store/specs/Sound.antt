@@ -148,13 +148,10 @@ abbrev pub IsResetBehind : Pooled → SigId → Option SigId → Type 0
 IsResetBehind q clk None = ⊤
 IsResetBehind q clk (Some rst) = IsBit q rst × (clk.0 < rst.0)
 
--- it rises, and resets at edges
 pub record IsClockDomain (q : Pooled) (x : ClockDomain) : Type 0 where
   pub name : IsName x.domain.name
   pub clock : IsBit q x.domain.clk
   pub reset : IsResetBehind q x.domain.clk x.domain.rst
-  pub rising : x.domain.falling ≡ false
-  pub sync_reset : x.domain.async_reset ≡ false
 
 -- the last of its signals
 abbrev pub last_signal : Domain → ℕ

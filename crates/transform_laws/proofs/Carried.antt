@@ -62,7 +62,7 @@ module _ (q p : Pooled) (signals : p.signals ≡ q.signals) where
 
   -- under whatever name
   pub domain_kept : (d : Domain) (name : List ℕ) → IsName name → IsDomainOf q d → IsDomainOf p (record d { name = name })
-  domain_kept d name named h = record { name = named; clock = bit_kept d.clk h.clock; reset = reset_kept d.clk d.rst h.reset; rising = h.rising; sync_reset = h.sync_reset }
+  domain_kept d name named h = record { name = named; clock = bit_kept d.clk h.clock; reset = reset_kept d.clk d.rst h.reset }
 
   data_kept : (f : Form) (s : SigId) → IsDataOf q f s → IsDataOf p f s
   data_kept f s h = record {

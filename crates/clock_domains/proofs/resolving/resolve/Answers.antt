@@ -1,13 +1,13 @@
 use Rattle.std.proofs.Common.{◌≡◌, List, None, Ok, refl, sym, ◌∙◌, ap, subst}
 use Rattle.std.specs.Prelude.{IfOk, IfErr}
 use Rattle.std.specs.List.{AllByRecursion}
-use Rattle.std.proofs.lemmas.Result.{IfOk-weaker, err_from_is_err_and}
+use Rattle.std.proofs.lemmas.Result.{err_from_is_err_and}
 use Rattle.design_ir.specs.declared.domain.Domain.{Domain}
 use Rattle.design_ir.specs.Pools.{Pooled}
 use Rattle.fragment_walks.specs.Walks.{all_contents}
 use Rattle.clock_domains.specs.Ready.{IsReady}
 use Rattle.clock_domains.specs.Resolved.{IsResolveRefusal, made_domains, resolved, resolved_in, whole_pool}
-use Rattle.clock_domains.proofs.ReadyLaws.{domain_owed, resolved_is, resolved_rising, walked_ready}
+use Rattle.clock_domains.proofs.ReadyLaws.{domain_owed, resolved_is, walked_ready}
 use Rattle.clock_domains.proofs.resolving.resolve.Goals as goal
 
 pub placed_domains-requires : goal.placed_domains-requires
@@ -38,18 +38,6 @@ returns-clause-design c =
     ∙ ap (λ (p : Pooled). resolved_in p (made_domains q root) root.processes (all_contents root) top) (sym placed.pool)
     ∙ ap (λ (ds : List Domain). resolved_in c.placed_domains.new.pool ds root.processes (all_contents root) top) (sym placed.domains) in
     subst (λ r. IfOk c.design_in.result (λ d. r ≡ Ok d)) (sym same) c.design_in.ensures.design
-
-pub returns-clause-rising : goal.returns-clause-rising
-returns-clause-rising c =
-    let q = c.args.pool in
-    let root = c.args.root in
-    let top = c.args.top in
-    let placed = c.in_ok-held.ensures in
-    let same : resolved q root top ≡ resolved_in c.placed_domains.new.pool c.in_ok-held.field-0.domains root.processes (all_contents root) top =
-    resolved_is q root top placed.accepted
-    ∙ ap (λ (p : Pooled). resolved_in p (made_domains q root) root.processes (all_contents root) top) (sym placed.pool)
-    ∙ ap (λ (ds : List Domain). resolved_in c.placed_domains.new.pool ds root.processes (all_contents root) top) (sym placed.domains) in
-    IfOk-weaker c.design_in.result _ _ (λ d e. resolved_rising q root top c.requires d (same ∙ e)) c.design_in.ensures.design
 
 pub returns-clause-refused : goal.returns-clause-refused
 returns-clause-refused c =
