@@ -13,3 +13,4 @@ pub mod ClockLaws
 pub mod TickLaws
 pub mod MomentSafety
 pub mod StartLaws
+pub mod UnitLaws

@@ -425,3 +425,28 @@ pub record IsSimulated (d : Circuit) (told : CodeSimulation) (s : CodeSimulated)
 pub record HasBegun (d : Circuit) (st : Stored) (frozen : Made) (b : Begun) : Type 0 where
   pub benches : AreBenchesOf d st frozen b.bench b.testbenches.items
   pub simulated : IsSimulated d st.simulation (record { sim = b.sim; clocks = b.clocks; end = b.end })
+
+-- ---- what rows cost
+
+abbrev pub all_used : List Running → ℕ
+all_used [] = 0
+all_used (y ∷ ys) = y.machine.going.state.used + all_used ys
+
+-- the units that are left, and those that testbenches used
+abbrev pub units_of : CodePoint → ℕ
+units_of c = c.left.left + all_used c.testbenches.items
+
+-- a step that goes on costs nothing, and an event a unit
+abbrev pub StepCosts : Result Step NoMemory → CodePoint → CodePoint → Type 0
+StepCosts (Ok step.Goes) c d = units_of d ≡ units_of c
+StepCosts (Ok (step.Happens e)) c d = units_of d + 1 ≡ units_of c
+StepCosts r c d = ⊤
+
+-- the first row costs nothing, and each event a unit
+abbrev pub CostsRow : Option Event → CodeRun → CodeRun → Type 0
+CostsRow None old new = units_of new.point ≡ units_of old.point
+CostsRow (Some e) old new = units_of new.point < units_of old.point
+
+abbrev pub RowCosts : RunTurn → CodeRun → CodeRun → Type 0
+RowCosts (turn.Row row) old new = CostsRow row.event old new
+RowCosts t old new = ⊤

@@ -2,7 +2,7 @@
 ghost use Rattle.std.specs.Prelude.{◌≡◌, ◌<◌, ◌≤◌, ◌^◌, List, Some, None, IsSome};
 ghost use Rattle.play_text.specs.Trace.{Row};
 ghost use Rattle.bench_run.specs.Runs.{Run, Point as Abstract, next_ready};
-ghost use Rattle.bench_run.specs.Standing.{IsSafe, IsAt, IsMoving, IsDue, IfGoes, Owed, StaysSafe, StepMoves, IsCloser, all_left, stands_in};
+ghost use Rattle.bench_run.specs.Standing.{IsSafe, IsAt, IsMoving, IsDue, IfGoes, Owed, StaysSafe, StepMoves, StepCosts, IsCloser, all_left, stands_in};
 
 use crate::moments::{earliest, is_behind_end, is_due, may_end, wake};
 use crate::point::Point;
@@ -31,6 +31,7 @@ pub(crate) fn round_over<L: Ledger>(
     ensures comes { (x : Run) (first : Abstract) (rows : List Row) → IsAt setting.now point.old x first rows → Owed result setting.now point.new x first rows }
     ensures closer { IsCloser result point.old point.new }
     ensures moved { StepMoves result point.old point.new }
+    ensures costs { StepCosts result point.old point.new }
     ensures counted { steps.old ≤ steps.new }
 {
     let toggle = next_toggle(setting.clocks.as_slice(), point.now);
@@ -66,6 +67,7 @@ fn at_moment<L: Ledger>(
     ensures ready { IfGoes result (IsSome (next_ready 0 (stands_in point.new.testbenches.items))) }
     ensures turn { IfGoes result (point.new.turn ≡ 0) }
     ensures moved { StepMoves result point.old point.new }
+    ensures costs { StepCosts result point.old point.new }
     ensures counted { steps.old ≤ steps.new }
 {
     due_are_events();

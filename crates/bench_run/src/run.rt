@@ -1,12 +1,12 @@
 // A run, from row to row.
-ghost use Rattle.std.specs.Prelude.{◌≡◌, ◌<◌, ◌≤◌, List, [], IfOk};
+ghost use Rattle.std.specs.Prelude.{◌≡◌, ◌<◌, ◌≤◌, ◌^◌, List, [], IfOk};
 ghost use Rattle.comb_graph.specs.Rankings.{IsRanking};
 ghost use Rattle.py_tree.specs.Programs.{program_of};
 ghost use Rattle.elab_eval.specs.Elaborates.{found_of};
 ghost use Rattle.elab_eval.specs.Fit.{IsFit};
 ghost use Rattle.play_text.specs.Trace.{Row as Abstract_row};
 ghost use Rattle.bench_run.specs.Runs.{Run as Abstract_run, Point as Abstract, run_of, first_point};
-ghost use Rattle.bench_run.specs.Standing.{StandsFor, CanGoOn, NextRow, RowMoves};
+ghost use Rattle.bench_run.specs.Standing.{StandsFor, CanGoOn, NextRow, RowCosts, RowMoves, units_of};
 
 use crate::begin::begin;
 use crate::point::Point;
@@ -74,9 +74,11 @@ impl Run {
         ensures going { IfOk result CanGoOn }
         ensures before { IfOk result (λ r. r.stage ≡ Stage.Before) }
         ensures design { IfOk result (λ r. r.point.bench.design ≡ built.design) }
+        ensures few { IfOk result (λ r. units_of r.point < 2 ^ 64) }
     {
         designs_grow_on();
         ordered_have_one_history();
+        note_units(&left);
         let _ = built.design.count();
         let _ = built.design.processes();
         let Elaborated {
@@ -138,6 +140,7 @@ impl Run {
         ensures going { CanGoOn self.new }
         ensures row { (x : Abstract_run) (first : Abstract) (rows : List Abstract_row) → StandsFor self.old x first rows → NextRow result self.old.stage self.new x first rows }
         ensures moved { RowMoves result self.old self.new }
+        ensures costs { RowCosts result self.old self.new }
         ensures counted { steps.old ≤ steps.new }
     {
         match self.stage {
@@ -162,6 +165,7 @@ impl Run {
         ensures going { CanGoOn self.new }
         ensures row { (x : Abstract_run) (first : Abstract) (rows : List Abstract_row) → StandsFor self.old x first rows → NextRow result Stage.Goes self.new x first rows }
         ensures moved { RowMoves result self.old self.new }
+        ensures costs { RowCosts result self.old self.new }
         ensures counted { steps.old ≤ steps.new }
     {
         loop {
@@ -188,4 +192,11 @@ impl Run {
             }
         }
     }
+}
+
+// Nothing is done; callers learn from it that units are counted in 64 bits.
+fn note_units(budget: &Budget)
+    ensures { budget.now.left < 2 ^ 64 }
+{
+    let _left = budget.left;
 }

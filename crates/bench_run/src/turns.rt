@@ -6,7 +6,7 @@ ghost use Rattle.delta_sim.specs.Standing.{IsSimOf};
 ghost use Rattle.bench_acts.specs.Held.{IsBench};
 ghost use Rattle.play_text.specs.Trace.{Row};
 ghost use Rattle.bench_run.specs.Runs.{Run, Point as Abstract, is_ready, next_ready};
-ghost use Rattle.bench_run.specs.Standing.{IsSafe, IsAt, IsAsking, IsRefused, IsMoving, IsWaiting, IsLive, IsDue, IsStop, IfGoes, Owed, StaysSafe, StepMoves, IsCloser, IsBehind, IsDone, MayBeDone, TakesAnswer, all_left, happened, stands_in};
+ghost use Rattle.bench_run.specs.Standing.{IsSafe, IsAt, IsAsking, IsRefused, IsMoving, IsWaiting, IsLive, IsDue, IsStop, IfGoes, Owed, StaysSafe, StepMoves, StepCosts, IsCloser, IsBehind, IsDone, MayBeDone, TakesAnswer, all_left, happened, stands_in};
 
 use crate::asking::{event_served, refusal, stand_behind};
 use crate::point::Point;
@@ -46,6 +46,7 @@ pub(crate) fn next_step<L: Ledger>(
     ensures comes { (x : Run) (first : Abstract) (rows : List Row) → IsAt setting.now point.old x first rows → Owed result setting.now point.new x first rows }
     ensures closer { IsCloser result point.old point.new }
     ensures moved { StepMoves result point.old point.new }
+    ensures costs { StepCosts result point.old point.new }
     ensures counted { steps.old ≤ steps.new }
 {
     let Some(end) = setting.end else {
@@ -76,6 +77,7 @@ fn go_on<L: Ledger>(
     ensures comes { (x : Run) (first : Abstract) (rows : List Row) → IsAt setting.now point.old x first rows → Owed result setting.now point.new x first rows }
     ensures closer { IsCloser result point.old point.new }
     ensures moved { StepMoves result point.old point.new }
+    ensures costs { StepCosts result point.old point.new }
     ensures counted { steps.old ≤ steps.new }
 {
     point.turn = i;
@@ -132,6 +134,7 @@ fn asked<L: Ledger>(
     ensures comes { (x : Run) (first : Abstract) (rows : List Row) → IsAsking setting.now point.old i request.now x first rows → Owed result setting.now point.new x first rows }
     ensures answers { IfGoes result (all_left point.new.testbenches.items ≡ all_left point.old.testbenches.items) }
     ensures moved { StepMoves result point.old point.new }
+    ensures costs { StepCosts result point.old point.new }
     ensures counted { steps.old ≤ steps.new }
 {
     designs_grow_on();

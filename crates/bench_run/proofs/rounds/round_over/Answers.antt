@@ -6,6 +6,7 @@ use Rattle.bench_run.specs.Runs.{is_due, is_due_again, earliest}
 use Rattle.bench_run.specs.Standing.{all_over, stands_in}
 use Rattle.bench_run.proofs.MomentLaws.{GoesOver, over_ends, woken_owed, nothing_owed, past_owed, moving_owed, due_is}
 use Rattle.bench_run.proofs.MomentSafety.{safe_woken, closer_woken}
+use Rattle.bench_run.proofs.UnitLaws.{units_woken}
 use Rattle.bench_run.proofs.rounds.round_over.Goals as goal
 use Rattle.bench_run.proofs.rounds.round_over.Goals.{in-Some+else-is_due, in_default, in_default-earliest-via-in-Some-earliest+else-not-is_behind_end, in_default-earliest-via-in_default-earliest}
 
@@ -43,6 +44,10 @@ pub returns-then-is_due-clause-closer : goal.returns-then-is_due-clause-closer
 returns-then-is_due-clause-closer g c =
     closer_woken c.in-Some.now c.args.point.now.turn c.args.point.now.testbenches.items c.wake.new.testbenches.items c.wake.ensures c.requires.over
     (sym (ap (λ (ys : List Running). list_any (is_due c.in-Some.now) (stands_in ys)) c.as_slice-in-Some.ensures.value) ∙ sym c.is_due.ensures ∙ c.if-is_due.true)
+
+pub returns-then-is_due-clause-costs : goal.returns-then-is_due-clause-costs
+returns-then-is_due-clause-costs g c =
+    units_woken c.in-Some.now c.args.point.now.left.left c.args.point.now.testbenches.items c.wake.new.testbenches.items c.wake.ensures
 
 pub at_moment-requires-clause-due : goal.at_moment-requires-clause-due
 at_moment-requires-clause-due g c =

@@ -1,5 +1,5 @@
 use Rattle.std.proofs.Common.{◌≡◌, ◌∙◌, refl, sym, Some, length}
-use Rattle.std.specs.Prelude.{slice_get}
+use Rattle.std.specs.Prelude.{slice_get, Ok}
 use Rattle.std.proofs.lemmas.Option.{slice_get_read}
 use Rattle.py_heap.specs.Heaps.{seen}
 use Rattle.elab_store.specs.Held.{held_of}
@@ -8,6 +8,7 @@ use Rattle.bench_acts.specs.Serving.{bench_served}
 use Rattle.bench_run.specs.declared.testbench.Running.{Running}
 use Rattle.bench_run.specs.Standing.{all_left}
 use Rattle.bench_run.proofs.AskLaws.{Does, done_left, done_moves, done_owed, done_safe, refused_then, served_done, served_on, served_sim, stops_left, stops_moves, stops_safe}
+use Rattle.bench_run.proofs.UnitLaws.{costs_same, done_costs, stops_costs}
 use Rattle.bench_run.proofs.turns.asked.Goals as goal
 
 pub serve-requires : goal.serve-requires
@@ -62,6 +63,10 @@ returns-in-Some-clause-answers g c =
 pub returns-in-Some-clause-moved : goal.returns-in-Some-clause-moved
 returns-in-Some-clause-moved g c =
     stops_moves c.args.point.now c.refused.new.point c.refused.result c.refused.ensures.stops
+
+pub returns-in-Some-clause-costs : goal.returns-in-Some-clause-costs
+returns-in-Some-clause-costs g c =
+    stops_costs c.args.point.now c.refused.new.point c.refused.result c.refused.ensures.stops
 
 pub returns-in-None-clause-safe : goal.returns-in-None-clause-safe
 returns-in-None-clause-safe g c =
@@ -122,3 +127,9 @@ returns-in-None-clause-moved g c =
     let sim = served_sim (seen s.frozen y.machine.going.state.heap) p.bench b.design r c.requires.safe.bench on.2 c.growth_keeps_simulators.ensures c.count.ensures.rules c.processes.ensures.rules p.sim c.requires.safe.sim in
     let k : Does s p b c.args.i r y z c.done.result c.done.new.point = record { safe = c.requires.safe; there = there; waiting = c.requires.waits; said = on.0; held_is = on.1; design = on.2; bench = on.3; of_sim = sim; done = c.done.ensures.done } in
     done_moves s p b c.args.i r y z c.done.result c.done.new.point k
+
+pub returns-in-None-clause-costs : goal.returns-in-None-clause-costs
+returns-in-None-clause-costs g c =
+    let p = c.args.point.now in
+    costs_same p (record p { bench = c.serve.new.bench }) c.done.new.point (Ok c.done.result) refl
+    (done_costs c.done.result c.args.i c.args.request.now.place c.in_ok-served.served (record p { bench = c.serve.new.bench }) c.done.new.point c.done.ensures.done)
