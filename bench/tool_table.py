@@ -6,16 +6,16 @@ lines indented by four blanks. The parts are
 
     words      the words of the command; without it `top.py top.il top.tr --play top.stim`
     design     the lines of top.py; in their place `module` gives those between `m = Module()` and `top = m`, `example` names a design of
-               examples/ with its script and its trace, and `page` is the number of a whole file shown in docs/LANGUAGE.md
+               examples/ with its script and its trace, `simulator` one with the trace of its own simulator, and `page` is the number of a whole file shown in docs/LANGUAGE.md
     bytes      the bytes of top.py in escapes, in place of its lines; `times` repeats them
     script     the lines of top.stim; without it the file is empty. `script bytes` gives them in escapes, and `script times` repeats them
     fail       a call of the host that is to fail
     each fault how many calls of each kind there are
-    done       the text that is said; refused, usage, fault, spent: the text that is warned
+    done       the text that is said; refused, assert failed, usage, fault, spent: the text that is warned
     KIND each  lines that are refused with this kind, each alone at the end of the design, at the place before which it has `@`; a line
                that stands further in belongs to the one before it. `script each` has lines that are refused behind the script
     trace      the lines of the trace; `trace lines` how many there are of those of the last case, behind a fault
-    rtlil      `there`, `whole`, `none` or `K lines`; without it `there` where the run is done, else `none`
+    rtlil      `there`, `whole`, `none` or `K lines`; without it `there` where there is a trace, else `none`
 
 The answers were worked out by hand; the program is not run here.
 """
@@ -30,7 +30,7 @@ EXAMPLES = ROOT / "examples"
 PAGE = ROOT / "docs" / "LANGUAGE.md"
 WORDS = "top.py top.il top.tr --play top.stim"
 USAGE = "usage: amh_tool DESIGN IL TRACE [--play FILE] [--top NAME] [--budget N] [--make N]\n"
-CODES = {"done": 0, "refused": 1, "usage": 3, "spent": 4, "fault": 5}
+CODES = {"done": 0, "refused": 1, "assert failed": 2, "usage": 3, "spent": 4, "fault": 5}
 
 
 def cases_in(path):
@@ -114,13 +114,18 @@ def shown_in(page):
     return files
 
 
+def of_example(name, end):
+    """The lines of a file in examples/."""
+    return (EXAMPLES / f"{name}.{end}").read_text(encoding="utf-8").splitlines()
+
+
 def filled(case):
     """A case with the lines of the files that it names in their place."""
     if "example" in case:
-        design, script, trace = (
-            (EXAMPLES / f"{case['example']}.{end}").read_text(encoding="utf-8").splitlines() for end in ("py", "stim", "tr")
-        )
+        design, script, trace = (of_example(case["example"], end) for end in ("py", "stim", "tr"))
         return case | {"design": design, "script": script, "trace": trace}
+    if "simulator" in case:
+        return case | {"design": of_example(case["simulator"], "py"), "trace": of_example(f"{case['simulator']}_run", "tr")}
     if "page" in case:
         return case | {"design": shown_in(PAGE)[int(case["page"]) - 1]}
     return case
@@ -161,7 +166,7 @@ def answer_of(case):
     said = case["done"] + "\n" if status == "done" else ""
     warned = {"done": "", "usage": USAGE, "fault": "host fault\n"}.get(status) if status in ("done", "usage", "fault") else case[status] + "\n"
     trace = in_escapes(lines(case["trace"])) if "trace" in case else "none"
-    rtlil = case.get("rtlil", "there" if status == "done" else "none")
+    rtlil = case.get("rtlil", "there" if "trace" in case or status == "done" else "none")
     il, tr = (words + ["", "", ""])[1:3]
     return " | ".join([f"{status} {CODES[status]}", f"said {in_escapes(said)}", f"warned {in_escapes(warned)}", f"{tr} {trace}", f"{il} {rtlil}"])
 

@@ -14,7 +14,6 @@ use Rattle.private_names.specs.Statements.{mangled_program}
 use Rattle.py_grammar.specs.Blocks.{IsProgram}
 use Rattle.py_parser.specs.Parsing.{file_lines, IsRefusedAt}
 use Rattle.design_ir.specs.Targets.{Bit}
-use Rattle.design_ir.specs.Circuits.{Circuit}
 use Rattle.comb_graph.specs.Orders.{IsOrder}
 use Rattle.comb_graph.specs.Laws.{OrderedHaveNoLoop}
 use Rattle.comb_graph.specs.Refusals.{IsTold}
@@ -24,12 +23,12 @@ use Rattle.elab_eval.specs.Elaborates.{Found as Elab_found, Comes, IsElaborated 
 use Rattle.amh_tool.specs.declared.refusal.DesignStop.{DesignStop}
 use Rattle.amh_tool.specs.declared.refusal.DesignStop.TheVariants.{Refused, Spent, NoMemory}
 use Rattle.amh_tool.specs.Plan.{Plan}
-use Rattle.amh_tool.specs.Designs.{Designed, gives, refuses, spends, refusal, line_start, ComesTo, IsCut, IsDesigned, IsElaborated, IsUnparsed, IsRanked}
-use Rattle.amh_tool.specs.DesignGives.{Found, DesignGives, CutGives, LinesGive, ProgramGives, RankGives, stop_seen}
+use Rattle.amh_tool.specs.Designs.{Given, circuit_of, Designed, gives, refuses, spends, refusal, line_start, ComesTo, IsCut, IsDesigned, IsElaborated, IsUnparsed, IsRanked}
+use Rattle.amh_tool.specs.DesignGives.{Found, DesignGives, CutGives, LinesGive, ProgramGives, RankGives, given_seen, stop_seen}
 use Rattle.amh_tool.specs.declared.design_text.Ranked.{Ranked}
 
 found_weaker : (P Q : Designed → Type 0) (given : Result Ranked DesignStop) → ((x : Designed) → P x → Q x) → Found P given → Found Q given
-found_weaker P Q (Ok r) f h = f (gives r.design) h
+found_weaker P Q (Ok r) f h = f (gives (given_seen r)) h
 found_weaker P Q (Err (Refused why)) f h = f (refuses why) h
 found_weaker P Q (Err (Spent place)) f h = f (spends place) h
 found_weaker P Q (Err NoMemory) f h = tt
@@ -80,9 +79,15 @@ LinesGive-program p text lines body given program h =
     found_weaker (ComesTo p (mangled_program body)) (λ found. IsElaborated p text lines found ⊎ IsUnparsed text lines found) given (LinesGive-parsed p text lines body program) h
 
 -- a program with a design, which is ranked
-pub ProgramGives-design : (p : Plan) (body : Steps) (left : ℕ) (f : Elab_found) (given : Result Ranked DesignStop) → Comes body p.top p.budget left (Ok f) → RankGives f.circuit given → ProgramGives p body given
+pub ProgramGives-design : (p : Plan) (body : Steps) (left : ℕ) (f : Elab_found) (given : Result Ranked DesignStop) → Comes body p.top p.budget left (Ok f) → RankGives (record { program = body; found = f; left = left }) given → ProgramGives p body given
 ProgramGives-design p body left f given h ranks =
-    found_weaker (IsRanked f.circuit) (ComesTo p body) given (λ found ranked. record { came = Ok f; used = h.used; elaborates = h.outcome; checked = ranked }) ranks
+    found_weaker (IsRanked (record { program = body; found = f; left = left })) (ComesTo p body) given
+    (λ found ranked. record {
+      came = Ok f;
+      used = h.used;
+      elaborates = h.outcome;
+      checked = subst (λ (n : ℕ). IsRanked (record { program = body; found = f; left = n }) found) h.rest ranked;
+    }) ranks
 
 -- a program that is refused, or whose budget is spent
 pub ProgramGives-stop : (p : Plan) (body : Steps) (left : ℕ) (stop : ElabStop) → Comes_to body p.top p.budget left (Err stop) → ProgramGives p body (Err (stop_seen stop))
@@ -92,8 +97,8 @@ ProgramGives-stop p body left elab.NoMemory h = tt
 
 -- ---- the order of bits
 
-pub IsRanked-order : (c : Circuit) (order : List Bit) → OrderedHaveNoLoop → IsOrder c order → IsRanked c (gives c)
-IsRanked-order c order law h = record { same = refl; loopless = law c order h }
+pub IsRanked-order : (g : Given) (order : List Bit) → OrderedHaveNoLoop → IsOrder (circuit_of g) order → IsRanked g (gives g)
+IsRanked-order g order law h = record { same = refl; loopless = law (circuit_of g) order h }
 
-pub IsRanked-loop : (c : Circuit) (bit : Bit) (place : Place) → IsTold c bit place → IsRanked c (refuses (refusal a_loop place))
-IsRanked-loop c bit place h = record { bit = bit; told = h; kind = refl }
+pub IsRanked-loop : (g : Given) (bit : Bit) (place : Place) → IsTold (circuit_of g) bit place → IsRanked g (refuses (refusal a_loop place))
+IsRanked-loop g bit place h = record { bit = bit; told = h; kind = refl }

@@ -1,5 +1,5 @@
 -- The bytes of a design file stand for one design, for one refusal, or for one spent budget.
-use Rattle.std.specs.Prelude.{◌≡◌, refl, ℕ, ◌==◌, nat_lt, Bool, true, false, List, length, Result, Ok, Err}
+use Rattle.std.specs.Prelude.{◌≡◌, refl, ℕ, ◌-◌, ◌==◌, nat_lt, Bool, true, false, List, length, Result, Ok, Err}
 use Rattle.std.specs.Bool.{MatchBool}
 use Rattle.std.specs.Str.{chars}
 use Rattle.std.specs.Str.Lossy.{utf8_valid_len}
@@ -19,7 +19,7 @@ use Rattle.elab_eval.specs.declared.refusal.ElabStop.{ElabStop}
 use Rattle.elab_eval.specs.declared.refusal.ElabStop.TheVariants as elab
 use Rattle.elab_eval.specs.Elaborates.{Found, OneOutcome as One_elaboration}
 use Rattle.amh_tool.specs.Plan.{Plan}
-use Rattle.amh_tool.specs.Designs.{Designed, gives, refuses, spends, refusal, line_start, bad_line, IsLoopTold, IsRanked, IsChecked, ComesTo, IsElaborated, IsUnparsed, IsCut, IsText, IsDesigned}
+use Rattle.amh_tool.specs.Designs.{Given, circuit_of, Designed, gives, refuses, spends, refusal, line_start, bad_line, IsLoopTold, IsRanked, IsChecked, ComesTo, IsElaborated, IsUnparsed, IsCut, IsText, IsDesigned}
 use Rattle.amh_tool.proofs.LinePlaces.{place_by_words}
 use Rattle.amh_tool.proofs.RefusedLines.{refused_once, program_stands}
 
@@ -50,27 +50,28 @@ told_once c r s h k =
     let kind : r.kind ≡ s.kind = h.kind ∙ sym k.kind in
     λ i. record { place = place i; kind = kind i }
 
-ranked_once : (c : Circuit) → Once (IsRanked c)
-ranked_once c (gives d) (gives e) h k = ap gives (h.same ∙ sym k.same)
-ranked_once c (gives d) (refuses s) h k = absurd (h.loopless k.bit k.told.is_least.loops)
-ranked_once c (gives d) (spends p) h k = absurd k
-ranked_once c (refuses r) (gives e) h k = absurd (k.loopless h.bit h.told.is_least.loops)
-ranked_once c (refuses r) (refuses s) h k = ap refuses (told_once c r s h k)
-ranked_once c (refuses r) (spends p) h k = absurd k
-ranked_once c (spends p) y h k = absurd h
+ranked_once : (g : Given) → Once (IsRanked g)
+ranked_once g (gives d) (gives e) h k = ap gives (h.same ∙ sym k.same)
+ranked_once g (gives d) (refuses s) h k = absurd (h.loopless k.bit k.told.is_least.loops)
+ranked_once g (gives d) (spends p) h k = absurd k
+ranked_once g (refuses r) (gives e) h k = absurd (k.loopless h.bit h.told.is_least.loops)
+ranked_once g (refuses r) (refuses s) h k = ap refuses (told_once (circuit_of g) r s h k)
+ranked_once g (refuses r) (spends p) h k = absurd k
+ranked_once g (spends p) y h k = absurd h
 
 -- ---- programs
 
-checked_once : (x : Result Found ElabStop) → Once (IsChecked x)
-checked_once (Ok f) = ranked_once f.circuit
-checked_once (Err (elab.Refused kind place)) = once_equal (refuses (refusal kind place))
-checked_once (Err (elab.Spent place)) = once_equal (spends place)
-checked_once (Err elab.NoMemory) = λ x y h k. absurd h
+checked_once : (body : Steps) (left : ℕ) (x : Result Found ElabStop) → Once (IsChecked body left x)
+checked_once body left (Ok f) = ranked_once (record { program = body; found = f; left = left })
+checked_once body left (Err (elab.Refused kind place)) = once_equal (refuses (refusal kind place))
+checked_once body left (Err (elab.Spent place)) = once_equal (spends place)
+checked_once body left (Err elab.NoMemory) = λ x y h k. absurd h
 
 comes_once : One_elaboration → (p : Plan) (body : Steps) → Once (ComesTo p body)
 comes_once one p body x y h k =
-    let same = (one body p.top p.budget h.came k.came h.used k.used h.elaborates k.elaborates).0 in
-    checked_once k.came x y (subst (λ (r : Result Found ElabStop). IsChecked r x) same h.checked) k.checked
+    let same = one body p.top p.budget h.came k.came h.used k.used h.elaborates k.elaborates in
+    checked_once body (p.budget - k.used) k.came x y
+    (subst (λ (r : Result Found ElabStop). IsChecked body (p.budget - k.used) r x) same.0 (subst (λ (n : ℕ). IsChecked body (p.budget - n) h.came x) same.1 h.checked)) k.checked
 
 -- ---- lines
 

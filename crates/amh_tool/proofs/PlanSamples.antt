@@ -18,7 +18,12 @@ names_top : planned (Some (record names_alone { top = Some (codes "t"); budget =
 unfolding names_alone
 names_top = refl
 
--- testbenches do not run, and no design is made
-refused : (planned (Some names_alone) ≡ None) × (planned (Some (record names_alone { play = Some (codes "s"); top = Some (codes "t"); make = Some 3 })) ≡ None) × (planned None ≡ None)
+-- neither: the file's simulator runs
+runs : planned (Some names_alone) ≡ Some (record { design = codes "a"; il = codes "b"; trace = codes "c"; script = None; top = None; budget = 10000000 })
 unfolding names_alone
-refused = (refl, refl, refl)
+runs = refl
+
+-- no design is made
+refused : (planned (Some (record names_alone { play = Some (codes "s"); top = Some (codes "t"); make = Some 3 })) ≡ None) × (planned None ≡ None)
+unfolding names_alone
+refused = (refl, refl)

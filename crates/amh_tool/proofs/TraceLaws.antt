@@ -1,10 +1,11 @@
 -- Rows, and the history that a simulator goes through.
 use Rattle.std.specs.Prelude.{◌≡◌, ◌<◌, ◌+◌, ℕ, zero, suc, List, [], ◌∷◌, ◌++◌, length, drop, get_or, ℤ}
-use Rattle.std.proofs.Common.{refl, sym, ap, ◌∙◌, subst, arith, add-one, append_assoc}
+use Rattle.std.proofs.Common.{refl, sym, ap, ◌∙◌, subst, inl, inr, arith, add-one, append_assoc}
 use Rattle.std.proofs.lemmas.List.{append-nil}
 use Rattle.std.specs.List.{flat_map}
-use Rattle.amh_host.specs.Seen.{Seen, written}
+use Rattle.amh_host.specs.Seen.{Seen, with_file, written}
 use Rattle.amh_host.specs.Calls.{AddsFront}
+use Rattle.amh_host.specs.Written.{WritesFront}
 use Rattle.amh_host.proofs.SeenLaws.{AddsFront-before, AddsFront-behind}
 use Rattle.design_ir.specs.declared.event.Event.{Event}
 use Rattle.design_ir.specs.Circuits.{Circuit, State}
@@ -19,8 +20,8 @@ use Rattle.netlist_laws.specs.Histories.{IsHistory}
 use Rattle.play_text.specs.declared.board.Board.{Board}
 use Rattle.amh_tool.specs.declared.accept.Accepted.{Accepted}
 use Rattle.amh_tool.specs.Headline.{IsTrace}
-use Rattle.play_text.specs.Trace.{Row, Done, timed, events_in, head_line, done_line, column_line, first_line, row_line, row_lines, trace_text}
-use Rattle.amh_tool.specs.Verdicts.{IsFitting}
+use Rattle.play_text.specs.Trace.{Row, End, timed, events_in, head_line, end_line, column_line, first_line, row_line, row_lines, front_text, trace_text}
+use Rattle.amh_tool.specs.Verdicts.{IsFitting, ending_of, events_of, rows_of}
 
 -- ---- lists of events
 
@@ -204,29 +205,55 @@ rows_whole so_far all c b time es s none h =
 
 -- ---- the whole
 
+-- behind the first line come those of the rows
+pub front_text-rows : (b : Board) (rows : List Row) (first : List ℤ) (envs : List (List ℤ)) → front_text b [] (first ∷ []) ++ row_lines b rows first envs ≡ front_text b rows (first ∷ envs)
+unfolding front_text
+front_text-rows b rows first envs =
+    let columns = flat_map column_line b.columns in
+    let line = first_line b first in
+    let lines = row_lines b rows first envs in
+    append_assoc head_line (columns ++ (line ++ [])) lines
+    ∙ ap (λ (x : List ℕ). head_line ++ x) (append_assoc columns (line ++ []) lines)
+    ∙ ap (λ (x : List ℕ). head_line ++ (columns ++ x)) (append_assoc line [] lines)
+
+-- and behind these the last one
+pub front_text-end : (b : Board) (rows : List Row) (first : List ℤ) (envs : List (List ℤ)) (end : End) → front_text b rows (first ∷ envs) ++ end_line end ≡ trace_text b rows (first ∷ envs) end
+unfolding front_text trace_text
+front_text-end b rows first envs end =
+    let columns = flat_map column_line b.columns in
+    let lines = first_line b first ++ row_lines b rows first envs in
+    append_assoc head_line (columns ++ lines) (end_line end)
+    ∙ ap (λ (x : List ℕ). head_line ++ x) (append_assoc columns lines (end_line end))
+
 -- the trace in the order in which it is written
-pub trace_text-order : (b : Board) (rows : List Row) (first : List ℤ) (envs : List (List ℤ))
-    → head_line ++ (flat_map column_line b.columns ++ (first_line b first ++ (row_lines b rows first envs ++ done_line))) ≡ trace_text b rows (first ∷ envs) Done
-unfolding trace_text
-trace_text-order b rows first envs =
-    ap (λ (x : List ℕ). head_line ++ (flat_map column_line b.columns ++ x)) (sym (append_assoc (first_line b first) (row_lines b rows first envs) done_line))
+pub trace_text-parts : (b : Board) (rows : List Row) (first : List ℤ) (envs : List (List ℤ)) (end : End) → (front_text b [] (first ∷ []) ++ row_lines b rows first envs) ++ end_line end ≡ trace_text b rows (first ∷ envs) end
+trace_text-parts b rows first envs end = ap (λ (t : List ℕ). t ++ end_line end) (front_text-rows b rows first envs) ∙ front_text-end b rows first envs end
+
+pub front_text-order : (b : Board) (first : List ℤ) → head_line ++ (flat_map column_line b.columns ++ (first_line b first ++ [])) ≡ front_text b [] (first ∷ [])
+unfolding front_text
+front_text-order b first = refl
+
+-- a front of a front is one of the whole
+pub WritesFront-more : (name front rest whole : List ℕ) (old new : Seen) → front ++ rest ≡ whole → WritesFront name front old new → WritesFront name whole old new
+WritesFront-more name front rest whole old new e (inl h) = inl h
+WritesFront-more name front rest whole old new e (inr h) = inr (subst (λ (t : List ℕ). AddsFront (with_file name) t old new) e (AddsFront-before rest h))
 
 -- the text of the history is the trace
-pub history_trace : (a : Accepted) (envs : List (List ℤ)) → IsFitting a → IsHistory a.ranked.design a.events envs
-    → IsTrace (trace_text a.board (timed 1 a.events) envs Done) a.ranked.design (timed 1 a.events) Done
+pub history_trace : (a : Accepted) (envs : List (List ℤ)) → IsFitting a → IsHistory a.ranked.design (events_of a) envs
+    → IsTrace (trace_text a.board (rows_of a) envs (ending_of a)) a.ranked.design (rows_of a) (ending_of a)
 history_trace a envs fits history = record {
   envs = envs;
-  is_history = subst (λ (es : List Event). IsHistory a.ranked.design es envs) (sym (events_in-timed 1 a.events)) history;
-  is_text = ap (λ (b : Board). trace_text b (timed 1 a.events) envs Done) fits.board;
+  is_history = subst (λ (es : List Event). IsHistory a.ranked.design es envs) (sym (events_in-timed 1 (events_of a))) history;
+  is_text = ap (λ (b : Board). trace_text b (rows_of a) envs (ending_of a)) fits.board;
 }
 
 -- an accepted design has a trace
 pub record HasTrace (a : Accepted) : Type 0 where
   pub text : List ℕ
-  pub is_trace : IsTrace text a.ranked.design (timed 1 a.events) Done
+  pub is_trace : IsTrace text a.ranked.design (rows_of a) (ending_of a)
 
-pub has_trace : (a : Accepted) → IsFitting a → HasOneHistory a.ranked.design a.events → HasTrace a
+pub has_trace : (a : Accepted) → IsFitting a → HasOneHistory a.ranked.design (events_of a) → HasTrace a
 has_trace a fits one = record {
-  text = trace_text a.board (timed 1 a.events) one.envs Done;
+  text = trace_text a.board (rows_of a) one.envs (ending_of a);
   is_trace = history_trace a one.envs fits (record { settles = one.settles; only = one.only });
 }

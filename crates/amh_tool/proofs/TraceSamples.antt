@@ -6,7 +6,7 @@ use Rattle.design_ir.specs.declared.event.Event.{Event}
 use Rattle.design_ir.specs.declared.event.Event.TheVariants.{Set, Edge}
 use Rattle.play_text.specs.declared.board.Shown.{Shown}
 use Rattle.play_text.specs.declared.board.Board.{Board}
-use Rattle.play_text.specs.Trace.{Done, timed, head_line, column_line, shape_text, field, event_text, first_line, row_line, done_line, trace_text}
+use Rattle.play_text.specs.Trace.{Done, Asserts, Raises, PassesWidth, PassesLimit, Spends, timed, head_line, column_line, shape_text, field, event_text, first_line, row_line, done_line, stop_line, spent_line, end_line, trace_text}
 
 set : ℕ → ℕ → Event
 set s n = Set (record { 0 = s }) (pos n)
@@ -72,3 +72,9 @@ row-edges : row_line clocks (record { time = 1000000000; event = Edge (record { 
     ≡ codes "1000000000 edge sync- fast+ | clk=0 fast_clk=1\n"
 unfolding clocks column field event_text row_line digits
 row-edges = refl
+
+-- ---- how a run ends
+
+ends : (end_line (Asserts (record { line = 9; col = 9 })) ≡ codes "end assert 9:9\n") × (end_line (Raises (record { line = 12; col = 5 })) ≡ codes "end raised 12:5\n") × (end_line (PassesWidth (record { line = 1; col = 10 })) ≡ codes "end width 1:10\n") × (end_line (PassesLimit (record { line = 1; col = 1 })) ≡ codes "end limit 1:1\n") × (end_line Spends ≡ codes "end spent\n")
+unfolding stop_line spent_line digits
+ends = (refl, refl, refl, refl, refl)

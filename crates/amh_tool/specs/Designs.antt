@@ -1,6 +1,6 @@
 -- What the bytes of a design file stand for under a plan, which says how much they may cost and may name the top: a design, or why there is none.
 -- Source: this project's own rule (docs/RULES.md).
-use Rattle.std.specs.Prelude.{◌≡◌, ◌+◌, ◌==◌, ◌⊎◌, nat_lt, ℕ, List, length, take, count_by, Result, Ok, Err}
+use Rattle.std.specs.Prelude.{◌≡◌, ◌+◌, ◌-◌, ◌==◌, ◌⊎◌, nat_lt, ℕ, List, length, take, count_by, Result, Ok, Err}
 use Rattle.std.specs.Bool.{MatchBool}
 use Rattle.std.specs.Str.{chars}
 use Rattle.std.specs.Str.Lossy.{utf8_valid_len}
@@ -23,9 +23,18 @@ use Rattle.elab_eval.specs.Elaborates.{Found, Elaborates}
 use Rattle.amh_tool.specs.Plan.{Plan}
 use Rattle.amh_tool.specs.declared.refusal.Refusal.{Refusal}
 
+-- a program, what it is elaborated to, and the units that are left then
+pub record Given : Type 0 where
+  pub program : Steps
+  pub found : Found
+  pub left : ℕ
+
+abbrev pub circuit_of : Given → Circuit
+circuit_of g = g.found.circuit
+
 -- a design, a refusal, or a budget that is spent before there is a design
 pub data Designed : Type 0 where
-  gives : Circuit → Designed
+  gives : Given → Designed
   refuses : Refusal → Designed
   spends : Place → Designed
 
@@ -44,30 +53,30 @@ pub record IsLoopTold (c : Circuit) (r : Refusal) : Type 0 where
   pub kind : r.kind ≡ a_loop
 
 -- a design without loops stands
-pub record IsLoopless (c d : Circuit) : Type 0 where
-  pub same : d ≡ c
-  pub loopless : (b : Bit) → Loop c b → ⊥
+pub record IsLoopless (g h : Given) : Type 0 where
+  pub same : h ≡ g
+  pub loopless : (b : Bit) → Loop (circuit_of g) b → ⊥
 
-abbrev pub IsRanked : Circuit → Designed → Type 0
-IsRanked c (gives d) = IsLoopless c d
-IsRanked c (refuses r) = IsLoopTold c r
-IsRanked c (spends place) = ⊥
+abbrev pub IsRanked : Given → Designed → Type 0
+IsRanked g (gives h) = IsLoopless g h
+IsRanked g (refuses r) = IsLoopTold (circuit_of g) r
+IsRanked g (spends place) = ⊥
 
 -- ---- the program
 
 -- what elaboration comes to leads to this; want of memory is no answer of a file
-abbrev pub IsChecked : Result Found ElabStop → Designed → Type 0
-IsChecked (Ok f) found = IsRanked f.circuit found
-IsChecked (Err (elab.Refused kind place)) found = found ≡ refuses (refusal kind place)
-IsChecked (Err (elab.Spent place)) found = found ≡ spends place
-IsChecked (Err elab.NoMemory) found = ⊥
+abbrev pub IsChecked : Steps → ℕ → Result Found ElabStop → Designed → Type 0
+IsChecked body left (Ok f) found = IsRanked (record { program = body; found = f; left = left }) found
+IsChecked body left (Err (elab.Refused kind place)) found = found ≡ refuses (refusal kind place)
+IsChecked body left (Err (elab.Spent place)) found = found ≡ spends place
+IsChecked body left (Err elab.NoMemory) found = ⊥
 
 -- a program, elaborated within the plan's budget, comes to this
 pub record ComesTo (p : Plan) (body : Steps) (found : Designed) : Type 0 where
   pub came : Result Found ElabStop
   pub used : ℕ
   pub elaborates : Elaborates body p.top p.budget came used
-  pub checked : IsChecked came found
+  pub checked : IsChecked body (p.budget - used) came found
 
 -- the lines stand for a program, which is elaborated once its private names are written out
 pub record IsElaborated (p : Plan) (text : List ℕ) (lines : List Line) (found : Designed) : Type 0 where

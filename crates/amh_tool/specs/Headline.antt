@@ -12,7 +12,7 @@ use Rattle.netlist_laws.specs.Histories.{SameHistory, IsHistory}
 use Rattle.play_text.specs.Boards.{board_of}
 use Rattle.play_text.specs.Trace.{Row, End, trace_text, events_in}
 use Rattle.amh_tool.specs.Plan.{plan_of}
-use Rattle.amh_tool.specs.Outcome.{Outcome, IsOutcome, Unread, BadWords, Refuses, Spends, BadLine, Accepts, status_of, said_of, warned_of, names}
+use Rattle.amh_tool.specs.Outcome.{Outcome, Rejects, Accepts, Verdict, Rejected, Takes, IsOutcome, status_of, said_of, warned_of, names}
 use Rattle.amh_tool.specs.declared.running.Status.{Status}
 use Rattle.amh_tool.specs.declared.running.Status.TheVariants.{NoMemory}
 
@@ -41,20 +41,13 @@ HoldsTrace s name c rows end = (text : List ℕ) × (file_of s name ≡ Some (So
 
 -- what holds where the outcome is accepted
 abbrev pub IfAccepted : Outcome → (Circuit → List Row → End → Type 0) → Type 0
-IfAccepted Unread P = Unit {0}
-IfAccepted BadWords P = Unit {0}
-IfAccepted (Refuses r) P = Unit {0}
-IfAccepted (Spends place) P = Unit {0}
-IfAccepted (BadLine line) P = Unit {0}
+IfAccepted (Rejects r) P = Unit {0}
 IfAccepted (Accepts c rows end) P = P c rows end
 
-abbrev pub IsAccepted : Outcome → Type 0
-IsAccepted Unread = ⊥
-IsAccepted BadWords = ⊥
-IsAccepted (Refuses r) = ⊥
-IsAccepted (Spends place) = ⊥
-IsAccepted (BadLine line) = ⊥
-IsAccepted (Accepts c rows end) = Unit {0}
+-- a design is accepted before anything is written, whatever its run then comes to
+abbrev pub IsAccepted : Verdict → Type 0
+IsAccepted (Rejected r) = ⊥
+IsAccepted (Takes g task) = Unit {0}
 
 -- ---- the answer and the texts
 

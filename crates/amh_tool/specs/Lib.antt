@@ -7,3 +7,4 @@ pub mod Work
 pub mod Promises
 pub mod Views
 pub mod Verdicts
+pub mod RunParts

@@ -3,7 +3,7 @@ use Rattle.std.specs.Prelude.{◌≡◌, ◌<◌, ℕ, List, Some}
 use Rattle.amh_host.specs.Seen.{Files, Seen, file_of}
 use Rattle.amh_host.specs.Causes.{Rose}
 use Rattle.amh_tool.specs.Plan.{plan_of}
-use Rattle.amh_tool.specs.Outcome.{Outcome, IsOutcome, names}
+use Rattle.amh_tool.specs.Outcome.{Outcome, Verdict, IsOutcome, IsVerdict, names}
 use Rattle.amh_tool.specs.Headline.{HasOutcome, Tells, IsPlain, IfAccepted, IsAccepted, HoldsRtlil, HoldsTrace, IsWritten}
 use Rattle.amh_tool.specs.Work.{Fails, FaultsAfter}
 use Rattle.amh_tool.specs.declared.running.Status.{Status}
@@ -17,6 +17,10 @@ Plainly answer old before now P = (files : Files) → old.files ≡ Some files �
 abbrev pub OfOutcome : List (List ℕ) → Files → (Outcome → Type 0) → Type 0
 OfOutcome words files P = (o : Outcome) → IsOutcome words files o → P o
 
+-- it holds of every verdict of the words and the files
+abbrev pub OfVerdict : List (List ℕ) → Files → (Verdict → Type 0) → Type 0
+OfVerdict words files P = (v : Verdict) → IsVerdict words files v → P v
+
 -- of the answer to these words, of what the host told before and tells now, and of its count of faults before and now
 pub record Promises (words : List (List ℕ)) (answer : Status) (old new : Seen) (before now : ℕ) : Type 0 where
   -- the words and the files have one outcome
@@ -27,8 +31,8 @@ pub record Promises (words : List (List ℕ)) (answer : Status) (old new : Seen)
   pub rtlil : Plainly answer old before now (λ files. OfOutcome words files (λ o. IfAccepted o (λ c rows end. HoldsRtlil new (names words).il c)))
   -- and the trace is the text of that history over the rows' events
   pub trace : Plainly answer old before now (λ files. OfOutcome words files (λ o. IfAccepted o (λ c rows end. HoldsTrace new (names words).trace c rows end)))
-  -- where nothing is accepted, each file is as before, whatever the answer
-  pub untouched : (files : Files) → old.files ≡ Some files → OfOutcome words files (λ o. IsAccepted o → ⊥) → new.files ≡ old.files
+  -- where no design is accepted, each file is as before, whatever the answer
+  pub untouched : (files : Files) → old.files ≡ Some files → OfVerdict words files (λ v. IsAccepted v → ⊥) → new.files ≡ old.files
   -- no other file changes
   pub others : (name : List ℕ) → (IsWritten words name → ⊥) → file_of new name ≡ file_of old name
   -- after a fault or want of memory a part of what is asked was carried out, and after a fault a part of its text

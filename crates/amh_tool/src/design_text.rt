@@ -4,8 +4,9 @@ ghost use Rattle.std.specs.Str.{chars};
 ghost use Rattle.py_lexer.specs.Lines.{logical_lines};
 ghost use Rattle.py_tree.specs.Programs.{program_of};
 ghost use Rattle.private_names.specs.Statements.{mangled_program};
+ghost use Rattle.elab_eval.specs.Fit.{FitsDesign};
 ghost use Rattle.amh_tool.specs.Designs.{line_start, refusal};
-ghost use Rattle.amh_tool.specs.DesignGives.{DesignGives, CutGives, LinesGive, ProgramGives, RankGives, stop_seen};
+ghost use Rattle.amh_tool.specs.DesignGives.{DesignGives, CutGives, LinesGive, ProgramGives, RankGives, given_of, stop_seen};
 ghost use Rattle.amh_tool.specs.Verdicts.{IsReady};
 ghost use Rattle.amh_tool.specs.Views.{plan_seen};
 
@@ -14,8 +15,9 @@ use crate::refusal::{DesignStop, Refusal};
 use amh_host::{Budget, Kind, Place, Steps};
 use comb_graph::{GraphStop, Ranks, ordered_have_no_loop, rank};
 use design_ir::Design;
-use elab_eval::{ElabStop, elaborate};
+use elab_eval::{ElabStop, Elaborated, Store, elaborate};
 use private_names::mangled;
+use py_heap::Frozen;
 use py_lexer::{LexStop, Lines, cut_lines};
 use py_parser::{ParseStop, parse};
 use py_tree::Program;
@@ -28,6 +30,16 @@ use std::sync::ledger::Ledger;
 pub struct Ranked {
     pub design: Design,
     pub ranks: Ranks,
+    pub rest: Rest,
+}
+
+/// What a run needs beside the design: the program, what elaboration held and made, and what is left of the budget.
+#[derive(Drop)]
+pub struct Rest {
+    pub program: Program,
+    pub store: Store,
+    pub frozen: Frozen,
+    pub left: Budget,
 }
 
 /// Reads a design file, as the plan has it: its budget, and the name of the top where the words give one.
@@ -134,7 +146,7 @@ fn read_parsed<L: Ledger>(
     ensures counted { steps.old ≤ steps.new }
 {
     match mangled(alloc, program) {
-        Ok(program) => read_program(alloc, &program, plan, steps),
+        Ok(program) => read_program(alloc, program, plan, steps),
         Err(_) => Err(DesignStop::NoMemory),
     }
 }
@@ -142,18 +154,31 @@ fn read_parsed<L: Ledger>(
 // The design of a program.
 fn read_program<L: Ledger>(
     alloc: Global,
-    program: &Program,
+    program: Program,
     plan: &Plan<'_>,
     steps: &mut Steps<L>,
 ) -> Result<Ranked, DesignStop>
     requires { 0 < plan.now.budget }
-    ensures given { ProgramGives (plan_seen plan.now) (program_of program.now) result }
+    ensures given { ProgramGives (plan_seen plan.now) (program_of program) result }
     ensures ready { IfOk result IsReady }
     ensures counted { steps.old ≤ steps.new }
 {
     let mut left = Budget { left: plan.budget };
-    match elaborate(alloc, program, plan.top, &mut left, steps) {
-        Ok(elaborated) => rank_design(alloc, elaborated.design),
+    match elaborate(alloc, &program, plan.top, &mut left, steps) {
+        Ok(elaborated) => {
+            let Elaborated {
+                design,
+                store,
+                frozen,
+            } = elaborated;
+            let rest = Rest {
+                program,
+                store,
+                frozen,
+                left,
+            };
+            rank_design(alloc, design, rest)
+        }
         Err(stop) => Err(design_stop(stop)),
     }
 }
@@ -170,14 +195,28 @@ fn design_stop(stop: ElabStop) -> DesignStop
 }
 
 // The design with the order of its bits, where none needs itself.
-fn rank_design(alloc: Global, design: Design) -> Result<Ranked, DesignStop>
-    ensures given { RankGives design result }
+fn rank_design(alloc: Global, design: Design, rest: Rest) -> Result<Ranked, DesignStop>
+    requires fit { FitsDesign design rest.store }
+    requires units { 0 < rest.left.left }
+    ensures given { RankGives (given_of design rest) result }
     ensures ready { IfOk result IsReady }
 {
     ordered_have_no_loop();
     match rank(alloc, &design) {
-        Ok(ranks) => Ok(Ranked { design, ranks }),
-        Err(GraphStop::Loop { place, .. }) => Err(refused(Kind::Loop, place)),
-        Err(GraphStop::NoMemory) => Err(DesignStop::NoMemory),
+        Ok(ranks) => Ok(Ranked {
+            design,
+            ranks,
+            rest,
+        }),
+        Err(GraphStop::Loop { place, .. }) => {
+            drop(rest);
+            drop(design);
+            Err(refused(Kind::Loop, place))
+        }
+        Err(GraphStop::NoMemory) => {
+            drop(rest);
+            drop(design);
+            Err(DesignStop::NoMemory)
+        }
     }
 }

@@ -1,6 +1,7 @@
 // The law of outcomes. The function does nothing: its clause is the law.
 ghost use Rattle.amh_tool.specs.Headline.{OneOutcome};
 
+use bench_run::runs_are_one;
 use elab_eval::outcome_is_one;
 use py_grammar::programs_are_exact;
 
@@ -10,4 +11,5 @@ pub fn outcomes_are_one()
 {
     outcome_is_one();
     programs_are_exact();
+    runs_are_one();
 }

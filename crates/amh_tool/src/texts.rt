@@ -1,9 +1,14 @@
 // What the program says and warns.
 ghost use Rattle.std.specs.Prelude.{◌≡◌, IfOk, string_bytes};
-ghost use Rattle.amh_tool.specs.Outcome.{kind_text, refusal_text, spent_text, bad_line_text, done_text, fault_text, usage_text};
+ghost use Rattle.play_text.specs.Trace.{end_line};
+ghost use Rattle.amh_tool.specs.Outcome.{kind_text, refusal_text, assertion_text, spent_text, bad_line_text, done_text, fault_text, usage_text, end_by, end_told, end_warned};
+ghost use Rattle.amh_tool.specs.Views.{plan_seen};
 
+use crate::plan::Plan;
 use crate::refusal::Refusal;
-use amh_host::Kind;
+use amh_host::{Kind, Place};
+use play_text::trace_lines::{done_line, spent_line, stop_line};
+use py_frames::request::{Cause, Stop};
 use std::alloc::{AllocError, Global};
 
 const USAGE: &str =
@@ -28,6 +33,16 @@ pub fn refusal(alloc: Global, name: &str, why: Refusal) -> Result<String, AllocE
     format!(in alloc; "{name}:{line}:{col}: {kind}\n")
 }
 
+/// Where an assertion of a testbench is false.
+#[tactic(auto, unfolding(crate::specs::Outcome::assertion_text))]
+pub fn assertion(alloc: Global, name: &str, place: Place) -> Result<String, AllocError>
+    ensures { IfOk result (λ text. string_bytes text ≡ assertion_text name.now place) }
+{
+    let line = place.line;
+    let col = place.col;
+    format!(in alloc; "{name}:{line}:{col}: assertion failed\n")
+}
+
 /// That a budget of so many units is spent.
 #[tactic(auto, unfolding(crate::specs::Outcome::spent_text))]
 pub fn spent(alloc: Global, budget: u64) -> Result<String, AllocError>
@@ -42,6 +57,43 @@ pub fn bad_line(alloc: Global, name: &str, line: u32) -> Result<String, AllocErr
     ensures { IfOk result (λ text. string_bytes text ≡ bad_line_text name.now line) }
 {
     format!(in alloc; "{name}:{line}: script\n")
+}
+
+/// What stopped a run, and where.
+pub fn stop_text(alloc: Global, plan: &Plan<'_>, stop: Stop) -> Result<String, AllocError>
+    ensures { IfOk result (λ text. string_bytes text ≡ end_warned (plan_seen plan.now) (end_by stop.cause stop.place)) }
+{
+    let place = stop.place;
+    let kind = match stop.cause {
+        Cause::Raised => Kind::Raised,
+        Cause::Width => Kind::Width,
+        Cause::Limit => Kind::Limit,
+        Cause::Assert => return assertion(alloc, plan.design, place),
+        Cause::Spent => return spent(alloc, plan.budget),
+    };
+    refusal(alloc, plan.design, Refusal { place, kind })
+}
+
+/// The last line of a trace, by what stopped its events if anything did.
+pub fn end_line(alloc: Global, stop: Option<Stop>) -> Result<String, AllocError>
+    ensures { IfOk result (λ line. string_bytes line ≡ end_line (end_told stop)) }
+{
+    match stop {
+        None => done_line(alloc),
+        Some(stop) => stopped_line(alloc, stop),
+    }
+}
+
+fn stopped_line(alloc: Global, stop: Stop) -> Result<String, AllocError>
+    ensures { IfOk result (λ line. string_bytes line ≡ end_line (end_by stop.cause stop.place)) }
+{
+    match stop.cause {
+        Cause::Raised => stop_line(alloc, "raised", stop.place),
+        Cause::Width => stop_line(alloc, "width", stop.place),
+        Cause::Limit => stop_line(alloc, "limit", stop.place),
+        Cause::Assert => stop_line(alloc, "assert", stop.place),
+        Cause::Spent => spent_line(alloc),
+    }
 }
 
 /// That the files are whole.

@@ -1,6 +1,5 @@
 // The trace of a script, row by row.
 ghost use Rattle.std.specs.Prelude.{◌≡◌, ◌<◌, ◌++◌, ◌∷◌, [], List, ℕ, ℤ, MatchResult};
-ghost use Rattle.std.specs.List.{flat_map};
 ghost use Rattle.amh_host.specs.Seen.{written};
 ghost use Rattle.amh_host.specs.Calls.{Adds};
 ghost use Rattle.amh_host.specs.Causes.{HasCause};
@@ -11,17 +10,16 @@ ghost use Rattle.design_ir.specs.Legal.{IsLegal, AllLegal};
 ghost use Rattle.comb_graph.specs.Laws.{HasOneHistory};
 ghost use Rattle.delta_sim.specs.Standing.{IsSimOf, Stands, Tells};
 ghost use Rattle.amh_tool.specs.Headline.{IsTrace};
-ghost use Rattle.play_text.specs.Trace.{timed, column_line, row_lines, Done};
-ghost use Rattle.amh_tool.specs.Verdicts.{IsFitting};
+ghost use Rattle.play_text.specs.Trace.{row_lines};
+ghost use Rattle.amh_tool.specs.Verdicts.{IsFitting, ending_of, events_of, rows_of};
 
 use crate::accept::Accepted;
-use amh_bits::Int;
+use crate::trace_ends::{put_end, put_head};
 use amh_host::{Host, HostStop, NoMemory, Steps};
 use comb_graph::ordered_have_one_history;
 use delta_sim::Sim;
 use design_ir::{Design, Event, Exprs};
-use play_text::board::Shown;
-use play_text::trace_lines::{column_line, done_line, head_line, push_first, push_front};
+use play_text::trace_lines::push_front;
 use play_text::trace_stripes::Stripes;
 use std::alloc::Global;
 use std::marker::Brand;
@@ -35,7 +33,7 @@ pub fn write_trace<H: Host>(
     accepted: &Accepted,
 ) -> Result<(), HostStop>
     requires { IsFitting accepted.now }
-    ensures text { (text : List ℕ) × IsTrace text accepted.now.ranked.design (timed 1 accepted.now.events) Done × Writes name.now text result (H.seen host.old) (H.seen host.new) }
+    ensures text { (text : List ℕ) × IsTrace text accepted.now.ranked.design (rows_of accepted.now) (ending_of accepted.now) × Writes name.now text result (H.seen host.old) (H.seen host.new) }
     ensures cause { HasCause (H.faults host.old) (H.faults host.new) result }
 {
     has_one_history(accepted);
@@ -54,18 +52,13 @@ fn write_lines<H: Host>(
 ) -> Result<(), HostStop>
     requires fitting { IsFitting accepted.now }
     requires first { Stands accepted.now.ranked.design [] sim.old }
-    ensures text { (text : List ℕ) × IsTrace text accepted.now.ranked.design (timed 1 accepted.now.events) Done × Writes name.now text result (H.seen host.old) (H.seen host.new) }
+    ensures text { (text : List ℕ) × IsTrace text accepted.now.ranked.design (rows_of accepted.now) (ending_of accepted.now) × Writes name.now text result (H.seen host.old) (H.seen host.new) }
     ensures cause { HasCause (H.faults host.old) (H.faults host.new) result }
 {
     has_one_history(accepted);
-    let mut first = Vec::new(alloc);
-    push_first(&mut first, &accepted.board, sim.values())?;
-    host.start(name)?;
-    host.put(name, head_line())?;
-    put_columns(alloc, host, name, accepted.board.columns.as_slice())?;
-    host.put(name, first.as_slice())?;
+    put_head(alloc, host, name, &accepted.board, sim.values())?;
     put_rows(alloc, host, name, accepted, sim)?;
-    host.put(name, done_line())
+    put_end(alloc, host, name, accepted.stop())
 }
 
 // Whatever legal events come, an accepted design has one history. It does nothing: its clause is the law.
@@ -76,22 +69,6 @@ fn has_one_history(accepted: &Accepted)
     ordered_have_one_history();
     let _ = accepted.ranked.design.count();
     let _ = accepted.ranked.design.processes();
-}
-
-fn put_columns<H: Host>(
-    alloc: Global,
-    host: &mut H,
-    name: &str,
-    columns: &[Shown],
-) -> Result<(), HostStop>
-    ensures done { Adds (written name.now) (flat_map column_line columns.now) result (H.seen host.old) (H.seen host.new) }
-    ensures cause { HasCause (H.faults host.old) (H.faults host.new) result }
-{
-    for x in columns {
-        let line = column_line(alloc, x)?;
-        host.put(name, line.as_bytes())?;
-    }
-    Ok(())
 }
 
 // A row for each event, from the design before any of them on. The room of a line serves for all of them, and so do the
@@ -105,15 +82,15 @@ fn put_rows<H: Host>(
 ) -> Result<(), HostStop>
     requires fitting { IsFitting accepted.now }
     requires first { Stands accepted.now.ranked.design [] sim.old }
-    ensures done { (envs : List (List ℤ)) → History accepted.now.ranked.design accepted.now.events (sim.old.env ∷ envs)
-        → Adds (written name.now) (row_lines accepted.now.board (timed 1 accepted.now.events) sim.old.env envs) result (H.seen host.old) (H.seen host.new) }
+    ensures done { (envs : List (List ℤ)) → History accepted.now.ranked.design (events_of accepted.now) (sim.old.env ∷ envs)
+        → Adds (written name.now) (row_lines accepted.now.board (rows_of accepted.now) sim.old.env envs) result (H.seen host.old) (H.seen host.new) }
     ensures cause { HasCause (H.faults host.old) (H.faults host.new) result }
 {
     has_one_history(accepted);
     let mut stripes = Stripes::of(alloc, accepted.board.columns.as_slice(), sim.values())?;
     let mut line = Vec::new(alloc);
     let mut time = 0;
-    for event in accepted.events.as_slice() {
+    for event in accepted.played() {
         time += 1;
         line.clear();
         push_front(&mut line, &accepted.board, time, event, sim.values())?;

@@ -80,8 +80,6 @@ domain_there q x h = record {
   name = h.name;
   clock = bit_there q x.domain.clk h.clock;
   reset = reset_there q x.domain.clk x.domain.rst h.reset;
-  rising = h.rising;
-  sync_reset = h.sync_reset;
 }
 
 pub made_at : (P : ClockDomain → Type 0) (made : List ClockDomain) (k : ℕ) (x : ClockDomain) → AllByRecursion P made → slice_get made k ≡ Some x → P x

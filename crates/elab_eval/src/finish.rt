@@ -2,7 +2,6 @@
 ghost use Rattle.std.specs.Prelude.{◌≡◌, false, [], IfOk, IfErr, Err};
 ghost use Rattle.std.specs.List.{list_any};
 ghost use Rattle.py_heap.specs.Heaps.{nothing, seen};
-ghost use Rattle.design_ir.specs.Rising.{AllRisingSync};
 ghost use Rattle.elab_eval.specs.Elaborates.{IsFound, IsDesignOf, held_of_modules, is_nameless, design_of, design_stop, top_ports, without_modules, unresolved_stop};
 ghost use Rattle.elab_eval.specs.Fit.{FitsDesign, IsFit};
 ghost use Rattle.elab_store.specs.Sound.{IsSound};
@@ -156,7 +155,6 @@ fn resolved_design(
     requires named { list_any is_nameless pool.exprs ≡ false }
     requires ports { ports ≡ top_ports (seen nothing _heap.now) (held_of_modules pool store.now modules.items) }
     ensures found { let h = held_of_modules pool store.now modules.items in IsDesignOf h _heap.now result (design_of h _heap.now) }
-    ensures rising { IfOk result AllRisingSync }
     ensures fit { IfOk result (λ d. FitsDesign d store.now) }
 {
     let mut pool = pool;
@@ -186,7 +184,6 @@ pub(crate) fn finish(
     requires sound { IsSound (held_of elaboration) }
     requires frozen { frozen.now ≡ nothing }
     ensures found { IsFound result (design_of (held_of elaboration) machine.going.state.heap) }
-    ensures rising { IfOk result (λ e. AllRisingSync e.design) }
     ensures fit { IfOk result IsFit }
 {
     let ports = match ports_asked(&elaboration, &machine.going.state.heap, frozen) {

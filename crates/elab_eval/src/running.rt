@@ -7,7 +7,6 @@ ghost use Rattle.py_frames.specs.declared.request.Answer.TheVariants.{Begin};
 ghost use Rattle.py_machine.specs.Lives.{IsOf};
 ghost use Rattle.amh_values.specs.Acts.{acted, Acts};
 ghost use Rattle.amh_things.specs.Held.{AreHeld};
-ghost use Rattle.design_ir.specs.Rising.{AllRisingSync};
 ghost use Rattle.elab_eval.specs.Elaborates.{IsElaborated, stop_of, told_at, without_simulation};
 ghost use Rattle.elab_eval.specs.Fit.{IsFit};
 ghost use Rattle.elab_eval.specs.Running.{IsRunning, Steps_to, Runs_to};
@@ -217,7 +216,6 @@ pub fn elaborate<L: Ledger>(
 ) -> Result<Elaborated, ElabStop>
     requires { 0 < left.old.left }
     ensures comes { IsElaborated (program_of program.now) (option_copied top.entry) left.old.left left.new.left result }
-    ensures rising { IfOk result (λ e. AllRisingSync e.design) }
     ensures fit { IfOk result IsFit }
     ensures units { IfOk result (λ _. 0 < left.new.left) }
     ensures ticks { steps.old ≤ steps.new }

@@ -1,5 +1,5 @@
 -- Columns in stripes.
-use Rattle.std.specs.Prelude.{◌≡◌, ◌<◌, ◌+◌, ◌==◌, ◌||◌, ℕ, zero, suc, Bool, true, false, List, [], ◌∷◌, ◌++◌, map, length, slice_index_or, ℤ}
+use Rattle.std.specs.Prelude.{◌≡◌, ◌≢◌, ◌<◌, ◌+◌, ◌==◌, ◌||◌, ℕ, zero, suc, Bool, true, false, List, [], ◌∷◌, ◌++◌, map, length, slice_index_or, ℤ}
 use Rattle.std.proofs.Common.{refl, ap, sym, ◌∙◌, subst, arith, get_or, take, drop, append_assoc, slice_set, ◌≤◌}
 use Rattle.std.specs.List.{AllByRecursion, flat_map}
 use Rattle.std.specs.Ordering.{int_eq}
@@ -234,10 +234,15 @@ among_all P (t ∷ ts) s all is = among_turn P t ts s all.0 (among_all P ts s al
     among_turn P t ts s first later true e is = subst P ((Decides-eqb t s).0 e) first
     among_turn P t ts s first later false e is = later is
 
--- columns show among these signals what an event changed
-pub noted_at : (count : ℕ) (c : Circuit) (old new : Simulated) (xs : List Shown) → count ≡ length c.pool.signals → Tells c old new → AllByRecursion (IsNoted count new.moved.list new.env) (lanes_at xs old.env)
-noted_at count c old new [] many tells = tt
-noted_at count c old new (x ∷ xs) many tells = (
-  (λ other. (subst (λ n. x.sig.0 < n) (sym many) (among_all (λ s. s < length c.pool.signals) new.moved.list x.sig.0 tells.signals (tells.all x.sig.0 other)), tells.all x.sig.0 other)),
-  noted_at count c old new xs many tells,
+-- columns show among these signals what changed
+pub noted_by : (count : ℕ) (signals : List ℕ) (before now : List ℤ) (xs : List Shown) → AllByRecursion (λ s. s < count) signals → ((s : ℕ) → at before s ≢ at now s → is_among signals s ≡ true) → AllByRecursion (IsNoted count signals now) (lanes_at xs before)
+noted_by count signals before now [] few all = tt
+noted_by count signals before now (x ∷ xs) few all = (
+  (λ other. (among_all (λ s. s < count) signals x.sig.0 few (all x.sig.0 other), all x.sig.0 other)),
+  noted_by count signals before now xs few all,
 )
+
+-- and so they do of an event
+pub noted_at : (count : ℕ) (c : Circuit) (old new : Simulated) (xs : List Shown) → count ≡ length c.pool.signals → Tells c old new → AllByRecursion (IsNoted count new.moved.list new.env) (lanes_at xs old.env)
+noted_at count c old new xs many tells =
+    noted_by count new.moved.list old.env new.env xs (subst (λ n. AllByRecursion (λ s. s < n) new.moved.list) (sym many) tells.signals) tells.all

@@ -5,6 +5,7 @@ use Rattle.std.specs.Option.{option_map}
 use Rattle.std.specs.List.{flat_map, find}
 use Rattle.std.specs.Ordering.{int_eq}
 use Rattle.std.specs.Fmt.{decimal}
+use Rattle.amh_host.specs.declared.place.Place.{Place}
 use Rattle.amh_bits.specs.Decimals.{int_text}
 use Rattle.shape_rules.specs.Forms.{Form}
 use Rattle.shape_rules.specs.Operators.{is_zero}
@@ -21,9 +22,14 @@ pub record Row : Type 0 where
   pub time : ℕ
   pub event : Event
 
--- how a run ends
+-- how a run ends: all its events came to pass, or something stopped it, at a place of the design file
 pub data End : Type 0 where
   Done : End
+  Asserts : Place → End
+  Raises : Place → End
+  PassesWidth : Place → End
+  PassesLimit : Place → End
+  Spends : End
 
 -- one text, then another; it groups to the right
 infixr 6 ◌▸◌
@@ -98,12 +104,28 @@ row_lines b (r ∷ rs) before (now ∷ envs) = row_line b r before now ++ row_li
 unfoldable pub done_line : List ℕ
 done_line = codes "end done" ▸ line_feed
 
+-- `end raised 3:5`
+unfoldable pub stop_line : List ℕ → Place → List ℕ
+stop_line why p = codes "end " ▸ why ▸ codes " " ▸ decimal p.line ▸ codes ":" ▸ decimal p.col ▸ line_feed
+
+unfoldable pub spent_line : List ℕ
+spent_line = codes "end spent" ▸ line_feed
+
 abbrev pub end_line : End → List ℕ
 end_line Done = done_line
+end_line (Asserts p) = stop_line (codes "assert") p
+end_line (Raises p) = stop_line (codes "raised") p
+end_line (PassesWidth p) = stop_line (codes "width") p
+end_line (PassesLimit p) = stop_line (codes "limit") p
+end_line Spends = spent_line
 
 abbrev pub rows_text : Board → List Row → List (List ℤ) → List ℕ
 rows_text b rows [] = []
 rows_text b rows (first ∷ envs) = first_line b first ++ row_lines b rows first envs
+
+-- the trace as far as these rows
+unfoldable pub front_text : Board → List Row → List (List ℤ) → List ℕ
+front_text b rows envs = head_line ++ (flat_map column_line b.columns ++ rows_text b rows envs)
 
 -- the rows' events lead from the first environment to the others, one each
 unfoldable pub trace_text : Board → List Row → List (List ℤ) → End → List ℕ

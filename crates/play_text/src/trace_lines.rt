@@ -4,11 +4,12 @@ ghost use Rattle.std.specs.List.{flat_map};
 ghost use Rattle.amh_bits.specs.Decimals.{int_text};
 ghost use Rattle.design_ir.specs.Circuits.{at};
 ghost use Rattle.play_text.specs.Lanes.{row_head};
-ghost use Rattle.play_text.specs.Trace.{head_line, done_line, column_line, shape_text, first_line, all_fields, field};
+ghost use Rattle.play_text.specs.Trace.{head_line, done_line, stop_line, spent_line, column_line, shape_text, first_line, all_fields, field};
 
 use crate::board::{Board, Shown};
 use crate::trace_events::{number_of, push_event};
 use amh_bits::Int;
+use amh_host::Place;
 use design_ir::Event;
 use number_text::{push_decimal, push_int};
 use shape_rules::Shape;
@@ -24,10 +25,28 @@ pub fn head_line() -> &'static [u8]
 
 /// The last line of a trace whose events all came to pass.
 #[tactic(auto, unfolding(crate::specs::Trace::done_line))]
-pub fn done_line() -> &'static [u8]
-    ensures { result.now ≡ done_line }
+pub fn done_line(alloc: Global) -> Result<String, AllocError>
+    ensures { IfOk result (λ line. string_bytes line ≡ done_line) }
 {
-    b"end done\n"
+    format!(in alloc; "end done\n")
+}
+
+/// The last line of a trace that was stopped at a place of the design file, for this reason.
+#[tactic(auto, unfolding(crate::specs::Trace::stop_line))]
+pub fn stop_line(alloc: Global, why: &str, place: Place) -> Result<String, AllocError>
+    ensures { IfOk result (λ line. string_bytes line ≡ stop_line why.now place) }
+{
+    let line = place.line;
+    let col = place.col;
+    format!(in alloc; "end {why} {line}:{col}\n")
+}
+
+/// The last line of a trace behind which the budget is spent.
+#[tactic(auto, unfolding(crate::specs::Trace::spent_line))]
+pub fn spent_line(alloc: Global) -> Result<String, AllocError>
+    ensures { IfOk result (λ line. string_bytes line ≡ spent_line) }
+{
+    format!(in alloc; "end spent\n")
 }
 
 /// The line of a column: its name and its shape.

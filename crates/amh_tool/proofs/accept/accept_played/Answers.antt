@@ -1,37 +1,43 @@
-use Rattle.std.proofs.Common.{◌≡◌, ◌∙◌, ap, sym, subst}
-use Rattle.std.specs.Prelude.{Ok, Err}
-use Rattle.play_text.specs.declared.board.Board.{Board}
-use Rattle.play_text.specs.declared.script.ScriptStop.{ScriptStop}
-use Rattle.play_text.specs.ScriptGives.{ScriptGives}
-use Rattle.play_text.specs.Boards.{board_of}
-use Rattle.play_text.specs.Script.{script_events}
-use Rattle.amh_tool.specs.Outcome.{played, BadLine}
+use Rattle.std.proofs.Common.{◌∙◌, ap, sym, subst, ℕ}
+use Rattle.std.specs.Prelude.{None, Ok, Err, Result}
+use Rattle.amh_tool.specs.declared.accept.Script.{Script}
+use Rattle.amh_tool.specs.DesignGives.{given_seen}
+use Rattle.amh_tool.specs.Outcome.{played, BadLine, Rejected}
+use Rattle.amh_tool.specs.Verdicts.{IsScript}
 use Rattle.amh_tool.proofs.AcceptLaws.{read_script_of}
 use Rattle.amh_tool.proofs.ScriptLegal.{script_events-legal}
 use Rattle.amh_tool.proofs.accept.accept_played.Goals as goal
 
-pub returns-in-Ok-clause-given : goal.returns-in-Ok-clause-given
-returns-in-Ok-clause-given g c =
+pub with_script-requires-clause-legal : goal.with_script-requires-clause-legal
+with_script-requires-clause-legal g c =
     let told = (g.H.Host.seen c.args.host.now).files in
     let d = c.args.ranked.design in
-    let e : script_events (board_of d) c.in_ok-text.text.items ≡ Ok c.in-Ok.events =
-    (λ i. script_events ((sym c.in_ok-board.ensures) i) ((sym c.deref.ensures.value) i)) ∙ c.in-Ok.ensures in
-    read_script_of c.args.name.now told d c.in_ok-text.text.items _ c.in_ok-text.ensures.bytes (sym (ap (played d) e))
+    let s = c.in-Ok-Ok.script in
+    let h : IsScript told c.args.name.now d (Ok s) = subst (λ (x : Result Script ℕ). IsScript told c.args.name.now d x) c.in-Ok-Ok.field-0-is c.in-Ok-Ok.ensures.script in
+    script_events-legal d h.1.0 s.events h.1.2
 
-pub returns-in-Ok-clause-fit : goal.returns-in-Ok-clause-fit
-returns-in-Ok-clause-fit g c =
-    let d = c.args.ranked.design in
-    let e : script_events (board_of d) c.deref.result.now ≡ Ok c.in-Ok.events =
-    ap (λ (b : Board). script_events b c.deref.result.now) (sym c.in_ok-board.ensures) ∙ c.in-Ok.ensures in
-    record { ready = c.requires; board = c.in_ok-board.ensures; legal = script_events-legal d c.deref.result.now c.in-Ok.events e }
-
-pub returns-in-Err-Line-clause-given : goal.returns-in-Err-Line-clause-given
-returns-in-Err-Line-clause-given g c =
+pub with_script-requires-clause-board : goal.with_script-requires-clause-board
+with_script-requires-clause-board g c =
     let told = (g.H.Host.seen c.args.host.now).files in
     let d = c.args.ranked.design in
-    let line = c.in-Err-Line.line in
-    let given : ScriptGives (Err c.in-Err-Line.field-0) (script_events c.in_ok-board.board c.deref.result.now) = c.in-Err-Line.ensures in
-    let said = subst (λ (x : ScriptStop). ScriptGives (Err x) (script_events c.in_ok-board.board c.deref.result.now)) c.in-Err-Line.field-0-is given in
-    let e : script_events (board_of d) c.in_ok-text.text.items ≡ Err line =
-    (λ i. script_events ((sym c.in_ok-board.ensures) i) ((sym c.deref.ensures.value) i)) ∙ said in
-    read_script_of c.args.name.now told d c.in_ok-text.text.items (BadLine line) c.in_ok-text.ensures.bytes (sym (ap (played d) e))
+    let h : IsScript told c.args.name.now d (Ok c.in-Ok-Ok.script) = subst (λ (x : Result Script ℕ). IsScript told c.args.name.now d x) c.in-Ok-Ok.field-0-is c.in-Ok-Ok.ensures.script in
+    h.0
+
+pub returns-in-Ok-Ok-clause-found : goal.returns-in-Ok-Ok-clause-found
+returns-in-Ok-Ok-clause-found g c =
+    let told = (g.H.Host.seen c.args.host.now).files in
+    let r = c.args.ranked in
+    let d = r.design in
+    let h : IsScript told c.args.name.now d (Ok c.in-Ok-Ok.script) = subst (λ (x : Result Script ℕ). IsScript told c.args.name.now d x) c.in-Ok-Ok.field-0-is c.in-Ok-Ok.ensures.script in (
+      c.with_script.ensures.fitting,
+      read_script_of c.args.name.now None told (given_seen r) h.1.0 _ h.1.1 (c.with_script.ensures.played ∙ sym (ap (played (given_seen r)) h.1.2)),
+    )
+
+pub returns-in-Ok-Err-clause-found : goal.returns-in-Ok-Err-clause-found
+returns-in-Ok-Err-clause-found g c =
+    let told = (g.H.Host.seen c.args.host.now).files in
+    let r = c.args.ranked in
+    let d = r.design in
+    let line = c.in-Ok-Err.line in
+    let h : IsScript told c.args.name.now d (Err line) = subst (λ (x : Result Script ℕ). IsScript told c.args.name.now d x) c.in-Ok-Err.field-0-is c.in-Ok-Err.ensures.script in
+    read_script_of c.args.name.now None told (given_seen r) h.0 (Rejected (BadLine line)) h.1 (sym (ap (played (given_seen r)) h.2))

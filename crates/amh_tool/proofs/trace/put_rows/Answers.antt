@@ -7,9 +7,10 @@ use Rattle.amh_host.specs.Calls.{AddsFront}
 use Rattle.amh_host.proofs.SeenLaws.{written-nil, written-written}
 use Rattle.design_ir.specs.Legal.{AllLegal}
 use Rattle.play_text.specs.Lanes.{lanes_at, lane_text, moved, row_head}
-use Rattle.play_text.specs.Trace.{Row, line_feed, row_line, row_lines, timed}
+use Rattle.play_text.specs.Trace.{Row, line_feed, row_line, row_lines}
 use Rattle.play_text.specs.Stripes.{IsNoted, grid, joined}
 use Rattle.play_text.proofs.StripeLaws.{noted_at}
+use Rattle.amh_tool.specs.Verdicts.{events_of, rows_of}
 use Rattle.amh_tool.proofs.LaneLaws.{lanes_moved, row_line-parts}
 use Rattle.amh_tool.proofs.TraceLaws.{GoesOn, drop_at, gone_next, legal_next, goes_from_first, goes_on, rows_front, row_front, rows_whole}
 use Rattle.amh_tool.proofs.trace.put_rows.Goals as goal
@@ -19,12 +20,12 @@ returns-in_err-stripes-clause-done g c = λ envs history.
     let p = err_from_is_err_and c.from_residual.result c.from_residual.ensures.1 in
     let a = c.args.accepted.now in
     let old = g.H.Host.seen c.args.host.now in
-    rw p.1 (rows_front c.args.name.now [] _ a.ranked.design a.board 0 a.events c.args.sim.now old old (sym (written-nil c.args.name.now old)) (goes_from_first a.ranked.design a.board a.events c.args.sim.now envs c.requires.first history))
+    rw p.1 (rows_front c.args.name.now [] _ a.ranked.design a.board 0 (events_of a) c.args.sim.now old old (sym (written-nil c.args.name.now old)) (goes_from_first a.ranked.design a.board (events_of a) c.args.sim.now envs c.requires.first history))
 
 pub loop-event-init : goal.loop-event-init
 loop-event-init g c =
     let a = c.args.accepted.now in
-    let events : c.as_slice-event-items.result.now ≡ a.events = c.as_slice-event-items.ensures in
+    let events : c.played-event-items.result.now ≡ events_of a = c.played-event-items.ensures in
     record {
       faults = refl;
       time = refl;
@@ -37,8 +38,8 @@ loop-event-init g c =
       so_far = [];
       seen = sym (written-nil c.args.name.now (g.H.Host.seen c.args.host.now));
       rest = λ envs history.
-          subst (λ es. GoesOn a.ranked.design a.board 0 es c.args.sim.now [] (row_lines a.board (timed 1 a.events) c.args.sim.now.env envs)) (sym events)
-          (goes_from_first a.ranked.design a.board a.events c.args.sim.now envs c.requires.first history);
+          subst (λ es. GoesOn a.ranked.design a.board 0 es c.args.sim.now [] (row_lines a.board (rows_of a) c.args.sim.now.env envs)) (sym events)
+          (goes_from_first a.ranked.design a.board (events_of a) c.args.sim.now envs c.requires.first history);
     }
 
 pub apply-requires-clause-legal : goal.apply-requires-clause-legal
@@ -47,9 +48,9 @@ apply-requires-clause-legal g c =
     let d = c.args.accepted.now.ranked.design in
     let e = c.event-item.result in
     let i = c.loop-event.event-index in
-    let items = c.as_slice-event-items.result.now in
+    let items = c.played-event-items.result.now in
     let split = drop_at items i e c.loop-event-test.true c.event-item.is in
-    let legal = subst (AllLegal d) (sym c.as_slice-event-items.ensures) c.requires.fitting.legal in
+    let legal = subst (AllLegal d) (sym c.played-event-items.ensures) c.requires.fitting.legal in
     (legal_next d v.gone (drop i items) (drop (i + 1) items) items e split v.whole legal).0
 
 pub returns-in_err-push_front-clause-done : goal.returns-in_err-push_front-clause-done
@@ -96,12 +97,12 @@ returns-in_err-put-clause-done g c = λ envs history.
     let d = a.ranked.design in
     let e = c.event-item.result in
     let i = c.loop-event.event-index in
-    let items = c.as_slice-event-items.result.now in
+    let items = c.played-event-items.result.now in
     let more = drop (i + 1) items in
     let old = c.loop-event.sim in
     let new = c.apply.new.sim in
     let split = drop_at items i e c.loop-event-test.true c.event-item.is in
-    let legal = legal_next d v.gone (drop i items) more items e split v.whole (subst (AllLegal d) (sym c.as_slice-event-items.ensures) c.requires.fitting.legal) in
+    let legal = legal_next d v.gone (drop i items) more items e split v.whole (subst (AllLegal d) (sym c.played-event-items.ensures) c.requires.fitting.legal) in
     let stands = c.in_ok-apply.ensures.lives v.gone v.stands in
     let line = c.push_rest.new.text.items in
     let before = c.values-in-loop-event.ensures in
@@ -122,12 +123,12 @@ loop-event-preserved g c =
     let d = a.ranked.design in
     let e = c.event-item.result in
     let i = c.loop-event.event-index in
-    let items = c.as_slice-event-items.result.now in
+    let items = c.played-event-items.result.now in
     let more = drop (i + 1) items in
     let old = c.loop-event.sim in
     let new = c.apply.new.sim in
     let split = drop_at items i e c.loop-event-test.true c.event-item.is in
-    let legal = legal_next d v.gone (drop i items) more items e split v.whole (subst (AllLegal d) (sym c.as_slice-event-items.ensures) c.requires.fitting.legal) in
+    let legal = legal_next d v.gone (drop i items) more items e split v.whole (subst (AllLegal d) (sym c.played-event-items.ensures) c.requires.fitting.legal) in
     let stands = c.in_ok-apply.ensures.lives v.gone v.stands in
     let line = c.push_rest.new.text.items in
     let before = c.values-in-loop-event.ensures in
@@ -153,5 +154,5 @@ pub returns-clause-done : goal.returns-clause-done
 returns-clause-done g c = λ envs history.
     let v = c.loop-event.invariant in
     let a = c.args.accepted.now in
-    let none = drop_all c.loop-event.event-index c.as_slice-event-items.result.now c.loop-event-test.false in
+    let none = drop_all c.loop-event.event-index c.played-event-items.result.now c.loop-event-test.false in
     v.seen ∙ ap (λ (t : List ℕ). written c.args.name.now t (g.H.Host.seen c.args.host.now)) (rows_whole v.so_far _ a.ranked.design a.board c.loop-event.time _ c.loop-event.sim none (v.rest envs history))

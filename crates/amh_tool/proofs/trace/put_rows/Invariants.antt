@@ -5,7 +5,8 @@ use Rattle.design_ir.specs.Histories.{History}
 use Rattle.delta_sim.specs.Standing.{Stands}
 use Rattle.play_text.specs.Lanes.{lanes_at}
 use Rattle.play_text.specs.Stripes.{AreFound, grid, joined}
-use Rattle.play_text.specs.Trace.{row_lines, timed}
+use Rattle.play_text.specs.Trace.{row_lines}
+use Rattle.amh_tool.specs.Verdicts.{events_of, rows_of}
 use Rattle.amh_tool.proofs.TraceLaws.{GoesOn}
 use Rattle.amh_tool.proofs.trace.put_rows.Given as goal
 
@@ -21,6 +22,6 @@ invariant-loop-event g l = record {
   many : length l.stripes.shown.items ≡ length l.accepted.ranked.design.pool.signals;
   so_far : List ℕ;
   seen : g.H.Host.seen l.host ≡ written l.name so_far (g.H.Host.seen l.fn.host);
-  rest : (envs : List (List ℤ)) → History l.accepted.ranked.design l.accepted.events (l.fn.sim.env ∷ envs)
-      → GoesOn l.accepted.ranked.design l.accepted.board l.time (drop l.event-index l.event-items) l.sim so_far (row_lines l.accepted.board (timed 1 l.accepted.events) l.fn.sim.env envs);
+  rest : (envs : List (List ℤ)) → History l.accepted.ranked.design (events_of l.accepted) (l.fn.sim.env ∷ envs)
+      → GoesOn l.accepted.ranked.design l.accepted.board l.time (drop l.event-index l.event-items) l.sim so_far (row_lines l.accepted.board (rows_of l.accepted) l.fn.sim.env envs);
 }

@@ -1,191 +1,76 @@
-use Rattle.std.proofs.Common.{◌≡◌, ◌∙◌, ◌++◌, ◌∷◌, [], ap, subst, refl, inl, inr, ℕ, List, append_assoc}
-use Rattle.std.specs.List.{flat_map}
+use Rattle.std.proofs.Common.{◌≡◌, ◌∙◌, ◌++◌, ◌∷◌, [], refl, ap, sym, subst, inl, inr, ℕ, ℤ, List, append_assoc}
 use Rattle.std.proofs.lemmas.Result.{err_from_is_err_and}
-use Rattle.amh_host.specs.Seen.{written}
-use Rattle.amh_host.specs.Calls.{Adds, AddsFront}
+use Rattle.amh_host.specs.Seen.{with_file, written}
+use Rattle.amh_host.specs.Calls.{Adds}
+use Rattle.amh_host.specs.Written.{WritesFront}
 use Rattle.amh_host.proofs.SeenLaws.{IsAt, IsAt-put, IsAt-refused}
-use Rattle.rtlil_text.proofs.WriteLaws.{WritesFront-start, Writes-last}
-use Rattle.play_text.specs.Trace.{Done, timed, head_line, done_line, column_line, first_line, row_lines, trace_text}
-use Rattle.amh_tool.proofs.Refused.{HasCause-memory, HasCause-handed}
-use Rattle.amh_tool.proofs.TraceLaws.{begins_with, has_trace, history_trace, trace_text-order}
+use Rattle.rtlil_text.proofs.WriteLaws.{Writes-last}
+use Rattle.play_text.specs.Trace.{End, end_line, front_text, row_lines, trace_text}
+use Rattle.amh_tool.specs.Verdicts.{ending_of, events_of, rows_of}
+use Rattle.amh_tool.proofs.Refused.{HasCause-handed}
+use Rattle.amh_tool.proofs.TraceLaws.{WritesFront-more, begins_with, history_trace, trace_text-parts}
 use Rattle.amh_tool.proofs.trace.write_lines.Goals as goal
 
-pub returns-in_err-push_first-clause-text : goal.returns-in_err-push_first-clause-text
-returns-in_err-push_first-clause-text g c =
+pub returns-in_err-put_head-clause-text : goal.returns-in_err-put_head-clause-text
+returns-in_err-put_head-clause-text g c =
     let p = err_from_is_err_and c.from_residual.result c.from_residual.ensures.1 in
     let a = c.args.accepted.now in
     let s = c.args.sim.now in
-    let begun = begins_with a.ranked.design a.events s c.has_one_history.ensures c.requires.fitting.legal c.requires.first in
+    let begun = begins_with a.ranked.design (events_of a) s c.has_one_history.ensures c.requires.fitting.legal c.requires.first in
     let envs = begun.envs in
-    let all = trace_text a.board (timed 1 a.events) (s.env ∷ envs) Done in
-    let trace = history_trace a (s.env ∷ envs) c.requires.fitting begun.is_history in
-    (all, trace, rw p.1 (inl refl))
-
-pub returns-in_err-start-clause-text : goal.returns-in_err-start-clause-text
-returns-in_err-start-clause-text g c =
-    let p = err_from_is_err_and c.from_residual-in_err-start.result c.from_residual-in_err-start.ensures.1 in
-    let a = c.args.accepted.now in
-    let s = c.args.sim.now in
-    let begun = begins_with a.ranked.design a.events s c.has_one_history.ensures c.requires.fitting.legal c.requires.first in
-    let envs = begun.envs in
-    let all = trace_text a.board (timed 1 a.events) (s.env ∷ envs) Done in
-    let trace = history_trace a (s.env ∷ envs) c.requires.fitting begun.is_history in
-    (all, trace, rw p.1 (WritesFront-start c.args.name.now all (g.H.Host.seen c.args.host.now) (g.H.Host.seen c.start.new.self) c.in_err-start.ensures.done))
-
-pub returns-in_err-put-clause-text : goal.returns-in_err-put-clause-text
-returns-in_err-put-clause-text g c =
-    let p = err_from_is_err_and c.from_residual-in_err-put.result c.from_residual-in_err-put.ensures.1 in
-    let a = c.args.accepted.now in
-    let s = c.args.sim.now in
-    let begun = begins_with a.ranked.design a.events s c.has_one_history.ensures c.requires.fitting.legal c.requires.first in
-    let envs = begun.envs in
-    let all = trace_text a.board (timed 1 a.events) (s.env ∷ envs) Done in
+    let all = trace_text a.board (rows_of a) (s.env ∷ envs) (ending_of a) in
     let trace = history_trace a (s.env ∷ envs) c.requires.fitting begun.is_history in
     let name = c.args.name.now in
     let old = g.H.Host.seen c.args.host.now in
-    let columns = flat_map column_line a.board.columns in
-    let first = first_line a.board s.env in
-    let rows = row_lines a.board (timed 1 a.events) s.env envs in
-    let order : head_line ++ (columns ++ (first ++ (rows ++ done_line))) ≡ all = trace_text-order a.board (timed 1 a.events) s.env envs in
-    let s1 = g.H.Host.seen c.start.new.self in
-    let at1 : IsAt name [] old s1 = record { seen = c.in_ok-start.ensures.done } in
-    let s2 = g.H.Host.seen c.put.new.self in
-    let front : AddsFront (written name) head_line s1 s2 = subst (λ (b : List ℕ). AddsFront (written name) b s1 s2) c.head_line.ensures c.in_err-put.ensures.done in
-    (all, trace, rw p.1 (inr (IsAt-refused name [] head_line (columns ++ (first ++ (rows ++ done_line))) all old s1 s2 at1 order front)))
-
-pub returns-in_err-put_columns-clause-text : goal.returns-in_err-put_columns-clause-text
-returns-in_err-put_columns-clause-text g c =
-    let p = err_from_is_err_and c.from_residual-in_err-put_columns.result c.from_residual-in_err-put_columns.ensures.1 in
-    let a = c.args.accepted.now in
-    let s = c.args.sim.now in
-    let begun = begins_with a.ranked.design a.events s c.has_one_history.ensures c.requires.fitting.legal c.requires.first in
-    let envs = begun.envs in
-    let all = trace_text a.board (timed 1 a.events) (s.env ∷ envs) Done in
-    let trace = history_trace a (s.env ∷ envs) c.requires.fitting begun.is_history in
-    let name = c.args.name.now in
-    let old = g.H.Host.seen c.args.host.now in
-    let columns = flat_map column_line a.board.columns in
-    let first = first_line a.board s.env in
-    let rows = row_lines a.board (timed 1 a.events) s.env envs in
-    let order : head_line ++ (columns ++ (first ++ (rows ++ done_line))) ≡ all = trace_text-order a.board (timed 1 a.events) s.env envs in
-    let s1 = g.H.Host.seen c.start.new.self in
-    let at1 : IsAt name [] old s1 = record { seen = c.in_ok-start.ensures.done } in
-    let s2 = g.H.Host.seen c.put.new.self in
-    let at2 : IsAt name head_line old s2 = IsAt-put name [] head_line old s1 s2 at1 (c.in_ok-put.ensures.done ∙ ap (λ (b : List ℕ). written name b s1) c.head_line.ensures) in
-    let columns_is : flat_map column_line c.as_slice.result.now ≡ columns = ap (flat_map column_line) c.as_slice.ensures in
-    let order2 : (head_line ++ columns) ++ (first ++ (rows ++ done_line)) ≡ all = append_assoc head_line columns (first ++ (rows ++ done_line)) ∙ order in
-    let s3 = g.H.Host.seen c.put_columns.new.host in
-    let front : AddsFront (written name) columns s2 s3 = subst (λ (b : List ℕ). AddsFront (written name) b s2 s3) columns_is c.in_err-put_columns.ensures.done in
-    (all, trace, rw p.1 (inr (IsAt-refused name head_line columns (first ++ (rows ++ done_line)) all old s2 s3 at2 order2 front)))
-
-pub returns-in_err-put-2-clause-text : goal.returns-in_err-put-2-clause-text
-returns-in_err-put-2-clause-text g c =
-    let p = err_from_is_err_and c.from_residual-in_err-put-2.result c.from_residual-in_err-put-2.ensures.1 in
-    let a = c.args.accepted.now in
-    let s = c.args.sim.now in
-    let begun = begins_with a.ranked.design a.events s c.has_one_history.ensures c.requires.fitting.legal c.requires.first in
-    let envs = begun.envs in
-    let all = trace_text a.board (timed 1 a.events) (s.env ∷ envs) Done in
-    let trace = history_trace a (s.env ∷ envs) c.requires.fitting begun.is_history in
-    let name = c.args.name.now in
-    let old = g.H.Host.seen c.args.host.now in
-    let columns = flat_map column_line a.board.columns in
-    let first = first_line a.board s.env in
-    let rows = row_lines a.board (timed 1 a.events) s.env envs in
-    let order : head_line ++ (columns ++ (first ++ (rows ++ done_line))) ≡ all = trace_text-order a.board (timed 1 a.events) s.env envs in
-    let s1 = g.H.Host.seen c.start.new.self in
-    let at1 : IsAt name [] old s1 = record { seen = c.in_ok-start.ensures.done } in
-    let s2 = g.H.Host.seen c.put.new.self in
-    let at2 : IsAt name head_line old s2 = IsAt-put name [] head_line old s1 s2 at1 (c.in_ok-put.ensures.done ∙ ap (λ (b : List ℕ). written name b s1) c.head_line.ensures) in
-    let columns_is : flat_map column_line c.as_slice.result.now ≡ columns = ap (flat_map column_line) c.as_slice.ensures in
-    let order2 : (head_line ++ columns) ++ (first ++ (rows ++ done_line)) ≡ all = append_assoc head_line columns (first ++ (rows ++ done_line)) ∙ order in
-    let s3 = g.H.Host.seen c.put_columns.new.host in
-    let at3 : IsAt name (head_line ++ columns) old s3 = IsAt-put name head_line columns old s2 s3 at2 (c.in_ok-put_columns.ensures.done ∙ ap (λ (b : List ℕ). written name b s2) columns_is) in
-    let first_is : c.as_slice-2.result.now ≡ first = c.as_slice-2.ensures.value ∙ c.in_ok-push_first.ensures ∙ (λ j. c.new-first.ensures.items j ++ first_line a.board (c.values.ensures j)) in
-    let order3 : ((head_line ++ columns) ++ first) ++ (rows ++ done_line) ≡ all = append_assoc (head_line ++ columns) first (rows ++ done_line) ∙ order2 in
-    let s4 = g.H.Host.seen c.put-2.new.self in
-    let front : AddsFront (written name) first s3 s4 = subst (λ (b : List ℕ). AddsFront (written name) b s3 s4) first_is c.in_err-put-2.ensures.done in
-    (all, trace, rw p.1 (inr (IsAt-refused name (head_line ++ columns) first (rows ++ done_line) all old s3 s4 at3 order3 front)))
-
-pub returns-in_err-push_first-clause-cause : goal.returns-in_err-push_first-clause-cause
-returns-in_err-push_first-clause-cause g c = HasCause-memory (g.H.Host.faults c.args.host.now) c.from_residual.result c.from_residual.ensures.1
-
-pub returns-in_err-start-clause-cause : goal.returns-in_err-start-clause-cause
-returns-in_err-start-clause-cause g c =
-    HasCause-handed (g.H.Host.faults c.args.host.now) (g.H.Host.faults c.args.host.now) (g.H.Host.faults c.start.new.self) c.in_err-start.field-0.0 c.start.result c.from_residual-in_err-start.result c.in_err-start.was refl c.start.ensures.cause c.from_residual-in_err-start.ensures.1
-
-pub returns-in_err-put-clause-cause : goal.returns-in_err-put-clause-cause
-returns-in_err-put-clause-cause g c =
-    HasCause-handed (g.H.Host.faults c.args.host.now) (g.H.Host.faults c.start.new.self) (g.H.Host.faults c.put.new.self) c.in_err-put.field-0.0 c.put.result c.from_residual-in_err-put.result c.in_err-put.was c.in_ok-start.ensures.cause.ok c.put.ensures.cause c.from_residual-in_err-put.ensures.1
-
-pub returns-in_err-put_columns-clause-cause : goal.returns-in_err-put_columns-clause-cause
-returns-in_err-put_columns-clause-cause g c =
-    HasCause-handed (g.H.Host.faults c.args.host.now) (g.H.Host.faults c.put.new.self) (g.H.Host.faults c.put_columns.new.host) c.in_err-put_columns.field-0.0 c.put_columns.result c.from_residual-in_err-put_columns.result c.in_err-put_columns.was (c.in_ok-put.ensures.cause.ok ∙ c.in_ok-start.ensures.cause.ok) c.put_columns.ensures.cause c.from_residual-in_err-put_columns.ensures.1
-
-pub returns-in_err-put-2-clause-cause : goal.returns-in_err-put-2-clause-cause
-returns-in_err-put-2-clause-cause g c =
-    HasCause-handed (g.H.Host.faults c.args.host.now) (g.H.Host.faults c.put_columns.new.host) (g.H.Host.faults c.put-2.new.self) c.in_err-put-2.field-0.0 c.put-2.result c.from_residual-in_err-put-2.result c.in_err-put-2.was (c.in_ok-put_columns.ensures.cause.ok ∙ c.in_ok-put.ensures.cause.ok ∙ c.in_ok-start.ensures.cause.ok) c.put-2.ensures.cause c.from_residual-in_err-put-2.ensures.1
+    let new = g.H.Host.seen c.put_head.new.host in
+    let head = front_text a.board [] (s.env ∷ []) in
+    let rows = row_lines a.board (rows_of a) s.env envs in
+    let order : head ++ (rows ++ end_line (ending_of a)) ≡ all = sym (append_assoc head rows (end_line (ending_of a))) ∙ trace_text-parts a.board (rows_of a) s.env envs (ending_of a) in
+    let front : WritesFront name head old new = subst (λ (env : List ℤ). WritesFront name (front_text a.board [] (env ∷ [])) old new) c.values.ensures c.in_err-put_head.ensures.text in
+    (all, trace, rw p.1 (WritesFront-more name head (rows ++ end_line (ending_of a)) all old new order front))
 
 pub returns-in_err-put_rows-clause-text : goal.returns-in_err-put_rows-clause-text
 returns-in_err-put_rows-clause-text g c =
     let p = err_from_is_err_and c.from_residual-in_err-put_rows.result c.from_residual-in_err-put_rows.ensures.1 in
     let a = c.args.accepted.now in
     let s = c.args.sim.now in
-    let begun = begins_with a.ranked.design a.events s c.has_one_history.ensures c.requires.fitting.legal c.requires.first in
+    let begun = begins_with a.ranked.design (events_of a) s c.has_one_history.ensures c.requires.fitting.legal c.requires.first in
     let envs = begun.envs in
-    let all = trace_text a.board (timed 1 a.events) (s.env ∷ envs) Done in
+    let all = trace_text a.board (rows_of a) (s.env ∷ envs) (ending_of a) in
     let trace = history_trace a (s.env ∷ envs) c.requires.fitting begun.is_history in
     let name = c.args.name.now in
     let old = g.H.Host.seen c.args.host.now in
-    let columns = flat_map column_line a.board.columns in
-    let first = first_line a.board s.env in
-    let rows = row_lines a.board (timed 1 a.events) s.env envs in
-    let order : head_line ++ (columns ++ (first ++ (rows ++ done_line))) ≡ all = trace_text-order a.board (timed 1 a.events) s.env envs in
-    let s1 = g.H.Host.seen c.start.new.self in
-    let at1 : IsAt name [] old s1 = record { seen = c.in_ok-start.ensures.done } in
-    let s2 = g.H.Host.seen c.put.new.self in
-    let at2 : IsAt name head_line old s2 = IsAt-put name [] head_line old s1 s2 at1 (c.in_ok-put.ensures.done ∙ ap (λ (b : List ℕ). written name b s1) c.head_line.ensures) in
-    let columns_is : flat_map column_line c.as_slice.result.now ≡ columns = ap (flat_map column_line) c.as_slice.ensures in
-    let order2 : (head_line ++ columns) ++ (first ++ (rows ++ done_line)) ≡ all = append_assoc head_line columns (first ++ (rows ++ done_line)) ∙ order in
-    let s3 = g.H.Host.seen c.put_columns.new.host in
-    let at3 : IsAt name (head_line ++ columns) old s3 = IsAt-put name head_line columns old s2 s3 at2 (c.in_ok-put_columns.ensures.done ∙ ap (λ (b : List ℕ). written name b s2) columns_is) in
-    let first_is : c.as_slice-2.result.now ≡ first = c.as_slice-2.ensures.value ∙ c.in_ok-push_first.ensures ∙ (λ j. c.new-first.ensures.items j ++ first_line a.board (c.values.ensures j)) in
-    let order3 : ((head_line ++ columns) ++ first) ++ (rows ++ done_line) ≡ all = append_assoc (head_line ++ columns) first (rows ++ done_line) ∙ order2 in
-    let s4 = g.H.Host.seen c.put-2.new.self in
-    let at4 : IsAt name ((head_line ++ columns) ++ first) old s4 = IsAt-put name (head_line ++ columns) first old s3 s4 at3 (c.in_ok-put-2.ensures.done ∙ ap (λ (b : List ℕ). written name b s3) first_is) in
-    let order4 : (((head_line ++ columns) ++ first) ++ rows) ++ done_line ≡ all = append_assoc ((head_line ++ columns) ++ first) rows done_line ∙ order3 in
-    let s5 = g.H.Host.seen c.put_rows.new.host in
-    (all, trace, rw p.1 (inr (IsAt-refused name ((head_line ++ columns) ++ first) rows done_line all old s4 s5 at4 order4 (c.in_err-put_rows.ensures.done envs begun.is_history.settles))))
+    let s1 = g.H.Host.seen c.put_head.new.host in
+    let head = front_text a.board [] (s.env ∷ []) in
+    let rows = row_lines a.board (rows_of a) s.env envs in
+    let at1 : IsAt name head old s1 = record { seen = c.in_ok-put_head.ensures.text ∙ ap (λ (env : List ℤ). with_file name (front_text a.board [] (env ∷ [])) old) c.values.ensures } in
+    let s2 = g.H.Host.seen c.put_rows.new.host in
+    (all, trace, rw p.1 (inr (IsAt-refused name head rows (end_line (ending_of a)) all old s1 s2 at1 (trace_text-parts a.board (rows_of a) s.env envs (ending_of a)) (c.in_err-put_rows.ensures.done envs begun.is_history.settles))))
 
 pub returns-clause-text : goal.returns-clause-text
 returns-clause-text g c =
     let a = c.args.accepted.now in
     let s = c.args.sim.now in
-    let begun = begins_with a.ranked.design a.events s c.has_one_history.ensures c.requires.fitting.legal c.requires.first in
+    let begun = begins_with a.ranked.design (events_of a) s c.has_one_history.ensures c.requires.fitting.legal c.requires.first in
     let envs = begun.envs in
-    let all = trace_text a.board (timed 1 a.events) (s.env ∷ envs) Done in
+    let all = trace_text a.board (rows_of a) (s.env ∷ envs) (ending_of a) in
     let trace = history_trace a (s.env ∷ envs) c.requires.fitting begun.is_history in
     let name = c.args.name.now in
     let old = g.H.Host.seen c.args.host.now in
-    let columns = flat_map column_line a.board.columns in
-    let first = first_line a.board s.env in
-    let rows = row_lines a.board (timed 1 a.events) s.env envs in
-    let order : head_line ++ (columns ++ (first ++ (rows ++ done_line))) ≡ all = trace_text-order a.board (timed 1 a.events) s.env envs in
-    let s1 = g.H.Host.seen c.start.new.self in
-    let at1 : IsAt name [] old s1 = record { seen = c.in_ok-start.ensures.done } in
-    let s2 = g.H.Host.seen c.put.new.self in
-    let at2 : IsAt name head_line old s2 = IsAt-put name [] head_line old s1 s2 at1 (c.in_ok-put.ensures.done ∙ ap (λ (b : List ℕ). written name b s1) c.head_line.ensures) in
-    let columns_is : flat_map column_line c.as_slice.result.now ≡ columns = ap (flat_map column_line) c.as_slice.ensures in
-    let order2 : (head_line ++ columns) ++ (first ++ (rows ++ done_line)) ≡ all = append_assoc head_line columns (first ++ (rows ++ done_line)) ∙ order in
-    let s3 = g.H.Host.seen c.put_columns.new.host in
-    let at3 : IsAt name (head_line ++ columns) old s3 = IsAt-put name head_line columns old s2 s3 at2 (c.in_ok-put_columns.ensures.done ∙ ap (λ (b : List ℕ). written name b s2) columns_is) in
-    let first_is : c.as_slice-2.result.now ≡ first = c.as_slice-2.ensures.value ∙ c.in_ok-push_first.ensures ∙ (λ j. c.new-first.ensures.items j ++ first_line a.board (c.values.ensures j)) in
-    let order3 : ((head_line ++ columns) ++ first) ++ (rows ++ done_line) ≡ all = append_assoc (head_line ++ columns) first (rows ++ done_line) ∙ order2 in
-    let s4 = g.H.Host.seen c.put-2.new.self in
-    let at4 : IsAt name ((head_line ++ columns) ++ first) old s4 = IsAt-put name (head_line ++ columns) first old s3 s4 at3 (c.in_ok-put-2.ensures.done ∙ ap (λ (b : List ℕ). written name b s3) first_is) in
-    let order4 : (((head_line ++ columns) ++ first) ++ rows) ++ done_line ≡ all = append_assoc ((head_line ++ columns) ++ first) rows done_line ∙ order3 in
-    let s5 = g.H.Host.seen c.put_rows.new.host in
-    let at5 : IsAt name (((head_line ++ columns) ++ first) ++ rows) old s5 = IsAt-put name ((head_line ++ columns) ++ first) rows old s4 s5 at4 (c.in_ok-put_rows.ensures.done envs begun.is_history.settles) in
-    let s6 = g.H.Host.seen c.put-3.new.self in
-    let last : Adds (written name) done_line c.put-3.result s5 s6 = subst (λ (b : List ℕ). Adds (written name) b c.put-3.result s5 s6) c.done_line.ensures c.put-3.ensures.done in
-    (all, trace, Writes-last c.put-3.result name (((head_line ++ columns) ++ first) ++ rows) done_line all old s5 s6 at5 order4 last)
+    let s1 = g.H.Host.seen c.put_head.new.host in
+    let head = front_text a.board [] (s.env ∷ []) in
+    let rows = row_lines a.board (rows_of a) s.env envs in
+    let at1 : IsAt name head old s1 = record { seen = c.in_ok-put_head.ensures.text ∙ ap (λ (env : List ℤ). with_file name (front_text a.board [] (env ∷ [])) old) c.values.ensures } in
+    let s2 = g.H.Host.seen c.put_rows.new.host in
+    let at2 : IsAt name (head ++ rows) old s2 = IsAt-put name head rows old s1 s2 at1 (c.in_ok-put_rows.ensures.done envs begun.is_history.settles) in
+    let s3 = g.H.Host.seen c.put_end.new.host in
+    let last : Adds (written name) (end_line (ending_of a)) c.put_end.result s2 s3 = subst (λ (e : End). Adds (written name) (end_line e) c.put_end.result s2 s3) c.stop.ensures c.put_end.ensures.done in
+    (all, trace, Writes-last c.put_end.result name (head ++ rows) (end_line (ending_of a)) all old s2 s3 at2 (trace_text-parts a.board (rows_of a) s.env envs (ending_of a)) last)
+
+pub returns-in_err-put_head-clause-cause : goal.returns-in_err-put_head-clause-cause
+returns-in_err-put_head-clause-cause g c =
+    HasCause-handed (g.H.Host.faults c.args.host.now) (g.H.Host.faults c.args.host.now) (g.H.Host.faults c.put_head.new.host) c.in_err-put_head.field-0.0 c.put_head.result c.from_residual.result c.in_err-put_head.was refl c.put_head.ensures.cause c.from_residual.ensures.1
+
+pub returns-in_err-put_rows-clause-cause : goal.returns-in_err-put_rows-clause-cause
+returns-in_err-put_rows-clause-cause g c =
+    HasCause-handed (g.H.Host.faults c.args.host.now) (g.H.Host.faults c.put_head.new.host) (g.H.Host.faults c.put_rows.new.host) c.in_err-put_rows.field-0.0 c.put_rows.result c.from_residual-in_err-put_rows.result c.in_err-put_rows.was c.in_ok-put_head.ensures.cause.ok c.put_rows.ensures.cause c.from_residual-in_err-put_rows.ensures.1

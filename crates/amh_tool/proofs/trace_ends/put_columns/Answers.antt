@@ -4,7 +4,7 @@ use Rattle.amh_host.specs.Seen.{written}
 use Rattle.amh_host.specs.Calls.{AddsFront}
 use Rattle.rtlil_text.proofs.Puts.{puts_front, puts_stop, puts_more}
 use Rattle.play_text.specs.Trace.{column_line}
-use Rattle.amh_tool.proofs.trace.put_columns.Goals as goal
+use Rattle.amh_tool.proofs.trace_ends.put_columns.Goals as goal
 
 pub returns-in_err-line-clause-done : goal.returns-in_err-line-clause-done
 returns-in_err-line-clause-done g c =

@@ -2,7 +2,7 @@ use Rattle.std.proofs.Common.{◌≡◌, take}
 use Rattle.std.specs.List.{flat_map}
 use Rattle.amh_host.specs.Seen.{written}
 use Rattle.play_text.specs.Trace.{column_line}
-use Rattle.amh_tool.proofs.trace.put_columns.Given as goal
+use Rattle.amh_tool.proofs.trace_ends.put_columns.Given as goal
 
 abbrev pub invariant-loop-x : goal.invariant-loop-x
 invariant-loop-x g l = record {
